@@ -1,0 +1,81 @@
+/* The heap of jobk in a page: what its WebAssembly calls of a C library. Nothing proves this file; `tests/page` runs all
+   cases with it. */
+typedef unsigned long u64;
+typedef struct { u64 ok; void *p; } tried;
+
+/* A block has 2^k or 3 * 2^k bytes, from 16 on, and before it 16 bytes that hold its class. Freed blocks wait in a list
+   for each class. The memory grows by a quarter, as a run takes it, and goes with the run's instance. */
+enum { CLASSES = 96 };
+extern unsigned char __heap_base;
+static void *freed[CLASSES];
+static u64 next, end;
+
+static u64 class_of(u64 n, u64 *size)
+{
+    u64 two = 16, class = 0;
+    for (; n > two + two / 2; two *= 2) class += 2;
+    if (n <= two) *size = two;
+    else *size = two + two / 2, class++;
+    return class;
+}
+
+static int grow_by(u64 pages)
+{
+    /* -1 of 32 bits, too, as another tool may make memories of 32 bits of these */
+    if ((unsigned)__builtin_wasm_memory_grow(0, pages) == -1u) return 0;
+    end += pages << 16;
+    return 1;
+}
+
+static int grow(u64 bytes)
+{
+    u64 least = (bytes + 65535) >> 16, more = end >> 18;
+    return (more > least && grow_by(more)) || grow_by(least);
+}
+
+static void *block(u64 n)
+{
+    u64 size, class, whole, *at;
+    if (n >> 40) return 0;
+    class = class_of(n, &size);
+    if (freed[class]) {
+        void **one = freed[class];
+        freed[class] = *one;
+        return one;
+    }
+    if (!next) next = ((u64)&__heap_base + 15) & -16ul, end = __builtin_wasm_memory_size(0) << 16;
+    whole = 16 + ((size + 15) & -16ul);
+    if (whole > end - next && !grow(whole - (end - next))) return 0;
+    at = (u64 *)next;
+    next += whole;
+    at[1] = class;
+    return at + 2;
+}
+
+tried rattle_alloc(u64 n, u64 align)
+{
+    void *p = block(n);
+    return (tried){ p != 0, p };
+}
+
+void rattle_dealloc(void *p)
+{
+    u64 class = ((u64 *)p)[-1];
+    *(void **)p = freed[class];
+    freed[class] = p;
+}
+
+tried rattle_realloc(void *p, u64 kept, u64 n, u64 align)
+{
+    u64 size;
+    void *to;
+    if (!(n >> 40) && class_of(n, &size) == ((u64 *)p)[-1]) return (tried){ 1, p };
+    to = block(n);
+    if (!to) return (tried){ 0, p };
+    __builtin_memcpy(to, p, kept < n ? kept : n);
+    rattle_dealloc(p);
+    return (tried){ 1, to };
+}
+
+/* Where the page can put bytes; 0 where there is no memory. */
+void *room(u64 n) { return block(n); }

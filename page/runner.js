@@ -1,0 +1,43 @@
+// A worker that runs jobk, one run after another. To stop a run the worker is ended, and another one takes its place.
+
+const textOf = bytes => new TextDecoder().decode(bytes);
+
+export class Runner {
+  constructor(makeWorker, module) {
+    this.makeWorker = makeWorker;
+    this.module = module;
+    this.id = 0;
+    this.start();
+  }
+
+  start() {
+    this.waiting = new Map();
+    this.worker = this.makeWorker();
+    this.worker.postMessage({ module: this.module });
+    this.worker.onmessage = ({ data: { id, ran } }) => {
+      const { answer } = this.waiting.get(id);
+      this.waiting.delete(id);
+      answer({ ...ran, out: textOf(ran.out), err: textOf(ran.err) });
+    };
+  }
+
+  // Status, both outputs as texts, and milliseconds; null where the run is stopped.
+  run(words, files) {
+    return new Promise(answer => {
+      this.waiting.set(++this.id, { answer, since: performance.now() });
+      this.worker.postMessage({ id: this.id, words, files });
+    });
+  }
+
+  stop() {
+    this.worker.terminate();
+    for (const { answer } of this.waiting.values()) answer(null);
+    this.start();
+  }
+
+  // Stops runs that take long, and that nobody waits for any more.
+  stopIfLong(ms = 500) {
+    const [first] = this.waiting.values();
+    if (first && performance.now() - first.since > ms) this.stop();
+  }
+}
