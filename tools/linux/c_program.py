@@ -5,7 +5,6 @@ the same numbers. Its files 0 and 1 are a pseudoterminal, which it may take by s
 `step` of the events waits until all processes sleep, are stopped or have ended, `tick` some seconds, `key` types, and
 `hangup` closes the other side of the terminal, for good.
 """
-import fcntl
 import os
 import re
 import select
@@ -44,7 +43,11 @@ def compile_file(path, folder):
 
 
 def check():
-    """Refuses a machine on which programs can't be process 1."""
+    """Refuses a machine on which programs can't be process 1. A program would ignore what is ignored here, as a shell has
+    its background commands ignore SIGINT and SIGQUIT: so neither is ignored from here on."""
+    for number in (signal.SIGINT, signal.SIGQUIT):
+        if signal.getsignal(number) is signal.SIG_IGN:
+            signal.signal(number, signal.SIG_DFL)
     for name in ('unshare', 'setsid', 'gcc'):
         if shutil.which(name) is None:
             raise NotHere(f'there is no {name}')
@@ -80,14 +83,15 @@ class Run:
     """A program that runs."""
 
     def __init__(self, path):
-        self.master, self.slave = os.openpty()
-        modes = termios.tcgetattr(self.slave)
+        self.master, slave = os.openpty()
+        modes = termios.tcgetattr(slave)
         modes[3] &= ~termios.ECHO
-        termios.tcsetattr(self.slave, termios.TCSANOW, modes)
+        termios.tcsetattr(slave, termios.TCSANOW, modes)
         self.notes, write_end = os.pipe()
         self.process = subprocess.Popen(
             ['unshare', '--pid', '--fork', '--kill-child', 'setsid', os.path.abspath(path)], cwd=os.path.dirname(path),
-            stdin=self.slave, stdout=self.slave, stderr=write_end)
+            stdin=slave, stdout=slave, stderr=write_end)
+        os.close(slave)
         os.close(write_end)
         self.ends = time.monotonic() + LONGEST
 
@@ -95,14 +99,9 @@ class Run:
         return [state(process) for process in children(str(self.process.pid))]
 
     def type_keys(self, keys):
-        """Types keys, and waits until a process notices. They are put into the terminal at once, where the machine lets
-        one: what is written at its other side the kernel hands on as it finds time."""
+        """Types keys, and waits until a process notices: the kernel hands them on as it finds time."""
         before, until = self.states(), time.monotonic() + NOTICED
-        try:
-            for key in keys:
-                fcntl.ioctl(self.slave, termios.TIOCSTI, bytes([key]))
-        except OSError:
-            os.write(self.master, keys)
+        os.write(self.master, keys)
         while self.states() == before and self.process.poll() is None and time.monotonic() < until:
             time.sleep(POLL)
 
@@ -143,7 +142,6 @@ class Run:
                 break
             text += part
         os.close(self.notes)
-        os.close(self.slave)
         if self.master is not None:
             self.hang_up()
         return text.decode('ascii', 'replace'), status
