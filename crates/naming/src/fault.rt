@@ -44,12 +44,12 @@ pub enum Fault<'a> {
 
 impl Fault<'_> {
     /// Adds its text.
-    fn push_to(self, text: &mut Vec<u8>) -> Result<(), AllocError>
+    fn push_to(self, alloc: Global, text: &mut Vec<u8>) -> Result<(), AllocError>
         ensures { OnOk result (Grows text.old.items text.new.items) }
     {
         match self {
             Fault::Missing => text.extend_from_slice(b"a name is missing beside `|`"),
-            Fault::Unknown(name) => push_unknown(text, name),
+            Fault::Unknown(name) => push_unknown(alloc, text, name),
             Fault::NoName(name, more) => push_about(text, b"no name is ", name, more),
             Fault::NoSignal(name) => push_about(text, b"", name, NO_SIGNAL),
             Fault::TwoKinds(first, name) => {
@@ -95,11 +95,11 @@ fn push_about(
 }
 
 /// Adds that no number has a name, and which is meant.
-fn push_unknown(text: &mut Vec<u8>, name: &[u8]) -> Result<(), AllocError>
+fn push_unknown(alloc: Global, text: &mut Vec<u8>, name: &[u8]) -> Result<(), AllocError>
     ensures { OnOk result (Grows text.old.items text.new.items) }
 {
     push_about(text, b"no name is ", name, b"")?;
-    match meant(name) {
+    match meant(alloc, name)? {
         Some(meant) => push_about(text, b"; did you mean ", meant.as_bytes(), b"?"),
         None => Ok(()),
     }
@@ -108,6 +108,7 @@ fn push_unknown(text: &mut Vec<u8>, name: &[u8]) -> Result<(), AllocError>
 /// What is told of a text, a line for each fault.
 #[derive(Drop)]
 pub struct Told {
+    alloc: Global,
     text: Vec<u8>,
 }
 
@@ -127,6 +128,7 @@ impl Told {
         ensures { result ≡ [] }
     {
         Told {
+            alloc,
             text: Vec::new(alloc),
         }
     }
@@ -145,7 +147,7 @@ impl Told {
         let mut begin = ArrayString::<40>::new();
         let _ = write!(begin, "jobk: line {line}: ");
         self.text.extend_from_slice(begin.as_str().as_bytes())?;
-        fault.push_to(&mut self.text)?;
+        fault.push_to(self.alloc, &mut self.text)?;
         self.text.push(b'\n')?;
         Ok(())
     }
