@@ -12,10 +12,11 @@ function signsOfEvents(kinds, line) {
   return sign ? [make('span', { className: `kind ${name}`, textContent: sign })] : [];
 }
 
-// A refusal in words: the text, the line, the reason, and what the reason means.
-function wordsOf({ name, line, reason }, remedies) {
+// A refusal in words: the text, the line, the reason, what the reason means, and the word that is wrong.
+function wordsOf({ name, line, reason, told }, remedies) {
   const means = remedies[reason];
-  return `✗ ${name ? `${name}, line ${line}: ` : ''}${reason}${means ? `\n${means}` : ''}`;
+  const words = `✗ ${name ? `${name}, line ${line}: ` : ''}${reason}${means ? `\n${means}` : ''}`;
+  return told ? [`${words}\n`, make('pre', { textContent: told })] : [words];
 }
 
 export function showEditors(session, remedies) {
@@ -46,7 +47,7 @@ export function showEditors(session, remedies) {
     const { fault } = session;
     for (const name of ['world', 'events']) all[name].mark('fault', fault?.name === name ? fault.line : 0);
     $('refused').hidden = !fault;
-    $('refused').textContent = fault ? wordsOf(fault, remedies) : '';
+    $('refused').replaceChildren(...(fault ? wordsOf(fault, remedies) : []));
     $('run').classList.toggle('stale', Boolean(fault));
   });
   session.on('moved shown', () => {

@@ -27,13 +27,19 @@ export class Jobk {
     return { files };
   }
 
+  // A fault, with the line of a refused text, a mark below the word that is wrong, and what was probably meant.
+  async told(texts, fault) {
+    const ran = fault.line ? await this.quick.run(['refusal', 'world', 'events'], texts) : null;
+    return { ...fault, told: ran?.status === 1 ? ran.out.split('\n').slice(1, -2).join('\n') : '' };
+  }
+
   // The lines of the trace, each with what it says in words, or the fault of a text; null where the run is stopped.
   async trace(texts) {
     const { files, fault } = await this.plain(texts) ?? {};
-    if (!files) return fault ? { fault } : null;
+    if (!files) return fault ? { fault: await this.told(texts, fault) } : null;
     const ran = await this.quick.run(['run', 'world', 'events'], files);
     if (!ran) return null;
-    if (ran.status !== 0) return { fault: faultOf(ran.err || `the run ended with status ${ran.status}`) };
+    if (ran.status !== 0) return { fault: await this.told(texts, faultOf(ran.err || `the run ended with status ${ran.status}`)) };
     const lines = await this.explained(ran.out);
     return lines && { files, ms: ran.ms, trace: ran.out, lines };
   }

@@ -3,7 +3,7 @@
 //     texts      the texts are others, or what can be taken back
 //     asked      what comes of the texts is asked
 //     busy       a run lasts
-//     refused    a text is refused: `fault` has its name, line and reason
+//     refused    a text is refused: `fault` has its name, line and reason, and what is told of it
 //     ran        `lines`, `calls` and `count` are those of the texts
 //     moved      the place is another
 //     shown      another view is shown, or its size is another

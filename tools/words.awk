@@ -1,17 +1,4 @@
-# What tools/jobk knows of words: the names in numbers.txt, and which of several words is nearest to one.
-
-# reads the names and their numbers: false, with a message, where that fails
-function read_numbers(program,    line, word, got) {
-    while ((got = getline line < ENVIRON["NUMBERS"]) > 0) {
-        if (split(line, word, " ") != 3 || line ~ /^#/) continue
-        kinds[word[2]] = word[1]
-        numbers[word[2]] = word[3]
-        known_names = known_names " " word[2]
-    }
-    if (got >= 0) return 1
-    print program ": cannot read " ENVIRON["NUMBERS"] | "cat >&2"
-    return 0
-}
+# Which of several words is nearest to one: for tools/jobk, of the names of files.
 
 # how many letters are left out, put in, replaced, or exchanged with their neighbour, between two words
 function distance(a, b,    i, j, d, least) {
@@ -45,14 +32,6 @@ function nearest(word, list,    candidate, count, i, apart, least, found) {
         found = candidate[i]
     }
     return found
-}
-
-# the known name that is meant by one in capitals, or nothing
-function nearest_name(name,    i, prefix) {
-    split("SIG SIG_ SA_ W E P_", prefix, " ")
-    for (i = 1; i <= 6; i++) if ((prefix[i] name) in kinds) return prefix[i] name
-    if (name ~ /^SIGRT/) return "SIGRTMIN+1"
-    return nearest(name, known_names)
 }
 
 # `; did you mean WORD?`, where there is a word

@@ -96,7 +96,7 @@ class World:
             self.take_instruction(number, first, words)
 
     def take_header(self, first, words):
-        wanted, least, greatest = [(b'pidmax', 2, 32768), (b'consoles', 0, 8)][self.header]
+        wanted, least, greatest = [(b'pidmax', 2, 4194304), (b'consoles', 0, 64)][self.header]
         if first != wanted:
             raise Refused('unknown word')
         self.consoles = words.number(least, greatest)

@@ -18,7 +18,8 @@ use Rattle.posix.specs.declared.call.Call.TheVariants.{Exit, Fork, Waitpid, Wait
 use Rattle.posix.specs.declared.entry.Entry.{Entry}
 use Rattle.posix.specs.declared.waits.WaitCall.TheVariants as wait
 use Rattle.posix.specs.declared.entry.Entry.TheVariants.{Noted, Called, Moved, Reported, Looked, NoMemory, Marked, Handled, Discarded, Stopped, Returned, Ended, Halted}
-use Rattle.laws.specs.TraceLines.{is_i64, is_number, is_result, moves_bytes, asks_memory, is_entry, is_line}
+use Rattle.laws.specs.TraceLines.{is_number, is_result, moves_bytes, asks_memory, is_entry, is_line}
+use Rattle.posix.specs.Ranges.{is_i64}
 use Rattle.posix.specs.Statuses.{is_end_word}
 use Rattle.traceline.specs.Lines.{is_one_line}
 

@@ -7,7 +7,7 @@ ghost use Rattle.posix.specs.Entries.{Line};
 ghost use Rattle.posix.specs.Printing.{print};
 ghost use Rattle.posix.specs.Runs.{Runs};
 ghost use Rattle.posix.specs.States.{State, World};
-ghost use Rattle.laws.specs.Kinds.{IsEvent, IsWorld};
+ghost use Rattle.posix.specs.Ranges.{IsEvent, IsWorld};
 ghost use Rattle.audit.specs.declared.fault.AuditFault.TheVariants.{Memory};
 ghost use Rattle.audit.specs.Texts.{IsLawful, IsLawfulBefore, IsFirstFault};
 

@@ -43,6 +43,7 @@ pub(crate) fn finish_shown<K: ProcessTable>(
     ensures state { machine.new.state ≡ finish machine.old.state pid ((0, value) ∷ []) }
     ensures shown { entries.new.items ≡ entries.old.items ++ entry ∷ [] }
     ensures costs { has_place machine.old.state pid ≡ true → CostsAtMost 1 machine.old machine.new }
+    ensures no_fewer { machine.old.visits ≤ machine.new.visits }
 {
     machine.own(pid).finish(value);
     entries.push(entry);
@@ -63,6 +64,7 @@ pub fn finish_with<K: ProcessTable>(
     ensures state { machine.new.state ≡ finish machine.old.state pid ((0, value) ∷ []) }
     ensures shown { entries.new.items ≡ entries.old.items ++ Called pid call value ∷ [] }
     ensures costs { has_place machine.old.state pid ≡ true → CostsAtMost 1 machine.old machine.new }
+    ensures no_fewer { machine.old.visits ≤ machine.new.visits }
 {
     let entry = Entry::Called {
         pid,
@@ -86,6 +88,7 @@ pub fn refuse<K: ProcessTable>(
     ensures state { machine.new.state ≡ finish machine.old.state pid ((0, refusal_of errno) ∷ []) }
     ensures shown { entries.new.items ≡ entries.old.items ++ Called pid call (refusal_of errno) ∷ [] }
     ensures costs { has_place machine.old.state pid ≡ true → CostsAtMost 1 machine.old machine.new }
+    ensures no_fewer { machine.old.visits ≤ machine.new.visits }
 {
     finish_with(machine, pid, call, refusal(errno), entries)
 }
@@ -103,6 +106,7 @@ pub fn refuse_memory<K: ProcessTable>(
     ensures state { machine.new.state ≡ finish machine.old.state pid ((0, refusal_of Errno.EAGAIN) ∷ []) }
     ensures shown { entries.new.items ≡ entries.old.items ++ NoMemory pid call ∷ [] }
     ensures costs { has_place machine.old.state pid ≡ true → CostsAtMost 1 machine.old machine.new }
+    ensures no_fewer { machine.old.visits ≤ machine.new.visits }
 {
     let entry = Entry::NoMemory { pid, call };
     finish_shown(machine, pid, refusal(Errno::EAGAIN), entry, entries)
@@ -112,7 +116,8 @@ pub fn refuse_memory<K: ProcessTable>(
 fn getppid<K: ProcessTable>(machine: &mut Machine<K>, pid: Pid, entries: &mut Entries) -> Attempt
     requires there { IsSome (process machine.old.state pid) }
     requires room { length entries.old.items ≤ 1 }
-    ensures { Attempts machine.old.state pid Call.Getppid result entries.old.items entries.new.items machine.new.state }
+    ensures attempts { Attempts machine.old.state pid Call.Getppid result entries.old.items entries.new.items machine.new.state }
+    ensures no_fewer { machine.old.visits ≤ machine.new.visits }
 {
     let parent = machine.parent(pid);
     finish_with(
@@ -132,7 +137,8 @@ fn sched_yield<K: ProcessTable>(
 ) -> Attempt
     requires acting { IsActing machine.old.state pid }
     requires room { length entries.old.items ≤ 1 }
-    ensures { Attempts machine.old.state pid Call.SchedYield result entries.old.items entries.new.items machine.new.state }
+    ensures attempts { Attempts machine.old.state pid Call.SchedYield result entries.old.items entries.new.items machine.new.state }
+    ensures no_fewer { machine.old.visits ≤ machine.new.visits }
 {
     machine.go_last(pid);
     finish_with(machine, pid, Call::SchedYield, 0, entries)
@@ -143,7 +149,8 @@ fn fork<K: ProcessTable>(machine: &mut Machine<K>, pid: Pid, entries: &mut Entri
     requires acting { IsActing machine.old.state pid }
     requires births { machine.old.state.births + 1 < 2 ^ 64 }
     requires room { length entries.old.items ≤ 1 }
-    ensures { Attempts machine.old.state pid Call.Fork result entries.old.items entries.new.items machine.new.state }
+    ensures attempts { Attempts machine.old.state pid Call.Fork result entries.old.items entries.new.items machine.new.state }
+    ensures no_fewer { machine.old.visits ≤ machine.new.visits }
 {
     let Some(child) = machine.next_pid() else {
         return refuse(machine, pid, Call::Fork, Errno::EAGAIN, entries);
@@ -159,7 +166,8 @@ fn fork<K: ProcessTable>(machine: &mut Machine<K>, pid: Pid, entries: &mut Entri
 fn exit<K: ProcessTable>(machine: &mut Machine<K>, pid: Pid, entries: &mut Entries) -> Attempt
     requires there { IsSome (process machine.old.state pid) }
     requires room { length entries.old.items ≤ 1 }
-    ensures { Attempts machine.old.state pid Call.Exit result entries.old.items entries.new.items machine.new.state }
+    ensures attempts { Attempts machine.old.state pid Call.Exit result entries.old.items entries.new.items machine.new.state }
+    ensures no_fewer { machine.old.visits ≤ machine.new.visits }
 {
     let code = machine.look(pid).cpu.register(Register::FIRST_ARGUMENT);
     end(machine, pid, Status::exited(code), entries);
@@ -171,7 +179,8 @@ fn exit<K: ProcessTable>(machine: &mut Machine<K>, pid: Pid, entries: &mut Entri
 fn subreaper<K: ProcessTable>(machine: &mut Machine<K>, pid: Pid, entries: &mut Entries) -> Attempt
     requires there { IsSome (process machine.old.state pid) }
     requires room { length entries.old.items ≤ 1 }
-    ensures { Attempts machine.old.state pid Call.Subreaper result entries.old.items entries.new.items machine.new.state }
+    ensures attempts { Attempts machine.old.state pid Call.Subreaper result entries.old.items entries.new.items machine.new.state }
+    ensures no_fewer { machine.old.visits ≤ machine.new.visits }
 {
     let mark = asks_for_mark(machine.look(pid));
     machine.mark(pid, mark);
@@ -184,7 +193,8 @@ fn subreaper<K: ProcessTable>(machine: &mut Machine<K>, pid: Pid, entries: &mut 
 fn sigreturn<K: ProcessTable>(machine: &mut Machine<K>, pid: Pid, entries: &mut Entries) -> Attempt
     requires there { IsSome (process machine.old.state pid) }
     requires none { entries.old.items ≡ [] }
-    ensures { Attempts machine.old.state pid Call.Sigreturn result entries.old.items entries.new.items machine.new.state }
+    ensures attempts { Attempts machine.old.state pid Call.Sigreturn result entries.old.items entries.new.items machine.new.state }
+    ensures no_fewer { machine.old.visits ≤ machine.new.visits }
 {
     return_from_handler(machine, pid, entries);
     Attempt::Done
@@ -206,7 +216,8 @@ fn alarm<K: ProcessTable>(machine: &mut Machine<K>, pid: Pid, entries: &mut Entr
     requires acting { IsActing machine.old.state pid }
     requires time { machine.old.state.ticks + most_ticks < 2 ^ 64 }
     requires room { length entries.old.items ≤ 1 }
-    ensures { Attempts machine.old.state pid Call.Alarm result entries.old.items entries.new.items machine.new.state }
+    ensures attempts { Attempts machine.old.state pid Call.Alarm result entries.old.items entries.new.items machine.new.state }
+    ensures no_fewer { machine.old.visits ≤ machine.new.visits }
 {
     let word = machine.look(pid).cpu.register(Register::FIRST_ARGUMENT);
     let Some(ticks) = ticks_in(word) else {
@@ -237,6 +248,7 @@ pub fn attempt<K: ProcessTable>(
     ensures brief { (me : Process) → process machine.old.state pid ≡ Some me → IsQuiet pid machine.old → IfSome (slots_of_brief call machine.old.state.processes me) (λ n. CostsWithRechecks n machine.old machine.new) }
     ensures done { call ≡ Call.Kill ⊎ call ≡ Call.Sigqueue → result ≡ Attempt.Done }
     ensures waits { (b : BlockedValue) → is_some (wait_in call) ≡ true → result ≡ Attempt.Block b → AreSame machine.old machine.new }
+    ensures no_fewer { machine.old.visits ≤ machine.new.visits }
 {
     match call {
         Call::Exit => exit(machine, pid, entries),
@@ -283,6 +295,7 @@ pub fn attempt_again<K: ProcessTable>(
     ensures brief { is_in_wait (Some blocked) ≡ true → IsQuiet pid machine.old → CostsWithRechecks (11 + 2 * length (children_in pid machine.old.state.processes)) machine.old machine.new }
     ensures once { is_in_wait (Some blocked) ≡ true → result ≢ Attempt.Again }
     ensures waits { (b : BlockedValue) → is_in_wait (Some blocked) ≡ true → result ≡ Attempt.Block b → AreSame machine.old machine.new }
+    ensures no_fewer { machine.old.visits ≤ machine.new.visits }
 {
     match blocked {
         Blocked::Wait(call) => wait(machine, call, pid, entries),

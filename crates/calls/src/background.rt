@@ -1,6 +1,6 @@
 //! Background process groups: who may use a terminal (XBD 11.1.4).
 
-ghost use Rattle.std.specs.Prelude.{◌≡◌, false, IsSome, Some};
+ghost use Rattle.std.specs.Prelude.{◌≡◌, ◌≤◌, false, IsSome, Some};
 ghost use Rattle.posix.specs.Processes.{Process};
 ghost use Rattle.posix.specs.SignalNumbers.{is_realtime};
 ghost use Rattle.posix.specs.Consoles.{Console};
@@ -48,6 +48,7 @@ fn blocks_or_ignores<K: ProcessTable>(machine: &mut Machine<K>, pid: Pid, sig: S
     requires { IsSome (process machine.old.state pid) }
     ensures value { (me : Process) → process machine.old.state pid ≡ Some me → result ≡ blocks_or_ignores_signal me sig }
     ensures same { machine.new.state ≡ machine.old.state }
+    ensures no_fewer { machine.old.visits ≤ machine.new.visits }
 {
     let signals = &machine.look(pid).signals;
     signals.mask().contains(sig) || is_ignored(signals.action(sig).handler)
@@ -63,6 +64,7 @@ pub(crate) fn change_access<K: ProcessTable>(
     requires { IsSome (process machine.old.state me.now.pid) }
     ensures value { (r : Process) (c : Console) → process machine.old.state me.now.pid ≡ Some r → me.now ≡ caller_of r → terminal.now ≡ terminal_of c → result ≡ change_access_of machine.old.state r c }
     ensures same { machine.new.state ≡ machine.old.state }
+    ensures no_fewer { machine.old.visits ≤ machine.new.visits }
 {
     if !is_in_background(me, terminal) || blocks_or_ignores(machine, me.pid, Sig::TTOU) {
         return Access::Allowed;
@@ -84,6 +86,7 @@ pub(crate) fn read_access<K: ProcessTable>(
     requires { IsSome (process machine.old.state me.now.pid) }
     ensures value { (r : Process) (c : Console) → process machine.old.state me.now.pid ≡ Some r → me.now ≡ caller_of r → terminal.now ≡ terminal_of c → result ≡ read_access_of machine.old.state r c }
     ensures same { machine.new.state ≡ machine.old.state }
+    ensures no_fewer { machine.old.visits ≤ machine.new.visits }
 {
     if !is_in_background(me, terminal) {
         return Access::Allowed;
@@ -105,6 +108,7 @@ pub(crate) fn write_access<K: ProcessTable>(
     requires { IsSome (process machine.old.state me.now.pid) }
     ensures value { (r : Process) (c : Console) → process machine.old.state me.now.pid ≡ Some r → me.now ≡ caller_of r → terminal.now ≡ terminal_of c → result ≡ write_access_of machine.old.state r c }
     ensures same { machine.new.state ≡ machine.old.state }
+    ensures no_fewer { machine.old.visits ≤ machine.new.visits }
 {
     if terminal.tostop {
         change_access(machine, me, terminal)
@@ -122,6 +126,7 @@ pub(crate) fn signal_own_group<K: ProcessTable>(
     requires { is_realtime sig ≡ false }
     ensures again { result ≡ Attempt.Again }
     ensures state { machine.new.state ≡ record (machine.old.state) { processes = signalled_group sig me.now.group machine.old.state.processes } }
+    ensures no_fewer { machine.old.visits ≤ machine.new.visits }
 {
     machine.signal_group(me.group, sig);
     Attempt::Again

@@ -35,6 +35,7 @@ pub fn end<K: ProcessTable>(
     ensures state { (me : Process) → process machine.old.state pid ≡ Some me → machine.new.state ≡ (end_process machine.old.state me status).state }
     ensures entries { (me : Process) → process machine.old.state pid ≡ Some me → entries.new.items ≡ entries.old.items ++ (end_process machine.old.state me status).entries }
     ensures visits { (me : Process) → process machine.old.state pid ≡ Some me → machine.new.visits ≤ machine.old.visits + slots_of_end machine.old me status }
+    ensures no_fewer { machine.old.visits ≤ machine.new.visits }
 {
     machine.hang_up(pid);
     let heir = machine.heir(pid);
@@ -78,6 +79,7 @@ fn handle<K: ProcessTable>(
     requires none { entries.old.items ≡ [] }
     ensures does { (me : Process) → process machine.old.state pid ≡ Some me → handling machine.old.state me signal address ≡ record { state = machine.new.state; entries = entries.new.items } }
     ensures costs { has_place machine.old.state pid ≡ true → (me : Process) → process machine.old.state pid ≡ Some me → is_full me.signals ≡ false → CostsAtMost 1 machine.old machine.new }
+    ensures no_fewer { machine.old.visits ≤ machine.new.visits }
 {
     let PendingSignal { sig, carried } = signal;
     let own = machine.own(pid);
@@ -99,6 +101,7 @@ fn handle<K: ProcessTable>(
 fn is_stop_discarded<K: ProcessTable>(machine: &mut Machine<K>, pid: Pid, sig: Sig) -> bool
     ensures value { (me : Process) → process machine.old.state pid ≡ Some me → result ≡ (not (sig == STOP) && is_orphaned me.group machine.old.state.processes) }
     ensures same { machine.new.state ≡ machine.old.state }
+    ensures no_fewer { machine.old.visits ≤ machine.new.visits }
 {
     if sig == Sig::STOP {
         return false;
@@ -114,7 +117,8 @@ fn is_stop_discarded<K: ProcessTable>(machine: &mut Machine<K>, pid: Pid, sig: S
 fn stop<K: ProcessTable>(machine: &mut Machine<K>, pid: Pid, sig: Sig, entries: &mut Entries)
     requires placed { IsPlaced machine.old.state.processes pid }
     requires none { entries.old.items ≡ [] }
-    ensures { (me : Process) → process machine.old.state pid ≡ Some me → stop_or_discard machine.old.state me sig ≡ record { state = machine.new.state; entries = entries.new.items } }
+    ensures state { (me : Process) → process machine.old.state pid ≡ Some me → stop_or_discard machine.old.state me sig ≡ record { state = machine.new.state; entries = entries.new.items } }
+    ensures no_fewer { machine.old.visits ≤ machine.new.visits }
 {
     if is_stop_discarded(machine, pid, sig) {
         entries.push(Entry::Discarded { pid, sig });
@@ -134,7 +138,8 @@ fn act_by_default<K: ProcessTable>(
 )
     requires placed { IsPlaced machine.old.state.processes pid }
     requires none { entries.old.items ≡ [] }
-    ensures { (me : Process) → process machine.old.state pid ≡ Some me → (if me.pid == 1 then discarding machine.old.state me.pid sig else acting_by_default machine.old.state me sig (default_action sig)) ≡ record { state = machine.new.state; entries = entries.new.items } }
+    ensures state { (me : Process) → process machine.old.state pid ≡ Some me → (if me.pid == 1 then discarding machine.old.state me.pid sig else acting_by_default machine.old.state me sig (default_action sig)) ≡ record { state = machine.new.state; entries = entries.new.items } }
+    ensures no_fewer { machine.old.visits ≤ machine.new.visits }
 {
     if pid == Pid::INIT {
         entries.push(Entry::Discarded { pid, sig });
@@ -154,7 +159,8 @@ fn act_by_default<K: ProcessTable>(
 pub fn deliver<K: ProcessTable>(machine: &mut Machine<K>, pid: Pid, sig: Sig, entries: &mut Entries)
     requires placed { IsPlaced machine.old.state.processes pid }
     requires none { entries.old.items ≡ [] }
-    ensures { (me : Process) → process machine.old.state pid ≡ Some me → delivering machine.old.state me sig ≡ record { state = machine.new.state; entries = entries.new.items } }
+    ensures state { (me : Process) → process machine.old.state pid ≡ Some me → delivering machine.old.state me sig ≡ record { state = machine.new.state; entries = entries.new.items } }
+    ensures no_fewer { machine.old.visits ≤ machine.new.visits }
 {
     let own = machine.own(pid);
     let action = own.signals.action(sig);
@@ -184,6 +190,7 @@ pub fn fault<K: ProcessTable>(machine: &mut Machine<K>, pid: Pid, sig: Sig, entr
     requires none { entries.old.items ≡ [] }
     ensures does { (me : Process) → process machine.old.state pid ≡ Some me → faulting machine.old.state me sig ≡ record { state = machine.new.state; entries = entries.new.items } }
     ensures costs { has_place machine.old.state pid ≡ true → (me : Process) → process machine.old.state pid ≡ Some me → enters_handler me sig ≡ true → CostsAtMost 2 machine.old machine.new }
+    ensures no_fewer { machine.old.visits ≤ machine.new.visits }
 {
     let own = machine.look(pid);
     let action = own.signals.action(sig);
@@ -213,7 +220,8 @@ pub fn return_from_handler<K: ProcessTable>(
 )
     requires there { IsSome (process machine.old.state pid) }
     requires none { entries.old.items ≡ [] }
-    ensures { (me : Process) → process machine.old.state pid ≡ Some me → returning machine.old.state me ≡ record { state = machine.new.state; entries = entries.new.items } }
+    ensures state { (me : Process) → process machine.old.state pid ≡ Some me → returning machine.old.state me ≡ record { state = machine.new.state; entries = entries.new.items } }
+    ensures no_fewer { machine.old.visits ≤ machine.new.visits }
 {
     match machine.own(pid).return_from_handler() {
         Ok(()) => entries.push(Entry::Returned { pid }),

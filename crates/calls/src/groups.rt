@@ -21,6 +21,7 @@ fn named<K: ProcessTable>(machine: &mut Machine<K>, pid: Pid) -> Option<Snapshot
     requires { IsSome (process machine.old.state pid) }
     ensures value { (me : Process) → process machine.old.state pid ≡ Some me → result ≡ option_map snapshot_of (named_by me (argument me 1) machine.old.state.processes) }
     ensures same { machine.new.state ≡ machine.old.state }
+    ensures no_fewer { machine.old.visits ≤ machine.new.visits }
 {
     let word = machine.look(pid).cpu.register(Register::FIRST_ARGUMENT);
     machine.named(pid, word)
@@ -46,7 +47,8 @@ fn tell<K: ProcessTable>(
 ) -> Attempt
     requires there { IsSome (process machine.old.state pid) }
     requires room { length entries.old.items ≤ 1 }
-    ensures { (me : Process) → process machine.old.state pid ≡ Some me → Comes machine.old.state (tells machine.old.state me call (λ r. id_told call (snapshot_of r)) (named_by me (argument me 1) machine.old.state.processes)) result entries.old.items entries.new.items machine.new.state }
+    ensures comes { (me : Process) → process machine.old.state pid ≡ Some me → Comes machine.old.state (tells machine.old.state me call (λ r. id_told call (snapshot_of r)) (named_by me (argument me 1) machine.old.state.processes)) result entries.old.items entries.new.items machine.new.state }
+    ensures no_fewer { machine.old.visits ≤ machine.new.visits }
 {
     let Some(it) = named(machine, pid) else {
         return refuse(machine, pid, call, Errno::ESRCH, entries);
@@ -64,7 +66,8 @@ pub fn getpgid<K: ProcessTable>(
 ) -> Attempt
     requires there { IsSome (process machine.old.state pid) }
     requires room { length entries.old.items ≤ 1 }
-    ensures { Attempts machine.old.state pid Call.Getpgid result entries.old.items entries.new.items machine.new.state }
+    ensures attempts { Attempts machine.old.state pid Call.Getpgid result entries.old.items entries.new.items machine.new.state }
+    ensures no_fewer { machine.old.visits ≤ machine.new.visits }
 {
     tell(machine, pid, Call::Getpgid, entries)
 }
@@ -74,7 +77,8 @@ pub fn getpgid<K: ProcessTable>(
 pub fn getsid<K: ProcessTable>(machine: &mut Machine<K>, pid: Pid, entries: &mut Entries) -> Attempt
     requires there { IsSome (process machine.old.state pid) }
     requires room { length entries.old.items ≤ 1 }
-    ensures { Attempts machine.old.state pid Call.Getsid result entries.old.items entries.new.items machine.new.state }
+    ensures attempts { Attempts machine.old.state pid Call.Getsid result entries.old.items entries.new.items machine.new.state }
+    ensures no_fewer { machine.old.visits ≤ machine.new.visits }
 {
     tell(machine, pid, Call::Getsid, entries)
 }
@@ -88,7 +92,8 @@ pub fn setpgid<K: ProcessTable>(
 ) -> Attempt
     requires placed { IsPlaced machine.old.state.processes pid }
     requires room { length entries.old.items ≤ 1 }
-    ensures { Attempts machine.old.state pid Call.Setpgid result entries.old.items entries.new.items machine.new.state }
+    ensures attempts { Attempts machine.old.state pid Call.Setpgid result entries.old.items entries.new.items machine.new.state }
+    ensures no_fewer { machine.old.visits ≤ machine.new.visits }
 {
     let me = machine.caller(pid);
     match machine.move_group(&me) {
@@ -102,7 +107,8 @@ pub fn setpgid<K: ProcessTable>(
 pub fn setsid<K: ProcessTable>(machine: &mut Machine<K>, pid: Pid, entries: &mut Entries) -> Attempt
     requires placed { IsPlaced machine.old.state.processes pid }
     requires room { length entries.old.items ≤ 1 }
-    ensures { Attempts machine.old.state pid Call.Setsid result entries.old.items entries.new.items machine.new.state }
+    ensures attempts { Attempts machine.old.state pid Call.Setsid result entries.old.items entries.new.items machine.new.state }
+    ensures no_fewer { machine.old.visits ≤ machine.new.visits }
 {
     match machine.new_session(pid) {
         Ok(()) => finish_with(machine, pid, Call::Setsid, i64::from(pid.number()), entries),

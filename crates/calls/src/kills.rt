@@ -82,6 +82,7 @@ fn send<K: ProcessTable>(
     ensures done { result ≡ Attempt.Done }
     ensures comes { (granted : Bool) × Comes machine.old.state (sending granted machine.old.state (process_like me.now) call target value (signal_number_or_none me.now.r2)) result entries.old.items entries.new.items machine.new.state }
     ensures brief { is_one target ≡ true → IsQuiet me.now.pid machine.old → CostsWithRechecks (slots_of_kill machine.old.state.processes target (signal_number_or_none me.now.r2)) machine.old machine.new }
+    ensures no_fewer { machine.old.visits ≤ machine.new.visits }
 {
     let sig = match signal_or_none(me) {
         Ok(sig) => sig,
@@ -99,6 +100,7 @@ pub fn kill<K: ProcessTable>(machine: &mut Machine<K>, pid: Pid, entries: &mut E
     ensures done { result ≡ Attempt.Done }
     ensures attempts { Attempts machine.old.state pid Call.Kill result entries.old.items entries.new.items machine.new.state }
     ensures brief { (me : Process) → process machine.old.state pid ≡ Some me → is_one (target_in (argument me 1)) ≡ true → IsQuiet pid machine.old → CostsWithRechecks (slots_of_kill machine.old.state.processes (target_in (argument me 1)) (signal_number_or_none (argument me 2)) + 1) machine.old machine.new }
+    ensures no_fewer { machine.old.visits ≤ machine.new.visits }
 {
     let me = machine.caller(pid);
     send(machine, &me, Call::Kill, me.target(), 0, entries)
@@ -115,6 +117,7 @@ pub fn sigqueue<K: ProcessTable>(
     ensures done { result ≡ Attempt.Done }
     ensures attempts { Attempts machine.old.state pid Call.Sigqueue result entries.old.items entries.new.items machine.new.state }
     ensures brief { (me : Process) → process machine.old.state pid ≡ Some me → is_one (process_in (argument me 1)) ≡ true → IsQuiet pid machine.old → CostsWithRechecks (slots_of_kill machine.old.state.processes (process_in (argument me 1)) (signal_number_or_none (argument me 2)) + 1) machine.old machine.new }
+    ensures no_fewer { machine.old.visits ≤ machine.new.visits }
 {
     let me = machine.caller(pid);
     let target = Target::process_from_word(me.r1);

@@ -17,7 +17,8 @@ use proctable::ProcessTable;
 pub fn exec<K: ProcessTable>(machine: &mut Machine<K>, pid: Pid, entries: &mut Entries) -> Attempt
     requires there { IsSome (process machine.old.state pid) }
     requires room { length entries.old.items ≤ 1 }
-    ensures { Attempts machine.old.state pid Call.Exec result entries.old.items entries.new.items machine.new.state }
+    ensures attempts { Attempts machine.old.state pid Call.Exec result entries.old.items entries.new.items machine.new.state }
+    ensures no_fewer { machine.old.visits ≤ machine.new.visits }
 {
     let word = machine.look(pid).cpu.register(Register::FIRST_ARGUMENT);
     if !machine.exec_named(pid, word) {

@@ -48,7 +48,8 @@ fn acquire<K: ProcessTable>(
     requires caller { (r : Process) → process machine.old.state me.now.pid ≡ Some r → me.now ≡ caller_of r }
     requires console_index { Some session ≡ option_map (λ (c : Console). c.session) (slice_get machine.old.state.consoles console_index) }
     requires room { length entries.old.items ≤ 1 }
-    ensures { (r : Process) (c : Console) → process machine.old.state me.now.pid ≡ Some r → slice_get machine.old.state.consoles console_index ≡ Some c → Comes machine.old.state (setctty_of machine.old.state r console_index (Some c)) result entries.old.items entries.new.items machine.new.state }
+    ensures comes { (r : Process) (c : Console) → process machine.old.state me.now.pid ≡ Some r → slice_get machine.old.state.consoles console_index ≡ Some c → Comes machine.old.state (setctty_of machine.old.state r console_index (Some c)) result entries.old.items entries.new.items machine.new.state }
+    ensures no_fewer { machine.old.visits ≤ machine.new.visits }
 {
     if !may_acquire(machine, me, session) {
         return refuse(machine, me.pid, Call::Setctty, Errno::EPERM, entries);
@@ -69,7 +70,8 @@ pub fn setctty<K: ProcessTable>(
 ) -> Attempt
     requires there { IsSome (process machine.old.state pid) }
     requires room { length entries.old.items ≤ 1 }
-    ensures { Attempts machine.old.state pid Call.Setctty result entries.old.items entries.new.items machine.new.state }
+    ensures attempts { Attempts machine.old.state pid Call.Setctty result entries.old.items entries.new.items machine.new.state }
+    ensures no_fewer { machine.old.visits ≤ machine.new.visits }
 {
     let me = machine.caller(pid);
     let Some(console_index) = console_named(me.r1) else {
@@ -104,7 +106,8 @@ pub fn tcgetpgrp<K: ProcessTable>(
 ) -> Attempt
     requires there { IsSome (process machine.old.state pid) }
     requires room { length entries.old.items ≤ 1 }
-    ensures { Attempts machine.old.state pid Call.Tcgetpgrp result entries.old.items entries.new.items machine.new.state }
+    ensures attempts { Attempts machine.old.state pid Call.Tcgetpgrp result entries.old.items entries.new.items machine.new.state }
+    ensures no_fewer { machine.old.visits ≤ machine.new.visits }
 {
     let me = machine.caller(pid);
     let Some(terminal) = machine.terminal(me.session) else {
@@ -134,7 +137,8 @@ fn put_foreground<K: ProcessTable>(
     requires there { IsSome (process machine.old.state me.now.pid) }
     requires caller { (r : Process) → process machine.old.state me.now.pid ≡ Some r → me.now ≡ caller_of r }
     requires room { length entries.old.items ≤ 1 }
-    ensures { (r : Process) → process machine.old.state me.now.pid ≡ Some r → Comes machine.old.state (putting_foreground machine.old.state r (argument r 1)) result entries.old.items entries.new.items machine.new.state }
+    ensures comes { (r : Process) → process machine.old.state me.now.pid ≡ Some r → Comes machine.old.state (putting_foreground machine.old.state r (argument r 1)) result entries.old.items entries.new.items machine.new.state }
+    ensures no_fewer { machine.old.visits ≤ machine.new.visits }
 {
     let Some(group) = natural_in(me.r1) else {
         return refuse(machine, me.pid, Call::Tcsetpgrp, Errno::EINVAL, entries);
@@ -157,7 +161,8 @@ fn tcsetpgrp_on<K: ProcessTable>(
     requires there { IsSome (process machine.old.state me.now.pid) }
     requires caller { (r : Process) → process machine.old.state me.now.pid ≡ Some r → me.now ≡ caller_of r }
     requires room { length entries.old.items ≤ 1 }
-    ensures { (r : Process) (c : Console) → process machine.old.state me.now.pid ≡ Some r → terminal.now ≡ terminal_of c → Comes machine.old.state (tcsetpgrp_of machine.old.state r (Some c)) result entries.old.items entries.new.items machine.new.state }
+    ensures comes { (r : Process) (c : Console) → process machine.old.state me.now.pid ≡ Some r → terminal.now ≡ terminal_of c → Comes machine.old.state (tcsetpgrp_of machine.old.state r (Some c)) result entries.old.items entries.new.items machine.new.state }
+    ensures no_fewer { machine.old.visits ≤ machine.new.visits }
 {
     match change_access(machine, me, terminal) {
         Access::Allowed => put_foreground(machine, me, entries),
@@ -178,7 +183,8 @@ pub fn tcsetpgrp<K: ProcessTable>(
 ) -> Attempt
     requires there { IsSome (process machine.old.state pid) }
     requires room { length entries.old.items ≤ 1 }
-    ensures { Attempts machine.old.state pid Call.Tcsetpgrp result entries.old.items entries.new.items machine.new.state }
+    ensures attempts { Attempts machine.old.state pid Call.Tcsetpgrp result entries.old.items entries.new.items machine.new.state }
+    ensures no_fewer { machine.old.visits ≤ machine.new.visits }
 {
     let me = machine.caller(pid);
     let Some(terminal) = machine.terminal(me.session) else {
@@ -199,7 +205,8 @@ fn put_tostop<K: ProcessTable>(
     requires there { IsSome (process machine.old.state me.now.pid) }
     requires caller { (r : Process) → process machine.old.state me.now.pid ≡ Some r → me.now ≡ caller_of r }
     requires room { length entries.old.items ≤ 1 }
-    ensures { (r : Process) → process machine.old.state me.now.pid ≡ Some r → Comes machine.old.state (putting_tostop machine.old.state r) result entries.old.items entries.new.items machine.new.state }
+    ensures comes { (r : Process) → process machine.old.state me.now.pid ≡ Some r → Comes machine.old.state (putting_tostop machine.old.state r) result entries.old.items entries.new.items machine.new.state }
+    ensures no_fewer { machine.old.visits ≤ machine.new.visits }
 {
     machine.set_tostop(me.session, me.r1 != 0);
     finish_with(machine, me.pid, Call::Settostop, 0, entries)
@@ -216,7 +223,8 @@ fn settostop_on<K: ProcessTable>(
     requires there { IsSome (process machine.old.state me.now.pid) }
     requires caller { (r : Process) → process machine.old.state me.now.pid ≡ Some r → me.now ≡ caller_of r }
     requires room { length entries.old.items ≤ 1 }
-    ensures { (r : Process) (c : Console) → process machine.old.state me.now.pid ≡ Some r → terminal.now ≡ terminal_of c → Comes machine.old.state (settostop_of machine.old.state r (Some c)) result entries.old.items entries.new.items machine.new.state }
+    ensures comes { (r : Process) (c : Console) → process machine.old.state me.now.pid ≡ Some r → terminal.now ≡ terminal_of c → Comes machine.old.state (settostop_of machine.old.state r (Some c)) result entries.old.items entries.new.items machine.new.state }
+    ensures no_fewer { machine.old.visits ≤ machine.new.visits }
 {
     match change_access(machine, me, terminal) {
         Access::Allowed => put_tostop(machine, me, entries),
@@ -236,7 +244,8 @@ pub fn settostop<K: ProcessTable>(
 ) -> Attempt
     requires there { IsSome (process machine.old.state pid) }
     requires room { length entries.old.items ≤ 1 }
-    ensures { Attempts machine.old.state pid Call.Settostop result entries.old.items entries.new.items machine.new.state }
+    ensures attempts { Attempts machine.old.state pid Call.Settostop result entries.old.items entries.new.items machine.new.state }
+    ensures no_fewer { machine.old.visits ≤ machine.new.visits }
 {
     let me = machine.caller(pid);
     let Some(terminal) = machine.terminal(me.session) else {

@@ -32,7 +32,8 @@ fn finish_moved<K: ProcessTable>(
 ) -> Attempt
     requires there { IsSome (process machine.old.state pid) }
     requires room { length entries.old.items ≤ 3 }
-    ensures { Comes machine.old.state (finish_moved_of machine.old.state pid call bytes) result entries.old.items entries.new.items machine.new.state }
+    ensures comes { Comes machine.old.state (finish_moved_of machine.old.state pid call bytes) result entries.old.items entries.new.items machine.new.state }
+    ensures no_fewer { machine.old.visits ≤ machine.new.visits }
 {
     let count = bytes.as_slice().len();
     if count == 0 {
@@ -49,7 +50,8 @@ fn finish_moved<K: ProcessTable>(
 fn store<K: ProcessTable>(machine: &mut Machine<K>, pid: Pid, address: u16, bytes: &[u8])
     requires there { IsSome (process machine.old.state pid) }
     requires within { address + length bytes.now ≤ 256 }
-    ensures { machine.new.state ≡ change machine.old.state pid (with_bytes address bytes.now) }
+    ensures state { machine.new.state ≡ change machine.old.state pid (with_bytes address bytes.now) }
+    ensures no_fewer { machine.old.visits ≤ machine.new.visits }
 {
     machine.own(pid).cpu.store(address, bytes);
 }
@@ -62,6 +64,7 @@ fn take_bytes<K: ProcessTable>(machine: &mut Machine<K>, session: Pid, most: u8)
     requires few { most ≤ 16 }
     ensures bytes { (c : Console) → console_of session machine.old.state.consoles ≡ Some c → result ≡ first_bytes most c.lines }
     ensures state { machine.new.state ≡ change_console machine.old.state session (line_taken most) }
+    ensures no_fewer { machine.old.visits ≤ machine.new.visits }
 {
     let mut buffer = [0; Span::MOST as usize];
     let part = &mut buffer[..usize::from(most)];
@@ -84,7 +87,8 @@ fn read_line<K: ProcessTable>(
     requires few { span.count ≤ 16 }
     requires within { span.address + span.count ≤ 256 }
     requires room { length entries.old.items ≤ 1 }
-    ensures { (r : Process) (c : Console) → process machine.old.state me.now.pid ≡ Some r → console_of r.session machine.old.state.consoles ≡ Some c → Comes machine.old.state (read_from machine.old.state r span c.lines) result entries.old.items entries.new.items machine.new.state }
+    ensures comes { (r : Process) (c : Console) → process machine.old.state me.now.pid ≡ Some r → console_of r.session machine.old.state.consoles ≡ Some c → Comes machine.old.state (read_from machine.old.state r span c.lines) result entries.old.items entries.new.items machine.new.state }
+    ensures no_fewer { machine.old.visits ≤ machine.new.visits }
 {
     let Some(bytes) = take_bytes(machine, me.session, span.count) else {
         return Attempt::Block(Blocked::Read);
@@ -108,7 +112,8 @@ fn read_span<K: ProcessTable>(
     requires few { span.count ≤ 16 }
     requires within { span.address + span.count ≤ 256 }
     requires room { length entries.old.items ≤ 1 }
-    ensures { (r : Process) (c : Console) → process machine.old.state me.now.pid ≡ Some r → console_of r.session machine.old.state.consoles ≡ Some c → terminal.now ≡ terminal_of c → Comes machine.old.state (read_in machine.old.state r c (Ok span)) result entries.old.items entries.new.items machine.new.state }
+    ensures comes { (r : Process) (c : Console) → process machine.old.state me.now.pid ≡ Some r → console_of r.session machine.old.state.consoles ≡ Some c → terminal.now ≡ terminal_of c → Comes machine.old.state (read_in machine.old.state r c (Ok span)) result entries.old.items entries.new.items machine.new.state }
+    ensures no_fewer { machine.old.visits ≤ machine.new.visits }
 {
     if terminal.hung_up {
         return finish_with(machine, me.pid, Call::Read, 0, entries);
@@ -129,7 +134,8 @@ fn read_span<K: ProcessTable>(
 pub fn read<K: ProcessTable>(machine: &mut Machine<K>, pid: Pid, entries: &mut Entries) -> Attempt
     requires there { IsSome (process machine.old.state pid) }
     requires room { length entries.old.items ≤ 1 }
-    ensures { (me : Process) → process machine.old.state pid ≡ Some me → Comes machine.old.state (reading machine.old.state me) result entries.old.items entries.new.items machine.new.state }
+    ensures comes { (me : Process) → process machine.old.state pid ≡ Some me → Comes machine.old.state (reading machine.old.state me) result entries.old.items entries.new.items machine.new.state }
+    ensures no_fewer { machine.old.visits ≤ machine.new.visits }
 {
     let me = machine.caller(pid);
     let Some(terminal) = machine.terminal(me.session) else {
@@ -150,6 +156,7 @@ pub fn has_to_read<K: ProcessTable>(machine: &mut Machine<K>, pid: Pid, snapshot
     ensures value { (me : Process) → process machine.old.state pid ≡ Some me → result ≡ waits_to_read machine.old.state.consoles me }
     ensures same { AreSame machine.old machine.new }
     ensures visits { machine.new.visits ≤ machine.old.visits + 1 }
+    ensures no_fewer { machine.old.visits ≤ machine.new.visits }
 {
     let Some(terminal) = machine.terminal(snapshot.session) else {
         return false;
@@ -180,7 +187,8 @@ fn write_span<K: ProcessTable>(
     requires few { span.count ≤ 16 }
     requires within { span.address + span.count ≤ 256 }
     requires room { length entries.old.items ≤ 1 }
-    ensures { (r : Process) (c : Console) → process machine.old.state me.now.pid ≡ Some r → terminal.now ≡ terminal_of c → Comes machine.old.state (write_in machine.old.state r c (Ok span)) result entries.old.items entries.new.items machine.new.state }
+    ensures comes { (r : Process) (c : Console) → process machine.old.state me.now.pid ≡ Some r → terminal.now ≡ terminal_of c → Comes machine.old.state (write_in machine.old.state r c (Ok span)) result entries.old.items entries.new.items machine.new.state }
+    ensures no_fewer { machine.old.visits ≤ machine.new.visits }
 {
     if terminal.hung_up {
         return refuse(machine, me.pid, Call::Write, Errno::EIO, entries);
@@ -202,7 +210,8 @@ fn write_span<K: ProcessTable>(
 pub fn write<K: ProcessTable>(machine: &mut Machine<K>, pid: Pid, entries: &mut Entries) -> Attempt
     requires there { IsSome (process machine.old.state pid) }
     requires room { length entries.old.items ≤ 1 }
-    ensures { (me : Process) → process machine.old.state pid ≡ Some me → Comes machine.old.state (writing machine.old.state me) result entries.old.items entries.new.items machine.new.state }
+    ensures comes { (me : Process) → process machine.old.state pid ≡ Some me → Comes machine.old.state (writing machine.old.state me) result entries.old.items entries.new.items machine.new.state }
+    ensures no_fewer { machine.old.visits ≤ machine.new.visits }
 {
     let me = machine.caller(pid);
     let Some(terminal) = machine.terminal(me.session) else {

@@ -41,6 +41,7 @@ fn report<K: ProcessTable>(
     ensures state { machine.new.state ≡ finish machine.old.state pid (results_of call child status) }
     ensures shown { entries.new.items ≡ entries.old.items ++ shown ∷ [] }
     ensures costs { has_place machine.old.state pid ≡ true → CostsAtMost 1 machine.old machine.new }
+    ensures no_fewer { machine.old.visits ≤ machine.new.visits }
 {
     machine.own(pid).finish_wait(call, child, status);
     entries.push(shown);
@@ -60,6 +61,7 @@ fn find_nothing<K: ProcessTable>(
     ensures state { machine.new.state ≡ finish machine.old.state pid (results_of_nothing call) }
     ensures shown { entries.new.items ≡ entries.old.items ++ Called pid (call_of_wait call) (pos 0) ∷ [] }
     ensures costs { has_place machine.old.state pid ≡ true → CostsAtMost 1 machine.old machine.new }
+    ensures no_fewer { machine.old.visits ≤ machine.new.visits }
 {
     machine.own(pid).finish_without_child(call);
     entries.push(Entry::Called {
@@ -85,6 +87,7 @@ fn look<K: ProcessTable>(
     ensures state { machine.new.state ≡ finish machine.old.state pid (results_of call child status) }
     ensures shown { entries.new.items ≡ entries.old.items ++ Looked pid child status ∷ [] }
     ensures costs { has_place machine.old.state pid ≡ true → CostsAtMost 1 machine.old machine.new }
+    ensures no_fewer { machine.old.visits ≤ machine.new.visits }
 {
     report(
         machine,
@@ -112,6 +115,7 @@ fn take<K: ProcessTable>(
     ensures state { machine.new.state ≡ finish machine.old.state pid (results_of call child status) }
     ensures shown { entries.new.items ≡ entries.old.items ++ Reported pid call child status ∷ [] }
     ensures costs { has_place machine.old.state pid ≡ true → CostsAtMost 1 machine.old machine.new }
+    ensures no_fewer { machine.old.visits ≤ machine.new.visits }
 {
     report(
         machine,
@@ -144,6 +148,7 @@ fn wait_as<K: ProcessTable>(
     ensures brief { IsQuiet me.now.pid machine.old → CostsWithRechecks (10 + 2 * length (children_in me.now.pid machine.old.state.processes)) machine.old machine.new }
     ensures once { result ≢ Attempt.Again }
     ensures waits { (b : BlockedValue) → result ≡ Attempt.Block b → AreSame machine.old machine.new }
+    ensures no_fewer { machine.old.visits ≤ machine.new.visits }
 {
     let Some(asked) = me.asked(call) else {
         return refuse(machine, me.pid, call.call(), Errno::EINVAL, entries);
@@ -189,6 +194,7 @@ pub fn wait<K: ProcessTable>(
     ensures brief { IsQuiet pid machine.old → CostsWithRechecks (11 + 2 * length (children_in pid machine.old.state.processes)) machine.old machine.new }
     ensures once { result ≢ Attempt.Again }
     ensures waits { (b : BlockedValue) → result ≡ Attempt.Block b → AreSame machine.old machine.new }
+    ensures no_fewer { machine.old.visits ≤ machine.new.visits }
 {
     let me = machine.caller(pid);
     wait_as(machine, call, &me, entries)
@@ -204,6 +210,7 @@ fn reports_first<K: ProcessTable>(
     ensures value { result ≡ reporting_first machine.old.state.processes first me.now.pid me.now.group asked }
     ensures same { AreSame machine.old machine.new }
     ensures visits { machine.new.visits ≤ machine.old.visits + slots_of_first first }
+    ensures no_fewer { machine.old.visits ≤ machine.new.visits }
 {
     match first {
         Some(child) => machine.has_report_of(me, asked, child),
@@ -224,6 +231,7 @@ fn would_wait<K: ProcessTable>(
     ensures value { result ≡ is_block (waiting call machine.old.state (process_like me.now)) }
     ensures same { AreSame machine.old machine.new }
     ensures visits { machine.new.visits + 1 ≤ machine.old.visits + slots_of_waiting machine.old.state.processes first call (process_like me.now) }
+    ensures no_fewer { machine.old.visits ≤ machine.new.visits }
 {
     let Some(asked) = me.asked(call) else {
         return false;
@@ -250,6 +258,7 @@ pub fn has_to_wait<K: ProcessTable>(
     ensures value { (me : Process) → process machine.old.state pid ≡ Some me → result ≡ is_block (waiting call machine.old.state me) }
     ensures same { AreSame machine.old machine.new }
     ensures visits { (me : Process) → process machine.old.state pid ≡ Some me → machine.new.visits ≤ machine.old.visits + slots_of_waiting machine.old.state.processes first call me }
+    ensures no_fewer { machine.old.visits ≤ machine.new.visits }
 {
     let me = machine.caller(pid);
     would_wait(machine, call, &me, first)

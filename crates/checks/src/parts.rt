@@ -64,7 +64,8 @@ fn lines_are_typed_and_read(rt: HostRuntime) -> Result<(), Fail> {
 #[tactic(auto, unfolding(posix::specs::States::is_in))]
 fn places_are_given_and_lost(rt: HostRuntime) -> Result<(), Fail> {
     let (two, three) = (pid(&rt, 2), pid(&rt, 3));
-    let mut order = Order::new(rt.alloc(), 3)?;
+    let mut order = Order::new(rt.alloc());
+    order.reserve(three)?;
     order.place(Pid::INIT);
     order.place(two);
     order.place(three);

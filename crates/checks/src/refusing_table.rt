@@ -44,6 +44,8 @@ impl<const REFUSED: usize> ProcessTable for RefusingTable<REFUSED> {
 
     ghost at_most_one = { λ n. Prim.omega arith };
 
+    ghost no_less = { λ n. Prim.omega arith };
+
     fn empty(alloc: Global) -> Self {
         RefusingTable {
             table: ScanTable::empty(alloc),

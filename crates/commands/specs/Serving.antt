@@ -6,6 +6,8 @@ use Rattle.exploring.specs.Serving.{Means as MeansOfExploring}
 use Rattle.exploring.specs.Words.{request_of_words as exploring_asked}
 use Rattle.inputs.specs.Reads.{Contents}
 use Rattle.naming.specs.Serving.{Means as MeansOfNaming, text_in_words}
+use Rattle.refusing.specs.Serving.{Means as MeansOfRefusing}
+use Rattle.refusing.specs.Words.{request_of_words as refusing_asked}
 use Rattle.sink.specs.Sinks.{Seen}
 use Rattle.running.specs.Serving.{IsToldAs, Means, Words}
 use Rattle.commands.specs.declared.help.TheConstants.{HELP, VERSION}
@@ -20,6 +22,7 @@ pub data Purpose : Type 0 where
   Shows : List (List ℕ) → Purpose
   Explains : List (List ℕ) → Purpose
   Names : List (List ℕ) → Purpose
+  Refuses : List (List ℕ) → Purpose
   RunsOrAudits : Purpose
 
 abbrev pub is_help : List ℕ → Bool
@@ -36,6 +39,7 @@ purpose first second more = if is_help first || is_help second then Helps
     else if bytes_eq first (codes "show") then Shows more
     else if bytes_eq first (codes "explain") then Explains more
     else if bytes_eq first (codes "names") then Names more
+    else if bytes_eq first (codes "refusal") then Refuses more
     else RunsOrAudits
 
 abbrev pub first_or_empty : List (List ℕ) → List ℕ
@@ -53,6 +57,7 @@ said (command.Explore more) = Explores (map (λ w. w.now) more.now)
 said (command.Show more) = Shows (map (λ w. w.now) more.now)
 said (command.Explain more) = Explains (map (λ w. w.now) more.now)
 said (command.Names more) = Names (map (λ w. w.now) more.now)
+said (command.Refusal more) = Refuses (map (λ w. w.now) more.now)
 said command.RunOrAudit = RunsOrAudits
 
 -- What a status means of words that are for this, with the files and the output from the call to the return. Of `show` it is
@@ -64,6 +69,7 @@ ServesAs contents words old new before after status (Explores more) = MeansOfExp
 ServesAs contents words old new before after status (Shows more) = status ≤ 3
 ServesAs contents words old new before after status (Explains more) = MeansOfExplaining contents (trace_in_words more) old new before after status × (status ≤ 3)
 ServesAs contents words old new before after status (Names more) = MeansOfNaming contents (text_in_words more) old new before after status × (status ≤ 3)
+ServesAs contents words old new before after status (Refuses more) = MeansOfRefusing contents (refusing_asked more) old new before after status × (status ≤ 3)
 ServesAs contents words old new before after status RunsOrAudits = Means contents words old new before after status × (status ≤ 3)
 
 -- and of any words

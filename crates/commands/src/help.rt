@@ -19,6 +19,8 @@ pub const HELP: &[u8] =
         --process P            of process P alone
         --step                 goes through the run, at a terminal
     jobk names TEXT            prints a world or events with numbers for names, as SIGTERM or ^C
+    jobk refusal WORLD EVENTS  says which word of a refused text is meant, why, and what was probably meant
+        --as NAME              tells NAME in place of the file's name
     jobk                       prints the trace of a small world of its own
 
 Status: 0 done, 1 a text is refused or a trace faulty, 2 other words, 3 a device or memory fails,

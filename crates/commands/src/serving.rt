@@ -9,6 +9,7 @@ use exploring::{Progress, serve as serve_explore};
 use host::{ReadFiles, WordsFault};
 use kernel::Sink;
 use naming::serve as serve_names;
+use refusing::serve as serve_refusal;
 use running::{put_own, serve as serve_run_or_audit};
 use showing::{Ask, serve as serve_show};
 use std::alloc::Global;
@@ -27,6 +28,8 @@ enum Command<'a> {
     Explain(&'a [&'a str]),
     /// `names`, and the words behind it.
     Names(&'a [&'a str]),
+    /// `refusal`, and the words behind it.
+    Refusal(&'a [&'a str]),
     /// `run`, `audit`, no words, or any others.
     RunOrAudit,
 }
@@ -75,14 +78,16 @@ fn command_in<'a>(words: &'a [&'a str]) -> Command<'a>
         Command::Explain(more)
     } else if *first == "names" {
         Command::Names(more)
+    } else if *first == "refusal" {
+        Command::Refusal(more)
     } else {
         Command::RunOrAudit
     }
 }
 
 /// Does what the words of the command line ask for, without the program's name, and gives the status of the program.
-/// Where the first or the second word asks for help or for the version, that is told; `explore`, `show`, `explain` and
-/// `names` are served by the words behind them; all other words as [`serve_run_or_audit`] says.
+/// Where the first or the second word asks for help or for the version, that is told; `explore`, `show`, `explain`,
+/// `names` and `refusal` are served by the words behind them; all other words as [`serve_run_or_audit`] says.
 pub fn serve<'a, F: ReadFiles, O: Sink, E: Sink, P: Progress + Ask>(
     alloc: Global,
     words: Result<&'a [&'a str], WordsFault>,
@@ -104,6 +109,7 @@ pub fn serve<'a, F: ReadFiles, O: Sink, E: Sink, P: Progress + Ask>(
         Command::Show(more) => serve_show(alloc, Ok(more), files, out, err, person),
         Command::Explain(more) => serve_explain(alloc, Ok(more), files, out, err),
         Command::Names(more) => serve_names(alloc, Ok(more), files, out, err),
+        Command::Refusal(more) => serve_refusal(alloc, Ok(more), files, out, err),
         Command::RunOrAudit => serve_run_or_audit(alloc, Ok(words), files, keys, out, err),
     }
 }

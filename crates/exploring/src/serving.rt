@@ -223,9 +223,13 @@ fn serve_request<'a, 'w, F: ReadFiles, O: Sink, P: Progress>(
         size: size_of(upto, ticks, inputs.events.len(), request.all)?,
     };
     let book = explore(alloc, &family, request.finds, progress)?;
-    let text = report(alloc, &family, &book)?;
+    let reported = report(alloc, &family, &book);
+    let is_told = is_told(request.must_halt, &book);
+    // What is large is dropped by its name, by one function whose proof is short.
+    drop(book);
+    let text = reported?;
     put_all(out, text.as_str().as_bytes())?;
-    Ok(is_told(request.must_halt, &book))
+    Ok(is_told)
 }
 
 /// Tells a failure, as far as the error output takes it. It takes no memory.

@@ -50,12 +50,13 @@ pub record IsKept (n : ℕ) (b : Indexes) (rs : List Process) : Type 0 where
   pub indexes : AreIndexes rs b
   pub anchors : AreAnchors rs b
 
--- A look leaves the processes and the room as they are, and reads at most n slots. From each look it is known
+-- A look leaves the processes and the room as they are, and reads at most n slots, so no fewer were read after it. From each look it is known
 -- that the numbers rise, and which there are.
 pub record Looks (n : ℕ) (old new : JobsView) : Type 0 where
   pub processes : new.processes ≡ old.processes
   pub room : new.room ≡ old.room
   pub visits : new.visits ≤ old.visits + n
+  pub no_fewer : old.visits ≤ new.visits
   pub rising : IsRising old.processes
   pub numbers : AreNumbers old.processes
 
@@ -68,6 +69,7 @@ pub record Finds (n : ℕ) (old new : JobsView) (what : Type 0) : Type 0 where
 pub record Costs (n : ℕ) (old new : JobsView) : Type 0 where
   pub room : new.room ≡ old.room
   pub visits : new.visits ≤ old.visits + n
+  pub no_fewer : old.visits ≤ new.visits
 
 -- one more slot was read
 abbrev pub looked : (ℕ → ℕ) → JobsView → JobsView

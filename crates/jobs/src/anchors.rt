@@ -19,6 +19,7 @@ fn seen_in<K: ProcessTable>(table: &mut K, pid: Pid) -> Option<IndexedFields>
     ensures contents { K.contents table.new ≡ K.contents table.old }
     ensures room { K.room table.new ≡ K.room table.old }
     ensures visits { K.visits table.new ≤ K.visits table.old + 1 }
+    ensures no_fewer { K.visits table.old ≤ K.visits table.new }
 {
     match table.get(pid) {
         Some(snapshot) => Some(of_snapshot(&snapshot)),
@@ -35,6 +36,7 @@ pub(crate) fn seen_there<K: ProcessTable>(table: &mut K, pid: Pid) -> IndexedFie
     ensures contents { K.contents table.new ≡ K.contents table.old }
     ensures room { K.room table.new ≡ K.room table.old }
     ensures visits { K.visits table.new ≤ K.visits table.old + 1 }
+    ensures no_fewer { K.visits table.old ≤ K.visits table.new }
 {
     of_record(table.update(pid))
 }
@@ -48,6 +50,7 @@ pub(crate) fn seen_above<K: ProcessTable>(table: &mut K, parent: Pid) -> Option<
     ensures contents { K.contents table.new ≡ K.contents table.old }
     ensures room { K.room table.new ≡ K.room table.old }
     ensures visits { K.visits table.new ≤ K.visits table.old + 1 }
+    ensures no_fewer { K.visits table.old ≤ K.visits table.new }
 {
     if parent == Pid::NONE {
         return None;
@@ -79,6 +82,7 @@ fn update_anchor<K: ProcessTable>(
     ensures contents { K.contents table.new ≡ K.contents table.old }
     ensures room { K.room table.new ≡ K.room table.old }
     ensures visits { K.visits table.new ≤ K.visits table.old + 1 }
+    ensures no_fewer { K.visits table.old ≤ K.visits table.new }
 {
     let it = seen_there(table, pid);
     anchors.put(pid, anchor_key(&it, &Some(*parent)));
@@ -99,6 +103,7 @@ pub(crate) fn update_anchors_of_children<K: ProcessTable>(
     ensures contents { K.contents table.new ≡ K.contents table.old }
     ensures room { K.room table.new ≡ K.room table.old }
     ensures visits { K.visits table.new ≤ K.visits table.old + 1 + 2 * length (children_in pid (K.contents table.old)) }
+    ensures no_fewer { K.visits table.old ≤ K.visits table.new }
 {
     let mut next = table.first_child(pid);
     while let Some(child) = next {
@@ -123,6 +128,7 @@ pub(crate) fn update_anchors<K: ProcessTable>(
     ensures contents { K.contents table.new ≡ K.contents table.old }
     ensures room { K.room table.new ≡ K.room table.old }
     ensures visits { K.visits table.new ≤ K.visits table.old + (if keeps_group_and_session_in change.now.before change.now.after then 0 else 2 + 2 * length (children_in pid (K.contents table.old))) }
+    ensures no_fewer { K.visits table.old ≤ K.visits table.new }
 {
     let Change {
         parent,

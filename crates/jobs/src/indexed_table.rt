@@ -83,6 +83,15 @@ impl<K: ProcessTable> IndexedTable<K> {
         self.indexes.reserve(self.count + 1, greatest)
     }
 
+    /// How many processes there are. No slot is read.
+    #[tactic(auto, using(crate::proofs::KeptLemmas::size_of))]
+    pub fn len(&self) -> usize
+        ensures value { result ≡ length self.now.processes }
+        ensures few { result < 2 ^ 31 }
+    {
+        self.count
+    }
+
     /// Makes so many pools wait for the queues of real-time signals, where fewer do. At an error the host has no memory
     /// for them, and none is gone. The processes are unchanged.
     pub fn reserve_pools(
@@ -109,6 +118,7 @@ impl<K: ProcessTable> IndexedTable<K> {
         ensures processes { self.new.processes ≡ inserted (process_of pid parent fields) self.old.processes }
         ensures room { self.old.room ≤ self.new.room + 1 }
         ensures visits { self.new.visits ≤ self.old.visits + 6 + length (children_in parent self.old.processes) }
+        ensures no_fewer { self.old.visits ≤ self.new.visits }
     {
         let after = of_record(&fields);
         let above = seen_above(&mut self.table, parent);
@@ -123,6 +133,7 @@ impl<K: ProcessTable> IndexedTable<K> {
     pub fn get(&mut self, pid: Pid) -> Option<Snapshot>
         ensures finds { Finds 1 self.old self.new (result ≡ option_map snapshot_of (lookup pid self.old.processes)) }
         ensures size { length self.old.processes < 2 ^ 63 }
+        ensures counts { IfSome result (λ it. K.one_more self.old.visits ≤ self.new.visits) }
     {
         self.table.get(pid)
     }
@@ -134,6 +145,7 @@ impl<K: ProcessTable> IndexedTable<K> {
         ensures processes { self.new.processes ≡ removed pid self.old.processes }
         ensures room { self.old.room ≤ self.new.room }
         ensures visits { self.new.visits ≤ self.old.visits + 5 }
+        ensures no_fewer { self.old.visits ≤ self.new.visits }
     {
         let Some(snapshot) = self.table.get(pid) else {
             return None;
@@ -327,6 +339,7 @@ fn run_on<K: ProcessTable, T, F: FnOnce(&mut Record) -> T>(
     ensures run { (k : IsRun F.FnOnce change (K.contents table.old) (K.contents table.new) pid result.result) × (result.before ≡ record_seen k.before) × (result.after ≡ record_seen k.after) × (result.takes_signal ≡ is_some (chosen k.after.life k.after.own.signals)) }
     ensures room { K.room table.new ≡ K.room table.old }
     ensures visits { K.visits table.new ≤ K.visits table.old + 1 }
+    ensures no_fewer { K.visits table.old ≤ K.visits table.new }
 {
     let it = table.update(pid);
     let before = of_record(it);
@@ -350,6 +363,7 @@ fn change_in<K: ProcessTable, F: FnOnce(&mut Record)>(table: &mut K, pid: Pid, c
     ensures parent { result.parent ≡ parent_of pid (K.contents table.old) }
     ensures room { K.room table.new ≡ K.room table.old }
     ensures visits { K.visits table.new ≤ K.visits table.old + 2 }
+    ensures no_fewer { K.visits table.old ≤ K.visits table.new }
 {
     let parent = parent_in(table, pid);
     let it = table.update(pid);
@@ -371,6 +385,7 @@ fn parent_in<K: ProcessTable>(table: &mut K, pid: Pid) -> Pid
     ensures contents { K.contents table.new ≡ K.contents table.old }
     ensures room { K.room table.new ≡ K.room table.old }
     ensures visits { K.visits table.new ≤ K.visits table.old + 1 }
+    ensures no_fewer { K.visits table.old ≤ K.visits table.new }
 {
     match table.get(pid) {
         Some(snapshot) => snapshot.parent,

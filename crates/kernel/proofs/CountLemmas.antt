@@ -34,6 +34,13 @@ use Rattle.posix.specs.Step.{code_of}
 use Rattle.std.proofs.lemmas.Option.{same_Some}
 use Rattle.calls.proofs.BriefLemmas.{brief_more}
 
+-- ---- one more slot
+
+-- where there is a current process, whoever that is
+pub counts_one : (o : Option Process) {m n : ℕ} → m ≤ n → IfSome o (λ me. m ≤ n)
+counts_one None h = tt
+counts_one (Some me) h = h
+
 -- ---- foregrounds
 
 -- none is looked at where all are checked

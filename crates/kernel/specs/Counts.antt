@@ -1,5 +1,5 @@
 -- How many slots of the table of processes are read in an event, at most.
-use Rattle.std.specs.Prelude.{◌&&◌, ◌||◌, ◌==◌, not, Bool, false, option_map, count_by, ◌≡◌, ℕ, ◌+◌, ◌*◌, ◌≤◌, if◌then◌else◌, List, [], length, filter, Option, Some, None, is_some}
+use Rattle.std.specs.Prelude.{◌&&◌, ◌||◌, ◌==◌, not, Bool, false, option_map, count_by, ◌≡◌, ℕ, ◌+◌, ◌*◌, ◌≤◌, if◌then◌else◌, List, [], length, filter, Option, Some, None, is_some, IfSome}
 use Rattle.posix.specs.declared.event.Event.{Event}
 use Rattle.posix.specs.declared.event.Event.TheVariants.{Step, Tick, Key, Hangup}
 use Rattle.posix.specs.declared.process.Blocked.{Blocked}
@@ -45,6 +45,10 @@ pub record IsAtRest (m : MachineView) : Type 0 where
   pub checked : m.foregrounds_unchecked ≡ Nothing
   pub settled : IsSettled m.state
   pub regular : IsRegular m.state
+
+-- where there is a current process, and no halt, at least one more slot was counted
+abbrev pub CountsOne : (ℕ → ℕ) → State → ℕ → ℕ → Type 0
+CountsOne more s old new = s.halted ≡ false → IfSome (current_process s) (λ me. more old ≤ new)
 
 -- ---- a step
 

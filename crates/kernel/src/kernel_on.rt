@@ -1,11 +1,11 @@
 //! The kernel of one world.
 
-ghost use Rattle.std.specs.Prelude.{◌≡◌, ◌+◌, ◌-◌, ◌++◌, ◌<◌, ◌≤◌, ℕ, List, [], ⊤, Contains, Some, IfOk, IfSome, IsSome, true, option_map, replicate, slice_get};
+ghost use Rattle.std.specs.Prelude.{◌≡◌, ◌+◌, ◌-◌, ◌++◌, ◌^◌, ◌<◌, ◌≤◌, ℕ, List, [], ⊤, Contains, Some, IfOk, IfSome, IsSome, false, min, true, option_map, replicate, slice_get};
 ghost use mathlib.Core.Option.{none};
 ghost use Rattle.std.specs.Borrow.{sem, follows_so};
 ghost use Rattle.std.specs.List.{list_all};
 ghost use Rattle.std.specs.Option.{option_copied};
-ghost use Rattle.posix.specs.States.{boot as boot_of, current as current_of, process};
+ghost use Rattle.posix.specs.States.{boot as boot_of, current as current_of, current_process, process};
 ghost use Rattle.posix.specs.Alarms.{has_alarms as has_alarms_in};
 ghost use Rattle.posix.specs.Tables.{next_above};
 ghost use Rattle.posix.specs.declared.entry.Entry.{Entry};
@@ -16,7 +16,7 @@ ghost use Rattle.posix.specs.Step.{IsStep};
 ghost use Rattle.posix.specs.Regular.{IsRegular};
 ghost use Rattle.posix.specs.Settle.{IsSettled};
 ghost use Rattle.text.specs.EventTexts.{most_events};
-ghost use Rattle.kernel.specs.Counts.{slots_of_event, slots_of_steps};
+ghost use Rattle.kernel.specs.Counts.{CountsOne, slots_of_event, slots_of_steps};
 ghost use Rattle.kernel.specs.Steps.{last_given, noted_lines};
 ghost use Rattle.kernel.specs.Views.{KernelView, looked};
 ghost use Rattle.kernel.specs.contracts.kernel_on.KernelOn.{the_row as kernel_row};
@@ -24,7 +24,6 @@ ghost use Rattle.life.specs.Censuses.{census_of};
 ghost use Rattle.proctable.specs.Records.{snapshot_of, own_of};
 ghost use Rattle.sched.specs.Places.{next_behind};
 ghost use Rattle.laws.specs.Agree.{Agree, IsOrderly};
-ghost use Rattle.laws.specs.Kinds.{IsEvent, IsWorld};
 ghost use Rattle.laws.specs.Lives.{born_by};
 ghost use Rattle.laws.specs.TraceLines.{is_line};
 
@@ -53,7 +52,7 @@ impl<K: ProcessTable> Model for KernelOn<K> {
     ghost use Rattle.std.specs.Prelude.{◌≤◌, ◌+◌, ◌≡◌, [], false};
     ghost use Rattle.posix.specs.Settle.{IsSettled};
     ghost use Rattle.posix.specs.Regular.{IsRegular};
-    ghost use Rattle.laws.specs.Agree.{AreTurns};
+    ghost use Rattle.laws.specs.Agree.{IsOrderly};
     ghost use Rattle.life.specs.declared.consoles.Unchecked.TheVariants.{Nothing};
     ghost use Rattle.kernel.specs.Views.{KernelView};
 
@@ -61,21 +60,22 @@ impl<K: ProcessTable> Model for KernelOn<K> {
 
     ghost view = { λ k. record { state = k.machine.state; events = k.events; visits = k.machine.visits } };
 
-    ghost invariant = { λ k. (k.machine.state.births ≤ k.events + 1) × (k.machine.state.ticks ≤ k.events) × IsSettled k.machine.state × IsRegular k.machine.state × (k.machine.to_recheck ≡ []) × (k.machine.foregrounds_unchecked ≡ Nothing) × AreTurns k.machine.state };
+    ghost invariant = { λ k. (k.machine.state.births ≤ k.events + 1) × (k.machine.state.ticks ≤ k.events) × IsSettled k.machine.state × IsRegular k.machine.state × (k.machine.to_recheck ≡ []) × (k.machine.foregrounds_unchecked ≡ Nothing) × IsOrderly k.machine.state };
 }
 
 impl<K: ProcessTable> KernelOn<K> {
-    /// The machine at its start; an error where there is no memory for it. The empty trace agrees with its state, and
-    /// in a world whose numbers are within their ranges the state is orderly (`laws::lines_tell_of_states`).
+    /// The machine at its start; an error where there is no memory for it. The empty trace agrees with its state, which is
+    /// orderly (`laws::lines_tell_of_states`).
     pub fn boot(alloc: Global, world: &World) -> Result<Self, AllocError>
         ensures state { IfOk result (λ k. k.state ≡ boot_of world.now) }
         ensures events { IfOk result (λ k. k.events ≡ 0) }
         ensures visits { IfOk result (λ k. k.visits ≤ 6) }
         ensures regular { IfOk result (λ k. IsRegular k.state) }
         ensures settled { IfOk result (λ k. IsSettled k.state) }
-        ensures orderly { IfOk result (λ k. IsWorld world.now → IsOrderly k.state) }
+        ensures orderly { IfOk result (λ k. IsOrderly k.state) }
         ensures agrees { IfOk result (λ k. Agree [] 0 k.state) }
     {
+        world.range_holds();
         Ok(KernelOn {
             machine: Machine::boot(alloc, world)?,
             events: 0,
@@ -152,6 +152,7 @@ impl<K: ProcessTable> KernelOn<K> {
     pub fn next_process(&mut self, pid: Pid) -> Option<Pid>
         ensures value { result ≡ next_above pid self.old.state.processes }
         ensures same { (self.new.state ≡ self.old.state) × (self.new.events ≡ self.old.events) }
+        ensures no_fewer { self.old.visits ≤ self.new.visits }
     {
         self.machine.next_after(pid)
     }
@@ -160,6 +161,7 @@ impl<K: ProcessTable> KernelOn<K> {
     pub fn snapshot(&mut self, pid: Pid) -> Option<Snapshot>
         ensures value { result ≡ option_map snapshot_of (process self.old.state pid) }
         ensures same { (self.new.state ≡ self.old.state) × (self.new.events ≡ self.old.events) }
+        ensures no_fewer { self.old.visits ≤ self.new.visits }
     {
         self.machine.snapshot(pid)
     }
@@ -183,8 +185,11 @@ impl<K: ProcessTable> KernelOn<K> {
     /// the law of refused calls (`laws::refusals_change_little`) holds of the event that comes next.
     ///
     /// Lines that agree with the state before agree, with those of the event, with the state after it, so what
-    /// is shown from the boot on keeps the laws of a trace (`laws::traces_keep_laws`). From an orderly state, and
-    /// by a key of a byte, each line has its form. Who is born has a number that was free.
+    /// is shown from the boot on keeps the laws of a trace (`laws::traces_keep_laws`). Each line has its form. Who is
+    /// born has a number that was free.
+    ///
+    /// The number of slots that have been read never falls. In a step of a process it rises as far as the table counts
+    /// (`K.one_more`); [`counted_step`] says how far that is over the table of a [`Kernel`].
     pub fn event(&mut self, event: Event) -> Entries
         requires { self.old.events < most_events }
         ensures step { IsStep self.old.state event result.items self.new.state }
@@ -192,11 +197,13 @@ impl<K: ProcessTable> KernelOn<K> {
         ensures halted { self.old.state.halted ≡ true → (result.items ≡ []) × (self.new.state ≡ self.old.state) }
         ensures regular { IsRegular self.new.state }
         ensures settled { IsSettled self.new.state }
-        ensures orderly { IsEvent event → IsOrderly self.old.state → IsOrderly self.new.state }
-        ensures forms { IsEvent event → IsOrderly self.old.state → list_all is_line (numbered self.new.events result.items) ≡ true }
+        ensures orderly { IsOrderly self.new.state }
+        ensures forms { list_all is_line (numbered self.new.events result.items) ≡ true }
         ensures agrees { (lines : List Line) → Agree lines self.old.events self.old.state → Agree (lines ++ numbered self.new.events result.items) self.new.events self.new.state }
         ensures no_number_is_given_out_twice { (e : Entry) (n : ℕ) → Contains result.items e → born_by e ≡ Some n → is_free self.old.state.processes n ≡ true }
         ensures visits { IfSome (slots_of_event event self.old.state) (λ n. self.new.visits ≤ self.old.visits + n) }
+        ensures no_fewer { self.old.visits ≤ self.new.visits }
+        ensures counts { event ≡ Event.Step → CountsOne K.one_more self.old.state self.old.visits self.new.visits }
     {
         let mut entries = ArrayVec::new();
         self.event_into(event, &mut entries);
@@ -220,11 +227,13 @@ impl<K: ProcessTable> KernelOn<K> {
         ensures runs { RunsFrom (self.old.events + 1) self.old.state (replicate (self.new.events - self.old.events) Event.Step) (noted_lines result notes.new.items ++ numbered self.new.events entries.new.items) self.new.state }
         ensures regular { IsRegular self.new.state }
         ensures settled { IsSettled self.new.state }
-        ensures orderly { IsOrderly self.old.state → IsOrderly self.new.state }
-        ensures forms { IsOrderly self.old.state → list_all is_line (noted_lines result notes.new.items ++ numbered self.new.events entries.new.items) ≡ true }
+        ensures orderly { IsOrderly self.new.state }
+        ensures forms { list_all is_line (noted_lines result notes.new.items ++ numbered self.new.events entries.new.items) ≡ true }
         ensures agrees { (lines : List Line) → Agree lines self.old.events self.old.state → Agree (lines ++ (noted_lines result notes.new.items ++ numbered self.new.events entries.new.items)) self.new.events self.new.state }
         ensures no_number_is_given_out_twice { (e : Entry) (n : ℕ) → Contains entries.new.items e → born_by e ≡ Some n → is_free self.old.state.processes n ≡ true }
         ensures visits { IfSome (slots_of_steps self.old.events last self.old.state) (λ n. self.new.visits ≤ self.old.visits + n) }
+        ensures no_fewer { self.old.visits ≤ self.new.visits }
+        ensures counts { CountsOne K.one_more self.old.state self.old.visits self.new.visits }
     {
         if self.machine.is_halted() {
             self.event_into(Event::Step, entries);
@@ -270,6 +279,7 @@ impl<K: ProcessTable> KernelOn<K> {
         ensures runs { RunsFrom (self.old.events + 1) self.old.state (replicate (self.new.events - self.old.events) event) (noted_lines result notes.new.items ++ numbered self.new.events entries.new.items) self.new.state }
         ensures regular { IsRegular self.new.state }
         ensures settled { IsSettled self.new.state }
+        ensures no_fewer { self.old.visits ≤ self.new.visits }
     {
         match event {
             Event::Step => self.steps(last, notes, entries),
@@ -290,12 +300,15 @@ impl<K: ProcessTable> KernelOn<K> {
         ensures halted { self.old.state.halted ≡ true → (entries.new.items ≡ []) × (self.new.state ≡ self.old.state) }
         ensures regular { IsRegular self.new.state }
         ensures settled { IsSettled self.new.state }
-        ensures orderly { IsEvent event → IsOrderly self.old.state → IsOrderly self.new.state }
-        ensures forms { IsEvent event → IsOrderly self.old.state → list_all is_line (numbered self.new.events entries.new.items) ≡ true }
+        ensures orderly { IsOrderly self.new.state }
+        ensures forms { list_all is_line (numbered self.new.events entries.new.items) ≡ true }
         ensures agrees { (lines : List Line) → Agree lines self.old.events self.old.state → Agree (lines ++ numbered self.new.events entries.new.items) self.new.events self.new.state }
         ensures no_number_is_given_out_twice { (e : Entry) (n : ℕ) → Contains entries.new.items e → born_by e ≡ Some n → is_free self.old.state.processes n ≡ true }
         ensures visits { IfSome (slots_of_event event self.old.state) (λ n. self.new.visits ≤ self.old.visits + n) }
+        ensures no_fewer { self.old.visits ≤ self.new.visits }
+        ensures counts { event ≡ Event.Step → CountsOne K.one_more self.old.state self.old.visits self.new.visits }
     {
+        event.range_holds();
         self.events += 1;
         next(&mut self.machine, event, entries);
     }
@@ -304,7 +317,19 @@ impl<K: ProcessTable> KernelOn<K> {
     pub fn census(&mut self) -> Census
         ensures value { result ≡ census_of self.old.state }
         ensures same { (self.new.state ≡ self.old.state) × (self.new.events ≡ self.old.events) }
+        ensures no_fewer { self.old.visits ≤ self.new.visits }
     {
         self.machine.census()
     }
+}
+
+/// One `Step`, as [`KernelOn::event`] gives it, over the table that counts each slot it reads: a step of a process counts
+/// one at least, up to the greatest u128.
+pub fn counted_step(kernel: &mut Kernel) -> Entries
+    requires { kernel.old.events < most_events }
+    ensures step { IsStep kernel.old.state Event.Step result.items kernel.new.state }
+    ensures no_fewer { kernel.old.visits ≤ kernel.new.visits }
+    ensures counts { kernel.old.state.halted ≡ false → IfSome (current_process kernel.old.state) (λ me. min (kernel.old.visits + 1) (2 ^ 128 - 1) ≤ kernel.new.visits) }
+{
+    kernel.event(Event::Step)
 }

@@ -47,6 +47,7 @@ fn is_awake<K: ProcessTable>(
     ensures value { (me : Process) → process machine.old.state pid ≡ Some me → result ≡ (can_go_on machine.old.state me me.blocked || is_some (chosen me.life me.signals)) }
     ensures same { AreSame machine.old machine.new }
     ensures visits { (me : Process) → process machine.old.state pid ≡ Some me → machine.new.visits ≤ machine.old.visits + slots_of_judging machine.old.state.processes (neighbour_in last machine.old.to_recheck) me }
+    ensures no_fewer { machine.old.visits ≤ machine.new.visits }
 {
     if snapshot.chosen.is_some() {
         return true;
@@ -77,6 +78,7 @@ fn can_act<K: ProcessTable>(
     ensures value { (me : Process) → process machine.old.state pid ≡ Some me → result ≡ acting machine.old.state me }
     ensures same { AreSame machine.old machine.new }
     ensures visits { (me : Process) → process machine.old.state pid ≡ Some me → machine.new.visits ≤ machine.old.visits + slots_of_judging machine.old.state.processes (neighbour_in last machine.old.to_recheck) me }
+    ensures no_fewer { machine.old.visits ≤ machine.new.visits }
 {
     match snapshot.life {
         Life::Running => is_awake(machine, pid, snapshot, last),
@@ -96,6 +98,7 @@ fn wake<K: ProcessTable>(machine: &mut Machine<K>, pid: Pid, last: Option<Pid>) 
     ensures to_recheck { machine.new.to_recheck ≡ machine.old.to_recheck }
     ensures foregrounds_unchecked { machine.new.foregrounds_unchecked ≡ machine.old.foregrounds_unchecked }
     ensures visits { (me : Process) → process machine.old.state pid ≡ Some me → machine.new.visits ≤ machine.old.visits + 1 + slots_of_judging machine.old.state.processes (neighbour_in last machine.old.to_recheck) me }
+    ensures no_fewer { machine.old.visits ≤ machine.new.visits }
 {
     if machine.has_place(pid) {
         return None;
@@ -118,6 +121,7 @@ fn give_places<K: ProcessTable>(machine: &mut Machine<K>)
     ensures to_recheck { machine.new.to_recheck ≡ [] }
     ensures foregrounds_unchecked { machine.new.foregrounds_unchecked ≡ machine.old.foregrounds_unchecked }
     ensures visits { machine.new.visits ≤ machine.old.visits + slots_of_rechecks machine.old.state.processes None machine.old.to_recheck }
+    ensures no_fewer { machine.old.visits ≤ machine.new.visits }
 {
     let mut last = None;
     while let Some(pid) = machine.first_to_recheck() {
@@ -136,6 +140,7 @@ pub fn settle<K: ProcessTable>(machine: &mut Machine<K>)
     ensures to_recheck { machine.new.to_recheck ≡ [] }
     ensures foregrounds_unchecked { machine.new.foregrounds_unchecked ≡ Unchecked.Nothing }
     ensures visits { machine.new.visits ≤ machine.old.visits + slots_of_settling machine.old }
+    ensures no_fewer { machine.old.visits ≤ machine.new.visits }
 {
     machine.clear_foregrounds();
     give_places(machine);

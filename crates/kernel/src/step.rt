@@ -24,7 +24,7 @@ ghost use Rattle.posix.specs.Tables.{children_in};
 ghost use Rattle.posix.specs.Settle.{can_go_on};
 ghost use Rattle.pidset.specs.Numbers.{with_number};
 ghost use Rattle.calls.specs.Outcomes.{IsActing, IsQuiet, CostsWithRechecks, CostsAtMost, changes_caller_alone, slots_of_brief};
-ghost use Rattle.kernel.specs.Counts.{IsAtRest, ReadsAtMost, after_taken, alarms_due, delivers_nothing, slots_of_acting, slots_of_blocking, slots_of_event, slots_of_own_step, slots_of_trap};
+ghost use Rattle.kernel.specs.Counts.{CountsOne, IsAtRest, ReadsAtMost, after_taken, alarms_due, delivers_nothing, slots_of_acting, slots_of_blocking, slots_of_event, slots_of_own_step, slots_of_trap};
 ghost use Rattle.kernel.specs.Steps.{ActsAs, Begins, Bursts, ComesTo, Happens, NoneChosen, RunsInstruction, Steps, next_changes_one, changes_one, next_enters, enters, is_followed_by_step, runner, taken_at_once};
 
 use crate::settle::settle;
@@ -42,6 +42,7 @@ fn enter_call<K: ProcessTable>(machine: &mut Machine<K>, pid: Pid, blocked: Bloc
     ensures to_recheck { has_place machine.old.state pid ≡ true → machine.new.to_recheck ≡ with_number pid machine.old.to_recheck }
     ensures foregrounds_unchecked { machine.new.foregrounds_unchecked ≡ machine.old.foregrounds_unchecked }
     ensures visits { machine.new.visits ≤ machine.old.visits + 1 }
+    ensures no_fewer { machine.old.visits ≤ machine.new.visits }
 {
     machine.own(pid).enter(blocked);
     machine.lose_place(pid);
@@ -55,6 +56,7 @@ fn block<K: ProcessTable>(machine: &mut Machine<K>, pid: Pid, call: Call, blocke
     requires waits { (me : Process) → process machine.old.state pid ≡ Some me → (how : WaitCallValue) → wait_in call ≡ Some how → wait_by how machine.old.state me ≡ Block blocked }
     ensures state { machine.new.state ≡ losing_place (change machine.old.state pid (entered blocked)) pid }
     ensures brief { is_some (wait_in call) ≡ true → IsQuiet pid machine.old → CostsWithRechecks 1 machine.old machine.new }
+    ensures no_fewer { machine.old.visits ≤ machine.new.visits }
 {
     enter_call(machine, pid, blocked);
     if let Some(_) = WaitCall::named_by(call) {
@@ -78,6 +80,7 @@ fn wait_on<K: ProcessTable>(machine: &mut Machine<K>, pid: Pid, waits: bool)
     requires waits { (me : Process) → process machine.old.state pid ≡ Some me → waits ≡ true → can_go_on machine.old.state me me.blocked ≡ false }
     ensures state { machine.new.state ≡ losing_place machine.old.state pid }
     ensures brief { waits ≡ true → IsQuiet pid machine.old → CostsWithRechecks 0 machine.old machine.new }
+    ensures no_fewer { machine.old.visits ≤ machine.new.visits }
 {
     machine.lose_place(pid);
     if waits {
@@ -102,6 +105,7 @@ fn begin_call<K: ProcessTable>(
     ensures begins { Begins machine.old.state pid call entries.new.items machine.new.state }
     ensures own { changes_caller_alone call ≡ true → CostsAtMost 1 machine.old machine.new }
     ensures brief { (me : Process) → process machine.old.state pid ≡ Some me → IsQuiet pid machine.old → IfSome (slots_of_brief call machine.old.state.processes me) (λ n. CostsWithRechecks (n + slots_of_blocking call) machine.old machine.new) }
+    ensures no_fewer { machine.old.visits ≤ machine.new.visits }
 {
     match attempt(machine, pid, call, entries) {
         Attempt::Done | Attempt::Again => {}
@@ -127,6 +131,7 @@ fn go_on<K: ProcessTable>(
     requires none { entries.old.items ≡ [] }
     ensures goes_on { (me : Process) → process machine.old.state pid ≡ Some me → going_on machine.old.state me (attempt_again machine.old.state me blocked) ≡ record { state = machine.new.state; entries = entries.new.items } }
     ensures brief { (me : Process) → process machine.old.state pid ≡ Some me → IsQuiet pid machine.old → (how : WaitCallValue) → blocked ≡ Blocked.Wait how → delivers_nothing machine.old.state how me ≡ true → CostsWithRechecks (11 + 2 * length (children_in pid machine.old.state.processes)) machine.old machine.new }
+    ensures no_fewer { machine.old.visits ≤ machine.new.visits }
 {
     let waits = is_wait(&blocked);
     match attempt_again(machine, pid, blocked, entries) {
@@ -158,6 +163,7 @@ fn run_instruction<K: ProcessTable>(
     ensures cost { (me : Process) → process machine.old.state pid ≡ Some me → changes_one (exec_one (code_of machine.old.state me) me.cpu).trap ≡ true → CostsAtMost 2 machine.old machine.new }
     ensures enters { (me : Process) → process machine.old.state pid ≡ Some me → enters me (exec_one (code_of machine.old.state me) me.cpu).trap ≡ true → CostsAtMost 3 machine.old machine.new }
     ensures brief { (me : Process) → process machine.old.state pid ≡ Some me → IsQuiet pid machine.old → IfSome (slots_of_trap machine.old.state.processes me (exec_one (code_of machine.old.state me) me.cpu).trap) (λ n. CostsWithRechecks n machine.old machine.new) }
+    ensures no_fewer { machine.old.visits ≤ machine.new.visits }
 {
     match machine.exec_one(pid, program) {
         Trap::Next => {}
@@ -186,6 +192,7 @@ fn act<K: ProcessTable>(
     ensures cost { next_changes_one machine.old.state (process machine.old.state pid) ≡ true → CostsAtMost 2 machine.old machine.new }
     ensures enters { next_enters machine.old.state (process machine.old.state pid) ≡ true → CostsAtMost 3 machine.old machine.new }
     ensures brief { (me : Process) → process machine.old.state pid ≡ Some me → IsQuiet pid machine.old → IfSome (slots_of_acting machine.old.state me me.blocked) (λ n. CostsWithRechecks n machine.old machine.new) }
+    ensures no_fewer { machine.old.visits ≤ machine.new.visits }
 {
     let Snapshot {
         chosen,
@@ -214,6 +221,8 @@ fn step<K: ProcessTable>(machine: &mut Machine<K>, entries: &mut Entries)
     ensures steps { Steps machine.old.state entries.new.items machine.new.state }
     ensures cost { IfSome (slots_of_own_step machine.old.state (current_process machine.old.state)) (λ n. CostsAtMost n machine.old machine.new) }
     ensures brief { (me : Process) → current_process machine.old.state ≡ Some me → machine.old.to_recheck ≡ [] → machine.old.foregrounds_unchecked ≡ Unchecked.Nothing → IfSome (slots_of_acting machine.old.state me me.blocked) (λ n. CostsWithRechecks (n + 1) machine.old machine.new) }
+    ensures no_fewer { machine.old.visits ≤ machine.new.visits }
+    ensures counts { IfSome (current_process machine.old.state) (λ me. K.one_more machine.old.visits ≤ machine.new.visits) }
 {
     let Some(pid) = machine.current() else {
         return;
@@ -231,6 +240,7 @@ fn tick<K: ProcessTable>(machine: &mut Machine<K>)
     requires { machine.old.state.ticks + 1 < 2 ^ 64 }
     ensures state { machine.new.state ≡ ticking machine.old.state }
     ensures cost { machine.old.to_recheck ≡ [] → machine.old.foregrounds_unchecked ≡ Unchecked.Nothing → ReadsAtMost (2 * alarms_due machine.old.state) machine.old machine.new }
+    ensures no_fewer { machine.old.visits ≤ machine.new.visits }
 {
     machine.pass_time();
     if let Some(pid) = machine.current() {
@@ -246,6 +256,8 @@ fn happen<K: ProcessTable>(machine: &mut Machine<K>, event: Event, entries: &mut
     requires none { entries.old.items ≡ [] }
     ensures happens { Happens machine.old.state event entries.new.items machine.new.state }
     ensures cost { IsAtRest machine.old → IfSome (slots_of_event event machine.old.state) (λ n. ReadsAtMost n machine.old machine.new) }
+    ensures no_fewer { machine.old.visits ≤ machine.new.visits }
+    ensures counts { event ≡ Event.Step → IfSome (current_process machine.old.state) (λ me. K.one_more machine.old.visits ≤ machine.new.visits) }
 {
     match event {
         Event::Step => step(machine, entries),
@@ -294,6 +306,8 @@ pub fn burst<K: ProcessTable>(
     ensures foregrounds_unchecked { machine.new.foregrounds_unchecked ≡ machine.old.foregrounds_unchecked }
     ensures regular { IsRegular machine.new.state }
     ensures numbers { (n : ℕ) → is_free machine.new.state.processes n ≡ is_free machine.old.state.processes n }
+    ensures no_fewer { machine.old.visits ≤ machine.new.visits }
+    ensures counts { IfSome (current_process machine.old.state) (λ me. K.one_more machine.old.visits ≤ machine.new.visits) }
 {
     let nothing = BurstEnd {
         last: before,
@@ -340,6 +354,7 @@ pub fn call_next<K: ProcessTable>(
     ensures to_recheck { machine.new.to_recheck ≡ [] }
     ensures foregrounds_unchecked { machine.new.foregrounds_unchecked ≡ Unchecked.Nothing }
     ensures visits { IsAtRest machine.old → IfSome (slots_of_event Event.Step machine.old.state) (λ n. machine.new.visits ≤ machine.old.visits + n) }
+    ensures no_fewer { machine.old.visits ≤ machine.new.visits }
 {
     begin_call(machine, pid, call, entries);
     settle(machine);
@@ -356,6 +371,8 @@ pub fn next<K: ProcessTable>(machine: &mut Machine<K>, event: Event, entries: &m
     ensures to_recheck { machine.old.to_recheck ≡ [] → machine.new.to_recheck ≡ [] }
     ensures foregrounds_unchecked { machine.old.foregrounds_unchecked ≡ Unchecked.Nothing → machine.new.foregrounds_unchecked ≡ Unchecked.Nothing }
     ensures visits { IsAtRest machine.old → IfSome (slots_of_event event machine.old.state) (λ n. machine.new.visits ≤ machine.old.visits + n) }
+    ensures no_fewer { machine.old.visits ≤ machine.new.visits }
+    ensures counts { event ≡ Event.Step → CountsOne K.one_more machine.old.state machine.old.visits machine.new.visits }
 {
     if machine.is_halted() {
         return;

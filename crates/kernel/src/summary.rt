@@ -1,6 +1,6 @@
 //! A run in numbers.
 
-ghost use Rattle.std.specs.Prelude.{◌≡◌, List};
+ghost use Rattle.std.specs.Prelude.{◌≡◌, ◌≤◌, List};
 ghost use Rattle.posix.specs.Entries.{Line, reported as reported_of};
 ghost use Rattle.kernel.specs.Summaries.{summary_of};
 
@@ -31,6 +31,7 @@ impl<K: ProcessTable> KernelOn<K> {
     pub fn summary(&mut self, reported: u64) -> Summary
         ensures value { (lines : List Line) → reported_of lines ≡ reported → result ≡ summary_of self.old.events lines self.old.state }
         ensures same { (self.new.state ≡ self.old.state) × (self.new.events ≡ self.old.events) }
+        ensures no_fewer { self.old.visits ≤ self.new.visits }
     {
         let census = self.census();
         Summary {

@@ -88,6 +88,7 @@ pub fn run_on<K: ProcessTable, S: Sink>(
 {
     let world = read_world(alloc, world).map_err(world_error)?;
     let events = read_events(alloc, world.consoles(), events).map_err(events_error)?;
+    events.range_holds();
     let mut kernel = KernelOn::<K>::boot(alloc, &world).map_err(|_| RunError::Memory)?;
     let done = run_kernel(&mut kernel, &events, out);
     // What is large is dropped by its name, by one function whose proof is short.

@@ -18,7 +18,8 @@ use Rattle.laws.specs.Lives.{parents_from, newest_life}
 use Rattle.laws.specs.Keeping.{Phase, kept_of}
 use Rattle.std.specs.List.{AllByRecursion, list_all}
 use Rattle.laws.specs.TraceLines.{is_line}
-use Rattle.laws.specs.Kinds.{IsEvent, IsWorld, AreKinds}
+use Rattle.laws.specs.Kinds.{AreKinds}
+use Rattle.posix.specs.Ranges.{IsEvent, IsWorld}
 use Rattle.laws.proofs.KindLemmas.{all_append}
 use Rattle.laws.proofs.FormStays.{first_kinds, step_formed, step_kinds}
 use Rattle.laws.specs.Agree.{AgreeOn, AgreeIn, Agree, AreTurns, IsOrderly, IsTraceOf, phase_between}

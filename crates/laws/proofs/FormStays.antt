@@ -61,7 +61,8 @@ use Rattle.posix.proofs.TableLemmas.{rising_changed, rising_filter, none_found, 
 use Rattle.posix.proofs.WalkLemmas.{all_looked, any_filter, in_filter}
 use Rattle.laws.proofs.ToldLines.{pid_child, told_pid}
 use Rattle.posix.specs.declared.ids.Ids.{Ids}
-use Rattle.laws.specs.Kinds.{is_action, is_own_id, are_ids, is_id, is_carried, is_pending_kind, is_queued_kind, is_instruction, is_program, is_console, is_news_kind, is_life, AreSignals, IsCpu, IsKind, IsWorld, AreKinds, IsEvent}
+use Rattle.laws.specs.Kinds.{is_action, are_ids, is_carried, is_pending_kind, is_queued_kind, is_console, is_news_kind, is_life, AreSignals, IsCpu, IsKind, AreKinds}
+use Rattle.posix.specs.Ranges.{is_own_id, is_id, is_instruction, is_program, IsWorld, IsEvent, is_i64}
 use Rattle.std.proofs.lemmas.Bool.Decides.{nat_tests}
 use Rattle.posix.specs.declared.instr.Instr.{Instr}
 use Rattle.posix.specs.declared.instr.Instr.TheVariants as instr
@@ -74,7 +75,7 @@ use Rattle.posix.specs.Regular.{IsRegular, IsAhead}
 use Rattle.posix.specs.Entries.{line, numbered}
 use Rattle.posix.specs.Notices.{stopped_by, signalled_all}
 use Rattle.posix.specs.Consoles.{unused_console}
-use Rattle.laws.specs.TraceLines.{is_number, is_i64, is_result, asks_memory, is_entry, is_line}
+use Rattle.laws.specs.TraceLines.{is_number, is_result, asks_memory, is_entry, is_line}
 use Rattle.posix.proofs.CountLemmas.{next_halted}
 use Rattle.posix.proofs.WakeLemmas.{next_awake}
 use Rattle.posix.proofs.NextLemmas.{new_number}

@@ -22,8 +22,9 @@ use Rattle.posix.specs.Groups.{is_orphaned}
 use Rattle.posix.specs.GroupCalls.{is_group_of}
 use Rattle.posix.specs.Regular.{IsRegular}
 use Rattle.posix.specs.Terminals.{terminal, change_console, is_in_background, blocks_or_ignores, if_allowed, console_named, may_acquire, setctty_of, setctty_at, setctty, foreground_told, tcgetpgrp_on, tcgetpgrp, put_foreground, tcsetpgrp_on, tcsetpgrp, is_nonzero, settostop_on, settostop, finish_moved, with_bytes, read_from, read_in, read_on, read, write_in, write_on, write}
-use Rattle.laws.specs.TraceLines.{is_number, is_i64, is_result, is_entry, moves_bytes}
-use Rattle.laws.specs.Kinds.{is_id, is_byte, is_console, IsKind, AreKinds}
+use Rattle.laws.specs.TraceLines.{is_number, is_result, is_entry, moves_bytes}
+use Rattle.posix.specs.Ranges.{is_i64, is_id}
+use Rattle.laws.specs.Kinds.{is_byte, is_console, IsKind, AreKinds}
 use Rattle.posix.proofs.WalkLemmas.{some_looked}
 use Rattle.laws.proofs.QuietLemmas.{Untold}
 use Rattle.laws.proofs.AgreeTerminals.{untold_finished}

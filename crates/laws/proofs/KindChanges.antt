@@ -41,9 +41,9 @@ use Rattle.posix.specs.Waits.{news_told}
 use Rattle.posix.specs.Delivery.{take_out}
 use Rattle.posix.specs.SignalCalls.{give_credentials, give_signals, handler_word, handler_in, action_in, holding}
 use Rattle.posix.specs.Step.{set_cpu, waiting_signals, enter, out_of_call}
-use Rattle.laws.specs.TraceLines.{is_i64}
+use Rattle.posix.specs.Ranges.{is_i64, is_id, is_own_id, is_program}
 use Rattle.posix.specs.Statuses.{is_end_word}
-use Rattle.laws.specs.Kinds.{is_id, are_ids, is_carried, is_pending_kind, is_queued_kind, is_handler, is_action, is_frame, AreSignals, IsCpu, AreCredentials, IsKind, is_own_id, is_program}
+use Rattle.laws.specs.Kinds.{are_ids, is_carried, is_pending_kind, is_queued_kind, is_handler, is_action, is_frame, AreSignals, IsCpu, AreCredentials, IsKind}
 use Rattle.laws.proofs.KindLemmas.{and_both, all_set, all_get, all_found, all_append, all_take, all_map, all_same, small_i64, id_i64, cast_i64}
 
 abbrev pub KeepsKind : (Process → Process) → Type 0

@@ -29,8 +29,8 @@ use Rattle.posix.specs.Alarms.{ring_at, ring_all, pass_time}
 use Rattle.posix.specs.Settle.{is_fresh, refreshed, give_places, clear_foregrounds, settle}
 use Rattle.posix.specs.Step.{signalled_from, key_on, key, hangup_on, hangup, rotate, tick}
 use Rattle.posix.specs.Terminals.{terminal}
-use Rattle.laws.specs.TraceLines.{is_i64}
-use Rattle.laws.specs.Kinds.{is_id, is_byte, is_carried, is_console, IsKind, IsWorld, AreKinds}
+use Rattle.posix.specs.Ranges.{is_i64, is_id, IsWorld}
+use Rattle.laws.specs.Kinds.{is_byte, is_carried, is_console, IsKind, AreKinds}
 use Rattle.posix.proofs.TableLemmas.{pid_looked, pid_reparented, lookup_changed, rising_filter}
 use Rattle.posix.proofs.MapLemmas.{at_pid, lookup_back}
 use Rattle.posix.proofs.RegularLemmas.{lookup_left, lookup_inserted, lookup_new}

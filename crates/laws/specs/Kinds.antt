@@ -1,11 +1,7 @@
 -- States whose parts are of their kinds: what lines show is within its range.
 use Rattle.std.specs.Prelude.{◌≡◌, ℕ, ◌≤◌, ◌<◌, ◌&&◌, Bool, true, Option, Some, None, length, nat_le, nat_lt}
 use Rattle.std.specs.List.{list_all}
-use Rattle.posix.specs.declared.event.Event.{Event}
-use Rattle.posix.specs.declared.event.Event.TheVariants.{Step, Tick, Key, Hangup}
 use Rattle.posix.specs.declared.ids.Ids.{Ids}
-use Rattle.posix.specs.declared.instr.Instr.{Instr}
-use Rattle.posix.specs.declared.instr.Instr.TheVariants.{Set, Move, Compute, Load, Store, Jump, JumpIf, Note, Sys}
 use Rattle.posix.specs.declared.process.Action.{Action}
 use Rattle.posix.specs.declared.process.Carried.{Carried}
 use Rattle.posix.specs.declared.process.Frame.{Frame}
@@ -20,14 +16,10 @@ use Rattle.posix.specs.SignalNumbers.{is_realtime, is_stop_signal}
 use Rattle.posix.specs.Processes.{Process, Signals, Credentials, Cpu}
 use Rattle.posix.specs.Tables.{lookup}
 use Rattle.posix.specs.Consoles.{Console}
-use Rattle.posix.specs.States.{State, World, Program}
+use Rattle.posix.specs.States.{State}
 use Rattle.posix.specs.Sends.{most_queued}
-use Rattle.laws.specs.TraceLines.{is_i64}
+use Rattle.posix.specs.Ranges.{is_id, is_i64, IsWorld}
 use Rattle.posix.specs.Statuses.{is_end_word}
-
--- a number of a process, a group or a user is at most this (pid_t, uid_t as here)
-abbrev pub is_id : ℕ → Bool
-is_id n = nat_le n 2147483647
 
 abbrev pub is_byte : ℕ → Bool
 is_byte b = nat_lt b 256
@@ -95,36 +87,7 @@ pub record IsKind (r : Process) : Type 0 where
 abbrev pub is_console : Console → Bool
 is_console c = is_id c.foreground && (list_all (list_all is_byte) c.lines && list_all is_byte c.edited)
 
-abbrev pub is_instruction : Instr → Bool
-is_instruction (Set a z) = is_i64 z
-is_instruction (Move a b) = true
-is_instruction (Compute operator a b) = true
-is_instruction (Load a b) = true
-is_instruction (Store a b) = true
-is_instruction (Jump address) = true
-is_instruction (JumpIf condition a address) = true
-is_instruction (Note a) = true
-is_instruction (Sys call) = true
-
-abbrev pub is_own_id : Option ℕ → Bool
-is_own_id None = true
-is_own_id (Some n) = is_id n
-
-abbrev pub is_program : Program → Bool
-is_program p = is_own_id p.setuid && (is_own_id p.setgid && list_all is_instruction p.instructions)
-
-pub record IsWorld (w : World) : Type 0 where
-  pub pidmax : w.pidmax ≤ 2147483647
-  pub programs : list_all is_program w.programs ≡ true
-
 pub record AreKinds (s : State) : Type 0 where
   pub world : IsWorld s.world
   pub records : (p : ℕ) (r : Process) → lookup p s.processes ≡ Some r → IsKind r
   pub consoles : list_all is_console s.consoles ≡ true
-
--- a key brings a byte
-abbrev pub IsEvent : Event → Type 0
-IsEvent Step = Unit {0}
-IsEvent Tick = Unit {0}
-IsEvent (Key console byte) = byte < 256
-IsEvent (Hangup console) = Unit {0}

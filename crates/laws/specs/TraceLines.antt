@@ -8,14 +8,11 @@ use Rattle.posix.specs.declared.call.Call.TheVariants.{Exit, Fork, Waitpid, Kill
 use Rattle.posix.specs.Entries.{Line}
 use Rattle.posix.specs.Printing.{print_line}
 use Rattle.posix.specs.SignalNumbers.{is_signal, is_stop_signal}
+use Rattle.posix.specs.Ranges.{is_i64}
 use Rattle.posix.specs.Statuses.{is_end_word}
 
 abbrev pub is_number : ℕ → Bool
 is_number p = nat_le 1 p && nat_le p 2147483647
-
-abbrev pub is_i64 : ℤ → Bool
-is_i64 (pos n) = nat_lt n 9223372036854775808
-is_i64 (negsuc n) = nat_lt n 9223372036854775808
 
 -- what a call that shows no more than its result may have given
 abbrev pub is_result : Call → ℤ → Bool

@@ -33,7 +33,7 @@ ghost use Rattle.posix.specs.declared.waits.WaitCall.{WaitCall};
 ghost use Rattle.posix.specs.Statuses.{is_end_word, is_stopped_word, is_continued_word};
 ghost use Rattle.laws.specs.Lives.{Laws, laws, IsOfEnd, IsOfStop, IsTold, born_by, begins, ends, stops, reports, reports_or_looks, is_change_word, is_halt, ends_first, last_line, is_living, parent_in};
 ghost use Rattle.laws.specs.Keeping.{Died, kept_of};
-ghost use Rattle.laws.specs.Kinds.{IsEvent, IsWorld};
+ghost use Rattle.posix.specs.Ranges.{IsEvent, IsWorld};
 ghost use Rattle.laws.specs.Agree.{Agree, IsOrderly, IsTraceOf, LivesAndNews, is_birth, count_living, count_zombies};
 ghost use Rattle.posix.specs.Settle.{IsSettled, can_act};
 ghost use Rattle.laws.specs.Memory.{EntriesGrantAll, LinesGrantAll};

@@ -1,72 +1,51 @@
 -- The process groups that an end may orphan: how they are noted, and how they are gone through.
-use Rattle.std.proofs.Common.{◌≡◌, ℕ, ◌+◌, ◌≤◌, Bool, true, false, cond, ◌&&◌, ◌||◌, ◌==◌, refl, ap, sym, ◌∙◌, arith, subst, List, [], ◌∷◌, ◌++◌, map, filter, length, Option, Some, None, slice_get, ⊎_elim}
+use Rattle.std.proofs.Common.{◌≡◌, ℕ, ◌+◌, ◌≤◌, Bool, true, false, cond, ◌&&◌, ◌||◌, ◌==◌, refl, ap, sym, ◌∙◌, arith, subst, List, [], ◌∷◌, ◌++◌, map, filter, length, Option, Some, slice_get}
 use Rattle.std.specs.List.{list_any}
-use Rattle.std.specs.Prelude.{option_and_then}
-use Rattle.std.proofs.lemmas.Bool.{eqb-true, and_parts, or_cases, or_right}
 use Rattle.posix.specs.Processes.{Process}
 use Rattle.posix.specs.Numbers.{with_number}
 use Rattle.posix.specs.Tables.{IsRising, lookup, has_pid, is_child, is_member, members_in, children_in, left_of, next_sibling}
 use Rattle.posix.proofs.HupAndContLemmas.{Lasts, lasting, lasts_hup_and_cont, lasts_then}
 use Rattle.posix.proofs.MapLemmas.{filter_map}
 use Rattle.std.proofs.lemmas.List.{length-map}
-use Rattle.posix.specs.Regular.{IsRegular}
 use Rattle.posix.specs.States.{State, is_in, without}
 use Rattle.posix.specs.Groups.{is_anchor, loses_anchor}
 use Rattle.posix.specs.Ends.{hup_and_cont, hup_and_cont_all}
 use Rattle.posix.proofs.WalkLemmas.{numbered, numbered_one, AtChild}
 use Rattle.pidset.proofs.WalkLemmas.{IsWalking, walk_on}
-use Rattle.pidset.specs.Indexes.{anchor_key, key_of}
 use Rattle.pidset.specs.Numbers.{PidSetView, Rises, numbers_above}
-use Rattle.pidset.proofs.NumberLemmas.{in_above, rises_with, rises_without, in_with, few}
-use Rattle.posix.proofs.MemberLemmas.{in_without}
+use Rattle.pidset.proofs.NumberLemmas.{rises_with, rises_without, in_with, few}
 use Rattle.pidalloc.specs.Rows.{Pids}
 use Rattle.sched.specs.Places.{Places}
 use Rattle.life.specs.Ends.{slots_of_hup_and_cont, slots_of_hups}
 use Rattle.life.specs.Machines.{IsMachine, IsNoted, Terminals}
+use Rattle.life.proofs.RingLemmas.{one_more}
 
 -- ---- the list of those that are noted
 
--- there are no more than the numbers from 0 on
-pub few_noted : (m : ℕ) (ns : List ℕ) → Rises ns → ((q : ℕ) → is_in q ns ≡ true → q ≤ m) → length ns ≤ m + 1
-unfolding Rises is_in
-few_noted m [] up all = omega arith
-few_noted m (n ∷ ns) up all = let rest = few m ns up.1 (λ q e. (let above = in_above n q ns up.0 e in omega (arith, above), all q (or_right (n == q) _ e))) in omega (arith, rest)
-
 -- one more is noted
-pub noted_with : (m g : ℕ) (groups_at_risk after : PidSetView) → IsNoted m groups_at_risk → g ≤ m → after.pids ≡ with_number g groups_at_risk.pids → after.room ≡ groups_at_risk.room → IsNoted m after
-noted_with m g groups_at_risk after i most put same = record {
+pub noted_with : (n g : ℕ) (groups_at_risk after : PidSetView) → IsNoted n groups_at_risk → after.pids ≡ with_number g groups_at_risk.pids → after.room ≡ groups_at_risk.room → IsNoted n after
+noted_with n g groups_at_risk after i put same = record {
   rising = subst Rises (sym put) (rises_with g groups_at_risk.pids i.rising);
-  within = λ q e. ⊎_elim (λ t. let is = eqb-true g q t in omega (arith, is, most)) (i.within q) (or_cases _ _ (sym (in_with q g groups_at_risk.pids) ∙ ap (is_in q) (sym put) ∙ e));
   room = let room = i.room in omega (arith, room, same);
 }
 
--- a group that a process keeps has a number up to the greatest
-pub group_bounded : (s : State) → IsRegular s → (p g : ℕ) → Some g ≡ key_of (anchor_key s.processes) p s.processes → g ≤ s.world.pidmax
-group_bounded s i p g is = by (lookup p s.processes) refl is
-  where
-    by : (o : Option Process) → lookup p s.processes ≡ o → Some g ≡ option_and_then (anchor_key s.processes) o → g ≤ s.world.pidmax
-    by None e k = absurd (cc)
-    by (Some r) e k = grind (arith, k, (i.bounded p r e).group)
-
 -- none is noted
-pub noted_cleared : (m : ℕ) (groups_at_risk after : PidSetView) → IsNoted m groups_at_risk → after.pids ≡ [] → after.room ≡ groups_at_risk.room → IsNoted m after
+pub noted_cleared : (n : ℕ) (groups_at_risk after : PidSetView) → IsNoted n groups_at_risk → after.pids ≡ [] → after.room ≡ groups_at_risk.room → IsNoted n after
 unfolding Rises is_in
-noted_cleared m groups_at_risk after i none same = record {
+noted_cleared n groups_at_risk after i none same = record {
   rising = rw none tt;
-  within = λ q e. let nobody : is_in q after.pids ≡ false = ap (is_in q) none in absurd (cc);
   room = let room = i.room in omega (arith, room, same);
 }
 
 -- one no longer is
-pub noted_without : (m g : ℕ) (groups_at_risk after : PidSetView) → IsNoted m groups_at_risk → after.pids ≡ without g groups_at_risk.pids → after.room ≡ groups_at_risk.room → IsNoted m after
-noted_without m g groups_at_risk after i out same = record {
+pub noted_without : (n g : ℕ) (groups_at_risk after : PidSetView) → IsNoted n groups_at_risk → after.pids ≡ without g groups_at_risk.pids → after.room ≡ groups_at_risk.room → IsNoted n after
+noted_without n g groups_at_risk after i out same = record {
   rising = subst Rises (sym out) (rises_without g groups_at_risk.pids i.rising);
-  within = λ q e. i.within q (and_parts _ _ (sym (in_without q g groups_at_risk.pids) ∙ ap (is_in q) (sym out) ∙ e)).1;
   room = let room = i.room in omega (arith, room, same);
 }
 
 -- and the machine stays one
-pub noted_again : {s : State} {pids : Pids} {places : Places} {to_recheck groups_at_risk after : PidSetView} {terminals : Terminals} → IsMachine s pids places to_recheck groups_at_risk terminals → IsNoted s.world.pidmax after → IsMachine s pids places to_recheck after terminals
+pub noted_again : {s : State} {pids : Pids} {places : Places} {to_recheck groups_at_risk after : PidSetView} {terminals : Terminals} → IsMachine s pids places to_recheck groups_at_risk terminals → IsNoted to_recheck.room after → IsMachine s pids places to_recheck after terminals
 noted_again i noted = record { sound = i.sound; listed = i.listed; noted = noted; fresh = i.fresh }
 
 -- ---- noting
@@ -89,6 +68,11 @@ loses_split p rs g = any_of_both (has_pid p) (is_child p) (keeps rs g) rs
 noted_one : (anchor : Bool) (g n : ℕ) (ns : List ℕ) → is_in n (cond anchor (with_number g ns) ns) ≡ (anchor && g == n || is_in n ns)
 noted_one true g n ns = in_with n g ns
 noted_one false g n ns = refl
+
+-- at most one more is noted then
+pub few_noted : (anchor : Bool) (g : ℕ) (ns : List ℕ) → length (cond anchor (with_number g ns) ns) ≤ length ns + 1
+few_noted true g ns = one_more g ns
+few_noted false g ns = omega arith
 
 -- it begins with the process itself
 pub begin_noted : (rs : List Process) → IsRising rs → (p : ℕ) (me : Process) → lookup p rs ≡ Some me → (none ns : List ℕ) → none ≡ [] → ns ≡ cond (is_anchor rs me) (with_number me.group none) none

@@ -31,7 +31,7 @@ use Rattle.proctable.specs.Records.{snapshot_of}
 use Rattle.life.specs.Consoles.{AreReaders, CanBecome, HasChanged, IsTerminalIndex, hangs_up, slots_of_key, slots_of_hangup}
 use Rattle.life.specs.Rechecks.{slots_of_signal}
 use Rattle.life.proofs.ForegroundLemmas.{fresh_alike, fresh_put}
-use Rattle.life.proofs.ReaderLemmas.{set_same, set_other}
+use Rattle.life.proofs.PlaceLemmas.{set_same, set_other}
 use Rattle.posix.specs.Tables.{members_in}
 use Rattle.life.specs.declared.consoles.Unchecked.{Unchecked}
 use Rattle.life.specs.Foregrounds.{AreFreshBut}
@@ -65,6 +65,7 @@ listed_put {readers = readers} s l k d h can = record {
   rising = h.rising;
   there = h.there;
   room = h.room;
+  ready = h.ready;
   watched = record {
     known = λ j p c r at found visits out unasked. ⊎_elim
         (λ here.

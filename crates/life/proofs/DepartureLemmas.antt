@@ -1,8 +1,9 @@
 -- A departure: who can act by it that couldn't, and so has to be rechecked.
-use Rattle.std.proofs.Common.{◌≡◌, ◌≢◌, ℕ, Bool, true, false, cond, ◌||◌, not, ◌&&◌, is_some, option_map, Option, None, refl, ap, sym, ◌∙◌, subst, List, [], ◌∷◌, ◌++◌, Some, arith, ◌⊎◌, ⊎_elim, inl, inr}
+use Rattle.std.proofs.Common.{◌≡◌, ◌≢◌, ℕ, Bool, true, false, cond, ◌||◌, not, ◌&&◌, is_some, option_map, Option, None, refl, ap, sym, ◌∙◌, subst, List, [], ◌∷◌, ◌++◌, map, Some, arith, ◌⊎◌, ⊎_elim, inl, inr}
 use Rattle.std.specs.List.{AllByRecursion}
 use Rattle.std.specs.Option.{IsSome}
 use Rattle.std.proofs.lemmas.Bool.{cases_eq, eq-eqb, or_left, or_right, or_cases, both_ways, false_from_ne_true}
+use Rattle.std.proofs.lemmas.List.{length-map}
 use Rattle.posix.specs.Processes.{Process}
 use Rattle.posix.specs.Tables.{lookup, at, changed, first_pid, above, reparented, adopted}
 use Rattle.posix.specs.Waits.{sorts, wanted_in}
@@ -71,6 +72,7 @@ listed_departed : {readers : List PidSetView} (s : State) (p heir w : ℕ) (me :
 unfolding changed adopted
 listed_departed s p heir w me l i h found mine up its =
     listed_same s t l asked h (both s left t (both s zombie left dies loses) gives) (refl, refl, λ q u e. still_out p q s.order e)
+    (length-map (map (at p (made_zombie w)) s.processes) (reparented p heir) ∙ length-map s.processes (at p (made_zombie w)))
     (λ q e. some_map (reparented p heir) (pid_reparented p heir) q _ (some_map (at p (made_zombie w)) (at_pid p (made_zombie w) (keeps_made_zombie w).pid) q s.processes e))
     (λ q theirs e. ⊎_elim inl (λ placed. elim (cases_eq q p) [
       | inl same ↦ inl (ap (λ n. is_in n l.pids) same ∙ mine)

@@ -1,18 +1,20 @@
 -- A change of one process, in the parts of a machine.
-use Rattle.std.proofs.Common.{◌≡◌, ◌≢◌, ◌&&◌, ℕ, Bool, true, false, cond, not, refl, ap, sym, ◌∙◌, arith, subst, List, [], ◌∷◌, Option, Some, None, option_map, ◌==◌, inl, inr, ◌⊎◌, ⊎_elim, ◌++◌, ◌||◌, rules}
+use Rattle.std.proofs.Common.{◌≡◌, ◌≢◌, ◌&&◌, ℕ, ◌<◌, length, Bool, true, false, cond, not, refl, ap, sym, ◌∙◌, arith, subst, List, [], ◌∷◌, Option, Some, None, option_map, ◌==◌, inl, inr, ◌⊎◌, ⊎_elim, ◌++◌, ◌||◌, rules}
 use Rattle.std.specs.Option.{IsSome}
+use Rattle.std.specs.List.{list_any}
 use Rattle.std.specs.Borrow.{MutBor}
 use Rattle.std.specs.Fn.{Once, FnOnceReturnsAtMut}
-use Rattle.std.proofs.lemmas.Bool.{eq-eqb, ne_eqb, and_parts, cases_eq, cond_both, or_left, or_right, or_parts}
+use Rattle.std.proofs.lemmas.Bool.{eqb-true, eq-eqb, ne_eqb, and_parts, cases_eq, cond_both, or_left, or_right, or_parts}
 use Rattle.std.proofs.lemmas.List.{length-map}
 use Rattle.std.proofs.lemmas.Option.{same_Some}
+use Rattle.std.proofs.Math.Nat.{le_trans}
 use Rattle.posix.specs.declared.process.PendingSignal.{PendingSignal}
 use Rattle.posix.specs.Processes.{Process, is_zombie}
 use Rattle.posix.specs.declared.process.Effect.TheVariants as effect
 use Rattle.posix.specs.Generation.{signalled, effect_of}
 use Rattle.posix.specs.Statuses.{continued}
 use Rattle.posix.specs.Notices.{told_of_change, noticed_of_change, child_signal, resumed, generated_for, ignores_stops}
-use Rattle.posix.specs.Tables.{IsRising, lookup, at, changed, parent_of}
+use Rattle.posix.specs.Tables.{IsRising, lookup, at, changed, parent_of, is_member}
 use Rattle.posix.specs.States.{State, process, change, is_in, change as change_of}
 use Rattle.posix.specs.Regular.{IsRegular, IsPlaced}
 use Rattle.posix.proofs.TableLemmas.{pid_looked, changed_absent, changed_id, changed_same, lookup_changed, rising_changed}
@@ -22,8 +24,10 @@ use Rattle.posix.proofs.RegularLemmas.{Keeps, regular_change, lookup_other}
 use Rattle.posix.proofs.ChangeLemmas.{regular_lives, lookup_signalled, continued_cont, generated_as, keeps_noticed_of_change, unseen_noticed_of_change}
 use Rattle.posix.proofs.TouchLemmas.{Touches, touches_shown, touches_both, touches_unseen}
 use Rattle.posix.proofs.ReportLemmas.{some_changed}
+use Rattle.posix.proofs.WalkLemmas.{some_looked}
 use Rattle.posix.proofs.FreshLemmas.{fresh_changed}
-use Rattle.pidalloc.specs.Rows.{Pids, regrouped}
+use Rattle.pidalloc.specs.Rows.{Pids, regrouped, is_free_in}
+use Rattle.pidalloc.proofs.TallyLemmas.{AreBorne, are_borne}
 use Rattle.pidalloc.proofs.MoveLemmas.{tallied_regrouped, pids_regrouped, greatest_regrouped, CanRegroup, can_regroup}
 use Rattle.sched.specs.Places.{Places}
 use Rattle.pidset.specs.Numbers.{PidSetView, with_number}
@@ -32,21 +36,21 @@ use Rattle.proctable.specs.Records.{process_of, give_record, with_record}
 use Rattle.proctable.proofs.RecordLemmas.{changed_here}
 use Rattle.jobs.specs.declared.indexes.IndexedFields.{IndexedFields}
 use Rattle.jobs.specs.Indexes.{record_seen, seen_of, keeps_group_and_session}
-use Rattle.jobs.specs.IndexedTables.{IsRun, StaysPut, takes_signal}
+use Rattle.jobs.specs.IndexedTables.{IsRun, IsGroupFor, StaysPut, takes_signal}
 use Rattle.jobs.proofs.NumberLemmas.{absent_changed}
 use Rattle.jobs.proofs.RunLemmas.{run_as, put_as, parent_is}
 use Rattle.jobs.proofs.SnapshotLemmas.{differs, equals, Named, named_there}
 use Rattle.jobs.proofs.KeptLemmas.{record_found, length_record}
-use Rattle.life.specs.Machines.{with_processes, IsKept, IsSound, IsListed, IsMachine, Terminals, MachineView, Costs, Changes, IfThere, IsOther}
+use Rattle.life.specs.Machines.{with_processes, IsKept, IsSound, IsListed, IsNoted, IsMachine, Terminals, MachineView, Costs, Changes, IfThere, IsOther}
 use Rattle.life.specs.Rechecks.{with_numbers, with_parent, rechecking, rechecking_by_signals, rechecking_effect, rechecking_generated, slots_of_signal, awaits, rechecking_told}
 use Rattle.life.specs.declared.consoles.Unchecked.{Unchecked}
 use Rattle.life.specs.declared.consoles.Unchecked.TheVariants.{All}
 use Rattle.life.specs.Foregrounds.{AreFreshBut}
 use Rattle.life.proofs.ForegroundLemmas.{fresh_all, fresh_still}
-use Rattle.life.specs.Changes.{has_moved, CanMoveNumbers, StaysRegular, lives}
+use Rattle.life.specs.Changes.{has_moved, CanMoveNumbers, StaysInSession, StaysRegular, lives}
 use Rattle.pidset.specs.Indexes.{HaveParents}
 use Rattle.pidset.proofs.ParentLemmas.{parents_map}
-use Rattle.life.proofs.SoundLemmas.{found_in, kept_map, not_many}
+use Rattle.life.proofs.SoundLemmas.{found_in, kept_map, kept_ready, some_back, not_many}
 use Rattle.life.proofs.RecheckLemmas.{IsBeside, listed_with, listed_signals}
 use Rattle.life.proofs.SignalLemmas.{with_signals, only_noticed_of_change, touches_signals}
 use Rattle.posix.specs.declared.process.Life.{Life}
@@ -79,8 +83,8 @@ fresh_on : (u : Unchecked) (s : State) (p : ℕ) (f : Process → Process) → K
 fresh_on u s p f k fresh = fresh_still _ s.processes _ s.consoles (λ ds h. fresh_changed p f k.group k.session s.processes ds h) fresh
 
 pub machine_changed : {groups_at_risk : PidSetView} {terminals : Terminals} (s : State) (pids : Pids) (places : Places) (to_recheck after : PidSetView) (p : ℕ) (f : Process → Process) → KeepsNumbers f
-    → IsRegular (change s p f) → IsMachine s pids places to_recheck groups_at_risk terminals → IsListed (change s p f) after terminals.readers → IsMachine (change s p f) pids places after groups_at_risk terminals
-machine_changed s pids places to_recheck after p f k regular i listed = record { sound = sound_changed s pids places p f k regular i.sound; listed = listed; noted = i.noted; fresh = fresh_on _ s p f k i.fresh }
+    → IsRegular (change s p f) → IsMachine s pids places to_recheck groups_at_risk terminals → after.room ≡ to_recheck.room → IsListed (change s p f) after terminals.readers → IsMachine (change s p f) pids places after groups_at_risk terminals
+machine_changed {groups_at_risk = groups_at_risk} s pids places to_recheck after p f k regular i room listed = record { sound = sound_changed s pids places p f k regular i.sound; listed = listed; noted = subst (λ n. IsNoted n groups_at_risk) (sym room) i.noted; fresh = fresh_on _ s p f k i.fresh }
 
 -- a record with other signals, and another alarm
 signals_are : (rs : List Process) → IsRising rs → (p : ℕ) (b c : Record) → lookup p rs ≡ Some (process_of p (parent_of p rs) b) → c ≡ record b { alarm = c.alarm; own = record (b.own) { signals = c.own.signals } } → with_record rs p c ≡ changed p (with_signals c.own.signals c.alarm) rs
@@ -93,7 +97,7 @@ machine_run {groups_at_risk = groups_at_risk} {terminals = terminals} s pids pla
     let f = with_signals c.own.signals c.alarm in
     let became = signals_are s.processes i.sound.regular.rising p b c found same in
     subst (λ rs. IsMachine (record s { processes = rs }) pids places after groups_at_risk terminals) (sym (is ∙ became))
-    (machine_changed s pids places to_recheck after p f (record { pid = λ r. refl; parent = λ r. refl; group = λ r. refl; session = λ r. refl }) (subst (λ rs. IsRegular (record s { processes = rs })) became regular) i
+    (machine_changed s pids places to_recheck after p f (record { pid = λ r. refl; parent = λ r. refl; group = λ r. refl; session = λ r. refl }) (subst (λ rs. IsRegular (record s { processes = rs })) became regular) i room
     (listed_signals s p c.own.signals c.alarm to_recheck after i.listed (rw found refl) (put ∙ ap (λ rs. rechecking_by_signals (lookup p rs) s.order to_recheck.pids) (is ∙ became)) room))
 
 -- the process is rechecked where a signal is chosen for it
@@ -111,39 +115,47 @@ keep_numbers c r = record (give_record c r) { group = r.group; session = r.sessi
 pub not_moved : (old new : IndexedFields) → keeps_group_and_session old new ≡ true → has_moved old new ≡ false
 not_moved old new h = let both = and_parts (old.group == new.group && old.session == new.session) _ h in let each = and_parts (old.group == new.group) _ both.0 in rw (each.0, each.1) refl
 
+-- and is in the session in which it was
+pub put_session : {F T : Type 0} {g : Once F (MutBor Record × Unit {0}) (T × (MutBor Record × Unit {0}))} {change : F} (p : ℕ) (rs : List Process) → StaysPut g change rs p → StaysInSession g change rs p
+put_session p rs h b c r found k =
+    let both = and_parts (b.group == c.group && b.session == c.session) _ (h b c r found k) in
+    let each = and_parts (b.group == c.group) _ both.0 in
+    inl (sym (eqb-true b.session c.session each.1))
+
 numbers_as : (rs : List Process) → IsRising rs → (p : ℕ) (b c : Record) → lookup p rs ≡ Some (process_of p (parent_of p rs) b) → has_moved (record_seen b) (record_seen c) ≡ false → with_record rs p c ≡ changed p (keep_numbers c) rs
 unfolding give_record
 numbers_as rs up p b c found still = grind (arith, up, found, still, changed_here, equals, or_parts)
 
 -- the rows count the records with it, where the numbers that it bears move with it
 numbers_kept : (m p : ℕ) (b c : Record) (rs : List Process) (pids now : Pids) (places : Places) → IsRising rs → lookup p rs ≡ Some (process_of p (parent_of p rs) b)
-    → now ≡ cond (has_moved (record_seen b) (record_seen c)) (regrouped pids b.group b.session c.group c.session) pids → IsKept m rs pids places → IsKept m (with_record rs p c) now places
+    → now ≡ record (cond (has_moved (record_seen b) (record_seen c)) (regrouped pids b.group b.session c.group c.session) pids) { ready = now.ready } → IsKept m rs pids places → IsKept m (with_record rs p c) now places
 unfolding give_record changed
 numbers_kept m p b c rs pids now places up found is k = by (has_moved (record_seen b) (record_seen c)) refl is
   where
-    by : (t : Bool) → has_moved (record_seen b) (record_seen c) ≡ t → now ≡ cond t (regrouped pids b.group b.session c.group c.session) pids → IsKept m (with_record rs p c) now places
-    by true e moved = rw moved (record {
+    by : (t : Bool) → has_moved (record_seen b) (record_seen c) ≡ t → now ≡ record (cond t (regrouped pids b.group b.session c.group c.session) pids) { ready = now.ready } → IsKept m (with_record rs p c) now places
+    by true e moved = subst (λ x. IsKept m (with_record rs p c) x places) (sym moved) (kept_ready m (with_record rs p c) (regrouped pids b.group b.session c.group c.session) now.ready places (record {
       greatest = greatest_regrouped pids b.group b.session c.group c.session ∙ k.greatest;
       table = pids_regrouped pids b.group b.session c.group c.session k.table;
       tallied = tallied_regrouped pids p (give_record c) (λ r. refl) (process_of p (parent_of p rs) b) rs k.table up k.tallied found;
-      room = k.room;
-    })
-    by false e still = rw (still, numbers_as rs up p b c found e) (kept_map (at p (keep_numbers c)) (at_pid p (keep_numbers c) (λ r. refl)) (at_keeps (λ r. r.group) p (keep_numbers c) (λ r. refl)) (at_keeps (λ r. r.session) p (keep_numbers c) (λ r. refl)) m rs pids places places (omega arith) k)
+      room = λ q here. k.room q (some_back (at p (give_record c)) (at_pid p (give_record c) (λ r. refl)) q rs here);
+    }))
+    by false e still = subst (λ x. IsKept m (with_record rs p c) x places) (sym still) (kept_ready m (with_record rs p c) pids now.ready places (rw (numbers_as rs up p b c found e) (kept_map (at p (keep_numbers c)) (at_pid p (keep_numbers c) (λ r. refl)) (at_keeps (λ r. r.group) p (keep_numbers c) (λ r. refl)) (at_keeps (λ r. r.session) p (keep_numbers c) (λ r. refl)) m rs pids places places (omega arith) k)))
 
 -- those who are rechecked: the process, and its parent if it has one that is there
-pub listed_changed : {readers : List PidSetView} (s t : State) (p parent : ℕ) (before after : PidSetView) (touched : List ℕ) → IsListed s before readers → Touches s t touched → IsBeside s t touched → t.order ≡ s.order → ((q : ℕ) → IsSome (process s q) → IsSome (process t q))
+pub listed_changed : {readers : List PidSetView} (s t : State) (p parent : ℕ) (before after : PidSetView) (touched : List ℕ) → IsListed s before readers → Touches s t touched → IsBeside s t touched → t.order ≡ s.order → length t.processes ≡ length s.processes → ((q : ℕ) → IsSome (process s q) → IsSome (process t q))
     → IsSome (process t p) → (parent ≢ 0 → IsSome (process t parent)) → process t 0 ≡ None → ((q : ℕ) → is_in q touched ≡ true → (q ≡ p) ⊎ (q ≡ parent))
     → after.pids ≡ with_parent parent t.order (with_number p before.pids) → after.room ≡ before.room → IsListed t after readers
 unfolding with_numbers is_in
-listed_changed {readers = readers} s t p parent before after touched h touches most order stay here up none among is same =
+listed_changed {readers = readers} s t p parent before after touched h touches most order many stay here up none among is same =
+    let fits : length t.processes < before.room = omega (arith, many, h.room) in
     elim (cases_eq parent 0) [
-      | inl root ↦ listed_with s t before after (p ∷ []) touched h touches most stay (here, tt)
+      | inl root ↦ listed_with s t before after (p ∷ []) touched h touches most fits stay (here, tt)
           (λ q theirs e. ⊎_elim (mine q) (λ k. let no = subst (λ n. IsSome (process t n)) (k ∙ root) theirs in let nobody = rw none at no in absurd (cc)) (among q e))
           (is ∙ rw (eq-eqb parent 0 root) refl) same
       | inr some ↦ elim (is_in parent t.order) as (λ b. is_in parent t.order ≡ b → after.pids ≡ cond b (with_number p before.pids) (with_number parent (with_number p before.pids)) → IsListed t after readers) [
-        | true ↦ λ placed e. listed_with s t before after (p ∷ []) touched h touches most stay (here, tt)
+        | true ↦ λ placed e. listed_with s t before after (p ∷ []) touched h touches most fits stay (here, tt)
             (λ q theirs k. ⊎_elim (mine q) (λ same. let now = subst (λ n. is_in n t.order ≡ true) (sym same) placed in inr (ap (is_in q) (sym order) ∙ now, now)) (among q k)) e same
-        | false ↦ λ out e. listed_with s t before after (parent ∷ p ∷ []) touched h touches most stay (up some, (here, tt))
+        | false ↦ λ out e. listed_with s t before after (parent ∷ p ∷ []) touched h touches most fits stay (up some, (here, tt))
             (λ q theirs k. inl (⊎_elim (λ same. or_right (parent == q) _ (or_left _ _ (eq-eqb p q (sym same)))) (λ same. or_left _ _ (eq-eqb parent q (sym same))) (among q k))) e same
       ] refl (is ∙ rw (ne_eqb parent 0 some) refl)
     ]
@@ -168,11 +180,11 @@ there_record rs p c q there = some_changed p q (give_record c) (λ r. refl) rs t
 
 pub machine_shown : {groups_at_risk : PidSetView} {terminals : Terminals} (s : State) (pids now : Pids) (places : Places) (to_recheck after : PidSetView) (p parent : ℕ) (b c : Record) (ts : List Process) (foregrounds_unchecked : Unchecked)
     → lookup p s.processes ≡ Some (process_of p (parent_of p s.processes) b) → ts ≡ with_record s.processes p c → IsRegular (record s { processes = with_record s.processes p c }) → parent ≡ parent_of p s.processes
-    → now ≡ cond (has_moved (record_seen b) (record_seen c)) (regrouped pids b.group b.session c.group c.session) pids → foregrounds_unchecked ≡ cond (has_moved (record_seen b) (record_seen c)) All terminals.foregrounds_unchecked → s.last_pid ≡ now.last
+    → now ≡ record (cond (has_moved (record_seen b) (record_seen c)) (regrouped pids b.group b.session c.group c.session) pids) { ready = now.ready } → foregrounds_unchecked ≡ cond (has_moved (record_seen b) (record_seen c)) All terminals.foregrounds_unchecked → s.last_pid ≡ now.last
     → IsMachine s pids places to_recheck groups_at_risk terminals → after.pids ≡ with_parent parent s.order (with_number p to_recheck.pids) → after.room ≡ to_recheck.room
     → IsMachine (record s { processes = ts; last_pid = now.last }) now places after groups_at_risk (record { readers = terminals.readers; foregrounds_unchecked = foregrounds_unchecked })
 unfolding give_record
-machine_shown {terminals = terminals} s pids now places to_recheck after p parent b c ts foregrounds_unchecked found is regular its moved mark given i put room =
+machine_shown {groups_at_risk = groups_at_risk} {terminals = terminals} s pids now places to_recheck after p parent b c ts foregrounds_unchecked found is regular its moved mark given i put room =
     let rs = s.processes in
     let f = give_record c in
     let up = i.sound.regular.rising in
@@ -185,11 +197,11 @@ machine_shown {terminals = terminals} s pids now places to_recheck after p paren
         counted = let n = i.sound.counted in let l = length_record rs p c in omega (arith, n, l);
         kept = numbers_kept s.world.pidmax p b c rs pids now places up found moved i.sound.kept;
       };
-      listed = listed_changed s t p (parent_of p rs) to_recheck after (p ∷ parent_of p rs ∷ []) i.listed (touches_shown s p f (λ r. refl) (λ r. refl) up me found) (refl, refl, λ q u e. e) refl
+      listed = listed_changed s t p (parent_of p rs) to_recheck after (p ∷ parent_of p rs ∷ []) i.listed (touches_shown s p f (λ r. refl) (λ r. refl) up me found) (refl, refl, λ q u e. e) refl (length_record rs p c)
           (λ q e. some_changed p q f (λ r. refl) rs e) (some_changed p p f (λ r. refl) rs (rw found refl)) (λ some. some_changed p (parent_of p rs) f (λ r. refl) rs (parent_there s pids places i.sound p me found some)) (absent_changed p f (λ r. refl) 0 rs (nobody_0 s i.sound.regular))
           (λ q e. each (λ q. (q ≡ p) ⊎ (q ≡ parent_of p rs)) (p ∷ parent_of p rs ∷ []) (inl refl, (inr refl, tt)) q e)
           (subst (λ q. after.pids ≡ with_parent q s.order (with_number p to_recheck.pids)) its put) room;
-      noted = i.noted;
+      noted = subst (λ n. IsNoted n groups_at_risk) (sym room) i.noted;
       fresh = subst (λ u. AreFreshBut u (with_record rs p c) s.consoles) (sym mark) (elim (has_moved (record_seen b) (record_seen c)) as (λ m. has_moved (record_seen b) (record_seen c) ≡ m → AreFreshBut (cond m All terminals.foregrounds_unchecked) (with_record rs p c) s.consoles) [
         | true ↦ λ e. fresh_all s.consoles
         | false ↦ λ e. fresh_still _ rs _ s.consoles (λ ds h. rw (numbers_as rs up p b c found e) (fresh_changed p (keep_numbers c) (λ r. refl) (λ r. refl) rs ds h)) i.fresh
@@ -238,12 +250,15 @@ listed_told {readers = readers} s pids places i p w l n me found before after h 
     stay : (x : ℕ) → IsSome (process s x) → IsSome (process t x)
     stay x here = some_changed q x g keeps (changed p f s.processes) (some_changed p x f (λ r. refl) s.processes here)
 
+    many : length t.processes ≡ length s.processes
+    many = length-map (changed p f s.processes) (at q g) ∙ length-map s.processes (at p f)
+
     nobody : process t 0 ≡ None
     nobody = absent_changed q g keeps 0 (changed p f s.processes) (absent_changed p f (λ r. refl) 0 s.processes (nobody_0 s i.regular))
 
     both : after.pids ≡ with_parent q s.order (with_number p before.pids) → IsListed t after readers
     both is = listed_changed s t p q before after ((q ∷ []) ++ (p ∷ q ∷ [])) h
-        (touches_both s mid t (p ∷ q ∷ []) (q ∷ []) (touches_shown s p f (λ r. refl) (λ r. refl) i.regular.rising me found) (touches_unseen mid q g (unseen_noticed_of_change (child_signal me.pid w)))) (refl, refl, λ x u e. e) refl stay
+        (touches_both s mid t (p ∷ q ∷ []) (q ∷ []) (touches_shown s p f (λ r. refl) (λ r. refl) i.regular.rising me found) (touches_unseen mid q g (unseen_noticed_of_change (child_signal me.pid w)))) (refl, refl, λ x u e. e) refl many stay
         (stay p (rw found refl)) (λ some. stay q (parent_there s pids places i p me found some)) nobody (λ x e. each (λ x. (x ≡ p) ⊎ (x ≡ q)) (q ∷ p ∷ q ∷ []) (inr refl, (inl refl, (inr refl, tt))) x e) is room
 
     by : (o : Option Process) → process t q ≡ o → after.pids ≡ rechecking_told (f me) o s.order before.pids → IsListed t after readers
@@ -269,18 +284,34 @@ listed_told {readers = readers} s pids places i p w l n me found before after h 
               sym (awaits_noticed (child_signal me.pid w) parent (f me)) ∙ ap (λ r. awaits (g r) (f me)) (sym same) ∙ ap (λ r. awaits r (f me)) (sym its) ∙ none.0))
               (subst (λ rs. Touches mid (record mid { processes = rs }) []) (sym is_signals) (touches_signals mid q (g b.what).signals (g b.what).alarm (λ r here.
               ap takes_signal (same_Some _ _ (sym here ∙ ap (lookup q) (sym is_signals) ∙ there)) ∙ none.1))))
-              (refl, refl, λ x u e. e) stay (stay p (rw found refl), tt) (λ x theirs e. inl e) (e ∙ ap (λ m. with_number m before.pids) mine) room
+              (refl, refl, λ x u e. e) (omega (arith, many, h.room)) stay (stay p (rw found refl), tt) (λ x theirs e. inl e) (e ∙ ap (λ m. with_number m before.pids) mine) room
         ] refl is
+
+-- the numbers of a process that is there are borne
+pub borne_of : (s : State) (pids : Pids) (places : Places) → IsSound s pids places → (p : ℕ) (r : Process) → lookup p s.processes ≡ Some r → AreBorne pids p r
+borne_of s pids places i p r found =
+    let bounds = i.regular.bounded p r found in
+    are_borne pids p r s.processes i.kept.tallied found (omega (arith, bounds.pid, i.kept.greatest, pid_looked p s.processes r found)) (omega (arith, bounds.group, i.kept.greatest)) (omega (arith, bounds.session, i.kept.greatest))
+
+-- and so is that of a group that has a member
+group_borne : (s : State) (pids : Pids) (places : Places) → IsSound s pids places → (g : ℕ) → list_any (is_member g) s.processes ≡ true → is_free_in pids.rows g ≡ false
+group_borne s pids places i g member =
+    let it = some_looked (is_member g) s.processes i.regular.rising member in
+    ap (is_free_in pids.rows) (sym (eqb-true it.0.group g it.2)) ∙ (borne_of s pids places i it.0.pid it.0 it.1).group
 
 -- what the rows need for it
 pub can_move_numbers : (s : State) (pids : Pids) (places : Places) → IsSound s pids places → (p : ℕ) (b c : Record) → lookup p s.processes ≡ Some (process_of p (parent_of p s.processes) b) → IsRegular (record s { processes = with_record s.processes p c })
+    → (c.group ≡ b.group) ⊎ IsGroupFor p c.group s.processes → (c.session ≡ b.session) ⊎ (c.session ≡ p)
     → CanMoveNumbers pids (record_seen b) (record_seen c)
-can_move_numbers s pids places i p b c found regular =
+can_move_numbers s pids places i p b c found regular group session =
     let most = i.kept.greatest in
     let old = i.regular.bounded p (process_of p (parent_of p s.processes) b) found in
     let new = regular.bounded p (process_of p (parent_of p s.processes) c) (record_found s.processes p b c found) in
     let many = not_many s pids places i in
     let r : CanRegroup pids b.group b.session c.group c.session = can_regroup pids p c.group c.session (process_of p (parent_of p s.processes) b) s.processes i.kept.tallied (omega (arith, many)) found (omega (arith, old.group, most)) (omega (arith, old.session, most)) (omega (arith, new.group, most)) (omega (arith, new.session, most)) in
+    let mine = borne_of s pids places i p (process_of p (parent_of p s.processes) b) found in
+    let to_group_borne = ⊎_elim (λ same. ap (is_free_in pids.rows) same ∙ mine.group) (⊎_elim (λ own. ap (is_free_in pids.rows) own ∙ mine.own) (λ member. group_borne s pids places i c.group member)) group in
+    let to_session_borne = ⊎_elim (λ same. ap (is_free_in pids.rows) same ∙ mine.session) (λ own. ap (is_free_in pids.rows) own ∙ mine.own) session in
     search (rules, arith)
 
 -- ---- by what the closure did
@@ -385,7 +416,7 @@ machine_told {groups_at_risk = groups_at_risk} {terminals = terminals} {s = s} {
     subst (λ rs. IsMachine (record s { processes = rs }) pids places after groups_at_risk terminals) (sym told.processes) (record {
       sound = sound_changed (change s p f) pids places me.parent g (keeps_notice signal) (regular_change me.parent g (change s p f) (keeps_noticed_of_change signal) regular) (sound_changed s pids places p f (keeps_lives l n) regular i.sound);
       listed = listed_told s pids places i.sound p w l n me k.found before after i.listed put room;
-      noted = i.noted;
+      noted = subst (λ n. IsNoted n groups_at_risk) (sym room) i.noted;
       fresh = fresh_on _ (change s p f) me.parent g (keeps_notice signal) (fresh_on _ s p f (keeps_lives l n) i.fresh);
     })
 
@@ -466,7 +497,7 @@ signal_ends signal p old new r found does state list still costs = record {
       list ∙ ap (λ o. rechecking_by_signals o old.state.order old.to_recheck) (ap (λ (t : State). process t p) state ∙ lookup_signalled signal it p old.state.processes found)
       ∙ ap (λ w. rechecking_effect w (signalled signal it) (generated_for signal (Some it) old.state.processes) old.state.order (rechecking_by_signals (Some (signalled signal it)) old.state.order old.to_recheck)) does
       ∙ ap (λ o. rechecking_generated signal o old.state.processes old.state.order old.to_recheck) (sym found);
-  costs = record { visits = grind (arith, costs.visits); groups_at_risk = costs.groups_at_risk; regular = costs.regular };
+  costs = record { visits = grind (arith, costs.visits); no_fewer = costs.no_fewer; groups_at_risk = costs.groups_at_risk; regular = costs.regular };
 }
 
 -- or continues it
@@ -491,5 +522,5 @@ signal_continues signal p old mid new r found does state list still costs contin
           ∙ ap (λ w. rechecking_effect w child (generated_for signal (Some it) s.processes) s.order (rechecking_by_signals (Some child) s.order old.to_recheck)) does
           ∙ ap (λ o. rechecking_generated signal o s.processes s.order old.to_recheck) (sym found);
       foregrounds_unchecked = then.foregrounds_unchecked ∙ still;
-      costs = record { visits = rw cont (omega (arith, costs.visits, then.costs.visits)); groups_at_risk = then.costs.groups_at_risk ∙ costs.groups_at_risk; regular = costs.regular };
+      costs = record { visits = rw cont (omega (arith, costs.visits, then.costs.visits)); no_fewer = le_trans costs.no_fewer then.costs.no_fewer; groups_at_risk = then.costs.groups_at_risk ∙ costs.groups_at_risk; regular = costs.regular };
     }

@@ -1,5 +1,6 @@
 -- Each member of a process group gets a signal, one after another.
 use Rattle.std.proofs.Common.{◌≡◌, ℕ, ◌+◌, ◌*◌, ◌≤◌, refl, ap, sym, ◌∙◌, arith, subst, List, [], ◌∷◌, map, filter, length, nat_lt, Option, Some, None}
+use Rattle.std.proofs.Math.Nat.{le_refl, le_trans}
 use Rattle.std.specs.Option.{IfSome, IsSome}
 use Rattle.posix.specs.declared.process.PendingSignal.{PendingSignal}
 use Rattle.posix.specs.Processes.{Process}
@@ -39,6 +40,7 @@ pub record IsReaching (m : PendingSignal) (group : ℕ) (first now : MachineView
   pub foregrounds_unchecked : now.foregrounds_unchecked ≡ first.foregrounds_unchecked
   pub groups_at_risk : now.groups_at_risk ≡ first.groups_at_risk
   pub visits : now.visits + slots_of_signal m.sig * length (left_of next (members_in group first.state.processes)) ≤ first.visits + slots_of_signal m.sig * length (members_in group first.state.processes)
+  pub no_fewer : first.visits ≤ now.visits
 
 -- it begins with all of them
 pub reaching_begins : (m : PendingSignal) (group : ℕ) (first : MachineView) (next : Option ℕ) → IsRegular first.state → next ≡ first_pid (above 0 (members_in group first.state.processes)) → IsReaching m group first first next
@@ -56,6 +58,7 @@ reaching_begins m group first next regular e =
       foregrounds_unchecked = refl;
       groups_at_risk = refl;
       visits = rw all (omega arith);
+      no_fewer = le_refl _;
     }
 
 -- it goes on behind the one that came next
@@ -86,6 +89,7 @@ reaching_goes_on {m = m} {group = group} {p = p} {first = first} {now = now} {ne
       foregrounds_unchecked = did.foregrounds_unchecked ∙ k.foregrounds_unchecked;
       groups_at_risk = did.costs.groups_at_risk ∙ k.groups_at_risk;
       visits = omega (arith, ap (λ ms. slots_of_signal m.sig * length ms) left, did.costs.visits, k.visits);
+      no_fewer = le_trans k.no_fewer did.costs.no_fewer;
     }
 
 -- at the end all got it
@@ -98,5 +102,5 @@ reaching_ends {m = m} {group = group} {first = first} {now = now} {next = next} 
       state = ap (λ o. with_processes now.state (signalled_all m (pids (left_of o ms)) now.state.processes)) (sym comes) ∙ k.state;
       to_recheck = ap (λ o. rechecking_all m (pids (left_of o ms)) now.state.processes now.state.order now.to_recheck) (sym comes) ∙ k.to_recheck;
       foregrounds_unchecked = k.foregrounds_unchecked;
-      costs = record { visits = omega (arith, k.visits); groups_at_risk = k.groups_at_risk; regular = regular };
+      costs = record { visits = omega (arith, k.visits); no_fewer = k.no_fewer; groups_at_risk = k.groups_at_risk; regular = regular };
     }

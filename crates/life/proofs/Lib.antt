@@ -1,4 +1,6 @@
 pub mod SoundLemmas
+pub mod PlaceLemmas
+pub mod RoomLemmas
 pub mod ReaderLemmas
 pub mod ReadingLemmas
 pub mod FunnelLemmas

@@ -68,5 +68,5 @@ pub machine_lent : {groups_at_risk : PidSetView} {terminals : Terminals} (s : St
     → IsSome (process s p) → IsMachine s pids places to_recheck groups_at_risk terminals → after.pids ≡ rechecking p s.order to_recheck.pids → after.room ≡ to_recheck.room
     → IsMachine (change s p (give_own w)) pids places after groups_at_risk terminals
 machine_lent s pids places to_recheck after p w here i put room =
-    machine_changed s pids places to_recheck after p (give_own w) (record { pid = λ r. refl; parent = λ r. refl; group = λ r. refl; session = λ r. refl }) (regular_change p (give_own w) s (keeps_give_own w) i.sound.regular) i
+    machine_changed s pids places to_recheck after p (give_own w) (record { pid = λ r. refl; parent = λ r. refl; group = λ r. refl; session = λ r. refl }) (regular_change p (give_own w) s (keeps_give_own w) i.sound.regular) i room
     (listed_change s p (give_own w) to_recheck after i.listed (λ r. refl) (touches_unseen s p (give_own w) (unseen_give_own w)) here put room)

@@ -1,6 +1,7 @@
 -- What a notice of an end, and a record that goes, change in the parts of a machine.
-use Rattle.std.proofs.Common.{rules, eq-eqb, ◌≡◌, ◌≢◌, ℕ, ◌+◌, ◌≤◌, Bool, true, false, cond, refl, ap, sym, ◌∙◌, arith, subst, List, [], length, Option, Some, None, option_map}
-use Rattle.std.specs.Option.{option_map_or}
+use Rattle.std.proofs.Common.{rules, eq-eqb, ◌≡◌, ◌≢◌, ℕ, ◌+◌, ◌<◌, ◌≤◌, inl, inr, Bool, true, false, cond, refl, ap, sym, ◌∙◌, arith, subst, List, [], length, Option, Some, None, option_map}
+use Rattle.std.specs.Option.{option_map_or, IsSome}
+use Rattle.std.proofs.lemmas.Bool.{cases_eq}
 use Rattle.posix.specs.declared.process.PendingSignal.{PendingSignal}
 use Rattle.posix.specs.Processes.{Process, is_zombie}
 use Rattle.posix.specs.Tables.{lookup, at, changed, removed, parent_of}
@@ -9,10 +10,10 @@ use Rattle.posix.specs.Ends.{drops_children, is_dropping}
 use Rattle.posix.specs.Notices.{noticed}
 use Rattle.posix.proofs.TableLemmas.{lookup_changed, pid_looked, length_removed}
 use Rattle.posix.proofs.MapLemmas.{lookup_on, lookup_map}
-use Rattle.posix.proofs.RegularLemmas.{keeps_at, keeps_noticed, regular_as, regular_removed}
-use Rattle.pidalloc.specs.Rows.{Pids}
+use Rattle.posix.proofs.RegularLemmas.{keeps_at, keeps_noticed, lookup_kept, lookup_removed, regular_as, regular_removed}
+use Rattle.pidalloc.specs.Rows.{Pids, gone_from}
 use Rattle.pidalloc.specs.Tallies.{IsTallied}
-use Rattle.pidalloc.proofs.TallyLemmas.{can_give_up, tallied_gone}
+use Rattle.pidalloc.proofs.TallyLemmas.{can_give_up, tallied_gone, tallied_ready}
 use Rattle.sched.specs.Places.{Places}
 use Rattle.life.specs.Machines.{IsSound, IsMachine, Terminals, CanGo, IsGone, IsOther}
 use Rattle.life.proofs.RecheckLemmas.{listed_same}
@@ -42,8 +43,9 @@ sound_gone s p q a c last dropped r i found dead other g most =
     let regular = regular_as _ (record s { processes = removed c s.processes; last_pid = last; dropped = dropped }) refl refl refl refl refl (regular_removed c r s i.regular other found dead) in
     let parents = parents_removed IsOther c s.processes (no_child c s.processes (i.regular.childless c r other found dead)) i.parents in
     let many = length_removed c r s.processes i.regular.rising found in
-    let tallied = subst (λ x. IsTallied x (removed c s.processes)) (sym g.rows) (tallied_gone p c r s.processes i.kept.table.size i.regular.rising i.kept.tallied found) in
-    search (rules, arith)
+    let tallied = subst (λ x. IsTallied x (removed c s.processes)) (sym g.rows) (tallied_ready (gone_from p c r.group r.session) (removed c s.processes) q.ready (tallied_gone p c r s.processes i.kept.table.size i.regular.rising i.kept.tallied found)) in
+    let room : (k : ℕ) → IsSome (lookup k (removed c s.processes)) → k < a.room = λ k here. elim (cases_eq k c) [ inl mine ↦ let no = subst IsSome (ap (λ n. lookup n (removed c s.processes)) mine ∙ lookup_removed c s.processes) here in absurd (cc) | inr other ↦ i.kept.room k (subst IsSome (lookup_kept c k s.processes other) here) ] in
+    record { regular = regular; parents = parents; counted = omega (arith, i.counted, many, most); kept = record { greatest = g.greatest ∙ i.kept.greatest; table = g.table; tallied = tallied; room = room } }
 
 -- it stays a machine where only the count of those dropped changes, and whether it has halted
 pub machine_counted : {groups_at_risk : PidSetView} {terminals : Terminals} (s : State) (pids : Pids) (places : Places) (to_recheck : PidSetView) (dropped : ℕ) (halted : Bool) → dropped + length s.processes ≤ s.births
@@ -51,7 +53,7 @@ pub machine_counted : {groups_at_risk : PidSetView} {terminals : Terminals} (s :
 machine_counted s pids places to_recheck dropped halted few i =
     let t = record s { dropped = dropped; halted = halted } in
     let regular = regular_as s t refl refl refl refl refl i.sound.regular in
-    let listed = listed_same s t to_recheck [] i.listed (touches_none s t refl refl refl) (refl, refl, λ q u e. e) (λ q e. e) (λ q there e. absurd (in_none q e)) in
+    let listed = listed_same s t to_recheck [] i.listed (touches_none s t refl refl refl) (refl, refl, λ q u e. e) refl (λ q e. e) (λ q there e. absurd (in_none q e)) in
     search rules
 
 -- what was read of the parent says whether it drops the child

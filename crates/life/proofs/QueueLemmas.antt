@@ -1,5 +1,6 @@
 -- Queues: for whom a signal that is sent would be queued, part by part, and that pools are enough for all of them.
 use Rattle.std.proofs.Common.{is_some, ◌≡◌, ◌≤◌, ◌<◌, ◌+◌, ◌-◌, ◌&&◌, not, ℕ, Bool, true, false, true≢false, cond, refl, ap, sym, ◌∙◌, arith, subst, inl, inr, ◌⊎◌, List, [], ◌∷◌, ◌++◌, filter, length, nat_lt, Option, Some, None, ◌==◌}
+use Rattle.std.proofs.Math.Nat.{le_trans}
 use Rattle.std.specs.List.{list_any}
 use Rattle.std.specs.Option.{IsSome}
 use Rattle.std.proofs.lemmas.Bool.{cases_lt, cond_both, eqb-true, or_parts}
@@ -287,7 +288,7 @@ sends_looked me target k old mid new answer looks did = record {
   state = did.state ∙ ap (λ (t : State). with_processes t (sent_as answer me target k t.processes)) looks.same.state;
   to_recheck = did.to_recheck ∙ ap (λ (t : State). rechecking_as answer me k target t.processes t.order mid.to_recheck) looks.same.state ∙ ap (rechecking_as answer me k target old.state.processes old.state.order) looks.same.to_recheck;
   foregrounds_unchecked = did.foregrounds_unchecked ∙ looks.same.foregrounds_unchecked;
-  costs = record { visits = omega (arith, did.costs.visits, looks.visits); groups_at_risk = did.costs.groups_at_risk ∙ looks.same.groups_at_risk; regular = looks.regular };
+  costs = record { visits = omega (arith, did.costs.visits, looks.visits); no_fewer = le_trans looks.no_fewer did.costs.no_fewer; groups_at_risk = did.costs.groups_at_risk ∙ looks.same.groups_at_risk; regular = looks.regular };
 }
 
 -- or nothing is sent
@@ -296,7 +297,7 @@ sends_none n me target k old new answer e looks = record {
   state = looks.same.state ∙ ap (λ b. with_processes old.state (cond b (sent me target k old.state.processes) old.state.processes)) (sym e);
   to_recheck = looks.same.to_recheck ∙ ap (λ b. cond b (rechecking_signalled me k (targets me target old.state.processes) old.state.processes old.state.order old.to_recheck) old.to_recheck) (sym e);
   foregrounds_unchecked = looks.same.foregrounds_unchecked;
-  costs = record { visits = omega (arith, looks.visits); groups_at_risk = looks.same.groups_at_risk; regular = looks.regular };
+  costs = record { visits = omega (arith, looks.visits); no_fewer = looks.no_fewer; groups_at_risk = looks.same.groups_at_risk; regular = looks.regular };
 }
 
 -- ---- a standard signal, or none
@@ -316,7 +317,7 @@ standard_goes qs other e = ap (λ l. queued_for true l other) (sym e)
 
 -- a count that lets more
 pub sends_more : {n : ℕ} (m : ℕ) (me : Process) (target : Target) (k : Option PendingSignal) (old new : MachineView) (answer : Sending) → Sends answer me target k n old new → Sends answer me target k (n + m) old new
-sends_more m me target k old new answer did = record { state = did.state; to_recheck = did.to_recheck; foregrounds_unchecked = did.foregrounds_unchecked; costs = record { visits = omega (arith, did.costs.visits); groups_at_risk = did.costs.groups_at_risk; regular = did.costs.regular } }
+sends_more m me target k old new answer did = record { state = did.state; to_recheck = did.to_recheck; foregrounds_unchecked = did.foregrounds_unchecked; costs = record { visits = omega (arith, did.costs.visits); no_fewer = did.costs.no_fewer; groups_at_risk = did.costs.groups_at_risk; regular = did.costs.regular } }
 
 -- one that is sent with this number
 pub standard_sent : (k m : PendingSignal) → is_realtime k.sig ≡ false → Some k ≡ Some m → is_realtime m.sig ≡ false

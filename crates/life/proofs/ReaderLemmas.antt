@@ -17,10 +17,11 @@ use Rattle.posix.specs.Terminals.{is_reader, is_in_read}
 use Rattle.posix.proofs.MemberLemmas.{in_none, out_of, is_other, others_stay}
 use Rattle.posix.proofs.TableLemmas.{pid_looked}
 use Rattle.pidset.specs.Numbers.{PidSetView, Rises, with_number, numbers_above}
-use Rattle.pidset.proofs.NumberLemmas.{few, rises_with, rises_without, in_with, IsLeastAbove, next_is}
-use Rattle.life.specs.Machines.{IsReaders, IsListed, IsWaiting, IsWatched, AreUnread, readers_at}
+use Rattle.pidset.proofs.NumberLemmas.{rises_with, rises_without, in_with, IsLeastAbove, next_is}
+use Rattle.life.specs.Machines.{IsReaders, HasRoomFor, IsListed, IsWaiting, IsWatched, AreUnread, readers_at}
 use Rattle.life.specs.Consoles.{reads, reads_in, is_terminal_of, marked, IsMarked, IsForgottenAt, AreReaders}
-use Rattle.life.proofs.RecheckLemmas.{none_between}
+use Rattle.life.proofs.PlaceLemmas.{at_place, all_places, all_set, ready_marked, set_same, set_other}
+use Rattle.life.proofs.RecheckLemmas.{none_between, room_for}
 
 -- ---- the place of a session's terminal
 
@@ -52,59 +53,24 @@ is_next session (suc k) c (d ∷ ds) h e n = grind (arith, is_next session k c d
 -- ---- sets of those who wait to read
 
 -- one where nobody does
-pub readers_none : (m : ℕ) (set : PidSetView) → set.pids ≡ [] → m + 1 ≤ set.room → IsReaders m set
+pub readers_none : (m : ℕ) (set : PidSetView) → set.pids ≡ [] → IsReaders m set
 unfolding Rises is_in
-readers_none m set none room = record {
+readers_none m set none = record {
   rising = subst Rises (sym none) tt;
   within = λ p e. let out = ap (is_in p) none in absurd (cc);
-  room = omega (arith, room);
 }
-
--- and one set more
-pub readers_more : (m : ℕ) (sets : List PidSetView) (set : PidSetView) → AllByRecursion (IsReaders m) sets → IsReaders m set → AllByRecursion (IsReaders m) (sets ++ set ∷ [])
-readers_more m [] set h one = (one, tt)
-readers_more m (x ∷ xs) set h one = (h.0, readers_more m xs set h.1 one)
-
-pub set_same : {X : Type 0} (xs : List X) (k : ℕ) (x y : X) → slice_get xs k ≡ Some x → slice_get (slice_set xs k y) k ≡ Some y
-set_same [] k x y e = absurd (cc)
-set_same (z ∷ zs) zero x y e = refl
-set_same (z ∷ zs) (suc k) x y e = set_same zs k x y e
-
-pub set_other : {X : Type 0} (xs : List X) (k j : ℕ) (y : X) → j ≢ k → slice_get (slice_set xs k y) j ≡ slice_get xs j
-set_other (z ∷ zs) zero zero y ne = absurd (ne refl)
-set_other (z ∷ zs) (suc k) (suc j) y ne = set_other zs k j y (λ e. ne (ap suc e))
-set_other xs k j y ne = refl
-
-readers_set : (m : ℕ) (sets : List PidSetView) (k : ℕ) (set : PidSetView) → AllByRecursion (IsReaders m) sets → IsReaders m set → AllByRecursion (IsReaders m) (slice_set sets k set)
-readers_set m [] k set h one = tt
-readers_set m (x ∷ xs) zero set h one = (one, h.1)
-readers_set m (x ∷ xs) (suc k) set h one = (h.0, readers_set m xs k set h.1 one)
 
 -- one of them
 pub readers_at_place : (m : ℕ) (sets : List PidSetView) (k : ℕ) (set : PidSetView) → AllByRecursion (IsReaders m) sets → slice_get sets k ≡ Some set → IsReaders m set
-readers_at_place m [] k set h e = absurd (cc)
-readers_at_place m (x ∷ xs) zero set h e = subst (IsReaders m) (same_Some _ _ e) h.0
-readers_at_place m (x ∷ xs) (suc k) set h e = readers_at_place m xs k set h.1 e
-
--- there is room for one more in each
-pub readers_room : (m : ℕ) (set : PidSetView) → IsReaders m set → length set.pids < set.room
-readers_room m set h =
-    let most = few m set.pids h.rising h.within in
-    omega (arith, most, h.room)
+readers_at_place m = at_place (IsReaders m)
 
 -- p is put in or taken out
 readers_marked : (m p : ℕ) (b : Bool) (set : PidSetView) → IsReaders m set → (b ≡ true → (1 ≤ p) × (p ≤ m)) → IsReaders m (marked b p set)
 readers_marked m p true set h range = record {
   rising = rises_with p set.pids h.rising;
   within = λ q e. ⊎_elim (λ k. subst (λ n. (1 ≤ n) × (n ≤ m)) (eqb-true p q k) (range refl)) (h.within q) (or_cases _ _ (sym (in_with q p set.pids) ∙ e));
-  room = h.room;
 }
-readers_marked m p false set h range = record { rising = rises_without p set.pids h.rising; within = λ q e. h.within q (is_other p q set.pids e).among; room = h.room }
-
--- what holds in each place holds of all
-all_places : {X : Type 0} (P : X → Type 0) (xs : List X) → ((k : ℕ) (x : X) → slice_get xs k ≡ Some x → P x) → AllByRecursion P xs
-all_places P [] h = tt
-all_places P (x ∷ xs) h = (h zero x refl, all_places P xs (λ k y e. h (suc k) y e))
+readers_marked m p false set h range = record { rising = rises_without p set.pids h.rising; within = λ q e. h.within q (is_other p q set.pids e).among }
 
 -- one more set of nobody
 pub none_more : (k : ℕ) (sets : List PidSetView) (set : PidSetView) → AreUnread sets → set.pids ≡ [] → readers_at k (sets ++ set ∷ []) ≡ []
@@ -203,6 +169,7 @@ watched_rechecked {readers = readers} {sets = sets} s p session cs before after 
 pub listed_zombie : {readers sets : List PidSetView} (s : State) (p : ℕ) (it : Process) (l : PidSetView) (cs : List Console) → IsRegular s → IsListed s l readers → process s p ≡ Some it → is_zombie it.life ≡ true → cs ≡ s.consoles → IsMarked None p cs readers sets → IsListed s l sets
 listed_zombie {readers = readers} {sets = sets} s p it l cs i h found zombie same put =
     let watched = watched_marked s p None l.pids l.pids i h.watched (subst (λ cs. IsMarked None p cs readers sets) same put) (λ q ne. refl) (λ k e. absurd (cc)) (λ c r mine visits out. absurd (both_ways _ (not_running it.life zombie) (sym (ap (λ (r : Process). is_running r.life) (same_Some _ _ (sym mine ∙ found))) ∙ (and_parts _ _ visits).0))) in
+    let ready = ready_marked l.room p None cs readers sets put h.ready in
     search (rules, arith)
   where
     not_running : (life : Life) → is_zombie life ≡ true → is_running life ≡ false
@@ -255,6 +222,22 @@ rechecking_proceeds set to_recheck after n next up is h put = record {
 pub reader_there : {readers : List PidSetView} (s : State) (l : PidSetView) (k p : ℕ) → IsListed s l readers → is_in p (readers_at k readers) ≡ true → IsSome (process s p)
 reader_there s l k p h on = elim (is_in p l.pids) as (λ b. is_in p l.pids ≡ b → IsSome (process s p)) [ true ↦ λ e. h.there p e | false ↦ λ e. rw (h.watched.waits k p on e).found refl ] refl
 
+-- and there is room for one more
+pub readers_room : {readers : List PidSetView} (s : State) (l : PidSetView) (k : ℕ) (set : PidSetView) → IsRegular s → IsListed s l readers → slice_get readers k ≡ Some set → length set.pids < set.room
+readers_room {readers = readers} s l k set i h at =
+    let each = readers_at_place s.world.pidmax readers k set h.watched.each at in
+    let most = room_for s set.pids l.room i each.rising (λ q e. reader_there s l k q h (ap (λ o. is_in q (option_map_or (λ (x : PidSetView). x.pids) o [])) at ∙ e)) h.room in
+    let ready : l.room ≤ set.room = at_place (HasRoomFor l.room) readers k set h.ready at in
+    omega (arith, most, ready)
+
+-- and as much where one has become empty
+pub ready_forgotten : (n k : ℕ) (readers sets : List PidSetView) → IsForgottenAt k readers sets → AllByRecursion (HasRoomFor n) readers → AllByRecursion (HasRoomFor n) sets
+ready_forgotten n k readers sets gone h = by (slice_get readers k) refl gone
+  where
+    by : (o : Option PidSetView) → slice_get readers k ≡ o → MatchOption o (sets ≡ readers) (λ set. (now : PidSetView) × (sets ≡ slice_set readers k now) × (now.pids ≡ []) × (now.room ≡ set.room)) → AllByRecursion (HasRoomFor n) sets
+    by None at m = subst (AllByRecursion (HasRoomFor n)) (sym m) h
+    by (Some set) at m = subst (AllByRecursion (HasRoomFor n)) (sym m.1) (all_set (HasRoomFor n) readers k m.0 h (let was : n ≤ set.room = at_place (HasRoomFor n) readers k set h at in omega (arith, was, m.3)))
+
 -- nobody is known by a console whose set has become empty
 pub none_known : (k : ℕ) (old new : List PidSetView) → IsForgottenAt k old new → readers_at k new ≡ []
 none_known k old new gone = by_set (slice_get old k) refl gone
@@ -285,9 +268,8 @@ watched_forgotten {readers = readers} {sets = sets} s k to_recheck w all gone = 
     emptied : (o : Option PidSetView) → slice_get readers k ≡ o → MatchOption o (sets ≡ readers) (λ set. (now : PidSetView) × (sets ≡ slice_set readers k now) × (now.pids ≡ []) × (now.room ≡ set.room)) → AllByRecursion (IsReaders s.world.pidmax) sets × (length sets ≡ length readers)
     emptied None at m = (subst (AllByRecursion (IsReaders s.world.pidmax)) (sym m) w.each, ap length m)
     emptied (Some set) at m =
-        let one = readers_at_place s.world.pidmax readers k set w.each at in
-        let none = readers_none s.world.pidmax m.0 m.2 (omega (arith, one.room, m.3)) in
-        (subst (AllByRecursion (IsReaders s.world.pidmax)) (sym m.1) (readers_set s.world.pidmax readers k m.0 w.each none), ap length m.1 ∙ length-set readers k m.0)
+        let none = readers_none s.world.pidmax m.0 m.2 in
+        (subst (AllByRecursion (IsReaders s.world.pidmax)) (sym m.1) (all_set (IsReaders s.world.pidmax) readers k m.0 w.each none), ap length m.1 ∙ length-set readers k m.0)
 
 -- ---- each console refreshed
 

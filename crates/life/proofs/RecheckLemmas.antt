@@ -1,15 +1,16 @@
 -- The list of those who are to be rechecked.
 use Rattle.std.proofs.Common.{◌≡◌, ◌≢◌, ℕ, ◌+◌, ◌<◌, ◌≤◌, true, false, cond, not, ◌||◌, ◌&&◌, refl, ap, sym, ◌∙◌, arith, subst, List, [], ◌∷◌, ◌++◌, length, Option, Some, None, ◌==◌, slice_get, ◌⊎◌, ⊎_elim, inl, inr, Bool, map, option_map, zero, suc, rules}
 use Rattle.std.specs.List.{AllByRecursion}
-use Rattle.std.specs.Option.{IfSome, IsSome}
+use Rattle.std.specs.Option.{IfSome, IsSome, option_map_or}
 use Rattle.std.proofs.lemmas.Bool.{eqb-true, eq-eqb, and_parts, or_left, or_right, or_cases, both_ways, false_from_ne_true}
-use Rattle.std.proofs.lemmas.Option.{IfSome_then, same_Some, slice_get-map}
+use Rattle.std.proofs.lemmas.Option.{IfSome_then, same_Some, slice_get-map, slice_get_past}
+use Rattle.std.proofs.lemmas.List.{length-map}
 use Rattle.posix.specs.Processes.{Process, Signals, first_process}
-use Rattle.posix.specs.Tables.{IsNext, lookup, at, changed, inserted, removed}
+use Rattle.posix.specs.Tables.{IsNext, lookup, at, changed, inserted, removed, pids}
 use Rattle.posix.specs.States.{World, State, boot, process, is_in, change, lose_place, without}
 use Rattle.posix.specs.Regular.{IsRegular}
 use Rattle.posix.specs.Settle.{Covers, can_act, wakes, is_fresh, refreshed, clear_foregrounds}
-use Rattle.posix.proofs.TableLemmas.{pid_looked}
+use Rattle.posix.proofs.TableLemmas.{pid_looked, length_inserted, length_removed}
 use Rattle.posix.proofs.MapLemmas.{at_pid, some_map}
 use Rattle.posix.proofs.RegularLemmas.{lookup_new, some_inserted, lookup_kept, lookup_removed}
 use Rattle.posix.proofs.TouchLemmas.{Touches, goes_on, touches_born, touches_none, touches_unseen, touches_removed, Untouched}
@@ -18,14 +19,16 @@ use Rattle.posix.proofs.OrderLemmas.{without_absent}
 use Rattle.posix.proofs.UnseenLemmas.{covers_none}
 use Rattle.posix.proofs.WakeLemmas.{first_has_place}
 use Rattle.pidset.specs.Numbers.{PidSetView, Rises, with_number, numbers_above}
-use Rattle.pidset.proofs.NumberLemmas.{IsLeastAbove, all_in, in_with, rises_with, rises_without, next_is, next_some, few}
+use Rattle.pidset.proofs.NumberLemmas.{IsLeastAbove, all_in, in_with, rises_with, rises_without, next_is, next_some}
+use Rattle.pidset.proofs.IndexLemmas.{shorter, rises_pids, in_pids}
 use Rattle.posix.specs.Terminals.{is_reader}
 use Rattle.posix.specs.Consoles.{Console, with_foreground}
 use Rattle.posix.proofs.ReaderLemmas.{touches_cleared}
-use Rattle.life.specs.Machines.{IsListed, IsWatched, IsReaders, readers_at, IsWaiting, AreUnread}
+use Rattle.life.specs.Machines.{IsListed, IsWatched, IsReaders, HasRoomFor, IsRoomier, AreRoomier, readers_at, IsWaiting, AreUnread}
 use Rattle.life.specs.Rechecks.{with_numbers, rechecking, rechecking_by_signals, without_gone}
 use Rattle.life.proofs.SignalLemmas.{with_signals, unseen_signals, touches_signals}
 use Rattle.jobs.specs.IndexedTables.{takes_signal}
+use Rattle.life.proofs.PlaceLemmas.{at_place, all_places, none_at}
 use Rattle.life.proofs.SoundLemmas.{there}
 use Rattle.pidset.proofs.WalkLemmas.{above_rest, all_above}
 
@@ -101,28 +104,52 @@ watched_on {readers = readers} s t before after touched h touches same gets keep
     unasked_before : (p : ℕ) → IsSome (process t p) → is_in p after ≡ false → is_in p before ≡ false
     unasked_before p here unasked = false_from_ne_true _ (λ e. both_ways _ unasked (keeps p here e))
 
+-- so in sets with more room
+pub watched_roomier : {readers sets : List PidSetView} (s : State) (to_recheck : List ℕ) → AreRoomier readers sets → IsWatched s to_recheck readers → IsWatched s to_recheck sets
+watched_roomier {readers = readers} {sets = sets} s to_recheck same w = record {
+  known = λ k p c r at found visits out unasked. ap (is_in p) (alike k) ∙ w.known k p c r at found visits out unasked;
+  waits = λ k p on unasked. w.waits k p (sym (ap (is_in p) (alike k)) ∙ on) unasked;
+  each = all_places (IsReaders s.world.pidmax) sets (λ k set at. let was = subst (λ o. IfSome o (λ (set : PidSetView). (was : PidSetView) × (slice_get readers k ≡ Some was) × IsRoomier was set)) at (same.sets k) in let old = at_place (IsReaders s.world.pidmax) readers k was.0 w.each was.1 in record { rising = subst Rises (sym was.2.pids) old.rising; within = λ p e. old.within p (sym (ap (is_in p) was.2.pids) ∙ e) });
+  many = same.many ∙ w.many;
+}
+  where
+    alike : (k : ℕ) → readers_at k sets ≡ readers_at k readers
+    alike k = by (slice_get sets k) refl (same.sets k)
+      where
+        by : (o : Option PidSetView) → slice_get sets k ≡ o → IfSome o (λ (set : PidSetView). (was : PidSetView) × (slice_get readers k ≡ Some was) × IsRoomier was set) → option_map_or (λ (x : PidSetView). x.pids) (slice_get sets k) [] ≡ readers_at k readers
+        by None at w = rw (at, slice_get_past readers k (let l = none_at sets k at in omega (arith, l, same.many))) refl
+        by (Some set) at w = rw (at, w.1) w.2.pids
+
 -- ---- there is room for whoever is there
 
-pub room_for : (s : State) (ns : List ℕ) (room : ℕ) → IsRegular s → Rises ns → ((q : ℕ) → is_in q ns ≡ true → IsSome (process s q)) → s.world.pidmax < room → length ns < room
+pub room_for : (s : State) (ns : List ℕ) (room : ℕ) → IsRegular s → Rises ns → ((q : ℕ) → is_in q ns ≡ true → IsSome (process s q)) → length s.processes < room → length ns < room
 room_for s ns room i up theirs enough =
-    let most = few s.world.pidmax ns up (λ q e.
-    let r = there (process s q) (theirs q e) in
-    let named = pid_looked q s.processes r.what r.found in
-    let b = i.bounded q r.what r.found in
-    (omega (arith, named, b.least), omega (arith, named, b.pid))) in
-    omega (arith, most, enough)
+    let most = shorter ns (pids s.processes) up (rises_pids s.processes i.rising) (λ q e. let r = there (process s q) (theirs q e) in in_pids q s.processes r.what r.found) in
+    omega (arith, most, length-map s.processes (λ (r : Process). r.pid), enough)
 
 pub has_room : {readers : List PidSetView} (s : State) (l : PidSetView) → IsRegular s → IsListed s l readers → length l.pids < l.room
 has_room s l i h = room_for s l.pids l.room i h.rising h.there h.room
 
 -- a list with more of those who are there is one too
 pub listed_more : {readers : List PidSetView} (s : State) (l m : PidSetView) (ps : List ℕ) → IsListed s l readers → AllByRecursion (λ q. IsSome (process s q)) ps → m.pids ≡ with_numbers ps l.pids → m.room ≡ l.room → IsListed s m readers
-listed_more s l m ps h theirs is same = record {
+listed_more {readers = readers} s l m ps h theirs is same = record {
   covers = λ q r e w. ap (is_in q) is ∙ in_numbers q ps l.pids ∙ or_right _ _ (h.covers q r e w);
   rising = subst Rises (sym is) (rises_numbers ps l.pids h.rising);
   there = λ q e. ⊎_elim (each (λ q. IsSome (process s q)) ps theirs q) (h.there q) (or_cases _ _ (sym (ap (is_in q) is ∙ in_numbers q ps l.pids) ∙ e));
   room = let room = h.room in omega (arith, room, same);
+  ready = subst (λ n. AllByRecursion (HasRoomFor n) readers) (sym same) h.ready;
   watched = watched_on s s l.pids m.pids [] h.watched (touches_none s s refl refl refl) (refl, refl, λ q u e. e) (none_asked s s m.pids) (λ q t e. ap (is_in q) is ∙ in_numbers q ps l.pids ∙ or_right _ _ e) h.there (λ k q on e. e);
+}
+
+-- it stays one where there is more room
+pub listed_roomier : {readers sets : List PidSetView} (s : State) (l m : PidSetView) → IsListed s l readers → m.pids ≡ l.pids → l.room ≤ m.room → AreRoomier readers sets → AllByRecursion (HasRoomFor m.room) sets → IsListed s m sets
+listed_roomier {readers = readers} {sets = sets} s l m h is more same ready = record {
+  covers = subst (Covers s) (sym is) h.covers;
+  rising = subst Rises (sym is) h.rising;
+  there = λ q e. h.there q (sym (ap (is_in q) is) ∙ e);
+  room = omega (arith, h.room, more);
+  ready = ready;
+  watched = subst (λ ns. IsWatched s ns sets) (sym is) (watched_roomier s l.pids same h.watched);
 }
 
 -- so where one more is rechecked if it can act
@@ -144,16 +171,17 @@ awake_out s p r found w placed =
     let none : false ≡ true = sym (ap (λ b. not b && can_act s r) has) ∙ w in
     absurd (cc)
 
-pub listed_on : {readers : List PidSetView} (s t : State) (before after : PidSetView) (touched : List ℕ) → IsListed s before readers → Touches s t touched → IsBeside s t touched → Rises after.pids → after.room ≡ before.room
+pub listed_on : {readers : List PidSetView} (s t : State) (before after : PidSetView) (touched : List ℕ) → IsListed s before readers → Touches s t touched → IsBeside s t touched → Rises after.pids → after.room ≡ before.room → length t.processes < before.room
     → ((q : ℕ) → is_in q after.pids ≡ true → IsSome (process t q))
     → AreAsked s t touched after.pids
     → ((q : ℕ) → IsSome (process t q) → is_in q before.pids ≡ true → is_in q after.pids ≡ true)
     → ((k q : ℕ) → is_in q (readers_at k readers) ≡ true → IsSome (process s q) → IsSome (process t q)) → IsListed t after readers
-listed_on s t before after touched h touches most rises same theirs gets keeps stay = record {
+listed_on {readers = readers} s t before after touched h touches most rises same fits theirs gets keeps stay = record {
   covers = λ q r found w. ⊎_elim (λ k. ⊎_elim (λ on. on) (λ placed. absurd (awake_out t q r found w placed.1)) (gets q (rw found refl) k)) (λ on. on) (or_cases _ _ (sym (in_append q touched after.pids) ∙ covers q r found w));
   rising = rises;
   there = theirs;
-  room = let room = h.room in let size = ap (λ (w : World). w.pidmax) most.0 in omega (arith, room, same, size);
+  room = omega (arith, fits, same);
+  ready = subst (λ n. AllByRecursion (HasRoomFor n) readers) (sym same) h.ready;
   watched = watched_on s t before.pids after.pids touched h.watched touches most gets keeps h.there stay;
 }
   where
@@ -161,16 +189,16 @@ listed_on s t before after touched h touches most rises same theirs gets keeps s
     covers = goes_on s t before.pids (touched ++ after.pids) touched h.covers touches (λ q here e. in_append q touched after.pids ∙ or_left _ _ e) (λ q here e. in_append q touched after.pids ∙ or_right (is_in q touched) _ (keeps q here e))
 
 -- where it is the same list
-pub listed_same : {readers : List PidSetView} (s t : State) (l : PidSetView) (touched : List ℕ) → IsListed s l readers → Touches s t touched → IsBeside s t touched → ((q : ℕ) → IsSome (process s q) → IsSome (process t q))
+pub listed_same : {readers : List PidSetView} (s t : State) (l : PidSetView) (touched : List ℕ) → IsListed s l readers → Touches s t touched → IsBeside s t touched → length t.processes ≡ length s.processes → ((q : ℕ) → IsSome (process s q) → IsSome (process t q))
     → AreAsked s t touched l.pids → IsListed t l readers
-listed_same s t l touched h touches most stay gets =
-    listed_on s t l l touched h touches most h.rising refl (λ q e. stay q (h.there q e)) gets (λ q theirs e. e) (λ k q on e. stay q e)
+listed_same s t l touched h touches most many stay gets =
+    listed_on s t l l touched h touches most h.rising refl (omega (arith, many, h.room)) (λ q e. stay q (h.there q e)) gets (λ q theirs e. e) (λ k q on e. stay q e)
 
 -- where these were put in
-pub listed_with : {readers : List PidSetView} (s t : State) (before after : PidSetView) (ps touched : List ℕ) → IsListed s before readers → Touches s t touched → IsBeside s t touched → ((q : ℕ) → IsSome (process s q) → IsSome (process t q))
+pub listed_with : {readers : List PidSetView} (s t : State) (before after : PidSetView) (ps touched : List ℕ) → IsListed s before readers → Touches s t touched → IsBeside s t touched → length t.processes < before.room → ((q : ℕ) → IsSome (process s q) → IsSome (process t q))
     → AllByRecursion (λ q. IsSome (process t q)) ps → AreAsked s t touched ps → after.pids ≡ with_numbers ps before.pids → after.room ≡ before.room → IsListed t after readers
-listed_with s t before after ps touched h touches most stay theirs among is same =
-    listed_on s t before after touched h touches most (subst Rises (sym is) (rises_numbers ps before.pids h.rising)) same
+listed_with s t before after ps touched h touches most fits stay theirs among is same =
+    listed_on s t before after touched h touches most (subst Rises (sym is) (rises_numbers ps before.pids h.rising)) same fits
     (λ q e. ⊎_elim (each (λ q. IsSome (process t q)) ps theirs q) (λ k. stay q (h.there q k)) (or_cases _ _ (sym (inside q) ∙ e)))
     (λ q there e. ⊎_elim (λ k. inl (inside q ∙ or_left _ _ k)) (λ placed. inr placed) (among q there e))
     (λ q there e. inside q ∙ or_right _ _ e) (λ k q on e. stay q e)
@@ -178,15 +206,21 @@ listed_with s t before after ps touched h touches most stay theirs among is same
     inside : (q : ℕ) → is_in q after.pids ≡ (is_in q ps || is_in q before.pids)
     inside q = ap (is_in q) is ∙ in_numbers q ps before.pids
 
+-- there are as many
+pub many_changed : (p : ℕ) (f : Process → Process) (rs : List Process) → length (changed p f rs) ≡ length rs
+unfolding changed
+many_changed p f rs = length-map rs (at p f)
+
 -- one record that changed and keeps its number
 pub listed_change : {readers : List PidSetView} (s : State) (p : ℕ) (f : Process → Process) (before after : PidSetView) → IsListed s before readers → ((r : Process) → (f r).pid ≡ r.pid) → Touches s (change s p f) (p ∷ []) → IsSome (process s p)
     → after.pids ≡ rechecking p s.order before.pids → after.room ≡ before.room → IsListed (change s p f) after readers
 unfolding with_numbers changed
 listed_change {readers = readers} s p f before after h keeps touches here is same =
     let stay = some_map (at p f) (at_pid p f keeps) in
+    let fits : length (map (at p f) s.processes) < before.room = omega (arith, length-map s.processes (at p f), h.room) in
     elim (is_in p s.order) as (λ b. is_in p s.order ≡ b → after.pids ≡ cond b before.pids (with_number p before.pids) → IsListed (change s p f) after readers) [
-      | true ↦ λ placed e. listed_with s (change s p f) before after [] (p ∷ []) h touches (refl, refl, λ q u e. e) (λ q k. stay q s.processes k) tt (λ q theirs k. let both = subst (λ n. is_in n s.order ≡ true) (sym (in_one q p k)) placed in inr (both, both)) e same
-      | false ↦ λ out e. listed_with s (change s p f) before after (p ∷ []) (p ∷ []) h touches (refl, refl, λ q u e. e) (λ q k. stay q s.processes k) (stay p s.processes here, tt) (λ q theirs k. inl k) e same
+      | true ↦ λ placed e. listed_with s (change s p f) before after [] (p ∷ []) h touches (refl, refl, λ q u e. e) fits (λ q k. stay q s.processes k) tt (λ q theirs k. let both = subst (λ n. is_in n s.order ≡ true) (sym (in_one q p k)) placed in inr (both, both)) e same
+      | false ↦ λ out e. listed_with s (change s p f) before after (p ∷ []) (p ∷ []) h touches (refl, refl, λ q u e. e) fits (λ q k. stay q s.processes k) (stay p s.processes here, tt) (λ q theirs k. inl k) e same
     ] refl is
 
 -- one whose signals changed, and its alarm
@@ -200,7 +234,7 @@ listed_signals {readers = readers} s p g a before after h here is same =
     let named = pid_looked p t.processes it.what it.found in
     elim (takes_signal it.what) as (λ b. takes_signal it.what ≡ b → after.pids ≡ cond b (rechecking it.what.pid s.order before.pids) before.pids → IsListed t after readers) [
       | true ↦ λ k e. listed_change s p (with_signals g a) before after h (λ r. refl) (touches_unseen s p (with_signals g a) (unseen_signals g a)) here (e ∙ ap (λ n. rechecking n s.order before.pids) named) same
-      | false ↦ λ k e. listed_with s t before after [] [] h (touches_signals s p g a (λ r found. ap takes_signal (same_Some _ _ (sym found ∙ it.found)) ∙ k)) (refl, refl, λ q u e. e) (λ q k. stay q s.processes k) tt (none_asked s t []) e same
+      | false ↦ λ k e. listed_with s t before after [] [] h (touches_signals s p g a (λ r found. ap takes_signal (same_Some _ _ (sym found ∙ it.found)) ∙ k)) (refl, refl, λ q u e. e) (omega (arith, length-map s.processes (at p (with_signals g a)), h.room)) (λ q k. stay q s.processes k) tt (none_asked s t []) e same
     ] refl (is ∙ ap (λ o. rechecking_by_signals o s.order before.pids) it.found)
 
 -- ---- who is rechecked next
@@ -246,12 +280,13 @@ without_only (n ∷ m ∷ ns) p only = absurd (omega (arith, eqb-true (length (n
 
 -- who was rechecked and needn't be given a place is taken off, where those who wait to read stay known
 pub listed_rechecked : {readers : List PidSetView} (s : State) (p : ℕ) (before after : PidSetView) (sets : List PidSetView) → IsListed s before readers → ((r : Process) → process s p ≡ Some r → wakes s r ≡ false)
-    → after.pids ≡ without p before.pids → after.room ≡ before.room → IsWatched s after.pids sets → IsListed s after sets
-listed_rechecked s p before after sets h asleep is same watched = record {
+    → after.pids ≡ without p before.pids → after.room ≡ before.room → AllByRecursion (HasRoomFor before.room) sets → IsWatched s after.pids sets → IsListed s after sets
+listed_rechecked s p before after sets h asleep is same ready watched = record {
   covers = λ q r e w. ap (is_in q) is ∙ others_stay p q before.pids (λ k. both_ways (wakes s r) (asleep r (subst (λ n. process s n ≡ Some r) k e)) w) ∙ h.covers q r e w;
   rising = subst Rises (sym is) (rises_without p before.pids h.rising);
   there = λ q e. h.there q (is_other p q before.pids (sym (ap (is_in q) is) ∙ e)).among;
   room = let room = h.room in omega (arith, room, same);
+  ready = subst (λ n. AllByRecursion (HasRoomFor n) sets) (sym same) ready;
   watched = watched;
 }
 
@@ -262,7 +297,7 @@ pub listed_removed : {readers : List PidSetView} (s : State) (c last dropped : �
 listed_removed {readers = readers} s c last dropped it before after i h found parent is same unread =
     let t = record s { processes = removed c s.processes; last_pid = last; dropped = dropped } in
     listed_on s t before after (it.parent ∷ []) h (touches_removed s c it.parent last dropped i.rising (rw found refl)) (refl, refl, λ q u e. e)
-    (subst Rises (sym is) (rises_without c (with_number it.parent before.pids) (rises_with it.parent before.pids h.rising))) same
+    (subst Rises (sym is) (rises_without c (with_number it.parent before.pids) (rises_with it.parent before.pids h.rising))) same (omega (arith, length_removed c it s.processes i.rising found, h.room))
     (λ q e.
     let k = is_other c q _ (sym (ap (is_in q) is) ∙ e) in
     rw (lookup_kept c q s.processes k.apart) (⊎_elim (λ t. subst (λ n. IsSome (process s n)) (eqb-true it.parent q t) parent) (h.there q) (or_cases _ _ (sym (in_with q it.parent before.pids) ∙ k.among))))
@@ -276,12 +311,12 @@ listed_removed {readers = readers} s c last dropped it before after i h found pa
 -- ---- births
 
 -- a birth touches the child and its parent
-pub listed_born : {readers : List PidSetView} (s : State) (new : Process) (last births : ℕ) (before after : PidSetView) → IsListed s before readers → lookup new.pid s.processes ≡ None → IsSome (process s new.parent)
+pub listed_born : {readers : List PidSetView} (s : State) (new : Process) (last births : ℕ) (before after : PidSetView) → IsListed s before readers → length s.processes + 1 < before.room → lookup new.pid s.processes ≡ None → IsSome (process s new.parent)
     → after.pids ≡ with_number new.pid (with_number new.parent before.pids) → after.room ≡ before.room → IsListed (record s { processes = inserted new s.processes; last_pid = last; births = births }) after readers
 unfolding with_numbers
-listed_born s new last births before after h fresh up put room =
+listed_born s new last births before after h fits fresh up put room =
     let t = record s { processes = inserted new s.processes; last_pid = last; births = births } in
-    listed_with s t before after (new.pid ∷ new.parent ∷ []) (new.pid ∷ new.parent ∷ []) h (touches_born s new last births) (refl, refl, λ q u e. e) (λ q e. some_inserted new q s.processes e)
+    listed_with s t before after (new.pid ∷ new.parent ∷ []) (new.pid ∷ new.parent ∷ []) h (touches_born s new last births) (refl, refl, λ q u e. e) (omega (arith, length_inserted new s.processes, fits)) (λ q e. some_inserted new q s.processes e)
     (rw (lookup_new new s.processes fresh) refl, (some_inserted new new.parent s.processes up, tt)) (λ q theirs e. inl e) put room
 
 nobody_reads : (session : ℕ) (b : Bool) (r : Process) → cond b (Some first_process) None ≡ Some r → is_reader session r ≡ true → ⊥
@@ -294,13 +329,14 @@ unfolding lookup
 first_reads session q r found visits = nobody_reads session (1 == q) r found visits
 
 -- at the start nobody is to be rechecked
-pub listed_first : {readers : List PidSetView} (s : State) (w : World) (l : PidSetView) (n : ℕ) → s ≡ boot w → l.pids ≡ [] → n ≡ w.pidmax → n + 1 ≤ l.room → AllByRecursion (IsReaders w.pidmax) readers → length readers ≡ w.consoles → AreUnread readers → IsListed s l readers
+pub listed_first : {readers : List PidSetView} (s : State) (w : World) (l : PidSetView) → s ≡ boot w → l.pids ≡ [] → l.room ≡ 2 → AllByRecursion (IsReaders w.pidmax) readers → AllByRecursion (HasRoomFor 2) readers → length readers ≡ w.consoles → AreUnread readers → IsListed s l readers
 unfolding Rises
-listed_first {readers = readers} s w l n first is most room each many unread = subst (λ (s : State). IsListed s l readers) (sym first) (record {
+listed_first {readers = readers} s w l first is room each ready many unread = subst (λ (s : State). IsListed s l readers) (sym first) (record {
   covers = λ q r e k. ap (is_in q) is ∙ covers_none (boot w) (first_has_place w) q r e k;
   rising = subst Rises (sym is) tt;
   there = λ q e. absurd (in_none q (sym (ap (is_in q) is) ∙ e));
-  room = omega (arith, most, room);
+  room = omega (arith, room);
+  ready = subst (λ n. AllByRecursion (HasRoomFor n) readers) (sym room) ready;
   watched = record { known = λ k q c r at found visits out unasked. absurd (first_reads c.session q r found visits); waits = λ k q on unasked. absurd (in_none q (sym (ap (is_in q) (unread k)) ∙ on)); each = each; many = many };
 })
 
@@ -327,6 +363,7 @@ listed_cleared {readers = readers} s to_recheck i h =
       rising = h.rising;
       there = h.there;
       room = h.room;
+      ready = h.ready;
       watched = record {
         known = λ k p c r at found visits out unasked.
             let old = was s.consoles k c at in

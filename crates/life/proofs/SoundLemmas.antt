@@ -1,6 +1,7 @@
 -- What keeps a machine sound.
-use Rattle.std.proofs.Common.{rules, ◌≡◌, ◌≢◌, ℕ, ◌+◌, ◌<◌, ◌≤◌, Bool, false, refl, ap, sym, ◌∙◌, arith, subst, List, [], ◌∷◌, length, map, replicate, Some, None}
+use Rattle.std.proofs.Common.{rules, ◌≡◌, ◌≢◌, ℕ, ◌+◌, ◌<◌, ◌≤◌, Bool, false, refl, ap, sym, ◌∙◌, arith, subst, List, [], ◌∷◌, length, map, replicate, Some, None, inl, inr}
 use Rattle.std.specs.Option.{IsSome}
+use Rattle.std.proofs.lemmas.Bool.{cases_eq}
 use Rattle.std.proofs.lemmas.List.{length-map, length-replicate}
 use Rattle.posix.specs.Processes.{Process, is_zombie, first_process}
 use Rattle.posix.specs.Tables.{at, lookup, changed, inserted, adopted, reparented}
@@ -10,14 +11,14 @@ use Rattle.posix.specs.NextPid.{next_free}
 use Rattle.posix.specs.Regular.{IsRegular, IsPlaced, CanInherit}
 use Rattle.posix.specs.Ends.{made_zombie, leave_children_and_die}
 use Rattle.posix.proofs.NextLemmas.{IsNew, new_number}
-use Rattle.posix.proofs.RegularLemmas.{regular_as, regular_inserted, regular_first, regular_depart, heir_there}
+use Rattle.posix.proofs.RegularLemmas.{lookup_inserted, regular_as, regular_inserted, regular_first, regular_depart, heir_there}
 use Rattle.posix.proofs.TableLemmas.{length_inserted}
-use Rattle.posix.proofs.MapLemmas.{at_pid}
+use Rattle.posix.proofs.MapLemmas.{at_pid, lookup_back}
 use Rattle.posix.proofs.WalkLemmas.{all_looked}
 use Rattle.posix.proofs.ReportLemmas.{some_changed}
 use Rattle.pidalloc.specs.Rows.{Pids, IsPids, is_free_in, unborne_table, born_in}
 use Rattle.pidalloc.specs.Tallies.{IsTallied}
-use Rattle.pidalloc.proofs.TallyLemmas.{CanBear, can_bear, next_same, tallied_unborne, tallied_born, tallied_map}
+use Rattle.pidalloc.proofs.TallyLemmas.{CanBear, can_bear, next_same, tallied_unborne, tallied_born, tallied_map, tallied_ready}
 use Rattle.sched.specs.Places.{Places}
 use Rattle.life.specs.Machines.{IsKept, IsSound, state_of, IsOther}
 pub use Rattle.jobs.proofs.SnapshotLemmas.{There, there, is_there, snapshot_are, some_read, none_read}
@@ -38,14 +39,37 @@ heir_in {p = p} {heir = heir} same h = subst (λ (s : State). CanInherit s.proce
 
 -- ---- changes of records
 
+-- who is there after a change of each record was there before
+pub some_back : (g : Process → Process) → ((r : Process) → (g r).pid ≡ r.pid) → (q : ℕ) (rs : List Process) → IsSome (lookup q (map g rs)) → IsSome (lookup q rs)
+some_back g keeps q rs here = let r = there (lookup q (map g rs)) here in rw (lookup_back g keeps q rs r.what r.found).found refl
+
 -- the numbers and the room stay kept where each record keeps its numbers
 pub kept_map : (g : Process → Process) → ((r : Process) → (g r).pid ≡ r.pid) → ((r : Process) → (g r).group ≡ r.group) → ((r : Process) → (g r).session ≡ r.session)
     → (m : ℕ) (rs : List Process) (p : Pids) (a b : Places) → a.room ≤ b.room → IsKept m rs p a → IsKept m (map g rs) p b
-kept_map g kp kg ks m rs p a b e k = let tallied = tallied_map p g kp kg ks rs k.tallied in search (rules, arith)
+kept_map g kp kg ks m rs p a b e k = record {
+  greatest = k.greatest;
+  table = k.table;
+  tallied = tallied_map p g kp kg ks rs k.tallied;
+  room = λ q here. let low = k.room q (some_back g kp q rs here) in omega (arith, low, e);
+}
+
+-- whether the rows are ready for one number more makes no difference
+pub kept_ready : (m : ℕ) (rs : List Process) (p : Pids) (ready : Bool) (places : Places) → IsKept m rs p places → IsKept m rs (record p { ready = ready }) places
+kept_ready m rs p ready places k = record {
+  greatest = k.greatest;
+  table = record { size = k.table.size; given = k.table.given; least = k.table.least; limit = k.table.limit };
+  tallied = k.tallied;
+  room = k.room;
+}
 
 -- a machine stays sound where the places change but keep their room
 pub sound_order : (s : State) (order : List ℕ) (pids : Pids) (a b : Places) → a.room ≤ b.room → IsRegular (record s { order = order }) → IsSound s pids a → IsSound (record s { order = order }) pids b
-sound_order s order pids a b e regular i = let room = i.kept.room in search (rules, arith)
+sound_order s order pids a b e regular i = record {
+  regular = regular;
+  parents = i.parents;
+  counted = i.counted;
+  kept = record { greatest = i.kept.greatest; table = i.kept.table; tallied = i.kept.tallied; room = λ q here. let low = i.kept.room q here in omega (arith, low, e) };
+}
 
 -- ---- ends
 
@@ -86,8 +110,8 @@ pub next_is_new : (s t : State) (p : Pids) (places : Places) (child : ℕ) → s
 next_is_new s t p places child now i next =
     subst (λ m. IsNew s.processes m child) (sym i.kept.greatest) (new_number s child (ap (λ (s : State). next_pid s) now ∙ next))
 
--- and no more than 32,768
-pub not_many : (s : State) (p : Pids) (places : Places) → IsSound s p places → length s.processes ≤ 32768
+-- and no more than 4,194,304
+pub not_many : (s : State) (p : Pids) (places : Places) → IsSound s p places → length s.processes ≤ 4194304
 not_many s p places i = omega (arith, few s i.regular, i.kept.greatest, i.kept.table.limit)
 
 -- the rows have room for one more process in the group and session of its parent
@@ -105,17 +129,18 @@ room_to_bear s t p places rs child parent group session now same i next me like 
 pub sound_born : (w : World) (rs : List Process) (cs : List Console) (p q : Pids) (a : Places) (births ticks dropped : ℕ) (h : Bool) (new me : Process)
     → IsSound (state_of w rs cs p a births ticks dropped h) p a → IsNew rs p.pidmax new.pid → lookup new.parent rs ≡ Some me → is_zombie me.life ≡ false
     → new.group ≡ me.group → new.session ≡ me.session → new.life ≡ me.life → new.alarm ≡ None
-    → q ≡ born_in p new.pid new.group new.session → q.pidmax ≡ p.pidmax → IsPids q
+    → q ≡ record (born_in p new.pid new.group new.session) { ready = q.ready } → q.pidmax ≡ p.pidmax → IsPids q → new.pid < a.room
     → IsSound (state_of w (inserted new rs) cs q a (births + 1) ticks dropped h) q a
-sound_born w rs cs p q a births ticks dropped h new me i fresh there up group session life silent bore same table =
+sound_born w rs cs p q a births ticks dropped h new me i fresh there up group session life silent bore same table low =
     let s = state_of w rs cs p a births ticks dropped h in
     let number : IsNew rs w.pidmax new.pid = subst (λ m. IsNew rs m new.pid) i.kept.greatest fresh in
     let r = regular_inserted new q.last (births + 1) s i.regular number (ap is_zombie life ∙ up) silent me there up group session in
     let regular = regular_as _ (state_of w (inserted new rs) cs q a (births + 1) ticks dropped h) refl refl refl refl refl r in
     let parents = parents_inserted IsOther new rs fresh.fresh (λ other. is_there _ me there) i.parents in
     let many = length_inserted new rs in
-    let tallied = subst (λ x. IsTallied x (inserted new rs)) (sym bore) (tallied_born p new rs i.kept.table.size i.kept.tallied) in
-    search (rules, arith)
+    let tallied = subst (λ x. IsTallied x (inserted new rs)) (sym bore) (tallied_ready (born_in p new.pid new.group new.session) (inserted new rs) q.ready (tallied_born p new rs i.kept.table.size i.kept.tallied)) in
+    let room : (k : ℕ) → IsSome (lookup k (inserted new rs)) → k < a.room = λ k here. elim (cases_eq k new.pid) [ inl mine ↦ omega (arith, mine, low) | inr other ↦ i.kept.room k (subst IsSome (lookup_inserted new k rs other) here) ] in
+    record { regular = regular; parents = parents; counted = search (rules, arith); kept = record { greatest = same ∙ i.kept.greatest; table = table; tallied = tallied; room = room } }
 
 -- ---- the start
 
@@ -125,13 +150,15 @@ unfolding inserted
 first_alone = refl
 
 -- a machine with process 1 alone
-pub sound_first : (w : World) (cs : List Console) (q : Pids) (b : Places) → cs ≡ replicate w.consoles unused_console → 2 ≤ w.pidmax → q ≡ born_in (unborne_table w.pidmax) 1 1 1 → q.pidmax ≡ w.pidmax → IsPids q → b.pids ≡ 1 ∷ [] → w.pidmax < b.room
+pub sound_first : (w : World) (cs : List Console) (q : Pids) (b : Places) → cs ≡ replicate w.consoles unused_console → 2 ≤ w.pidmax → q ≡ record (born_in (unborne_table w.pidmax) 1 1 1) { ready = q.ready } → q.pidmax ≡ w.pidmax → IsPids q → b.pids ≡ 1 ∷ [] → 1 < b.room
     → IsSound (state_of w (inserted first_process []) cs q b 1 0 0 false) q b
 sound_first w cs q b unused most bore same table order room = record {
   regular = regular_as (boot w) _ refl first_alone order refl unused (regular_first w (omega (arith, most)));
   parents = parents_inserted IsOther first_process [] (nobody_there 1) (λ other. absurd (other refl)) (λ p r other e. let no = sym (nobody_there p) ∙ e in absurd (cc));
   counted = rw first_alone (omega arith);
-  kept = let tallied = subst (λ x. IsTallied x (inserted first_process [])) (sym bore) (tallied_born (unborne_table w.pidmax) first_process [] (length-replicate _ _) (tallied_unborne w.pidmax)) in search rules;
+  kept =
+      let tallied = subst (λ x. IsTallied x (inserted first_process [])) (sym bore) (tallied_ready (born_in (unborne_table w.pidmax) 1 1 1) (inserted first_process []) q.ready (tallied_born (unborne_table w.pidmax) first_process [] (length-replicate _ _) (tallied_unborne w.pidmax))) in
+      record { greatest = same; table = table; tallied = tallied; room = λ k here. elim (cases_eq k 1) [ inl mine ↦ omega (arith, mine, room) | inr other ↦ let no = subst IsSome (lookup_inserted first_process k [] other ∙ nobody_there k) here in absurd (cc) ] };
 }
 
 -- and it is the machine at boot

@@ -1,5 +1,6 @@
 -- A survey of the processes one after another, from the least number on, is the survey of all that are meant.
 use Rattle.std.proofs.Common.{◌≡◌, ◌+◌, ◌≤◌, ◌&&◌, ℕ, Bool, true, false, cond, not, refl, ap, sym, ◌∙◌, arith, List, [], ◌∷◌, ◌++◌, filter, length, Option, Some, None}
+use Rattle.std.proofs.Math.Nat.{le_trans}
 use Rattle.std.specs.List.{list_any}
 use Rattle.std.proofs.Math.Bool.{or_assoc, or-false}
 use Rattle.std.proofs.lemmas.List.{length-append}
@@ -88,10 +89,10 @@ survey_permitted me n target p rs up q e t m b is = rw (target_one me target p r
     by false is = rw (sym is) refl
 
 -- one more look costs at most one slot more
-pub one_seen : (more : ℕ → ℕ) → ((n : ℕ) → more n ≤ n + 1) → (old mid : MachineView) → Looks 1 old mid → (new : MachineView) → new ≡ looked more mid → Looks 2 old new
-one_seen more most old mid looks new is =
+pub one_seen : (more : ℕ → ℕ) → ((n : ℕ) → more n ≤ n + 1) → ((n : ℕ) → n ≤ more n) → (old mid : MachineView) → Looks 1 old mid → (new : MachineView) → new ≡ looked more mid → Looks 2 old new
+one_seen more most least old mid looks new is =
     let same : AreSame mid (looked more mid) = record { state = refl; to_recheck = refl; groups_at_risk = refl; foregrounds_unchecked = refl; readers = refl } in
-    rw is record { same = same_then looks.same same; visits = omega (arith, most mid.visits, looks.visits); regular = looks.regular }
+    rw is record { same = same_then looks.same same; visits = omega (arith, most mid.visits, looks.visits); no_fewer = le_trans looks.no_fewer (least mid.visits); regular = looks.regular }
 
 -- ---- the walk
 

@@ -1,5 +1,5 @@
 -- Changes of one process, and what is kept beside its record.
-use Rattle.std.specs.Prelude.{◌≡◌, ℕ, ◌<◌, ◌≤◌, ◌==◌, ◌||◌, Bool, not, Some}
+use Rattle.std.specs.Prelude.{◌≡◌, ℕ, ◌<◌, ◌≤◌, ◌==◌, ◌||◌, ◌⊎◌, Bool, false, not, List, Some}
 use Rattle.std.specs.Borrow.{MutBor}
 use Rattle.std.specs.Fn.{Once, FnOnceReturnsAtMut}
 use Rattle.posix.specs.declared.process.Life.{Life}
@@ -8,7 +8,8 @@ use Rattle.posix.specs.Processes.{Process}
 use Rattle.posix.specs.Tables.{lookup, parent_of}
 use Rattle.posix.specs.States.{State}
 use Rattle.posix.specs.Regular.{IsRegular}
-use Rattle.pidalloc.specs.Rows.{Pids, row}
+use Rattle.pidalloc.specs.Rows.{Pids, row, is_free_in}
+use Rattle.jobs.specs.IndexedTables.{Does}
 use Rattle.proctable.specs.declared.records.Record.{Record}
 use Rattle.proctable.specs.Records.{process_of, with_record}
 use Rattle.jobs.specs.declared.indexes.IndexedFields.{IndexedFields}
@@ -18,11 +19,15 @@ abbrev pub StaysRegular : {F T : Type 0} → Once F (MutBor Record × Unit {0}) 
 StaysRegular {T = T} g change s p =
     IsRegular s → (b c : Record) (r : T) → lookup p s.processes ≡ Some (process_of p (parent_of p s.processes) b) → FnOnceReturnsAtMut g change b r c → IsRegular (record s { processes = with_record s.processes p c })
 
+-- the closure leaves p in its session, or in one that p leads
+abbrev pub StaysInSession : {F T : Type 0} → Once F (MutBor Record × Unit {0}) (T × (MutBor Record × Unit {0})) → F → List Process → ℕ → Type 0
+StaysInSession g change rs p = Does g change rs p (λ b c. (c.session ≡ b.session) ⊎ (c.session ≡ p))
+
 -- it has another process group or session
 abbrev pub has_moved : IndexedFields → IndexedFields → Bool
 has_moved old new = not (old.group == new.group) || not (old.session == new.session)
 
--- the rows hold the numbers that it bears, and can hold those that it comes to bear
+-- the rows hold the numbers that it bears, and can hold those that it comes to bear, which somebody bears already
 pub record CanMoveNumbers (p : Pids) (old new : IndexedFields) : Type 0 where
   pub group_range : old.group ≤ p.pidmax
   pub session_range : old.session ≤ p.pidmax
@@ -32,6 +37,8 @@ pub record CanMoveNumbers (p : Pids) (old new : IndexedFields) : Type 0 where
   pub session_count : 1 ≤ (row p.rows old.session).session
   pub to_group_count : (row p.rows new.group).group < 4294967295
   pub to_session_count : (row p.rows new.session).session < 4294967295
+  pub to_group_borne : is_free_in p.rows new.group ≡ false
+  pub to_session_borne : is_free_in p.rows new.session ≡ false
 
 -- It lives so from now on, and this is new of it.
 abbrev pub lives : Life → News → Process → Process

@@ -1,5 +1,5 @@
 -- The parts of a machine as a state, and what holds of them.
-use Rattle.std.specs.Prelude.{◌≡◌, ◌≢◌, ℕ, ◌+◌, ◌<◌, ◌≤◌, Bool, true, false, List, [], length, slice_get, Some, IsSome}
+use Rattle.std.specs.Prelude.{◌≡◌, ◌≢◌, ℕ, ◌+◌, ◌<◌, ◌≤◌, Bool, true, false, List, [], length, slice_get, Option, Some, IsSome, IfSome}
 use Rattle.posix.specs.Processes.{Process}
 use Rattle.posix.specs.Tables.{lookup, children_in}
 use Rattle.posix.specs.States.{World, State, boot, process, has_place, is_in}
@@ -52,12 +52,14 @@ pub record AreSame (old new : MachineView) : Type 0 where
 pub record Looks (n : ℕ) (old new : MachineView) : Type 0 where
   pub same : AreSame old new
   pub visits : new.visits ≤ old.visits + n
+  pub no_fewer : old.visits ≤ new.visits
   pub regular : IsRegular old.state
 
 -- A change that reads at most n slots, and notes no group as one that may be orphaned. From each it is known that the
 -- state was regular.
 pub record Costs (n : ℕ) (old new : MachineView) : Type 0 where
   pub visits : new.visits ≤ old.visits + n
+  pub no_fewer : old.visits ≤ new.visits
   pub groups_at_risk : new.groups_at_risk ≡ old.groups_at_risk
   pub regular : IsRegular old.state
 
@@ -66,6 +68,12 @@ pub record Finds (n : ℕ) (old new : MachineView) (what : Type 0) : Type 0 wher
   pub value : what
   pub looks : Looks n old new
 
+-- so, and where somebody is found one more slot was counted
+pub record FindsAndCounts {T : Type 0} (more : ℕ → ℕ) (old new : MachineView) (found : Option T) (what : Type 0) : Type 0 where
+  pub value : what
+  pub looks : Looks 1 old new
+  pub counts : IfSome found (λ it. more old.visits ≤ new.visits)
+
 -- Process groups are noted that an end may orphan. Nothing else changes, and at most n slots are read.
 pub record Notes (n : ℕ) (old new : MachineView) : Type 0 where
   pub state : new.state ≡ old.state
@@ -73,6 +81,7 @@ pub record Notes (n : ℕ) (old new : MachineView) : Type 0 where
   pub foregrounds_unchecked : new.foregrounds_unchecked ≡ old.foregrounds_unchecked
   pub readers : new.readers ≡ old.readers
   pub visits : new.visits ≤ old.visits + n
+  pub no_fewer : old.visits ≤ new.visits
   pub regular : IsRegular old.state
 
 -- a change after which the state is this, these are to be rechecked, and no other foreground is unchecked
@@ -113,12 +122,12 @@ with_processes s rs = record s { processes = rs }
 abbrev pub with_consoles : State → List Console → State
 with_consoles s cs = record s { consoles = cs }
 
--- The rows count which numbers the processes bear, and each number can be given a place.
+-- The rows count which numbers the processes bear, and each process can be given a place.
 pub record IsKept (pidmax : ℕ) (rs : List Process) (pids : Pids) (places : Places) : Type 0 where
   pub greatest : pids.pidmax ≡ pidmax
   pub table : IsPids pids
   pub tallied : IsTallied pids rs
-  pub room : pidmax < places.room
+  pub room : (p : ℕ) → IsSome (lookup p rs) → p < places.room
 
 -- each process other than process 1 has a parent that is there
 abbrev pub IsOther : ℕ → Process → Type 0
@@ -130,15 +139,36 @@ pub record IsSound (s : State) (pids : Pids) (places : Places) : Type 0 where
   pub counted : s.dropped + length s.processes ≤ s.births  -- each was born
   pub kept : IsKept s.world.pidmax s.processes pids places
 
+-- the same set, with no less room
+pub record IsRoomier (old new : PidSetView) : Type 0 where
+  pub pids : new.pids ≡ old.pids
+  pub room : old.room ≤ new.room
+
+-- so each of these
+pub record AreRoomier (old new : List PidSetView) : Type 0 where
+  pub sets : (k : ℕ) → IfSome (slice_get new k) (λ set. (was : PidSetView) × (slice_get old k ≡ Some was) × IsRoomier was set)
+  pub many : length new ≡ length old
+
+-- all but the number of slots that have been read is as it was, and there may be more room for those who wait to read
+pub record AreSameButRoom (old new : MachineView) : Type 0 where
+  pub state : new.state ≡ old.state
+  pub to_recheck : new.to_recheck ≡ old.to_recheck
+  pub groups_at_risk : new.groups_at_risk ≡ old.groups_at_risk
+  pub foregrounds_unchecked : new.foregrounds_unchecked ≡ old.foregrounds_unchecked
+  pub readers : AreRoomier old.readers new.readers
+
 -- the processes that may wait to read from the console with this index
 abbrev pub readers_at : ℕ → List PidSetView → List ℕ
 readers_at k readers = option_map_or (λ set. set.pids) (slice_get readers k) []
 
--- one such set: there is room for all numbers
+-- one such set
 pub record IsReaders (pidmax : ℕ) (set : PidSetView) : Type 0 where
   pub rising : Rises set.pids
   pub within : (p : ℕ) → is_in p set.pids ≡ true → (1 ≤ p) × (p ≤ pidmax)
-  pub room : pidmax < set.room
+
+-- a set with room for so many
+abbrev pub HasRoomFor : ℕ → PidSetView → Type 0
+HasRoomFor n set = n ≤ set.room
 
 -- p waits to read from the console with this index: it runs, is blocked in a read of it, and has no place
 pub record IsWaiting (s : State) (k p : ℕ) : Type 0 where
@@ -169,19 +199,19 @@ abbrev pub HaveRoom : List PidSetView → Type 0
 HaveRoom sets = (k : ℕ) (set : PidSetView) → slice_get sets k ≡ Some set → length set.pids < set.room
 
 -- Each process that has to be given a place is to be rechecked; each process to recheck is there, and there is room for
--- all numbers; and each process that waits to read is known.
+-- all processes and one more, and as much in each set of readers; and each process that waits to read is known.
 pub record IsListed (s : State) (to_recheck : PidSetView) (readers : List PidSetView) : Type 0 where
   pub covers : Covers s to_recheck.pids
   pub rising : Rises to_recheck.pids
   pub there : (p : ℕ) → is_in p to_recheck.pids ≡ true → IsSome (process s p)
-  pub room : s.world.pidmax < to_recheck.room
+  pub room : length s.processes < to_recheck.room
+  pub ready : AllByRecursion (HasRoomFor to_recheck.room) readers
   pub watched : IsWatched s to_recheck.pids readers
 
--- Groups are noted in rising order, and there is room for all numbers, 0 too.
-pub record IsNoted (pidmax : ℕ) (groups_at_risk : PidSetView) : Type 0 where
+-- Groups are noted in rising order, and there is room for so many.
+pub record IsNoted (count : ℕ) (groups_at_risk : PidSetView) : Type 0 where
   pub rising : Rises groups_at_risk.pids
-  pub within : (g : ℕ) → is_in g groups_at_risk.pids ≡ true → g ≤ pidmax
-  pub room : pidmax + 1 < groups_at_risk.room
+  pub room : count ≤ groups_at_risk.room
 
 -- what a machine keeps of its consoles beside them: who may wait to read from each, and whose foreground process
 -- group may have lost its members
@@ -193,7 +223,7 @@ pub record Terminals : Type 0 where
 pub record IsMachine (s : State) (pids : Pids) (places : Places) (to_recheck groups_at_risk : PidSetView) (terminals : Terminals) : Type 0 where
   pub sound : IsSound s pids places
   pub listed : IsListed s to_recheck terminals.readers
-  pub noted : IsNoted s.world.pidmax groups_at_risk
+  pub noted : IsNoted to_recheck.room groups_at_risk
   pub fresh : AreFreshBut terminals.foregrounds_unchecked s.processes s.consoles
 
 -- ---- one record that goes
@@ -212,7 +242,7 @@ pub record CanGo (rs : List Process) (pids : Pids) (pid : ℕ) : Type 0 where
 
 -- how the counts are once it has gone
 pub record IsGone (old new : Pids) (pid : ℕ) (it : Process) : Type 0 where
-  pub rows : new ≡ gone_from old pid it.group it.session
+  pub rows : new ≡ record (gone_from old pid it.group it.session) { ready = new.ready }
   pub greatest : new.pidmax ≡ old.pidmax
   pub last : new.last ≡ old.last
   pub table : IsPids new

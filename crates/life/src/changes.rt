@@ -12,7 +12,7 @@ ghost use Rattle.pidset.specs.Numbers.{with_number};
 ghost use Rattle.jobs.specs.Indexes.{seen_of};
 ghost use Rattle.jobs.specs.IndexedTables.{ChangesSignals, Costs as JobCosts, IsRun, StaysGrouped, StaysPut, takes_signal as taking_signal};
 ghost use Rattle.life.specs.Rechecks.{awaits as awaiting, rechecking, rechecking_told, rechecks_by_signals, rechecks_changed, with_parent};
-ghost use Rattle.life.specs.Changes.{StaysRegular, CanMoveNumbers, has_moved, lives};
+ghost use Rattle.life.specs.Changes.{StaysInSession, StaysRegular, CanMoveNumbers, has_moved, lives};
 ghost use Rattle.life.specs.Machines.{Costs, Changes, IsThere, IfThere, with_processes};
 
 use crate::consoles::Unchecked;
@@ -52,6 +52,7 @@ impl<K: ProcessTable> Machine<K> {
         requires there { IsThere pid self.old }
         requires callable { F.IsAlwaysCallable change }
         requires grouped { StaysGrouped F.FnOnce change self.old.state.processes pid }
+        requires session { StaysInSession F.FnOnce change self.old.state.processes pid }
         requires regular { StaysRegular F.FnOnce change self.old.state pid }
         ensures run { IsRun F.FnOnce change self.old.state.processes self.new.state.processes pid tt }
         ensures rest { self.new.state ≡ with_processes self.old.state self.new.state.processes }
@@ -172,7 +173,7 @@ fn move_numbers(
     after: &IndexedFields,
 )
     requires { CanMoveNumbers pids.old before.now after.now }
-    ensures pids { pids.new ≡ (if has_moved before.now after.now then regrouped pids.old before.now.group before.now.session after.now.group after.now.session else pids.old) }
+    ensures pids { pids.new ≡ record (if has_moved before.now after.now then regrouped pids.old before.now.group before.now.session after.now.group after.now.session else pids.old) { ready = pids.new.ready } }
     ensures last { pids.new.last ≡ pids.old.last }
     ensures foregrounds_unchecked { foregrounds_unchecked.new ≡ (if has_moved before.now after.now then Unchecked.All else foregrounds_unchecked.old) }
 {

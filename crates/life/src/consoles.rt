@@ -1,7 +1,7 @@
 //! Consoles: whose terminal each is, who waits to read from it, and what a key, a hangup and a lost foreground
 //! process group do (XBD 11.1).
 
-ghost use Rattle.std.specs.Prelude.{◌≡◌, ◌≢◌, ◌==◌, ◌+◌, ◌<◌, ◌≤◌, ◌||◌, ℕ, IfOk, IfSome, MatchOption, Some, None, [], count_by, length, false, true, if◌then◌else◌, option_map, map, replicate, slice_get, slice_set};
+ghost use Rattle.std.specs.Prelude.{◌≡◌, ◌≢◌, ◌==◌, ◌+◌, ◌<◌, ◌≤◌, ◌^◌, ◌||◌, ℕ, IfOk, OnOk, IfSome, MatchOption, Some, None, [], count_by, length, false, true, if◌then◌else◌, option_map, map, replicate, slice_get, slice_set};
 ghost use Rattle.std.specs.List.{AllByRecursion};
 ghost use Rattle.std.specs.Option.{option_copied};
 ghost use Rattle.posix.specs.Processes.{Process};
@@ -14,7 +14,7 @@ ghost use Rattle.posix.specs.Step.{key as keying, hangup as hanging};
 ghost use Rattle.posix.specs.Regular.{AreGrouped, IsRegular};
 ghost use Rattle.posix.specs.Tables.{members_in, pids};
 ghost use Rattle.pidset.specs.Numbers.{numbers_above, with_number};
-ghost use Rattle.life.specs.Machines.{Costs, Finds, IsThere, IfThere, with_consoles, IfConsole, AreWatched, HaveRoom, AreUnread, IsReaders, readers_at};
+ghost use Rattle.life.specs.Machines.{Costs, Finds, IsThere, IfThere, with_consoles, IfConsole, AreWatched, HaveRoom, HasRoomFor, AreRoomier, AreUnread, IsReaders, readers_at};
 ghost use Rattle.life.specs.Rechecks.{NeedNoChild, WaitForNoChild};
 ghost use Rattle.proctable.specs.Records.{snapshot_of};
 ghost use Rattle.life.specs.Foregrounds.{after_loss as after_loss_of, is_unchecked as is_unchecked_by, refreshed_where};
@@ -95,21 +95,33 @@ pub(crate) fn unused(alloc: Global, count: u8) -> Result<Vec<Console>, AllocErro
     Ok(consoles)
 }
 
-/// For each of so many consoles nobody who waits to read from it, with room for all numbers; an error where the host
+/// For each of so many consoles nobody who waits to read from it, with room for two processes; an error where the host
 /// has no memory for it.
-pub(crate) fn no_readers(alloc: Global, count: u8, pidmax: u32) -> Result<Vec<PidSet>, AllocError>
-    requires { pidmax ≤ 32768 }
-    ensures each { IfOk result (λ sets. AllByRecursion (IsReaders pidmax) sets.items) }
+pub(crate) fn no_readers(alloc: Global, count: u8) -> Result<Vec<PidSet>, AllocError>
+    ensures each { (pidmax : ℕ) → IfOk result (λ sets. AllByRecursion (IsReaders pidmax) sets.items) }
+    ensures ready { IfOk result (λ sets. AllByRecursion (HasRoomFor 2) sets.items) }
     ensures many { IfOk result (λ sets. length sets.items ≡ count) }
     ensures none { IfOk result (λ sets. AreUnread sets.items) }
 {
     let mut sets = Vec::with_capacity(alloc, usize::from(count))?;
     for _ in 0..count {
         let mut readers = PidSet::new(alloc);
-        readers.reserve(pidmax as usize + 1)?;
+        readers.reserve(2)?;
         sets.push(readers)?;
     }
     Ok(sets)
+}
+
+/// Makes room for so many who wait to read from each console. They stay, also at the error that there is no memory.
+pub(crate) fn reserve_readers(readers: &mut Vec<PidSet>, count: usize) -> Result<(), AllocError>
+    requires { count < 2 ^ 63 }
+    ensures ok { OnOk result (AllByRecursion (HasRoomFor count) readers.new.items) }
+    ensures same { AreRoomier readers.old.items readers.new.items }
+{
+    for console_index in 0..readers.len() {
+        readers[console_index].reserve(count)?;
+    }
+    Ok(())
 }
 
 /// The index of the console that is a session's terminal.
@@ -196,6 +208,7 @@ fn refresh<K: ProcessTable>(console: &mut Console, table: &mut IndexedTable<K>)
     ensures console { console.new ≡ refreshed table.old.processes console.old }
     ensures processes { table.new.processes ≡ table.old.processes }
     ensures visits { table.new.visits ≤ table.old.visits + 1 }
+    ensures no_fewer { table.old.visits ≤ table.new.visits }
 {
     let foreground = console.foreground();
     if foreground == Pid::NONE {
@@ -218,6 +231,7 @@ fn refresh_unchecked<K: ProcessTable>(
     ensures console { console.new ≡ refreshed_where unchecked.now table.old.processes console.old }
     ensures processes { table.new.processes ≡ table.old.processes }
     ensures visits { table.new.visits ≤ table.old.visits + (if is_unchecked_by unchecked.now console.old then 1 else 0) }
+    ensures no_fewer { table.old.visits ≤ table.new.visits }
 {
     if is_unchecked(unchecked, console) {
         refresh(console, table);
@@ -234,6 +248,7 @@ fn refresh_all<K: ProcessTable>(
     ensures consoles { consoles.new.items ≡ map (refreshed_where unchecked.now table.old.processes) consoles.old.items }
     ensures processes { table.new.processes ≡ table.old.processes }
     ensures visits { table.new.visits ≤ table.old.visits + count_by (is_unchecked_by unchecked.now) consoles.old.items }
+    ensures no_fewer { table.old.visits ≤ table.new.visits }
 {
     for console_index in 0..consoles.len() {
         refresh_unchecked(&mut consoles[console_index], unchecked, table);
@@ -554,6 +569,7 @@ impl<K: ProcessTable> Machine<K> {
         ensures to_recheck { self.new.to_recheck ≡ self.old.to_recheck }
         ensures foregrounds_unchecked { self.new.foregrounds_unchecked ≡ Unchecked.Nothing }
         ensures visits { self.new.visits ≤ self.old.visits + count_by (is_unchecked_by self.old.foregrounds_unchecked) self.old.state.consoles }
+        ensures no_fewer { self.old.visits ≤ self.new.visits }
     {
         if let Unchecked::Nothing = self.foregrounds_unchecked {
             return;

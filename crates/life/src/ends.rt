@@ -149,6 +149,7 @@ impl<K: ProcessTable> Machine<K> {
         ensures state { IfThere pid self.old (λ me. self.new.state ≡ (end_with_heir self.old.state me heir status).state) }
         ensures to_recheck { pid ≡ 1 → self.new.to_recheck ≡ with_number 1 self.old.to_recheck }
         ensures visits { self.new.visits ≤ self.old.visits + 14 + 19 * length (children_in pid self.old.state.processes) + length (children_in heir self.old.state.processes) + slots_of_orphans self.old.state (tell_of_all (departing self.old.state pid heir status) heir (zombies_of pid self.old.state.processes)) }
+        ensures no_fewer { self.old.visits ≤ self.new.visits }
     {
         if pid == Pid::INIT {
             self.halt(status);

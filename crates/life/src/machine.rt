@@ -1,10 +1,10 @@
 //! The machine: all that the state of a world consists of.
 
-ghost use Rattle.std.specs.Prelude.{◌≡◌, ◌≢◌, ◌+◌, ◌<◌, ◌≤◌, ◌^◌, ◌++◌, ◌∷◌, [], ⊤, IfOk, IfSome, length, option_map, replicate, false, true, if◌then◌else◌};
+ghost use Rattle.std.specs.Prelude.{◌≡◌, ◌≢◌, ◌+◌, ◌<◌, ◌≤◌, ◌^◌, ◌++◌, ◌∷◌, [], ⊤, ℕ, IfOk, IfSome, length, option_map, replicate, false, true, if◌then◌else◌};
 ghost use Rattle.std.specs.List.{AllByRecursion};
 ghost use Rattle.posix.specs.Consoles.{unused_console};
 ghost use Rattle.pidalloc.specs.Rows.{IsPids, born_in, unborne_table};
-ghost use Rattle.life.specs.Machines.{IsReaders, AreUnread};
+ghost use Rattle.life.specs.Machines.{IsReaders, HasRoomFor, AreUnread};
 ghost use mathlib.Core.Option.{none};
 ghost use Rattle.std.specs.Borrow.{sem, Lends, follows_so};
 ghost use Rattle.posix.specs.Processes.{first_process};
@@ -15,7 +15,7 @@ ghost use Rattle.posix.specs.Step.{code_of, set_cpu};
 ghost use Rattle.proctable.specs.Records.{snapshot_of, own_of, own_row};
 ghost use Rattle.life.specs.contracts.machine.Machine.{the_row as machine_row};
 ghost use Rattle.life.specs.Loans.{lent, looked};
-ghost use Rattle.life.specs.Machines.{Finds, Runs, IsThere, IfThere};
+ghost use Rattle.life.specs.Machines.{Finds, FindsAndCounts, Runs, IsThere, IfThere};
 ghost use Rattle.life.specs.NotedBursts.{most_notes, exec_with_notes};
 ghost use Rattle.pidset.specs.Numbers.{with_number};
 ghost use Rattle.sched.specs.Places.{next_behind};
@@ -84,27 +84,29 @@ impl Lists {
     /// The lists at the start, when process 1 is the only process; an error where the host has no memory for them.
     #[tactic(auto, unfolding(posix::specs::States::is_in))]
     fn first(alloc: Global, pidmax: u32) -> Result<Lists, AllocError>
-        requires { (2 ≤ pidmax) × (pidmax ≤ 32768) }
-        ensures pids { IfOk result (λ l. l.pids ≡ born_in (unborne_table pidmax) 1 1 1) }
+        requires { (2 ≤ pidmax) × (pidmax ≤ 4194304) }
+        ensures pids { IfOk result (λ l. l.pids ≡ record (born_in (unborne_table pidmax) 1 1 1) { ready = l.pids.ready }) }
         ensures last { IfOk result (λ l. l.pids.last ≡ 1) }
         ensures pidmax { IfOk result (λ l. l.pids.pidmax ≡ pidmax) }
         ensures kept { IfOk result (λ l. IsPids l.pids) }
         ensures order { IfOk result (λ l. l.order.pids ≡ 1 ∷ []) }
-        ensures places { IfOk result (λ l. l.order.room ≡ pidmax + 1) }
+        ensures places { IfOk result (λ l. 1 < l.order.room) }
         ensures nobody { IfOk result (λ l. l.to_recheck.pids ≡ []) }
-        ensures rechecks { IfOk result (λ l. pidmax + 1 ≤ l.to_recheck.room) }
+        ensures rechecks { IfOk result (λ l. l.to_recheck.room ≡ 2) }
         ensures no_group { IfOk result (λ l. l.groups_at_risk.pids ≡ []) }
-        ensures groups { IfOk result (λ l. pidmax + 2 ≤ l.groups_at_risk.room) }
+        ensures groups { IfOk result (λ l. l.groups_at_risk.room ≡ 2) }
     {
-        let mut pids = PidTable::new(alloc, pidmax)?;
+        let mut pids = PidTable::new(alloc, pidmax);
+        pids.reserve()?;
         pids.bear_all(Pid::INIT, Pid::INIT, Pid::INIT);
-        let mut order = Order::new(alloc, pidmax)?;
+        let mut order = Order::new(alloc);
+        order.reserve(Pid::INIT)?;
         order.place(Pid::INIT);
         Ok(Lists {
             pids,
             order,
-            to_recheck: room_for(alloc, pidmax as usize + 1)?,
-            groups_at_risk: room_for(alloc, pidmax as usize + 2)?,
+            to_recheck: room_for(alloc, 2)?,
+            groups_at_risk: room_for(alloc, 2)?,
         })
     }
 }
@@ -119,16 +121,16 @@ struct Terminals {
 impl Terminals {
     /// `count` consoles that no session has, from which nobody waits to read; an error where the host has no memory for
     /// them.
-    fn unused(alloc: Global, count: u8, pidmax: u32) -> Result<Terminals, AllocError>
-        requires { pidmax ≤ 32768 }
+    fn unused(alloc: Global, count: u8) -> Result<Terminals, AllocError>
         ensures consoles { IfOk result (λ t. t.consoles.items ≡ replicate count unused_console) }
-        ensures each { IfOk result (λ t. AllByRecursion (IsReaders pidmax) t.readers.items) }
+        ensures each { (pidmax : ℕ) → IfOk result (λ t. AllByRecursion (IsReaders pidmax) t.readers.items) }
+        ensures ready { IfOk result (λ t. AllByRecursion (HasRoomFor 2) t.readers.items) }
         ensures many { IfOk result (λ t. length t.readers.items ≡ count) }
         ensures none { IfOk result (λ t. AreUnread t.readers.items) }
     {
         Ok(Terminals {
             consoles: unused(alloc, count)?,
-            readers: no_readers(alloc, count, pidmax)?,
+            readers: no_readers(alloc, count)?,
         })
     }
 }
@@ -137,7 +139,7 @@ impl Terminals {
 fn room_for(alloc: Global, capacity: usize) -> Result<PidSet, AllocError>
     requires { capacity < 2 ^ 63 }
     ensures pids { IfOk result (λ s. s.pids ≡ []) }
-    ensures room { IfOk result (λ s. capacity ≤ s.room) }
+    ensures room { IfOk result (λ s. s.room ≡ capacity) }
 {
     let mut set = PidSet::new(alloc);
     set.reserve(capacity)?;
@@ -169,7 +171,7 @@ impl<K: ProcessTable> Machine<K> {
         let world = world.try_clone(alloc)?;
         let pidmax = world.pidmax();
         let table = first_table(alloc)?;
-        let terminals = Terminals::unused(alloc, world.consoles(), pidmax)?;
+        let terminals = Terminals::unused(alloc, world.consoles())?;
         let lists = Lists::first(alloc, pidmax)?;
         Ok(Machine {
             world,
@@ -199,7 +201,7 @@ impl<K: ProcessTable> Machine<K> {
         self.table.visits()
     }
 
-    /// The number of consoles: 0 to 8.
+    /// The number of consoles: 0 to 64.
     pub fn consoles(&self) -> u8
         ensures { result ≡ self.now.state.world.consoles }
     {
@@ -259,7 +261,7 @@ impl<K: ProcessTable> Machine<K> {
     /// The small fields of a process; none where it isn't there.
     #[inline(always)]
     pub fn snapshot(&mut self, pid: Pid) -> Option<Snapshot>
-        ensures { Finds 1 self.old self.new (result ≡ option_map snapshot_of (process self.old.state pid)) }
+        ensures { FindsAndCounts K.one_more self.old self.new result (result ≡ option_map snapshot_of (process self.old.state pid)) }
     {
         self.table.get(pid)
     }

@@ -21,6 +21,7 @@ impl<K: ProcessTable> Machine<K> {
 
     /// The group of a process that is there is noted where the process keeps it from being orphaned. No slot is read.
     fn note_anchor(&mut self, pid: Pid)
+        requires { length self.old.groups_at_risk ≤ length self.old.state.processes }
         ensures notes { Notes 0 self.old self.new }
         ensures groups_at_risk { IfThere pid self.old (λ it. self.new.groups_at_risk ≡ (if is_anchor_of self.old.state.processes it then with_number it.group self.old.groups_at_risk else self.old.groups_at_risk)) }
     {
@@ -78,6 +79,7 @@ impl<K: ProcessTable> Machine<K> {
         ensures state { self.new.state ≡ with_processes self.old.state (hup_and_cont_of group self.old.state.processes) }
         ensures groups_at_risk { self.new.groups_at_risk ≡ self.old.groups_at_risk }
         ensures visits { self.new.visits ≤ self.old.visits + slots_of_hup_and_cont group self.old.state.processes }
+        ensures no_fewer { self.old.visits ≤ self.new.visits }
     {
         self.signal_members(group, Sig::HUP);
         self.signal_members(group, Sig::CONT);
@@ -87,6 +89,7 @@ impl<K: ProcessTable> Machine<K> {
     fn hup_and_cont_all(&mut self)
         ensures state { self.new.state ≡ with_processes self.old.state (hup_and_cont_all_of self.old.groups_at_risk self.old.state.processes) }
         ensures visits { self.new.visits ≤ self.old.visits + slots_of_hups self.old.groups_at_risk self.old.state.processes }
+        ensures no_fewer { self.old.visits ≤ self.new.visits }
         ensures regular { IsRegular self.old.state }
     {
         let mut next = self.groups_at_risk.first();
@@ -111,6 +114,7 @@ impl<K: ProcessTable> Machine<K> {
         ensures parent { IfThere pid self.old (λ me. IsThere me.parent self.new) }
         ensures zombie { (it : Process) × (process self.new.state pid ≡ Some it) × (is_zombie it.life ≡ true) }
         ensures visits { self.new.visits ≤ self.old.visits + 8 + 19 * length (children_in pid self.old.state.processes) + length (children_in heir self.old.state.processes) + slots_of_orphans self.old.state (tell_of_all (departing self.old.state pid heir status) heir (zombies_of pid self.old.state.processes)) }
+        ensures no_fewer { self.old.visits ≤ self.new.visits }
     {
         if self.nobody_stopped() {
             return self.leave_children_and_die(pid, heir, status);

@@ -41,6 +41,7 @@ impl<K: ProcessTable> Machine<K> {
         ensures heir { result ≡ heir_in self.old.state.processes pid }
         ensures same { AreSame self.old self.new }
         ensures visits { self.new.visits ≤ self.old.visits + slots_of_heir self.old.state.processes pid }
+        ensures no_fewer { self.old.visits ≤ self.new.visits }
     {
         if pid == Pid::INIT || self.nobody_marked() {
             return Pid::INIT;

@@ -127,6 +127,7 @@ pub(crate) fn discard<K: ProcessTable>(
     ensures processes { table.new.processes ≡ removed pid table.old.processes }
     ensures counts { (it : Process) → lookup pid table.old.processes ≡ Some it → IsGone pids.old pids.new pid it }
     ensures visits { table.new.visits ≤ table.old.visits + 5 }
+    ensures no_fewer { table.old.visits ≤ table.new.visits }
 {
     let Some(snapshot) = table.remove(pid) else {
         unreachable!()

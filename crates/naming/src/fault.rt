@@ -100,7 +100,7 @@ fn push_unknown(alloc: Global, text: &mut Vec<u8>, name: &[u8]) -> Result<(), Al
 {
     push_about(text, b"no name is ", name, b"")?;
     match meant(alloc, name)? {
-        Some(meant) => push_about(text, b"; did you mean ", meant.as_bytes(), b"?"),
+        Some(meant) => push_about(text, b"; did you mean ", meant, b"?"),
         None => Ok(()),
     }
 }

@@ -12,5 +12,8 @@ mod texts;
 mod type_line;
 
 pub use fault::Told;
+pub use key_line::push_byte;
+pub use line::{next_word, skip_separators, split_comment};
+pub use nearest::{Nearest, distance, meant};
 pub use serving::serve;
 pub use texts::{Named, name_text};

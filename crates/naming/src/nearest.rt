@@ -14,9 +14,9 @@ fn limit_of(word: &str) -> usize {
     }
 }
 
-/// How much a name lacks to be a word that it is near to: how many letters are left out, put in, replaced, or exchanged
-/// with their neighbour, and then whether the first letters are two; none where it isn't near.
-fn rank(alloc: Global, word: &str, name: &str) -> Result<Option<usize>, AllocError> {
+/// How many letters are left out, put in, replaced, or exchanged with their neighbour, between a word and a name that it is
+/// near to; none where it isn't near.
+pub fn distance(alloc: Global, word: &str, name: &str) -> Result<Option<usize>, AllocError> {
     let limit = limit_of(word);
     if word.len().abs_diff(name.len()) > limit {
         return Ok(None);
@@ -25,33 +25,66 @@ fn rank(alloc: Global, word: &str, name: &str) -> Result<Option<usize>, AllocErr
     if distance > limit {
         return Ok(None);
     }
-    let differs = word.as_bytes().first() != name.as_bytes().first();
-    Ok(Some(
-        distance
-            .saturating_mul(2)
-            .saturating_add(usize::from(differs)),
-    ))
+    Ok(Some(distance))
 }
 
-/// The name that is nearest to a word, if one is near; of several the first.
-fn nearest(alloc: Global, word: &str) -> Result<Option<&'static str>, AllocError> {
-    let mut least = usize::MAX;
-    let mut found = None;
-    for (_, name, _) in &NAMES {
-        if let Some(rank) = rank(alloc, word, name)? {
-            if rank < least {
-                least = rank;
-                found = Some(*name);
-            }
+/// The name that is nearest to a word, of those that were offered, if one is near; of several the first with the word's
+/// first letter.
+#[derive(Clone, Copy)]
+pub struct Nearest<'w, 'n> {
+    /// None where the word isn't UTF-8, to which no name is near.
+    word: Option<&'w str>,
+    least: usize,
+    found: Option<&'n [u8]>,
+}
+
+impl<'w, 'n> Nearest<'w, 'n> {
+    /// No name was offered for a word.
+    pub fn new(word: &'w [u8]) -> Nearest<'w, 'n> {
+        Nearest {
+            word: str::from_utf8(word).ok(),
+            least: usize::MAX,
+            found: None,
         }
     }
-    Ok(found)
+
+    /// Offers a name.
+    pub fn offer(&mut self, alloc: Global, name: &'n [u8]) -> Result<(), AllocError> {
+        let (Some(word), Ok(text)) = (self.word, str::from_utf8(name)) else {
+            return Ok(());
+        };
+        let Some(distance) = distance(alloc, word, text)? else {
+            return Ok(());
+        };
+        let differs = usize::from(word.as_bytes().first() != name.first());
+        let rank = distance.saturating_mul(2).saturating_add(differs);
+        if rank < self.least {
+            self.least = rank;
+            self.found = Some(name);
+        }
+        Ok(())
+    }
+
+    /// The nearest name.
+    pub fn found(self) -> Option<&'n [u8]> {
+        self.found
+    }
+}
+
+/// The name of a number that is nearest to a word, if one is near.
+fn nearest_known(alloc: Global, word: &[u8]) -> Result<Option<&'static [u8]>, AllocError> {
+    let mut nearest = Nearest::new(word);
+    for (_, name, _) in &NAMES {
+        nearest.offer(alloc, name.as_bytes())?;
+    }
+    Ok(nearest.found())
 }
 
 /// The name that is a word behind these letters.
-fn name_behind(letters: &[u8], word: &[u8]) -> Option<&'static str> {
+fn name_behind(letters: &[u8], word: &[u8]) -> Option<&'static [u8]> {
     for (_, name, _) in &NAMES {
-        if name.as_bytes().strip_prefix(letters) == Some(word) {
+        let name = name.as_bytes();
+        if name.strip_prefix(letters) == Some(word) {
             return Some(name);
         }
     }
@@ -62,7 +95,7 @@ fn name_behind(letters: &[u8], word: &[u8]) -> Option<&'static str> {
 const BEGINNINGS: [&str; 6] = ["SIG", "SIG_", "SA_", "W", "E", "P_"];
 
 /// The name of which a word lacks the letters at the front.
-fn name_without_beginning(word: &[u8]) -> Option<&'static str> {
+fn name_without_beginning(word: &[u8]) -> Option<&'static [u8]> {
     for beginning in BEGINNINGS {
         if let Some(name) = name_behind(beginning.as_bytes(), word) {
             return Some(name);
@@ -72,15 +105,12 @@ fn name_without_beginning(word: &[u8]) -> Option<&'static str> {
 }
 
 /// The name that is meant by a word that is none; none is where the word isn't UTF-8.
-pub fn meant(alloc: Global, word: &[u8]) -> Result<Option<&'static str>, AllocError> {
+pub fn meant(alloc: Global, word: &[u8]) -> Result<Option<&'static [u8]>, AllocError> {
     if let Some(name) = name_without_beginning(word) {
         return Ok(Some(name));
     }
     if word.starts_with(b"SIGRT") {
-        return Ok(Some("SIGRTMIN+1"));
+        return Ok(Some(b"SIGRTMIN+1"));
     }
-    match str::from_utf8(word) {
-        Ok(word) => nearest(alloc, word),
-        Err(_) => Ok(None),
-    }
+    nearest_known(alloc, word)
 }

@@ -15,7 +15,9 @@ use Rattle.exploring.specs.Serving.{Means as MeansOfExploring}
 use Rattle.exploring.specs.Words.{Asked as AskedOfExploring}
 use Rattle.explaining.specs.Serving.{Means as MeansOfExplaining}
 use Rattle.naming.specs.Serving.{Means as MeansOfNaming}
-use Rattle.commands.specs.Serving.{Explains, Explores, Helps, Names, Purpose, RunsOrAudits, Serves, ServesAs, Shows, TellsVersion, purpose_of}
+use Rattle.refusing.specs.Serving.{Means as MeansOfRefusing}
+use Rattle.refusing.specs.Words.{Asked as AskedOfRefusing}
+use Rattle.commands.specs.Serving.{Explains, Explores, Helps, Names, Purpose, Refuses, RunsOrAudits, Serves, ServesAs, Shows, TellsVersion, purpose_of}
 use Rattle.page.specs.Answers.{AreServed, BeginsTrace, IsAnswered, IsAudited, IsGiven, IsRun, IsTrace}
 use Rattle.page.specs.Files.{files_of}
 use Rattle.page.specs.Words.{AreWordsOf, text_of, words_of, words_to_audit, words_to_run}
@@ -59,6 +61,15 @@ naming_along f contents asked old new before after status h = record {
   cut_short = λ e. elim (h.cut_short e) [ inl same ↦ inl (ap f same) | inr r ↦ inr r ];
 }
 
+refusing_along : {S T : Type 0} (f : S → T) (contents : Contents) (asked : Option AskedOfRefusing) (old new : S) (before after : Seen) (status : ℕ)
+    → MeansOfRefusing contents asked old new before after status → MeansOfRefusing contents asked (f old) (f new) before after status
+refusing_along f contents asked old new before after status h = record {
+  done = λ e. let r = h.done e in (r.0, ap f r.1);
+  refused = h.refused;
+  other_words = λ e. let r = h.other_words e in (r.0, ap f r.1);
+  cut_short = λ e. elim (h.cut_short e) [ inl same ↦ inl (ap f same) | inr r ↦ inr r ];
+}
+
 as_along : {S T : Type 0} (f : S → T) (contents : Contents) (words : Words) (old new : S) (before after : Seen) (status : ℕ) (purpose : Purpose)
     → ServesAs contents words old new before after status purpose → ServesAs contents words (f old) (f new) before after status purpose
 as_along f contents words old new before after status Helps h = h
@@ -67,6 +78,7 @@ as_along f contents words old new before after status (Explores more) h = (explo
 as_along f contents words old new before after status (Shows more) h = h
 as_along f contents words old new before after status (Explains more) h = (explaining_along f contents _ old new before after status h.0, h.1)
 as_along f contents words old new before after status (Names more) h = (naming_along f contents _ old new before after status h.0, h.1)
+as_along f contents words old new before after status (Refuses more) h = (refusing_along f contents _ old new before after status h.0, h.1)
 as_along f contents words old new before after status RunsOrAudits h = (means_along f contents words old new before after status h.0, h.1)
 
 serves_along : {S T : Type 0} (f : S → T) (contents : Contents) (words : Words) (old new : S) (before after : Seen) (status : ℕ)
@@ -96,6 +108,7 @@ as_most contents words old new before after status (Explores more) h = h.1
 as_most contents words old new before after status (Shows more) h = omega (arith, h)
 as_most contents words old new before after status (Explains more) h = omega (arith, h.1)
 as_most contents words old new before after status (Names more) h = omega (arith, h.1)
+as_most contents words old new before after status (Refuses more) h = omega (arith, h.1)
 as_most contents words old new before after status RunsOrAudits h = omega (arith, h.1)
 
 serves_most : {S : Type 0} (contents : Contents) (words : Words) (old new : S) (before after : Seen) (status : ℕ)

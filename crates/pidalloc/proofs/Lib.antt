@@ -3,3 +3,4 @@ pub mod FreeLemmas
 pub mod TallyLemmas
 pub mod BagLemmas
 pub mod MoveLemmas
+pub mod PageLemmas

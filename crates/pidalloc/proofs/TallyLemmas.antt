@@ -1,13 +1,13 @@
 -- The rows of a table of numbers and the records of the processes that bear them.
-use Rattle.std.proofs.Common.{◌≡◌, ℕ, suc, ◌+◌, ◌<◌, ◌≤◌, ◌^◌, Bool, true, false, cond, not, ◌&&◌, ◌||◌, refl, ap, sym, ◌∙◌, arith, List, [], ◌∷◌, length, map, filter, Some, ◌==◌}
+use Rattle.std.proofs.Common.{◌≡◌, ℕ, ◌+◌, ◌<◌, ◌≤◌, ◌^◌, Bool, true, false, cond, not, ◌&&◌, ◌||◌, refl, ap, sym, ◌∙◌, arith, List, [], ◌∷◌, length, map, filter, Some, ◌==◌}
 use Rattle.std.specs.List.{list_any}
-use Rattle.std.proofs.lemmas.Bool.{eq-eqb}
+use Rattle.std.proofs.lemmas.Bool.{eq-eqb, ne_eqb}
 use Rattle.posix.specs.Processes.{Process}
 use Rattle.posix.specs.Tables.{IsRising, lookup, inserted, removed, bears}
 use Rattle.posix.specs.NextPid.{is_free, next_free}
 use Rattle.posix.proofs.TableLemmas.{pid_looked}
 use Rattle.posix.proofs.PassingLemmas.{none_counted, counted_inserted, counted_removed, counted_map, counted_found, filter_at_most}
-use Rattle.pidalloc.specs.Rows.{Row, Pids, unborne_table, row, is_free_row, is_free_in, one_more, one_less, borne, given_up, born_in, gone_from}
+use Rattle.pidalloc.specs.Rows.{Row, Pids, unborne_table, row, count_of, is_free_row, is_free_in, with_row, one_more, one_less, borne, given_up, born_in, gone_from}
 use Rattle.pidalloc.specs.Rows as roles
 use Rattle.pidalloc.specs.Tallies.{tally, IsTallied}
 use Rattle.pidalloc.proofs.FreeLemmas.{next_free_same}
@@ -108,6 +108,41 @@ tally_found pid r rs e = record {
   group = counted_found (λ q. q.group == r.group) pid r rs (eq-eqb _ _ refl) e;
   session = counted_found (λ q. q.session == r.session) pid r rs (eq-eqb _ _ refl) e;
 }
+
+-- ---- numbers that are borne
+
+-- a row that counts something is that of a number that somebody bears
+counted_borne : (role : roles.Role) (r : Row) → 1 ≤ count_of role r → is_free_row r ≡ false
+counted_borne roles.Process r l = rw (ne_eqb r.process 0 (λ e. omega (arith, e, l))) refl
+counted_borne roles.Group r l = rw (ne_eqb r.group 0 (λ e. omega (arith, e, l))) (and_none (r.process == 0) (r.session == 0))
+  where
+    and_none : (a b : Bool) → ((a && false) && b) ≡ false
+    and_none true b = refl
+    and_none false b = refl
+counted_borne roles.Session r l = rw (ne_eqb r.session 0 (λ e. omega (arith, e, l))) (none_and (r.process == 0 && r.group == 0))
+  where
+    none_and : (a : Bool) → (a && false) ≡ false
+    none_and true = refl
+    none_and false = refl
+
+-- the number of a record that is there, and those of its group and session, are borne: what a birth beside it and a move
+-- to them ask
+pub record AreBorne (p : Pids) (pid : ℕ) (r : Process) : Type 0 where
+  pub own : is_free_in p.rows pid ≡ false
+  pub group : is_free_in p.rows r.group ≡ false
+  pub session : is_free_in p.rows r.session ≡ false
+
+pub are_borne : (p : Pids) (pid : ℕ) (r : Process) (rs : List Process) → IsTallied p rs → lookup pid rs ≡ Some r → pid ≤ p.pidmax → r.group ≤ p.pidmax → r.session ≤ p.pidmax → AreBorne p pid r
+unfolding is_free_in
+are_borne p pid r rs t e a b c = let f = tally_found pid r rs e in record {
+  own = counted_borne roles.Process (row p.rows pid) (let l = f.process in let g = ap (λ (r : Row). r.process) (t pid a) in omega (arith, l, g));
+  group = counted_borne roles.Group (row p.rows r.group) (let l = f.group in let g = ap (λ (r : Row). r.group) (t r.group b) in omega (arith, l, g));
+  session = counted_borne roles.Session (row p.rows r.session) (let l = f.session in let g = ap (λ (r : Row). r.session) (t r.session c) in omega (arith, l, g));
+}
+
+-- what a table counts is the same whether it is ready or not
+pub tallied_ready : (p : Pids) (rs : List Process) (ready : Bool) → IsTallied p rs → IsTallied (record p { ready = ready }) rs
+tallied_ready p rs ready t = t
 
 -- ---- a whole birth, and a whole removal
 

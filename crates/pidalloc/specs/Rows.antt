@@ -1,21 +1,24 @@
 -- How often each number is borne as what.
-use Rattle.std.specs.Prelude.{◌≡◌, ℕ, ◌+◌, ◌-◌, ◌≤◌, Bool, ◌&&◌, ◌==◌, List, length, replicate, slice_index_or, slice_set}
+use Rattle.std.specs.Prelude.{◌≡◌, ℕ, ◌+◌, ◌-◌, ◌≤◌, ◌/◌, ◌%◌, ◌⊎◌, Bool, true, false, not, if◌then◌else◌, ◌&&◌, ◌==◌, nat_lt, List, [], Option, None, is_some, IfSome, length, map, replicate, count_by, slice_index_or, slice_set}
+use Rattle.std.specs.List.{range_with_len}
 pub use Rattle.pidalloc.specs.declared.row.Row.{Row}
 pub use Rattle.pidalloc.specs.declared.row.Role.{Role}
 pub use Rattle.pidalloc.specs.declared.row.Role.TheVariants.{Process, Group, Session}
 
--- the greatest number, the one given last, and the row of each number from 0 on
+-- the greatest number, the one given last, and the row of each number from 0 on; and whether there is room for one
+-- number more that nobody bears yet
 pub record Pids : Type 0 where
   pub pidmax : ℕ
   pub last : ℕ
   pub rows : List Row
+  pub ready : Bool
 
 -- what holds of every table
 pub record IsPids (p : Pids) : Type 0 where
   pub size : length p.rows ≡ p.pidmax + 1
   pub given : p.last ≤ p.pidmax
   pub least : 2 ≤ p.pidmax
-  pub limit : p.pidmax ≤ 32768
+  pub limit : p.pidmax ≤ 4194304
 
 -- ---- one row
 
@@ -43,7 +46,7 @@ one_less Session r = record r { session = r.session - 1 }
 -- ---- the table
 
 abbrev pub unborne_table : ℕ → Pids
-unborne_table pidmax = record { pidmax = pidmax; last = 1; rows = replicate (pidmax + 1) unborne }
+unborne_table pidmax = record { pidmax = pidmax; last = 1; rows = replicate (pidmax + 1) unborne; ready = false }
 
 abbrev pub row : List Row → ℕ → Row
 row rows n = slice_index_or rows n unborne
@@ -78,3 +81,48 @@ gone_from p n group session = given_up (given_up (given_up p n Process) group Gr
 -- a process that was in one group and session is in others
 unfoldable pub regrouped : Pids → ℕ → ℕ → ℕ → ℕ → Pids
 regrouped p group session to_group to_session = given_up (given_up (borne (borne p to_group Group) to_session Session) group Group) session Session
+
+-- ---- pages of rows
+
+-- the row at a place; a page may have no rows
+abbrev pub row_at : List Row → ℕ → Row
+row_at rows i = slice_index_or rows i unborne
+
+-- 1,024 rows or none, of which so many are of numbers that are borne
+pub record IsPage (rows : List Row) (borne : ℕ) : Type 0 where
+  pub size : (length rows ≡ 0) ⊎ (length rows ≡ 1024)
+  pub count : borne ≡ count_by (λ r. not (is_free_row r)) rows
+
+abbrev pub page_at : List (List Row) → ℕ → List Row
+page_at pages k = slice_index_or pages k []
+
+-- the row of a number
+unfoldable pub row_in : List (List Row) → ℕ → Row
+row_in pages n = row_at (page_at pages (n / 1024)) (n % 1024)
+
+-- the rows of all numbers up to the greatest one
+unfoldable pub rows_in : ℕ → List (List Row) → List Row
+rows_in pidmax pages = map (row_in pages) (range_with_len 0 (pidmax + 1))
+
+-- there is a page for each number, with rows or without, and one of rows that nobody bears a number of
+abbrev pub is_ready : ℕ → List (List Row) → Option (List Row) → Bool
+is_ready pidmax pages spare = is_some spare && nat_lt (pidmax / 1024) (length pages)
+
+-- what holds of a table: its numbers are in range, and nobody bears a number of the spare page
+pub record IsTable (pidmax last : ℕ) (spare : Option (List Row)) : Type 0 where
+  pub given : last ≤ pidmax
+  pub least : 2 ≤ pidmax
+  pub limit : pidmax ≤ 4194304
+  pub unused : IfSome spare (λ page. page ≡ replicate 1024 unborne)
+
+-- the rows are the same
+abbrev pub AreSame : List (List Row) → List (List Row) → Type 0
+AreSame old new = (n : ℕ) → row_in new n ≡ row_in old n
+
+-- the row of n changed so, and no other
+abbrev pub IsRowChanged : ℕ → (Row → Row) → List (List Row) → List (List Row) → Type 0
+IsRowChanged n f old new = (q : ℕ) → row_in new q ≡ if n == q then f (row_in old n) else row_in old q
+
+-- the spare page stays, or goes for the row of a number that nobody bears
+abbrev pub IsKeptUnlessFree : Row → Option (List Row) → Option (List Row) → Type 0
+IsKeptUnlessFree r old new = (new ≡ old) ⊎ ((new ≡ None) × (is_free_row r ≡ true))

@@ -2,6 +2,7 @@
 #![tactic(auto)]
 
 pub mod laws;
+mod page;
 pub mod row;
 pub mod table;
 

@@ -1,65 +1,220 @@
 //! The numbers up to a greatest one, and who bears them.
 
-ghost use Rattle.std.specs.Prelude.{◌≡◌, ◌+◌, ◌-◌, ◌<◌, ◌≤◌, IfOk};
+ghost use Rattle.std.specs.Prelude.{◌≡◌, ◌+◌, ◌-◌, ◌<◌, ◌≤◌, ◌/◌, ◌%◌, ◌*◌, ◌⊎◌, ℕ, true, false, Some, None, [], IfSome, OnOk, length, replicate, slice_get, slice_set};
 ghost use Rattle.posix.specs.NextPid.{next_free, first_free};
-ghost use Rattle.pidalloc.specs.Rows.{IsPids, unborne_table, row, is_free_in, count_of, borne, given_up, born_in, gone_from, regrouped};
+ghost use Rattle.pidalloc.specs.Rows.{IsPids, unborne, unborne_table, row, is_free_in, count_of, borne, given_up, born_in, gone_from, regrouped, page_at, row_in, rows_in, is_free_row, one_more, one_less, last_given, AreSame, IsRowChanged, IsKeptUnlessFree};
 
-use crate::row::{Role, Row};
+use crate::page::Page;
+use crate::row::Role;
 use posix::Pid;
 use std::alloc::{AllocError, Global};
 use std::marker::Model;
+use std::mem::replace;
 
 /// How often each number from 0 to a greatest one is borne as a process's own, a group's and a
 /// session's, and the number that was given last.
+///
+/// Each 1,024 numbers of which one is borne have a page of rows, so the size follows the processes. Memory is
+/// taken in [`PidTable::reserve`] alone.
 #[derive(Drop)]
 pub struct PidTable {
+    alloc: Global,
     pidmax: u32,
     last: u32,
-    rows: Vec<Row>,
+    pages: Vec<Page>,
+    /// A page for a number that nobody bears yet.
+    spare: Option<Page>,
 }
 
 impl Model for PidTable {
-    ghost use Rattle.pidalloc.specs.Rows.{Pids, IsPids};
+    ghost use Rattle.pidalloc.specs.Rows.{Pids, IsTable, rows_in, is_ready};
 
     ghost Value = { Pids };
 
-    ghost view = { λ t. record { pidmax = t.pidmax; last = t.last; rows = t.rows.items } };
+    ghost view = { λ t. record { pidmax = t.pidmax; last = t.last; rows = rows_in t.pidmax t.pages.items; ready = is_ready t.pidmax t.pages.items t.spare } };
 
-    ghost invariant = { λ t. IsPids (record { pidmax = t.pidmax; last = t.last; rows = t.rows.items }) };
+    ghost invariant = { λ t. IsTable t.pidmax t.last t.spare };
+}
+
+/// In which page the row of a number stands.
+#[inline(always)]
+fn page_of(number: u32) -> usize
+    ensures { result ≡ number / 1024 }
+{
+    (number / 1024) as usize
+}
+
+/// Where it stands in there.
+#[inline(always)]
+fn place_of(number: u32) -> usize
+    ensures is { result ≡ number % 1024 }
+    ensures range { result < 1024 }
+{
+    (number % 1024) as usize
+}
+
+/// Makes `count` pages, of which the new ones have no rows. An error where there is no memory for them.
+fn make_pages(pages: &mut Vec<Page>, alloc: Global, count: usize) -> Result<(), AllocError>
+    ensures same { AreSame pages.old.items pages.new.items }
+    ensures grows { length pages.old.items ≤ length pages.new.items }
+    ensures enough { OnOk result (count ≤ length pages.new.items) }
+{
+    while pages.len() < count {
+        pages.push(Page::none(alloc))?;
+    }
+    Ok(())
+}
+
+/// There is a page of rows of numbers that nobody bears. An error where there is no memory for it.
+fn make_spare(spare: &mut Option<Page>, alloc: Global) -> Result<(), AllocError>
+    requires { IfSome spare.old (λ page. page ≡ replicate 1024 unborne) }
+    ensures ok { OnOk result (spare.new ≡ Some (replicate 1024 unborne)) }
+    ensures stays { IfSome spare.old (λ page. spare.new ≡ Some page) }
+    ensures kept { IfSome spare.new (λ page. page ≡ replicate 1024 unborne) }
+{
+    if spare.is_none() {
+        *spare = Some(Page::unborne(alloc)?);
+    }
+    Ok(())
+}
+
+/// A page that has no rows gets those of numbers that nobody bears.
+fn lay(pages: &mut Vec<Page>, spare: &mut Option<Page>, at: usize)
+    requires inside { at < length pages.old.items }
+    requires spare { spare.old ≡ Some (replicate 1024 unborne) }
+    ensures pages { pages.new.items ≡ slice_set pages.old.items at (replicate 1024 unborne) }
+    ensures spare { spare.new ≡ None }
+{
+    if let Some(page) = spare.take() {
+        pages[at] = page;
+    }
+}
+
+/// A page that has rows, of numbers that nobody bears, has none from now on.
+fn put_away(pages: &mut Vec<Page>, spare: &mut Option<Page>, alloc: Global, at: usize)
+    requires inside { at < length pages.old.items }
+    requires unused { page_at pages.old.items at ≡ replicate 1024 unborne }
+    ensures pages { pages.new.items ≡ slice_set pages.old.items at [] }
+    ensures spare { spare.new ≡ Some (replicate 1024 unborne) }
+{
+    let page = replace(&mut pages[at], Page::none(alloc));
+    *spare = Some(page);
+}
+
+/// There are rows for a number: if nobody bears it, the spare page is there for them.
+fn make_row(pages: &mut Vec<Page>, spare: &mut Option<Page>, number: u32)
+    requires inside { number / 1024 < length pages.old.items }
+    requires spare { is_free_row (row_in pages.old.items number) ≡ true → spare.old ≡ Some (replicate 1024 unborne) }
+    ensures same { AreSame pages.old.items pages.new.items }
+    ensures there { number % 1024 < length (page_at pages.new.items (number / 1024)) }
+    ensures size { length pages.new.items ≡ length pages.old.items }
+    ensures spare { IsKeptUnlessFree (row_in pages.old.items number) spare.old spare.new }
+{
+    let at = page_of(number);
+    if !pages[at].is_there() {
+        lay(pages, spare, at);
+    }
+}
+
+/// One process more bears a number in this role.
+fn bear_in(pages: &mut Vec<Page>, spare: &mut Option<Page>, number: u32, role: Role)
+    requires inside { number / 1024 < length pages.old.items }
+    requires count { count_of role (row_in pages.old.items number) < 4294967295 }
+    requires spare { is_free_row (row_in pages.old.items number) ≡ true → spare.old ≡ Some (replicate 1024 unborne) }
+    ensures rows { IsRowChanged number (one_more role) pages.old.items pages.new.items }
+    ensures size { length pages.new.items ≡ length pages.old.items }
+    ensures spare { IsKeptUnlessFree (row_in pages.old.items number) spare.old spare.new }
+{
+    make_row(pages, spare, number);
+    pages[page_of(number)].bear(place_of(number), role);
+}
+
+/// One process less bears a number in this role.
+fn give_up_in(pages: &mut Vec<Page>, number: u32, role: Role)
+    requires { 1 ≤ count_of role (row_in pages.old.items number) }
+    ensures rows { IsRowChanged number (one_less role) pages.old.items pages.new.items }
+    ensures size { length pages.new.items ≡ length pages.old.items }
+    ensures inside { number / 1024 < length pages.new.items }
+    ensures there { number % 1024 < length (page_at pages.new.items (number / 1024)) }
+{
+    pages[page_of(number)].give_up(place_of(number), role);
+}
+
+/// Rows of numbers that nobody bears go, of a page that has rows.
+fn tidy(pages: &mut Vec<Page>, spare: &mut Option<Page>, alloc: Global, at: usize)
+    requires inside { at < length pages.old.items }
+    requires there { 1 ≤ length (page_at pages.old.items at) }
+    ensures same { AreSame pages.old.items pages.new.items }
+    ensures size { length pages.new.items ≡ length pages.old.items }
+    ensures spare { (spare.new ≡ spare.old) ⊎ (spare.new ≡ Some (replicate 1024 unborne)) }
+{
+    if pages[at].is_unused() {
+        put_away(pages, spare, alloc, at);
+    }
+}
+
+/// The number given last once `number` is borne in this role.
+fn given(role: Role, number: u32, last: u32) -> u32
+    ensures { result ≡ last_given role number last }
+{
+    match role {
+        Role::Process => number,
+        _ => last,
+    }
 }
 
 impl PidTable {
-    /// A table of the numbers up to `pidmax`, 2 to 32,768: nobody bears any, and number 1 counts as
-    /// the last one given. An error where there is no memory for it.
-    pub fn new(alloc: Global, pidmax: u32) -> Result<PidTable, AllocError>
-        requires { (2 ≤ pidmax) × (pidmax ≤ 32768) }
-        ensures value { IfOk result (λ t. t ≡ unborne_table pidmax) }
-        ensures kept { IfOk result IsPids }
+    /// A table of the numbers up to `pidmax`, 2 to 4,194,304: nobody bears any, and number 1 counts as
+    /// the last one given. It takes no memory.
+    pub fn new(alloc: Global, pidmax: u32) -> PidTable
+        requires { (2 ≤ pidmax) × (pidmax ≤ 4194304) }
+        ensures value { result ≡ unborne_table pidmax }
+        ensures kept { IsPids result }
     {
-        let mut rows = Vec::new(alloc);
-        rows.resize(pidmax as usize + 1, Row::unborne())?;
-        Ok(PidTable {
+        PidTable {
+            alloc,
             pidmax,
             last: 1,
-            rows,
-        })
+            pages: Vec::new(alloc),
+            spare: None,
+        }
     }
 
-    /// The greatest number: 2 to 32,768.
+    /// Makes it certain that one number more can be borne, whichever that is. Nothing else changes, also at the
+    /// error that there is no memory for it.
+    pub fn reserve(&mut self) -> Result<(), AllocError>
+        ensures ready { OnOk result (self.new.ready ≡ true) }
+        ensures stays { self.old.ready ≡ true → self.new.ready ≡ true }
+        ensures rest { self.new ≡ record (self.old) { ready = self.new.ready } }
+    {
+        make_pages(&mut self.pages, self.alloc, page_of(self.pidmax) + 1)?;
+        make_spare(&mut self.spare, self.alloc)
+    }
+
+    /// The greatest number: 2 to 4,194,304.
     pub fn pidmax(&self) -> u32
         ensures value { result ≡ self.now.pidmax }
-        ensures range { (2 ≤ result) × (result ≤ 32768) }
+        ensures range { (2 ≤ result) × (result ≤ 4194304) }
         ensures kept { IsPids self.now }
     {
         self.pidmax
     }
 
-    /// Whether nobody bears the number `n`.
-    fn is_free(&self, n: u32) -> bool
-        requires { n ≤ self.now.pidmax }
-        ensures { result ≡ is_free_in self.now.rows n }
+    /// The least free number from `from` on in its page, and whether there is one; else the first of the next page.
+    fn look(&self, from: u32) -> (u32, bool)
+        requires { from ≤ self.now.pidmax }
+        ensures range { (from ≤ result.0) × (result.0 ≤ 4195328) }
+        ensures borne { (k : ℕ) → from ≤ k → k < result.0 → k ≤ self.now.pidmax → is_free_in self.now.rows k ≡ false }
+        ensures free { result.1 ≡ true → result.0 ≤ self.now.pidmax → is_free_in self.now.rows result.0 ≡ true }
+        ensures farther { result.1 ≡ false → from < result.0 }
     {
-        self.rows[n as usize].is_free()
+        match self.pages.get(page_of(from)) {
+            Some(page) => {
+                let at = page.first_free(place_of(from));
+                (from / 1024 * 1024 + at as u32, at < 1024)
+            }
+            None => (from, true),
+        }
     }
 
     /// The least free number from `from` on.
@@ -67,10 +222,17 @@ impl PidTable {
         requires { from ≤ self.now.pidmax + 1 }
         ensures { result ≡ first_free (is_free_in self.now.rows) from (self.now.pidmax + 1 - from) }
     {
-        for n in from..self.pidmax + 1 {
-            if self.is_free(n) {
-                return Pid::new(n);
+        let mut at = from;
+        while at <= self.pidmax {
+            let (next, found) = self.look(at);
+            if found {
+                return if next <= self.pidmax {
+                    Pid::new(next)
+                } else {
+                    None
+                };
             }
+            at = next;
         }
         None
     }
@@ -94,14 +256,16 @@ impl PidTable {
     pub fn bear(&mut self, pid: Pid, role: Role)
         requires range { pid ≤ self.old.pidmax }
         requires count { count_of role (row self.old.rows pid) < 4294967295 }
-        ensures value { self.new ≡ borne self.old pid role }
+        requires ready { is_free_in self.old.rows pid ≡ true → self.old.ready ≡ true }
+        ensures value { self.new ≡ record (borne self.old pid role) { ready = self.new.ready } }
+        ensures ready { is_free_in self.old.rows pid ≡ false → self.new.ready ≡ self.old.ready }
+        ensures borne { is_free_in self.new.rows pid ≡ false }
+        ensures others { (q : ℕ) → is_free_in self.old.rows q ≡ false → is_free_in self.new.rows q ≡ false }
         ensures kept { IsPids self.new }
     {
         let number = pid.number();
-        self.rows[number as usize].bear(role);
-        if role == Role::Process {
-            self.last = number;
-        }
+        bear_in(&mut self.pages, &mut self.spare, number, role);
+        self.last = given(role, number, self.last);
     }
 
     /// One process less bears `pid` in this role.
@@ -109,10 +273,18 @@ impl PidTable {
     pub fn give_up(&mut self, pid: Pid, role: Role)
         requires range { pid ≤ self.old.pidmax }
         requires count { 1 ≤ count_of role (row self.old.rows pid) }
-        ensures value { self.new ≡ given_up self.old pid role }
+        ensures value { self.new ≡ record (given_up self.old pid role) { ready = self.new.ready } }
+        ensures ready { self.old.ready ≡ true → self.new.ready ≡ true }
         ensures kept { IsPids self.new }
     {
-        self.rows[pid.number() as usize].give_up(role);
+        let number = pid.number();
+        give_up_in(&mut self.pages, number, role);
+        tidy(
+            &mut self.pages,
+            &mut self.spare,
+            self.alloc,
+            page_of(number),
+        );
     }
 
     /// A process was born: it bears its own number, which is the one given last, its group's and its
@@ -125,7 +297,10 @@ impl PidTable {
         requires pid_count { (row self.old.rows pid).process < 4294967295 }
         requires group_count { (row self.old.rows group).group < 4294967295 }
         requires session_count { (row self.old.rows session).session < 4294967295 }
-        ensures value { self.new ≡ born_in self.old pid group session }
+        requires ready { self.old.ready ≡ true }
+        requires group_borne { is_free_in self.old.rows group ≡ true → group ≡ pid }
+        requires session_borne { is_free_in self.old.rows session ≡ true → session ≡ pid }
+        ensures value { self.new ≡ record (born_in self.old pid group session) { ready = self.new.ready } }
         ensures last { self.new.last ≡ pid }
         ensures pidmax { self.new.pidmax ≡ self.old.pidmax }
         ensures kept { IsPids self.new }
@@ -145,7 +320,8 @@ impl PidTable {
         requires pid_count { 1 ≤ (row self.old.rows pid).process }
         requires group_count { 1 ≤ (row self.old.rows group).group }
         requires session_count { 1 ≤ (row self.old.rows session).session }
-        ensures value { self.new ≡ gone_from self.old pid group session }
+        ensures value { self.new ≡ record (gone_from self.old pid group session) { ready = self.new.ready } }
+        ensures ready { self.old.ready ≡ true → self.new.ready ≡ true }
         ensures last { self.new.last ≡ self.old.last }
         ensures pidmax { self.new.pidmax ≡ self.old.pidmax }
         ensures kept { IsPids self.new }
@@ -167,7 +343,10 @@ impl PidTable {
         requires session_count { 1 ≤ (row self.old.rows session).session }
         requires to_group_count { (row self.old.rows to_group).group < 4294967295 }
         requires to_session_count { (row self.old.rows to_session).session < 4294967295 }
-        ensures value { self.new ≡ regrouped self.old group session to_group to_session }
+        requires to_group_borne { is_free_in self.old.rows to_group ≡ false }
+        requires to_session_borne { is_free_in self.old.rows to_session ≡ false }
+        ensures value { self.new ≡ record (regrouped self.old group session to_group to_session) { ready = self.new.ready } }
+        ensures ready { self.old.ready ≡ true → self.new.ready ≡ true }
         ensures last { self.new.last ≡ self.old.last }
         ensures pidmax { self.new.pidmax ≡ self.old.pidmax }
         ensures kept { IsPids self.new }

@@ -130,7 +130,7 @@ members_passing t key is group (r ∷ rs) = rw (is r) (grind (arith, members_pas
 -- ---- how many there are
 
 -- a rising list whose numbers all stand in another rising list is no longer
-shorter : (ns ms : List ℕ) → Rises ns → Rises ms → ((q : ℕ) → is_in q ns ≡ true → is_in q ms ≡ true) → length ns ≤ length ms
+pub shorter : (ns ms : List ℕ) → Rises ns → Rises ms → ((q : ℕ) → is_in q ns ≡ true → is_in q ms ≡ true) → length ns ≤ length ms
 unfolding Rises
 shorter [] ms a b h = omega arith
 shorter (n ∷ ns) [] a b h = absurd (in_none n (h n (in_first n ns)))
@@ -154,7 +154,7 @@ rises_pids [] u = tt
 rises_pids (r ∷ rs) u = (above_pids r.pid rs u.0, rises_pids rs u.1)
 
 -- who is found is in the list of numbers
-in_pids : (p : ℕ) (rs : List Process) (r : Process) → lookup p rs ≡ Some r → is_in p (pids rs) ≡ true
+pub in_pids : (p : ℕ) (rs : List Process) (r : Process) → lookup p rs ≡ Some r → is_in p (pids rs) ≡ true
 unfolding lookup is_in
 in_pids p [] r e = absurd (cc)
 in_pids p (x ∷ rs) r e = grind (arith, in_pids p rs r)

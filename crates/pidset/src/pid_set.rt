@@ -1,6 +1,6 @@
 //! Numbers of processes in rising order, each once.
 
-ghost use Rattle.std.specs.Prelude.{◌≡◌, ◌+◌, ◌<◌, ◌≤◌, ◌^◌, ◌==◌, false, [], length, slice_get, OnOk, IfOk, IfErr};
+ghost use Rattle.std.specs.Prelude.{◌≡◌, ◌+◌, ◌<◌, ◌≤◌, ◌^◌, ◌==◌, false, [], length, max, slice_get, OnOk, OnErr, IfOk, IfErr};
 ghost use Rattle.posix.specs.States.{is_in, without};
 ghost use Rattle.pidset.specs.Numbers.{Rises, with_number, numbers_above, IsNumberAt, IsInsertionPoint};
 
@@ -29,23 +29,30 @@ impl Model for PidSet {
 impl PidSet {
     /// A set of no numbers. It takes no memory.
     pub fn new(alloc: Global) -> PidSet
-        ensures { result.pids ≡ [] }
+        ensures { result ≡ record { pids = []; room = 0 } }
     {
         PidSet {
             pids: Vec::new(alloc),
         }
     }
 
-    /// Makes room for `capacity` numbers, counting those that are there. They stay, and the room never
-    /// falls, also at the error that there is no memory.
+    /// Makes room for `capacity` numbers, counting those that are there, and for no more where there was less. They
+    /// stay. At an error there is no memory for them, and nothing changes.
     pub fn reserve(&mut self, capacity: usize) -> Result<(), AllocError>
         requires { capacity < 2 ^ 63 }
-        ensures room { OnOk result (capacity ≤ self.new.room) }
+        ensures room { OnOk result (self.new.room ≡ max self.old.room capacity) }
         ensures pids { self.new.pids ≡ self.old.pids }
-        ensures grows { self.old.room ≤ self.new.room }
+        ensures err { OnErr result (self.new ≡ self.old) }
     {
         let additional = capacity.saturating_sub(self.pids.len());
-        self.pids.reserve(additional)
+        self.pids.reserve_exact(additional)
+    }
+
+    /// For how many numbers there is room, counting those that are there.
+    pub fn room(&self) -> usize
+        ensures { result ≡ self.now.room }
+    {
+        self.pids.capacity()
     }
 
     /// How many numbers there are.

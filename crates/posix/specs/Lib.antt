@@ -39,3 +39,4 @@ pub mod Step
 pub mod Runs
 pub mod Printing
 pub mod Regular
+pub mod Ranges

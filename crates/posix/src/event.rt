@@ -1,5 +1,7 @@
 //! Events.
 
+ghost use Rattle.posix.specs.Ranges.{IsEvent};
+
 /// One atomic step of the machine, from outside (own).
 #[derive(Clone, Copy, Debug, PartialEq, Eq)]
 pub enum Event {
@@ -11,4 +13,16 @@ pub enum Event {
     Key { console: u8, byte: u8 },
     /// The line of a console, which counts from 1, is lost (XBD 11.1.10 Modem Disconnect).
     Hangup { console: u8 },
+}
+
+impl Event {
+    /// Nothing is done. That a key brings a byte is then known of the event, as its type says.
+    #[inline]
+    pub fn range_holds(self)
+        ensures { IsEvent self }
+    {
+        if let Event::Key { console: _, byte } = self {
+            let _ = byte;
+        }
+    }
 }

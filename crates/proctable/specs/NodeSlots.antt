@@ -1,5 +1,5 @@
 -- What the slots of nodes are worth, and reads and writes of one.
-use Rattle.std.specs.Prelude.{ℕ, ◌+◌, ◌-◌, ◌^◌, min}
+use Rattle.std.specs.Prelude.{ℕ, ◌+◌, ◌-◌, ◌^◌, min, max}
 use Rattle.std.specs.Borrow.{RattleType}
 use Rattle.slab.specs.Slab.{Slab, with_value}
 use Rattle.proctable.specs.declared.node.Node.{Node}
@@ -13,9 +13,9 @@ pub record NodeSlotsView : Type 0 where
 abbrev pub node_row : RattleType
 node_row = the_node_row
 
--- one more, as far as it goes
+-- one more, as far as it goes, and never less
 abbrev pub one_more : ℕ → ℕ
-one_more n = min (n + 1) (2 ^ 128 - 1)
+one_more n = max n (min (n + 1) (2 ^ 128 - 1))
 
 -- the slots with another node in a slot that was read once
 abbrev pub with_node : NodeSlotsView → ℕ → Node → NodeSlotsView

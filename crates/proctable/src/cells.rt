@@ -1,10 +1,11 @@
 //! Nodes by number: an index in rising order, and a slot for each.
 
-ghost use Rattle.std.specs.Prelude.{◌≡◌, ◌+◌, ◌-◌, ◌<◌, ◌≤◌, ◌^◌, [], min, length, None, Some, IsSome, OnOk, option_map};
+ghost use Rattle.std.specs.Prelude.{◌≡◌, ◌+◌, ◌-◌, ◌<◌, ◌≤◌, ◌^◌, [], min, max, length, None, Some, IsSome, IfSome, OnOk, option_map};
 ghost use Rattle.std.specs.Borrow.{sem, Lends};
 ghost use Rattle.posix.specs.Tables.{IsRising, lookup, next_above};
 ghost use Rattle.proctable.specs.Records.{record_row, snapshot_of};
 ghost use Rattle.proctable.specs.Nodes.{find_node, changed_node, inserted_node, removed_node, records};
+ghost use Rattle.proctable.specs.NodeSlots.{one_more};
 ghost use Rattle.proctable.specs.Cells.{cells_with_record, with_links, ChangesLinksAs};
 ghost use Rattle.proctable.specs.contracts.cells.Cells.{the_row as cells_row};
 
@@ -71,6 +72,7 @@ impl Cells {
         ensures nodes { self.new.nodes ≡ self.old.nodes }
         ensures room { self.new.room ≡ self.old.room }
         ensures visits { self.new.visits ≤ self.old.visits + 1 }
+        ensures no_fewer { self.old.visits ≤ self.new.visits }
     {
         match slot_of(&self.index, &mut self.recent, pid) {
             Some(slot) => Some(self.slots.links(slot)),
@@ -86,6 +88,8 @@ impl Cells {
         ensures nodes { self.new.nodes ≡ self.old.nodes }
         ensures room { self.new.room ≡ self.old.room }
         ensures visits { self.new.visits ≤ self.old.visits + 1 }
+        ensures no_fewer { self.old.visits ≤ self.new.visits }
+        ensures counts { IfSome result (λ it. one_more self.old.visits ≤ self.new.visits) }
     {
         match slot_of(&self.index, &mut self.recent, pid) {
             Some(slot) => Some(self.slots.snapshot(slot)),
@@ -99,6 +103,7 @@ impl Cells {
         ensures nodes { (f : _) → ChangesLinksAs F.FnOnce change f → self.new.nodes ≡ changed_node pid (with_links f) self.old.nodes }
         ensures room { self.new.room ≡ self.old.room }
         ensures visits { self.new.visits ≤ self.old.visits + 1 }
+        ensures no_fewer { self.old.visits ≤ self.new.visits }
     {
         if let Some(slot) = slot_of(&self.index, &mut self.recent, pid) {
             let node = self.slots.node(slot);
@@ -125,6 +130,7 @@ impl Cells {
         ensures nodes { self.new.nodes ≡ inserted_node node self.old.nodes }
         ensures room { self.old.room ≤ self.new.room + 1 }
         ensures visits { self.new.visits ≤ self.old.visits + 1 }
+        ensures no_fewer { self.old.visits ≤ self.new.visits }
     {
         let pid = node.pid;
         let slot = self.slots.insert(node);
@@ -137,6 +143,7 @@ impl Cells {
         ensures nodes { self.new.nodes ≡ removed_node pid self.old.nodes }
         ensures room { self.old.room ≤ self.new.room }
         ensures visits { self.new.visits ≤ self.old.visits + 1 }
+        ensures no_fewer { self.old.visits ≤ self.new.visits }
     {
         match take_out(&mut self.index, &pid) {
             Some(entry) => Some(self.slots.remove(entry.slot)),

@@ -1,6 +1,7 @@
 //! A table of processes with linked children.
 
 ghost use Rattle.std.specs.Prelude.{refl};
+ghost use Rattle.std.proofs.Common.{arith};
 ghost use Rattle.proctable.specs.NodeSlots.{one_more};
 ghost use Rattle.proctable.specs.Joined.{table_with_record};
 
@@ -60,12 +61,11 @@ impl ProcessTable for LinkedTable {
 
     ghost keeps_room = { λ t p b. refl };
 
-    ghost use Rattle.std.specs.Prelude.{◌+◌, ◌-◌, ◌^◌};
-    ghost use Rattle.std.proofs.Math.Nat.{min-le_left};
-
     ghost put_reads = { λ t p b. refl };
 
-    ghost at_most_one = { λ n. min-le_left (n + 1) (2 ^ 128 - 1) };
+    ghost at_most_one = { λ n. Prim.omega arith };
+
+    ghost no_less = { λ n. Prim.omega arith };
 
     fn empty(alloc: Global) -> Self {
         LinkedTable {

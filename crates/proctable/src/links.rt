@@ -17,6 +17,7 @@ pub fn ends_of(cells: &mut Cells, roots: Ends, pid: Pid) -> Ends
     ensures nodes { cells.new.nodes ≡ cells.old.nodes }
     ensures room { cells.new.room ≡ cells.old.room }
     ensures visits { cells.new.visits ≤ cells.old.visits + 1 }
+    ensures no_fewer { cells.old.visits ≤ cells.new.visits }
 {
     if pid == Pid::NONE {
         return roots;
@@ -33,6 +34,7 @@ pub fn next_of(cells: &mut Cells, pid: Pid) -> Option<Pid>
     ensures nodes { cells.new.nodes ≡ cells.old.nodes }
     ensures room { cells.new.room ≡ cells.old.room }
     ensures visits { cells.new.visits ≤ cells.old.visits + 1 }
+    ensures no_fewer { cells.old.visits ≤ cells.new.visits }
 {
     match cells.links(pid) {
         Some(links) => links.next,
@@ -46,6 +48,7 @@ fn prev_of(cells: &mut Cells, pid: Pid) -> Option<Pid>
     ensures nodes { cells.new.nodes ≡ cells.old.nodes }
     ensures room { cells.new.room ≡ cells.old.room }
     ensures visits { cells.new.visits ≤ cells.old.visits + 1 }
+    ensures no_fewer { cells.old.visits ≤ cells.new.visits }
 {
     match cells.links(pid) {
         Some(links) => links.prev,
@@ -59,6 +62,7 @@ fn child_before(cells: &mut Cells, roots: Ends, parent: Pid, next: Option<Pid>) 
     ensures nodes { cells.new.nodes ≡ cells.old.nodes }
     ensures room { cells.new.room ≡ cells.old.room }
     ensures visits { cells.new.visits ≤ cells.old.visits + 1 }
+    ensures no_fewer { cells.old.visits ≤ cells.new.visits }
 {
     match next {
         Some(sibling) => prev_of(cells, sibling),
@@ -83,6 +87,7 @@ fn rejoin(
     ensures roots { result ≡ roots_after parent prev next after before roots }
     ensures room { cells.new.room ≡ cells.old.room }
     ensures visits { cells.new.visits ≤ cells.old.visits + 2 }
+    ensures no_fewer { cells.old.visits ≤ cells.new.visits }
 {
     let first = follow(cells, roots.first, parent, prev, after);
     let last = precede(cells, roots.last, parent, next, before);
@@ -102,6 +107,7 @@ fn follow(
     ensures first { result ≡ end_after parent prev after first }
     ensures room { cells.new.room ≡ cells.old.room }
     ensures visits { cells.new.visits ≤ cells.old.visits + 1 }
+    ensures no_fewer { cells.old.visits ≤ cells.new.visits }
 {
     match prev {
         Some(sibling) => cells.relink(sibling, |links| links.next = after),
@@ -128,6 +134,7 @@ fn precede(
     ensures last { result ≡ end_after parent next before last }
     ensures room { cells.new.room ≡ cells.old.room }
     ensures visits { cells.new.visits ≤ cells.old.visits + 1 }
+    ensures no_fewer { cells.old.visits ≤ cells.new.visits }
 {
     match next {
         Some(sibling) => cells.relink(sibling, |links| links.prev = before),
@@ -159,6 +166,7 @@ fn neighbours(
     ensures nodes { cells.new.nodes ≡ cells.old.nodes }
     ensures room { cells.new.room ≡ cells.old.room }
     ensures visits { cells.new.visits ≤ cells.old.visits + 1 + length (between pid above (children_in parent (removed pid (records cells.old.nodes)))) }
+    ensures no_fewer { cells.old.visits ≤ cells.new.visits }
 {
     let mut next = above;
     let mut prev = child_before(cells, roots, parent, above);
@@ -184,6 +192,7 @@ pub fn link(cells: &mut Cells, roots: Ends, parent: Pid, pid: Pid, above: Option
     ensures joined { IsJoined (records cells.new.nodes) cells.new.nodes result }
     ensures room { cells.new.room ≡ cells.old.room }
     ensures visits { cells.new.visits ≤ cells.old.visits + 4 + length (between pid above (children_in parent (removed pid (records cells.old.nodes)))) }
+    ensures no_fewer { cells.old.visits ≤ cells.new.visits }
 {
     let top = roots;
     let (before, after) = neighbours(cells, roots, parent, pid, above);
@@ -205,6 +214,7 @@ pub fn unlink(cells: &mut Cells, roots: Ends, pid: Pid) -> Ends
     ensures joined { IsJoined (removed pid (records cells.new.nodes)) cells.new.nodes result }
     ensures room { cells.new.room ≡ cells.old.room }
     ensures visits { cells.new.visits ≤ cells.old.visits + 3 }
+    ensures no_fewer { cells.old.visits ≤ cells.new.visits }
 {
     match cells.links(pid) {
         Some(links) => {
@@ -236,6 +246,7 @@ pub fn adopt_all(cells: &mut Cells, roots: Ends, from: Pid, to: Pid) -> Ends
     ensures table { IsTable cells.new.nodes result }
     ensures room { cells.new.room ≡ cells.old.room }
     ensures visits { cells.new.visits ≤ cells.old.visits + 1 + 8 * length (children_in from (records cells.old.nodes)) + length (children_in to (records cells.old.nodes)) }
+    ensures no_fewer { cells.old.visits ≤ cells.new.visits }
 {
     let mut top = roots;
     let mut above = None;

@@ -1,6 +1,6 @@
 //! What a table of processes has to do.
 
-ghost use Rattle.std.specs.Prelude.{◌≡◌, ◌+◌, ◌*◌, ◌^◌, ◌<◌, ◌≤◌, ◌⊎◌, ℕ, [], List, None, Some, IsSome, OnOk, option_map, length};
+ghost use Rattle.std.specs.Prelude.{◌≡◌, ◌+◌, ◌*◌, ◌^◌, ◌<◌, ◌≤◌, ◌⊎◌, ℕ, [], List, None, Some, IsSome, IfSome, OnOk, option_map, length};
 ghost use Rattle.std.specs.Borrow.{sem, Lends};
 ghost use Rattle.posix.specs.Processes.{Process};
 ghost use Rattle.posix.specs.Tables.{IsRising, lookup, inserted, removed, children_in, first_pid, next_above, next_sibling, parent_of, adopted};
@@ -18,7 +18,8 @@ use std::alloc::{AllocError, Global};
 /// numbers.
 ///
 /// Methods that take a `&mut`, but `spare`, ensure that this order rises in the table that they are given.
-/// Those that only read leave the processes and the room unchanged.
+/// Those that only read leave the processes and the room unchanged. No method makes the number of slots that have been
+/// read less.
 pub trait ProcessTable: Drop {
     /// The processes.
     ghost contents: { Self → List Process };
@@ -71,7 +72,8 @@ pub trait ProcessTable: Drop {
         ensures rising { IsRising (contents self.old) }
         ensures contents { contents self.new ≡ inserted (process_of pid parent fields) (contents self.old) }
         ensures room { room self.old ≤ room self.new + 1 }
-        ensures visits { visits self.new ≤ visits self.old + 5 + length (children_in parent (contents self.old)) };
+        ensures visits { visits self.new ≤ visits self.old + 5 + length (children_in parent (contents self.old)) }
+        ensures no_fewer { visits self.old ≤ visits self.new };
 
     /// The small fields of a process; none where it isn't there.
     fn get(&mut self, pid: Pid) -> Option<Snapshot>
@@ -80,7 +82,9 @@ pub trait ProcessTable: Drop {
         ensures size { length (contents self.old) < 2 ^ 63 }
         ensures contents { contents self.new ≡ contents self.old }
         ensures room { room self.new ≡ room self.old }
-        ensures visits { visits self.new ≤ visits self.old + 1 };
+        ensures visits { visits self.new ≤ visits self.old + 1 }
+        ensures no_fewer { visits self.old ≤ visits self.new }
+        ensures counts { IfSome result (λ it. one_more (visits self.old) ≤ visits self.new) };
 
     /// All of a process that is there but its number and its parent's, for the caller to change. The
     /// other processes and the room are unchanged.
@@ -103,7 +107,8 @@ pub trait ProcessTable: Drop {
         ensures rising { IsRising (contents self.old) }
         ensures contents { contents self.new ≡ removed pid (contents self.old) }
         ensures room { room self.old ≤ room self.new }
-        ensures visits { visits self.new ≤ visits self.old + 4 };
+        ensures visits { visits self.new ≤ visits self.old + 4 }
+        ensures no_fewer { visits self.old ≤ visits self.new };
 
     /// The child of a process that is there with the least number; none where it has no child.
     fn first_child(&mut self, pid: Pid) -> Option<Pid>
@@ -112,7 +117,8 @@ pub trait ProcessTable: Drop {
         ensures rising { IsRising (contents self.old) }
         ensures contents { contents self.new ≡ contents self.old }
         ensures room { room self.new ≡ room self.old }
-        ensures visits { visits self.new ≤ visits self.old + 1 };
+        ensures visits { visits self.new ≤ visits self.old + 1 }
+        ensures no_fewer { visits self.old ≤ visits self.new };
 
     /// Of the children of the same parent, the one with the least number above that of a process that is
     /// there; none where there is no such child.
@@ -122,7 +128,8 @@ pub trait ProcessTable: Drop {
         ensures rising { IsRising (contents self.old) }
         ensures contents { contents self.new ≡ contents self.old }
         ensures room { room self.new ≡ room self.old }
-        ensures visits { visits self.new ≤ visits self.old + 1 };
+        ensures visits { visits self.new ≤ visits self.old + 1 }
+        ensures no_fewer { visits self.old ≤ visits self.new };
 
     /// The process with the least number above `pid`, which need not be there; none where there is none.
     fn next_after(&mut self, pid: Pid) -> Option<Pid>
@@ -130,7 +137,8 @@ pub trait ProcessTable: Drop {
         ensures rising { IsRising (contents self.old) }
         ensures contents { contents self.new ≡ contents self.old }
         ensures room { room self.new ≡ room self.old }
-        ensures visits { visits self.new ≤ visits self.old + 1 };
+        ensures visits { visits self.new ≤ visits self.old + 1 }
+        ensures no_fewer { visits self.old ≤ visits self.new };
 
     /// Gives the children of one process to another, which is there.
     fn adopt(&mut self, from: Pid, to: Pid)
@@ -138,7 +146,8 @@ pub trait ProcessTable: Drop {
         ensures rising { IsRising (contents self.old) }
         ensures contents { contents self.new ≡ adopted from to (contents self.old) }
         ensures room { room self.new ≡ room self.old }
-        ensures visits { visits self.new ≤ visits self.old + 1 + 8 * length (children_in from (contents self.old)) + length (children_in to (contents self.old)) };
+        ensures visits { visits self.new ≤ visits self.old + 1 + 8 * length (children_in from (contents self.old)) + length (children_in to (contents self.old)) }
+        ensures no_fewer { visits self.old ≤ visits self.new };
 
     /// How many slots have been read, up to the greatest u128; 0 in a table that doesn't count them.
     fn visits(&self) -> u128
@@ -155,4 +164,7 @@ pub trait ProcessTable: Drop {
 
     /// One more is no more than that: a table may stop at the greatest number, or not count at all.
     ghost at_most_one: { (n : ℕ) → one_more n ≤ n + 1 };
+
+    /// One more is never less.
+    ghost no_less: { (n : ℕ) → n ≤ one_more n };
 }

@@ -57,6 +57,8 @@ impl ProcessTable for ScanTable {
 
     ghost at_most_one = { λ n. Prim.omega arith };
 
+    ghost no_less = { λ n. Prim.omega arith };
+
     fn empty(alloc: Global) -> Self {
         ScanTable {
             slots: Vec::new(alloc),

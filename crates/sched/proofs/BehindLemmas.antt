@@ -8,7 +8,7 @@ use Rattle.sched.specs.Links.{Linked, next_of, read_off, IsLinked, IsKept}
 use Rattle.sched.specs.Places.{next_behind}
 use Rattle.sched.proofs.MemberLemmas.{differ, in_longer}
 use Rattle.sched.proofs.LinkLemmas.{next_read}
-use Rattle.sched.proofs.RingLemmas.{room_out}
+use Rattle.sched.proofs.RingLemmas.{root_out}
 use Rattle.sched.proofs.ListLemmas.{seen, known}
 
 -- one that isn't there
@@ -42,11 +42,11 @@ behind_linked ns b (q ∷ qs) a p l there out =
     ] refl
 
 -- of a list that is read off: what its node says of one that stands in it
-pub node_says : (ns : List Node) (room n p : ℕ) (v : Linked) (node : Node) → IsKept ns room (read_off n ns room) → seen ns room n ≡ v → is_in p v.numbers ≡ true → node ≡ get_or ns p node
-    → next_behind p v.numbers ≡ cond (node.next == room) None (Some node.next)
-node_says ns room n p v node kept view there read =
-    let at = known ns room n p v kept view there in
+pub node_says : (ns : List Node) (n p : ℕ) (v : Linked) (node : Node) → IsKept ns (read_off n ns 0) → seen ns n ≡ v → is_in p v.numbers ≡ true → node ≡ get_or ns p node
+    → next_behind p v.numbers ≡ cond (node.next == 0) None (Some node.next)
+node_says ns n p v node kept view there read =
+    let at = known ns n p v kept view there in
     let next : node.next ≡ next_of ns p = next_read ns p node at.inside read in
     ap (λ (l : Linked). next_behind p l.numbers) (sym view)
-    ∙ behind_linked ns room (read_off n ns room) room p kept.ring.linked at.there (room_out kept.ring)
-    ∙ ap (λ k. cond (k == room) None (Some k)) (sym next)
+    ∙ behind_linked ns 0 (read_off n ns 0) 0 p kept.ring.linked at.there (root_out kept.ring)
+    ∙ ap (λ k. cond (k == 0) None (Some k)) (sym next)

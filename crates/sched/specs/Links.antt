@@ -1,10 +1,10 @@
 -- A list of numbers as nodes that are linked both ways.
-use Rattle.std.specs.Prelude.{◌≡◌, ℕ, zero, suc, ◌+◌, ◌<◌, ◌==◌, cond, true, not, List, [], ◌∷◌, length, slice_index_or}
+use Rattle.std.specs.Prelude.{◌≡◌, ℕ, zero, suc, ◌<◌, ◌≤◌, ◌==◌, cond, true, not, List, [], ◌∷◌, length, slice_index_or}
 use Rattle.posix.specs.States.{is_in}
 use Rattle.posix.specs.Regular.{IsDistinct}
 use Rattle.sched.specs.declared.links.Node.{Node}
 
--- the numbers of a list in order, and its room: those below it can stand in the list
+-- the numbers of a list in order, and its room: those from 1 on below it can stand in the list
 pub record Linked : Type 0 where
   pub numbers : List ℕ
   pub room : ℕ
@@ -43,24 +43,33 @@ pub record IsJoinedLast (old new : List Node) (a p : ℕ) : Type 0 where
 
 -- what comes after a number that stands in no list, and the node of such a number
 abbrev pub nowhere : ℕ
-nowhere = 65535
+nowhere = 4294967295
 
 abbrev pub unlinked : Node
 unlinked = record { prev = nowhere; next = nowhere }
 
--- The nodes lead round from the room through the numbers, each once, and back to the room.
-pub record IsRing (ns : List Node) (room : ℕ) (ps : List ℕ) : Type 0 where
-  pub size : length ns ≡ room + 1
-  pub limit : room < nowhere
-  pub linked : IsLinked ns room ps room
+-- The nodes lead round from number 0 through the numbers, each once, and back to 0.
+pub record IsRing (ns : List Node) (ps : List ℕ) : Type 0 where
+  pub limit : length ns ≤ 2147483648
+  pub linked : IsLinked ns 0 ps 0
   pub distinct : IsDistinct ps
-  pub below : (i : ℕ) → is_in i ps ≡ true → i < room
+  pub low : (i : ℕ) → is_in i ps ≡ true → 1 ≤ i
+  pub below : (i : ℕ) → is_in i ps ≡ true → i < length ns
 
 -- the node of i tells whether it stands in the list
 abbrev pub Tells : List Node → List ℕ → ℕ → Type 0
 Tells ns ps i = is_in i ps ≡ not (next_of ns i == nowhere)
 
 -- what holds of the nodes of a list
-pub record IsKept (ns : List Node) (room : ℕ) (ps : List ℕ) : Type 0 where
-  pub ring : IsRing ns room ps
-  pub told : (i : ℕ) → i < room → Tells ns ps i
+pub record IsKept (ns : List Node) (ps : List ℕ) : Type 0 where
+  pub ring : IsRing ns ps
+  pub told : (i : ℕ) → 1 ≤ i → i < length ns → Tells ns ps i
+
+-- there are so many nodes, the old ones are the same, and the new ones stand in no list
+pub record IsGrown (old new : List Node) (count : ℕ) : Type 0 where
+  pub size : length new ≡ count
+  pub next : (i : ℕ) → i < length old → next_of new i ≡ next_of old i
+  pub prev : (i : ℕ) → i < length old → prev_of new i ≡ prev_of old i
+  pub root_next : old ≡ [] → next_of new 0 ≡ 0
+  pub root_prev : old ≡ [] → prev_of new 0 ≡ 0
+  pub free : (i : ℕ) → length old ≤ i → 1 ≤ i → i < count → next_of new i ≡ nowhere

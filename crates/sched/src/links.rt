@@ -1,9 +1,9 @@
 //! A list of numbers, as nodes that are linked both ways and found by the number.
 
-ghost use Rattle.std.specs.Prelude.{◌≡◌, ℕ, ◌+◌, ◌<◌, ◌==◌, [], ◌∷◌, ◌++◌, cond, length, slice_get, vec_len, true, false, IfOk};
+ghost use Rattle.std.specs.Prelude.{◌≡◌, ℕ, ◌+◌, ◌<◌, ◌≤◌, ◌==◌, [], ◌∷◌, ◌++◌, cond, length, slice_get, vec_len, true, false, IfSome, OnOk, OnErr};
 ghost use Rattle.posix.specs.States.{is_in, without};
 ghost use Rattle.posix.specs.Regular.{IsDistinct};
-ghost use Rattle.sched.specs.Links.{IsJoined, IsJoinedLast, prev_of, next_of};
+ghost use Rattle.sched.specs.Links.{IsJoined, IsJoinedLast, IsGrown, prev_of, next_of};
 ghost use Rattle.sched.specs.Places.{next_behind};
 
 use std::alloc::{AllocError, Global};
@@ -12,52 +12,64 @@ use std::marker::Model;
 /// What stands before and after a number in a list.
 #[derive(Clone, Copy)]
 struct Node {
-    prev: u16,
-    next: u16,
+    prev: u32,
+    next: u32,
 }
 
 impl Node {
     /// The node of a number that stands in no list.
     const NOWHERE: Node = Node {
-        prev: u16::MAX,
-        next: u16::MAX,
+        prev: u32::MAX,
+        next: u32::MAX,
     };
 }
 
-/// A list of numbers below a room, each of them at most once.
+/// A list of numbers from 1 on and below a room, each of them at most once.
 ///
-/// The node of the room itself stands between the last and the first, so each number has a node before
-/// it and one after it.
+/// The node of number 0 stands between the last and the first, so each number has a node before it and one after
+/// it. Memory is taken in [`Links::reserve`] alone.
 #[derive(Drop)]
 pub struct Links {
     nodes: Vec<Node>,
-    room: u16,
     len: usize,
 }
 
 impl Model for Links {
+    ghost use Rattle.std.specs.Prelude.{length};
     ghost use Rattle.sched.specs.Links.{Linked, IsKept, read_off};
 
     ghost Value = { Linked };
 
-    ghost view = { λ l. record { numbers = read_off l.len l.nodes.items l.room; room = l.room } };
+    ghost view = { λ l. record { numbers = read_off l.len l.nodes.items 0; room = length l.nodes.items } };
 
-    ghost invariant = { λ l. IsKept l.nodes.items l.room (read_off l.len l.nodes.items l.room) };
+    ghost invariant = { λ l. IsKept l.nodes.items (read_off l.len l.nodes.items 0) };
 }
 
 impl Links {
-    /// An empty list, and all the memory that it takes for the numbers below `room`.
-    pub fn new(alloc: Global, room: u16) -> Result<Links, AllocError>
-        requires { room < 65535 }
-        ensures { IfOk result (λ l. l ≡ record { numbers = []; room = room }) }
+    /// An empty list. It takes no memory.
+    pub fn new(alloc: Global) -> Links
+        ensures { result ≡ record { numbers = []; room = 0 } }
     {
-        let mut nodes = vec![in alloc; Node::NOWHERE; room as usize + 1]?;
-        join(&mut nodes, room, room);
-        Ok(Links {
-            nodes,
-            room,
+        Links {
+            nodes: Vec::new(alloc),
             len: 0,
-        })
+        }
+    }
+
+    /// Makes room for the numbers up to `greatest`. Those that stand in the list stay, and the room never falls, also
+    /// at the error that there is no memory.
+    pub fn reserve(&mut self, greatest: u32) -> Result<(), AllocError>
+        requires { greatest ≤ 2147483647 }
+        ensures enough { OnOk result (greatest < self.new.room) }
+        ensures grows { self.old.room ≤ self.new.room }
+        ensures numbers { self.new.numbers ≡ self.old.numbers }
+    {
+        let count = greatest as usize + 1;
+        if count <= self.nodes.len() {
+            return Ok(());
+        }
+        grow(&mut self.nodes, count)?;
+        Ok(())
     }
 
     /// How many numbers stand in the list.
@@ -70,14 +82,13 @@ impl Links {
 
     /// The first number; none where the list is empty.
     #[inline]
-    pub fn first(&self) -> Option<u16>
-        ensures { result ≡ slice_get self.now.numbers 0 }
+    pub fn first(&self) -> Option<u32>
+        ensures value { result ≡ slice_get self.now.numbers 0 }
+        ensures range { IfSome result (λ n. n ≤ 2147483647) }
     {
-        let first = self.nodes[self.room as usize].next;
-        if first == self.room {
-            None
-        } else {
-            Some(first)
+        match self.nodes.first() {
+            Some(node) if node.next != 0 => Some(node.next),
+            _ => None,
         }
     }
 
@@ -86,28 +97,37 @@ impl Links {
     pub fn has(&self, number: u32) -> bool
         ensures { result ≡ is_in number self.now.numbers }
     {
-        number < u32::from(self.room) && self.nodes[number as usize].next != Node::NOWHERE.next
+        let _ = &self.nodes;
+        if number == 0 {
+            return false;
+        }
+        match self.nodes.get(number as usize) {
+            Some(node) => node.next != Node::NOWHERE.next,
+            None => false,
+        }
     }
 
     /// The number after another one; none after the last, and where the other one isn't in the list.
-    pub fn behind(&self, number: u32) -> Option<u16>
-        ensures { result ≡ next_behind number self.now.numbers }
+    pub fn behind(&self, number: u32) -> Option<u32>
+        ensures value { result ≡ next_behind number self.now.numbers }
+        ensures range { IfSome result (λ n. n ≤ 2147483647) }
     {
         if !self.has(number) {
             return None;
         }
         let next = self.nodes[number as usize].next;
-        if next == self.room { None } else { Some(next) }
+        if next == 0 { None } else { Some(next) }
     }
 
     /// Adds a number at the end.
     #[inline]
     pub fn add(&mut self, number: u32)
+        requires some { 1 ≤ number }
         requires room { number < self.old.room }
         requires none { is_in number self.old.numbers ≡ false }
         ensures { self.new ≡ record { numbers = self.old.numbers ++ number ∷ []; room = self.old.room } }
     {
-        join_last(&mut self.nodes, self.room, number as u16);
+        join_last(&mut self.nodes, number);
         self.len += 1;
     }
 
@@ -117,7 +137,7 @@ impl Links {
         ensures { self.new ≡ record { numbers = without number self.old.numbers; room = self.old.room } }
     {
         if self.has(number) {
-            unlink(&mut self.nodes, number as u16);
+            unlink(&mut self.nodes, number);
             self.nodes[number as usize] = Node::NOWHERE;
             self.len -= 1;
         }
@@ -130,14 +150,14 @@ impl Links {
         ensures { self.new ≡ record { numbers = without number self.old.numbers ++ number ∷ []; room = self.old.room } }
     {
         let nodes = &mut self.nodes;
-        unlink(nodes, number as u16);
-        join_last(nodes, self.room, number as u16);
+        unlink(nodes, number);
+        join_last(nodes, number);
     }
 }
 
 /// Joins what stands before and after a number with each other.
 #[inline]
-fn unlink(nodes: &mut Vec<Node>, number: u16)
+fn unlink(nodes: &mut Vec<Node>, number: u32)
     requires number_inside { number < vec_len nodes.old }
     requires prev_inside { prev_of nodes.old.items number < vec_len nodes.old }
     requires next_inside { next_of nodes.old.items number < vec_len nodes.old }
@@ -147,22 +167,36 @@ fn unlink(nodes: &mut Vec<Node>, number: u16)
     join(nodes, node.prev, node.next);
 }
 
-/// Joins a number with the last before `room`, and then with `room`.
+/// Joins a number with the last, and then with number 0 behind it.
 #[inline]
-fn join_last(nodes: &mut Vec<Node>, room: u16, number: u16)
-    requires room_inside { room < vec_len nodes.old }
+fn join_last(nodes: &mut Vec<Node>, number: u32)
     requires number_inside { number < vec_len nodes.old }
-    requires last_inside { prev_of nodes.old.items room < vec_len nodes.old }
-    ensures { IsJoinedLast nodes.old.items nodes.new.items room number }
+    requires last_inside { prev_of nodes.old.items 0 < vec_len nodes.old }
+    ensures { IsJoinedLast nodes.old.items nodes.new.items 0 number }
 {
-    let last = nodes[room as usize].prev;
+    let last = nodes[0].prev;
     join(nodes, last, number);
-    join(nodes, number, room);
+    join(nodes, number, 0);
+}
+
+/// Makes more nodes, each of a number that stands in no list. The first one ever is that of number 0, which stands
+/// before and behind itself.
+fn grow(nodes: &mut Vec<Node>, count: usize) -> Result<(), AllocError>
+    requires { length nodes.old.items < count }
+    ensures ok { OnOk result (IsGrown nodes.old.items nodes.new.items count) }
+    ensures err { OnErr result (nodes.new.items ≡ nodes.old.items) }
+{
+    let first = nodes.is_empty();
+    nodes.resize(count, Node::NOWHERE)?;
+    if first {
+        join(nodes, 0, 0);
+    }
+    Ok(())
 }
 
 /// `next` comes right after `prev` from now on.
 #[inline]
-fn join(nodes: &mut Vec<Node>, prev: u16, next: u16)
+fn join(nodes: &mut Vec<Node>, prev: u32, next: u32)
     requires prev_inside { prev < vec_len nodes.old }
     requires next_inside { next < vec_len nodes.old }
     ensures { IsJoined nodes.old.items nodes.new.items prev next }

@@ -1,6 +1,6 @@
 //! Which processes have a place, and in which order.
 
-ghost use Rattle.std.specs.Prelude.{◌≡◌, ◌+◌, ◌<◌, ◌≤◌, ◌==◌, true, false, [], ◌∷◌, ◌++◌, length, slice_get, IfOk};
+ghost use Rattle.std.specs.Prelude.{◌≡◌, ◌+◌, ◌<◌, ◌≤◌, ◌==◌, true, false, [], ◌∷◌, ◌++◌, length, slice_get, OnOk};
 ghost use Rattle.posix.specs.States.{is_in, without};
 ghost use Rattle.posix.specs.Regular.{IsDistinct};
 ghost use Rattle.sched.specs.Places.{next_behind};
@@ -25,14 +25,23 @@ impl Model for Order {
 }
 
 impl Order {
-    /// An order of nobody, with room for each number up to `greatest`, which is at most 32,768. No call
-    /// after it takes memory.
-    pub fn new(alloc: Global, greatest: u32) -> Result<Order, AllocError>
-        requires { greatest ≤ 32768 }
-        ensures { IfOk result (λ o. o ≡ record { pids = []; room = greatest + 1 }) }
+    /// An order of nobody. It takes no memory.
+    pub fn new(alloc: Global) -> Order
+        ensures { result ≡ record { pids = []; room = 0 } }
     {
-        let links = Links::new(alloc, greatest as u16 + 1)?;
-        Ok(Order { links })
+        Order {
+            links: Links::new(alloc),
+        }
+    }
+
+    /// Makes room for the processes with numbers up to `greatest`. The order stays, and the room never falls, also at
+    /// the error that there is no memory. No other call takes memory.
+    pub fn reserve(&mut self, greatest: Pid) -> Result<(), AllocError>
+        ensures enough { OnOk result (greatest < self.new.room) }
+        ensures grows { self.old.room ≤ self.new.room }
+        ensures pids { self.new.pids ≡ self.old.pids }
+    {
+        self.links.reserve(greatest.number())
     }
 
     /// How many processes have a place. Each has one.
@@ -56,7 +65,7 @@ impl Order {
         ensures { result ≡ slice_get self.now.pids 0 }
     {
         match self.links.first() {
-            Some(number) => Pid::new(u32::from(number)),
+            Some(number) => Pid::new(number),
             None => None,
         }
     }
@@ -66,7 +75,7 @@ impl Order {
         ensures { result ≡ next_behind pid self.now.pids }
     {
         match self.links.behind(pid.number()) {
-            Some(number) => Pid::new(u32::from(number)),
+            Some(number) => Pid::new(number),
             None => None,
         }
     }
@@ -82,6 +91,7 @@ impl Order {
     /// Gives a process the last place.
     #[inline]
     pub fn place(&mut self, pid: Pid)
+        requires some { 1 ≤ pid }
         requires room { pid < self.old.room }
         requires none { is_in pid self.old.pids ≡ false }
         ensures pids { self.new.pids ≡ self.old.pids ++ pid ∷ [] }

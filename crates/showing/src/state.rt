@@ -11,7 +11,7 @@ use telling::{Around, Terminal, Times, View, put_console, put_process, put_turns
 use wording::Prose;
 
 /// More numbers than processes can have.
-const MOST_NUMBERS: u32 = 40_000;
+const MOST_NUMBERS: u32 = 4_194_305;
 
 /// The processes in the order of their turns.
 pub fn turns(alloc: Global, kernel: &Kernel) -> Result<Vec<Pid>, AllocError> {

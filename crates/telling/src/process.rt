@@ -282,6 +282,24 @@ fn put_registers(text: &mut Prose, own: &OwnPart) {
     text.push_str("\n");
 }
 
+/// Writes the words of its memory that aren't 0, each behind its address.
+fn put_memory(text: &mut Prose, own: &OwnPart) {
+    let mut mark = "    memory ";
+    let mut is_zero = true;
+    for address in 0..=u8::MAX {
+        let word = own.cpu.word(address);
+        if word != 0 {
+            text.push_with(mark, address);
+            text.push_with(": ", word);
+            mark = ", ";
+            is_zero = false;
+        }
+    }
+    if !is_zero {
+        text.push_str("\n");
+    }
+}
+
 /// Writes what else is known of a process that hasn't ended.
 fn put_details(
     view: View<'_, '_>,
@@ -307,6 +325,7 @@ fn put_details(
     }
     if !view.only.is_empty() {
         put_registers(text, own);
+        put_memory(text, own);
     }
 }
 

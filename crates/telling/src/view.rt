@@ -11,7 +11,7 @@ pub struct View<'l, 't> {
     pub listing: &'l Listing<'t>,
     /// How many events the list has.
     pub events: u64,
-    /// The processes that are shown, with their registers; all, without registers, where none is named.
+    /// The processes that are shown, with registers and memory; all, without these, where none is named.
     pub only: &'t [Pid],
 }
 

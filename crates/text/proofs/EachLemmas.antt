@@ -1,7 +1,9 @@
 -- What a list's elements give, one after another.
-use Rattle.std.proofs.Common.{◌≡◌, ◌∙◌, ◌+◌, ◌<◌, ◌≤◌, ℕ, List, [], ◌∷◌, ◌++◌, length, get_or, drop, drop-cons, refl, ap, append_assoc, append-nil, arith}
+use Rattle.std.proofs.Common.{◌≡◌, ◌∙◌, ◌+◌, ◌<◌, ◌≤◌, ℕ, List, [], ◌∷◌, ◌++◌, length, get_or, drop, drop-cons, Bool, true, refl, ap, append_assoc, append-nil, arith}
 use Rattle.std.proofs.lemmas.Grind.{common_steps}
 use Rattle.std.specs.Prelude.{Result, Ok, Err}
+use Rattle.std.specs.List.{list_all}
+use Rattle.std.proofs.lemmas.List.Folds.{list_all-append}
 use Rattle.text.specs.Reading.{◌>>=◌, each}
 
 -- a result, and an element after those of another
@@ -52,3 +54,7 @@ each-ends f xs i front whole above so =
     so ∙ (ap (λ l. each f l >>= λ rest. Ok (front ++ rest)) none ∙ ap Ok (append-nil front))
 
 pub ruleset each_rules = (each-last)
+
+-- where all elements pass a test, and one more does, all pass it
+pub all_and_one : {A : Type 0} (t : A → Bool) (xs : List A) (x : A) → list_all t xs ≡ true → t x ≡ true → list_all t (xs ++ x ∷ []) ≡ true
+all_and_one t xs x all one = rw (list_all-append t xs (x ∷ []), all, one) refl

@@ -6,5 +6,3 @@ pub mod KeyLemmas
 pub mod ReaderLemmas
 pub mod EachLemmas
 pub mod Rows
-pub mod RangeLemmas
-pub mod WorldRangeLemmas

@@ -114,11 +114,11 @@ inner_line k d w ws =
 
 -- the first line with words
 unfoldable pub pidmax_line : Draft → List ℕ → List (List ℕ) → Result Draft Reason
-pidmax_line d w ws = if bytes_eq w (codes "pidmax") then (header 2 32768 ws >>= λ n. Ok (with_pidmax d n)) else Err UnknownWord
+pidmax_line d w ws = if bytes_eq w (codes "pidmax") then (header 2 4194304 ws >>= λ n. Ok (with_pidmax d n)) else Err UnknownWord
 
 -- the second
 unfoldable pub consoles_line : Draft → List ℕ → List (List ℕ) → Result Draft Reason
-consoles_line d w ws = if bytes_eq w (codes "consoles") then (header 0 8 ws >>= λ n. Ok (with_consoles d n)) else Err UnknownWord
+consoles_line d w ws = if bytes_eq w (codes "consoles") then (header 0 64 ws >>= λ n. Ok (with_consoles d n)) else Err UnknownWord
 
 -- between programs
 unfoldable pub outer_line : Draft → List ℕ → List (List ℕ) → Result Draft Reason

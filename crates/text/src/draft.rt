@@ -1,6 +1,8 @@
 //! A world of which some lines have come.
 
-ghost use Rattle.std.specs.Prelude.{◌≡◌, ◌≤◌, length, Ok, Err, Some, IfOk, IfSome, MatchOption, MatchResult};
+ghost use Rattle.std.specs.Prelude.{◌≡◌, ◌≤◌, length, true, Ok, Err, Some, IfOk, IfSome, MatchOption, MatchResult};
+ghost use Rattle.std.specs.List.{list_all};
+ghost use Rattle.posix.specs.Ranges.{is_program};
 ghost use Rattle.text.specs.Words.{words};
 ghost use Rattle.text.specs.Reading.{Answers, AnswersAs, IsFaultOf};
 ghost use Rattle.text.specs.declared.fault.Reason.TheVariants.{Memory};
@@ -53,7 +55,7 @@ impl Model for Draft {
 
     ghost view = { λ d. record { section = d.section; pidmax = d.pidmax; consoles = d.consoles; names = d.names; programs = d.programs.items; opened = d.opened } };
 
-    ghost invariant = { λ d. (2 ≤ d.pidmax) × (d.pidmax ≤ 32768) × (d.consoles ≤ 8) × (length d.programs.items + opened_at d.section ≤ 32) };
+    ghost invariant = { λ d. (2 ≤ d.pidmax) × (d.pidmax ≤ 4194304) × (d.consoles ≤ 64) × (length d.programs.items + opened_at d.section ≤ 32) };
 }
 
 /// The one number behind a word of the header, from `low` to `high`.
@@ -131,7 +133,7 @@ impl Draft {
         }
     }
 
-    /// The line `pidmax N`, N from 2 to 32,768.
+    /// The line `pidmax N`, N from 2 to 4,194,304.
     #[tactic(auto, unfolding(crate::specs::WorldTexts::pidmax_line))]
     fn pidmax_line(&mut self, word: &[u8], rest: &[u8]) -> Result<(), Reason>
         ensures { Becomes self.old self.new result (pidmax_line_of self.old word.now (words rest.now)) }
@@ -139,12 +141,12 @@ impl Draft {
         if word != b"pidmax".as_slice() {
             return Err(Reason::UnknownWord);
         }
-        self.pidmax = header(2, 32_768, rest)?;
+        self.pidmax = header(2, 4_194_304, rest)?;
         self.section = Section::BeforeConsoles;
         Ok(())
     }
 
-    /// The line `consoles N`, N from 0 to 8.
+    /// The line `consoles N`, N from 0 to 64.
     #[tactic(auto, unfolding(crate::specs::WorldTexts::consoles_line))]
     fn consoles_line(&mut self, word: &[u8], rest: &[u8]) -> Result<(), Reason>
         ensures { Becomes self.old self.new result (consoles_line_of self.old word.now (words rest.now)) }
@@ -152,7 +154,7 @@ impl Draft {
         if word != b"consoles".as_slice() {
             return Err(Reason::UnknownWord);
         }
-        self.consoles = header(0, 8, rest)? as u8;
+        self.consoles = header(0, 64, rest)? as u8;
         self.section = Section::BetweenPrograms;
         Ok(())
     }
@@ -251,6 +253,7 @@ impl Draft {
     fn completed(&self, line: u64) -> Result<Vec<Program>, TextFault>
         ensures answer { AnswersAs result (λ v. v.items) (programs_of self.now) }
         ensures len { IfOk result (λ v. length v.items ≡ length (outlines_at self.now.section self.now.programs self.now.opened)) }
+        ensures range { IfOk result (λ v. list_all is_program v.items ≡ true) }
     {
         let names = &self.names;
         let mut programs = programs(self.alloc, names, self.programs.as_slice(), line)?;

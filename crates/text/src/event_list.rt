@@ -1,6 +1,8 @@
 //! Events, kept as counted runs.
 
 ghost use Rattle.std.specs.Prelude.{◌≡◌, ◌==◌, ◌+◌, ◌<◌, ◌≤◌, ◌^◌, [], ◌++◌, length, map, replicate, MatchBool, OnOk, OnErr, vec_len, vec_capacity};
+ghost use Rattle.std.specs.List.{AllByRecursion};
+ghost use Rattle.posix.specs.Ranges.{IsEvent};
 ghost use Rattle.posix.specs.declared.event.Event.TheVariants.{Key};
 ghost use Rattle.text.specs.EventLists.{expanded};
 
@@ -61,7 +63,8 @@ impl EventRun {
     }
 }
 
-/// A list of fewer than 2^40 events. It takes memory for each run of equal events, whatever their number.
+/// A list of fewer than 2^40 events. It takes memory for each run of equal events, whatever their number. It keeps that
+/// each key brings a byte.
 #[derive(Drop)]
 pub struct EventList {
     runs: Vec<EventRun>,
@@ -70,14 +73,16 @@ pub struct EventList {
 
 impl Model for EventList {
     ghost use Rattle.std.specs.Prelude.{List, ◌≡◌, length};
+    ghost use Rattle.std.specs.List.{AllByRecursion};
     ghost use Rattle.posix.specs.declared.event.Event.{Event};
+    ghost use Rattle.posix.specs.Ranges.{IsEvent};
     ghost use Rattle.text.specs.EventLists.{expanded};
 
     ghost Value = { List Event };
 
     ghost view = { λ l. expanded l.runs.items };
 
-    ghost invariant = { λ l. l.len ≡ length (expanded l.runs.items) };
+    ghost invariant = { λ l. (l.len ≡ length (expanded l.runs.items)) × AllByRecursion IsEvent (expanded l.runs.items) };
 }
 
 /// Adds one event so many times to the last run, where that is of the same event. The answer is whether
@@ -115,13 +120,15 @@ fn push_run(runs: &mut Vec<EventRun>, event: Event, count: u64) -> Result<(), Al
 fn push_key_runs(runs: &mut Vec<EventRun>, console: u8, bytes: &[u8])
     requires room { vec_len runs.old + length bytes.now ≤ vec_capacity runs.old }
     requires count { length (expanded runs.old.items) + length bytes.now < 2 ^ 40 }
-    ensures { expanded runs.new.items ≡ expanded runs.old.items ++ map (Key console) bytes.now }
+    ensures keys { expanded runs.new.items ≡ expanded runs.old.items ++ map (Key console) bytes.now }
+    ensures range { AllByRecursion IsEvent (expanded runs.old.items) → AllByRecursion IsEvent (expanded runs.new.items) }
 {
     for byte in bytes {
         let event = Event::Key {
             console,
             byte: *byte,
         };
+        event.range_holds();
         if !grow_last(runs, event, 1) {
             runs.push_reserved(EventRun::new(event, 1));
         }
@@ -159,6 +166,7 @@ impl EventList {
         ensures ok { OnOk result (self.new ≡ self.old ++ replicate count event) }
         ensures err { OnErr result (self.new ≡ self.old) }
     {
+        event.range_holds();
         push_run(&mut self.runs, event, count)?;
         self.len += count;
         Ok(())
@@ -174,6 +182,13 @@ impl EventList {
         push_key_runs(&mut self.runs, console, bytes);
         self.len += bytes.len() as u64;
         Ok(())
+    }
+
+    /// Nothing is done. That each key brings a byte is then known of the events, as their types say.
+    pub fn range_holds(&self)
+        ensures { AllByRecursion IsEvent self.now }
+    {
+        let _ = &self.runs;
     }
 
     /// The events as counted runs, in their order.

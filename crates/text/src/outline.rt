@@ -1,6 +1,8 @@
 //! Programs as they are written.
 
-ghost use Rattle.std.specs.Prelude.{◌≡◌, ◌<◌, ◌≤◌, ◌+◌, ◌++◌, ◌∷◌, [], length, IfOk, OnOk, OnErr, nat_le};
+ghost use Rattle.std.specs.Prelude.{◌≡◌, ◌<◌, ◌≤◌, ◌+◌, ◌++◌, ◌∷◌, [], length, true, IfOk, OnOk, OnErr, nat_le};
+ghost use Rattle.std.specs.List.{list_all};
+ghost use Rattle.posix.specs.Ranges.{is_instruction, is_program};
 ghost use Rattle.text.specs.Names.{new_name as new_name_of};
 ghost use Rattle.text.specs.Outlines.{completed, names_for, program_of};
 ghost use Rattle.text.specs.Reading.{Answers, AnswersAs, each};
@@ -92,7 +94,8 @@ impl Outline {
         programs: &Definitions,
         line: u64,
     ) -> Result<Program, TextFault>
-        ensures { Answers result (program_of programs.now self.now) }
+        ensures answer { Answers result (program_of programs.now self.now) }
+        ensures range { IfOk result (λ p. is_program p ≡ true) }
     {
         let names = Names {
             programs,
@@ -142,6 +145,15 @@ fn complete(names: Names<'_>, written: &Written) -> Result<Instr, TextFault>
     }
 }
 
+/// Nothing is done. That the word of a `set` is an i64 is then known of the instruction, as its type says.
+fn range_holds(instr: &Instr)
+    ensures { is_instruction instr.now ≡ true }
+{
+    if let Instr::Set(_, word) = instr {
+        let _word = *word;
+    }
+}
+
 /// Instructions with their names looked up, as [`Outline::program`] says.
 fn instructions(
     alloc: Global,
@@ -151,6 +163,7 @@ fn instructions(
 ) -> Result<Vec<Instr>, TextFault>
     ensures answer { AnswersAs result (λ v. v.items) (each (completed names.entry.programs.now names.entry.labels.now) code.now) }
     ensures len { IfOk result (λ v. length v.items ≡ length code.now) }
+    ensures range { IfOk result (λ v. list_all is_instruction v.items ≡ true) }
 {
     let memory = TextFault {
         line,
@@ -159,6 +172,7 @@ fn instructions(
     let mut instructions = Vec::with_capacity(alloc, code.len()).map_err(|_| memory)?;
     for written in code {
         let instr = complete(names, written)?;
+        range_holds(&instr);
         instructions.push(instr).map_err(|_| memory)?;
     }
     Ok(instructions)
@@ -173,6 +187,7 @@ pub fn programs(
 ) -> Result<Vec<Program>, TextFault>
     ensures answer { AnswersAs result (λ v. v.items) (each (program_of names.now) outlines.now) }
     ensures len { IfOk result (λ v. length v.items ≡ length outlines.now) }
+    ensures range { IfOk result (λ v. list_all is_program v.items ≡ true) }
 {
     let memory = TextFault {
         line,

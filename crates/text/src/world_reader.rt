@@ -11,8 +11,8 @@ use umach::World;
 
 /// The world that a text stands for, or its least faulty line and the reason.
 ///
-/// The first line with words is `pidmax N`, N from 2 to 32,768, and the second `consoles N`, N from 0 to
-/// 8. Then 1 to 32 programs follow. Each begins with `program NAME`, then optionally `setuid U`, then
+/// The first line with words is `pidmax N`, N from 2 to 4,194,304, and the second `consoles N`, N from 0
+/// to 64. Then 1 to 32 programs follow. Each begins with `program NAME`, then optionally `setuid U`, then
 /// optionally `setgid G` on that line, ids from 0 to 2,147,483,647, and ends with the line `end`. Each
 /// line between is a label `NAME:`, which stands for the code address of the next instruction, or one of
 /// at most 1,000 instructions.

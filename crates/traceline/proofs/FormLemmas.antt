@@ -12,7 +12,7 @@ use Rattle.posix.specs.declared.entry.Entry.{Entry}
 use Rattle.posix.specs.declared.entry.Entry.TheVariants.{Noted, Called, Moved, Reported, Looked, NoMemory, Marked, Handled, Discarded, Stopped, Ended}
 use Rattle.std.specs.List.{list_all}
 use Rattle.laws.specs.Kinds.{is_byte}
-use Rattle.laws.specs.TraceLines.{is_i64}
+use Rattle.posix.specs.Ranges.{is_i64}
 use Rattle.traceline.specs.Words.{word, behind}
 use Rattle.traceline.specs.Guesses.{form_named, shown_by, child_and_status, guess, guess_entry, guess_note, guess_call, guess_result, guess_handler, guess_discard, guess_stop, guess_end}
 use Rattle.traceline.specs.declared.guesses.Form.{Form}

@@ -10,7 +10,7 @@ use Rattle.std.proofs.lemmas.Bool.Decides.{nat_tests}
 use Rattle.posix.specs.SignalNumbers.{is_signal}
 use Rattle.posix.specs.Decimals.{decimal_value}
 use Rattle.posix.proofs.DecimalLemmas.{digits_all, decimal_back}
-use Rattle.laws.specs.TraceLines.{is_i64}
+use Rattle.posix.specs.Ranges.{is_i64}
 use Rattle.traceline.specs.Words.{integer, fitting, pid_in, sig_in, status_in}
 use Rattle.traceline.proofs.WordLemmas.{is_clean}
 

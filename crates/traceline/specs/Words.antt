@@ -6,7 +6,7 @@ use Rattle.hex.specs.Hex.{decode_of}
 use Rattle.hex.specs.declared.error.FromHexError.{FromHexError}
 use Rattle.posix.specs.Decimals.{decimal_value}
 use Rattle.posix.specs.SignalNumbers.{is_signal}
-use Rattle.laws.specs.TraceLines.{is_i64}
+use Rattle.posix.specs.Ranges.{is_i64}
 
 infixl 10 ◌>>=◌
 abbrev pub ◌>>=◌ : {A B : Type 0} → Option A → (A → Option B) → Option B

@@ -1,6 +1,6 @@
 //! The processor of a process, and the run of one instruction.
 
-ghost use Rattle.std.specs.Prelude.{◌≡◌, ◌+◌, ◌<◌, ◌≤◌, length, IfOk, IfSome, if◌then◌else◌};
+ghost use Rattle.std.specs.Prelude.{◌≡◌, ◌+◌, ◌<◌, ◌≤◌, length, IfOk, IfSome, if◌then◌else◌, pos, slice_index_or};
 ghost use Rattle.posix.specs.Processes.{fresh_cpu};
 ghost use Rattle.posix.specs.Execute.{exec_one as executed, execute as execute_instr, set_register, register as register_of, move_on, put_result, load_from, store_at, address_of, jump, computed, passes as passed, fetched, StaysUnlessRun};
 ghost use Rattle.posix.specs.Handlers.{frame_of, restore};
@@ -84,6 +84,13 @@ impl Cpu {
         ensures { result ≡ register_of self.now register }
     {
         self.registers[register.index()]
+    }
+
+    /// The word of its memory at an address.
+    pub fn word(&self, address: u8) -> i64
+        ensures { result ≡ slice_index_or self.now.memory address (pos 0) }
+    {
+        self.memory.get(usize::from(address))
     }
 
     /// Writes a register; the pc, the other registers and the memory stay.

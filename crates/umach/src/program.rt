@@ -1,12 +1,15 @@
 //! Programs.
 
-ghost use Rattle.std.specs.Prelude.{◌≡◌, ◌==◌, ◌<◌, ◌≤◌, ◌++◌, ◌∷◌, [], length, slice_get, None, IfOk, OnOk, OnErr};
+ghost use Rattle.std.specs.Prelude.{◌≡◌, ◌==◌, ◌≤◌, length, slice_get, true, IfOk};
+ghost use Rattle.std.specs.List.{list_all};
+ghost use Rattle.posix.specs.Ranges.{is_instruction, is_program};
 
 use posix::{Gid, Instr, Uid};
 use std::alloc::{AllocError, Global};
 use std::marker::Model;
 
-/// The code of a program, at most 1,000 instructions, and the ids that it takes on as it is run.
+/// The code of a program, at most 1,000 instructions, and the ids that it takes on as it is run. What it holds is within
+/// the ranges of its types.
 #[derive(Drop)]
 pub struct Program {
     setuid: Option<Uid>,
@@ -15,35 +18,27 @@ pub struct Program {
 }
 
 impl Model for Program {
-    ghost use Rattle.std.specs.Prelude.{length, ◌≤◌};
+    ghost use Rattle.std.specs.Prelude.{length, ◌≡◌, ◌≤◌, true};
+    ghost use Rattle.posix.specs.Ranges.{is_program};
     ghost use Rattle.posix.specs.States.{Program as ProgramOf};
 
     ghost Value = { ProgramOf };
 
     ghost view = { λ p. record { setuid = p.setuid; setgid = p.setgid; instructions = p.instructions.items } };
 
-    ghost invariant = { λ p. length p.instructions.items ≤ 1000 };
+    ghost invariant = { λ p. (length p.instructions.items ≤ 1000) × (is_program (record { setuid = p.setuid; setgid = p.setgid; instructions = p.instructions.items }) ≡ true) };
 }
 
 impl Program {
     /// The most instructions of a program.
     pub const MAX_LEN: usize = 1000;
 
-    /// A program without an instruction, which takes on no ids.
-    pub fn new(alloc: Global) -> Self
-        ensures { result ≡ record { setuid = None; setgid = None; instructions = [] } }
-    {
-        Program {
-            setuid: None,
-            setgid: None,
-            instructions: Vec::new(alloc),
-        }
-    }
-
-    /// A program of at most 1,000 instructions, which takes on these ids as it is run.
+    /// A program of at most 1,000 instructions, each within its range, which takes on these ids as it is run.
     pub fn from_parts(setuid: Option<Uid>, setgid: Option<Gid>, instructions: Vec<Instr>) -> Self
-        requires { length instructions.items ≤ 1000 }
-        ensures { result ≡ record { setuid = setuid; setgid = setgid; instructions = instructions.items } }
+        requires len { length instructions.items ≤ 1000 }
+        requires range { list_all is_instruction instructions.items ≡ true }
+        ensures value { result ≡ record { setuid = setuid; setgid = setgid; instructions = instructions.items } }
+        ensures range { is_program result ≡ true }
     {
         Program {
             setuid,
@@ -74,29 +69,11 @@ impl Program {
         self.instructions.len()
     }
 
-    /// Whether it has no instruction.
-    pub fn is_empty(&self) -> bool
-        ensures { result ≡ (length self.now.instructions == 0) }
-    {
-        self.instructions.is_empty()
-    }
-
     /// The instruction at a place, from 0.
     pub fn get(&self, place: usize) -> Option<Instr>
         ensures { result ≡ slice_get self.now.instructions place }
     {
         self.instructions.get(place).copied()
-    }
-
-    /// Adds an instruction at the end of fewer than 1,000. At an error the host has no memory for it, and
-    /// the program is unchanged.
-    pub fn push(&mut self, instr: Instr) -> Result<(), AllocError>
-        requires { length self.old.instructions < 1000 }
-        ensures ok { OnOk result (self.new ≡ record self.old { instructions = self.old.instructions ++ instr ∷ [] }) }
-        ensures err { OnErr result (self.new ≡ self.old) }
-    {
-        self.instructions.push(instr)?;
-        Ok(())
     }
 
     /// Another program with the same instructions and ids; an error where the host has no memory for it.

@@ -1,6 +1,8 @@
 //! Worlds.
 
-ghost use Rattle.std.specs.Prelude.{◌≡◌, ◌≤◌, IfOk, length};
+ghost use Rattle.std.specs.Prelude.{◌≡◌, ◌≤◌, IfOk, length, true};
+ghost use Rattle.std.specs.List.{list_all};
+ghost use Rattle.posix.specs.Ranges.{IsWorld, is_program};
 
 use crate::program::Program;
 use std::alloc::{AllocError, Global};
@@ -16,22 +18,26 @@ pub struct World {
 }
 
 impl Model for World {
-    ghost use Rattle.std.specs.Prelude.{length, ◌≤◌};
+    ghost use Rattle.std.specs.Prelude.{length, ◌≡◌, ◌≤◌, true};
+    ghost use Rattle.std.specs.List.{list_all};
+    ghost use Rattle.posix.specs.Ranges.{is_program};
     ghost use Rattle.posix.specs.States.{World as WorldOf};
 
     ghost Value = { WorldOf };
 
     ghost view = { λ w. record { pidmax = w.pidmax; consoles = w.consoles; programs = w.programs.items } };
 
-    ghost invariant = { λ w. (2 ≤ w.pidmax) × (w.pidmax ≤ 32768) × (w.consoles ≤ 8) × (1 ≤ length w.programs.items) × (length w.programs.items ≤ 32) };
+    ghost invariant = { λ w. (2 ≤ w.pidmax) × (w.pidmax ≤ 4194304) × (w.consoles ≤ 64) × (1 ≤ length w.programs.items) × (length w.programs.items ≤ 32) × (list_all is_program w.programs.items ≡ true) };
 }
 
 impl World {
-    /// A world of these parts: `pidmax` from 2 to 32,768, at most 8 consoles, 1 to 32 programs.
+    /// A world of these parts: `pidmax` from 2 to 4,194,304, at most 64 consoles, 1 to 32 programs, whose numbers are within
+    /// their ranges.
     pub fn new(pidmax: u32, consoles: u8, programs: Vec<Program>) -> World
-        requires pidmax_range { (2 ≤ pidmax) × (pidmax ≤ 32768) }
-        requires consoles_range { consoles ≤ 8 }
+        requires pidmax_range { (2 ≤ pidmax) × (pidmax ≤ 4194304) }
+        requires consoles_range { consoles ≤ 64 }
         requires programs_range { (1 ≤ length programs.items) × (length programs.items ≤ 32) }
+        requires within { list_all is_program programs.items ≡ true }
         ensures { result ≡ record { pidmax = pidmax; consoles = consoles; programs = programs.items } }
     {
         World {
@@ -41,18 +47,18 @@ impl World {
         }
     }
 
-    /// The greatest process number that is given: 2 to 32,768.
+    /// The greatest process number that is given: 2 to 4,194,304.
     pub fn pidmax(&self) -> u32
         ensures value { result ≡ self.now.pidmax }
-        ensures range { (2 ≤ result) × (result ≤ 32768) }
+        ensures range { (2 ≤ result) × (result ≤ 4194304) }
     {
         self.pidmax
     }
 
-    /// The number of consoles: 0 to 8.
+    /// The number of consoles: 0 to 64.
     pub fn consoles(&self) -> u8
         ensures value { result ≡ self.now.consoles }
-        ensures range { result ≤ 8 }
+        ensures range { result ≤ 64 }
     {
         self.consoles
     }
@@ -63,6 +69,13 @@ impl World {
         ensures range { (1 ≤ length result.now) × (length result.now ≤ 32) }
     {
         self.programs.as_slice()
+    }
+
+    /// Nothing is done. That each number is within its range is then known of the world, as its type says.
+    pub fn range_holds(&self)
+        ensures { IsWorld self.now }
+    {
+        let _ = &self.pidmax;
     }
 
     /// Another world of the same parts; an error where there is no memory for it.

@@ -18,9 +18,9 @@ use Rattle.life.proofs.ViewLemmas.{state_is}
 use Rattle.calls.proofs.CallLemmas.{gives_is, answers_then}
 use Rattle.calls.proofs.attempts.alarm.Goals as goal
 
-pub returns-in_default : goal.returns-in_default
+pub returns-in_default-clause-attempts : goal.returns-in_default-clause-attempts
 unfolding attempt alarm
-returns-in_default g c = λ me e.
+returns-in_default-clause-attempts g c = λ me e.
     let s = c.args.machine.now.state in
     let p = c.args.pid in
     let named = pid_looked p s.processes me e in
@@ -40,9 +40,9 @@ finish_with-requires-clause-there g c =
     let here = subst (λ (t : State). IsSome (process t c.args.pid)) (sym same) (placed_some _ c.args.pid c.requires.acting.placed) in
     subst (λ (t : State). IsSome (process t c.args.pid)) (sym c.set_alarm-left.ensures.changes.state) (some_changed c.args.pid c.args.pid (with_alarm _) (unseen_with_alarm _).pid _ here)
 
-pub returns : goal.returns
+pub returns-clause-attempts : goal.returns-clause-attempts
 unfolding attempt alarm
-returns g c = λ me e.
+returns-clause-attempts g c = λ me e.
     let s = c.args.machine.now.state in
     let p = c.args.pid in
     let named = pid_looked p s.processes me e in

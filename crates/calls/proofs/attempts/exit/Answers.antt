@@ -9,9 +9,9 @@ use Rattle.life.proofs.LoanLemmas.{own_is}
 use Rattle.life.proofs.ViewLemmas.{state_is}
 use Rattle.calls.proofs.attempts.exit.Goals as goal
 
-pub returns : goal.returns
+pub returns-clause-attempts : goal.returns-clause-attempts
 unfolding attempt
-returns g c = λ me e.
+returns-clause-attempts g c = λ me e.
     let s = c.args.machine.now.state in
     let same = state_is c.look.follows.holds-at-none in
     let last = ap (λ (t : State). process t c.args.pid) same ∙ e in

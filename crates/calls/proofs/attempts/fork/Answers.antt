@@ -12,9 +12,9 @@ use Rattle.calls.proofs.CallLemmas.{gives_is, wants_memory}
 use Rattle.posix.proofs.RegularLemmas.{some_inserted}
 use Rattle.calls.proofs.attempts.fork.Goals as goal
 
-pub returns-in_default : goal.returns-in_default
+pub returns-in_default-clause-attempts : goal.returns-in_default-clause-attempts
 unfolding attempt fork_as
-returns-in_default g c = λ me e.
+returns-in_default-clause-attempts g c = λ me e.
     let s = c.args.machine.now.state in
     let named = pid_looked c.args.pid s.processes me e in
     let none : next_pid s ≡ None = sym c.next_pid.ensures ∙ c.in_default.is in (
@@ -30,9 +30,9 @@ finish_with-requires-clause-there g c =
     subst (λ (t : State). IsSome (process t c.args.pid)) (sym (c.in-Ok.ensures.ok me.what me.found))
     (some_inserted (child_of (s.births + 1) me.what c.in-Some.child) c.args.pid s.processes (placed_some s.processes c.args.pid me))
 
-pub returns-in-Ok : goal.returns-in-Ok
+pub returns-in-Ok-clause-attempts : goal.returns-in-Ok-clause-attempts
 unfolding attempt fork_as
-returns-in-Ok g c = λ me e.
+returns-in-Ok-clause-attempts g c = λ me e.
     let s = c.args.machine.now.state in
     let p = c.args.pid in
     let child = c.in-Some.child in
@@ -50,9 +50,9 @@ refuse_memory-requires-clause-there g c =
     let s = c.args.machine.now.state in
     subst (λ (t : State). IsSome (process t c.args.pid)) (sym c.in-Err.ensures.err.state) (placed_some s.processes c.args.pid c.requires.acting.placed)
 
-pub returns-in-Err : goal.returns-in-Err
+pub returns-in-Err-clause-attempts : goal.returns-in-Err-clause-attempts
 unfolding attempt fork_as
-returns-in-Err g c = λ me e.
+returns-in-Err-clause-attempts g c = λ me e.
     let s = c.args.machine.now.state in
     let named = pid_looked c.args.pid s.processes me e in
     let some : next_pid s ≡ Some c.in-Some.child = sym c.next_pid.ensures ∙ c.in-Some.is in (

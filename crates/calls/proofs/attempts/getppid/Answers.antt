@@ -6,9 +6,9 @@ use Rattle.posix.proofs.TableLemmas.{pid_looked}
 use Rattle.calls.proofs.CallLemmas.{gives_is}
 use Rattle.calls.proofs.attempts.getppid.Goals as goal
 
-pub returns : goal.returns
+pub returns-clause-attempts : goal.returns-clause-attempts
 unfolding attempt
-returns g c = λ me e.
+returns-clause-attempts g c = λ me e.
     let s = c.args.machine.now.state in
     let kept : to_z w64 (of_z w64 c.from.result) ≡ c.from.result = search rules in
     let value = kept ∙ c.from.ensures ∙ ap pos (c.number.ensures.value ∙ c.parent-parent.ensures.finds.value me e) in

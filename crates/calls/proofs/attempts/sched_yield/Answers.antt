@@ -15,9 +15,9 @@ finish_with-requires-clause-there g c =
     let s = c.args.machine.now.state in
     subst (λ (t : State). IsSome (process t c.args.pid)) (sym (state_is c.go_last.ensures)) (placed_some s.processes c.args.pid c.requires.acting.placed)
 
-pub returns : goal.returns
+pub returns-clause-attempts : goal.returns-clause-attempts
 unfolding attempt
-returns g c = λ me e.
+returns-clause-attempts g c = λ me e.
     let s = c.args.machine.now.state in
     let p = c.args.pid in
     let named = pid_looked p s.processes me e in (

@@ -11,9 +11,9 @@ use Rattle.life.proofs.LoanLemmas.{own_is}
 use Rattle.life.proofs.ViewLemmas.{state_is}
 use Rattle.calls.proofs.attempts.subreaper.Goals as goal
 
-pub returns : goal.returns
+pub returns-clause-attempts : goal.returns-clause-attempts
 unfolding attempt subreaper
-returns g c = λ me e.
+returns-clause-attempts g c = λ me e.
     let s = c.args.machine.now.state in
     let p = c.args.pid in
     let same = state_is c.look.follows.holds-at-none in

@@ -11,16 +11,16 @@ use Rattle.calls.proofs.delivery.act_by_default.Goals as goal
 pub end-requires-clause-there : goal.end-requires-clause-there
 end-requires-clause-there g c = is_there _ c.requires.placed.what c.requires.placed.found
 
-pub returns-then-eq : goal.returns-then-eq
-returns-then-eq g c = λ me e.
+pub returns-then-eq-clause-state : goal.returns-then-eq-clause-state
+returns-then-eq-clause-state g c = λ me e.
     let s = c.args.machine.now.state in
     let named = pid_looked c.args.pid s.processes me e in
     by_default_if s me c.args.sig true (ap (λ n. n == 1) named ∙ sym c.eq.ensures ∙ c.if-eq.true)
     ∙ ap (λ n. outcome_of s (Discarded n c.args.sig ∷ [])) named
     ∙ ap (outcome_of s) (shown_alone _ _ _ c.requires.none c.push.ensures.items)
 
-pub returns-in-Terminate : goal.returns-in-Terminate
-returns-in-Terminate g c = λ me e.
+pub returns-in-Terminate-clause-state : goal.returns-in-Terminate-clause-state
+returns-in-Terminate-clause-state g c = λ me e.
     let s = c.args.machine.now.state in
     let named = pid_looked c.args.pid s.processes me e in
     default_ends s me c.args.sig c.end.new.machine.state c.end.new.entries.items (ap (λ n. n == 1) named ∙ sym c.eq.ensures ∙ c.if-eq.false)
@@ -28,14 +28,14 @@ returns-in-Terminate g c = λ me e.
     (c.end.ensures.state me e ∙ ap (λ w. (end_process s me w).state) c.killed.ensures)
     (c.end.ensures.entries me e ∙ ap (λ (l : List Entry). l ++ (end_process s me c.killed.result).entries) c.requires.none ∙ ap (λ w. (end_process s me w).entries) c.killed.ensures)
 
-pub returns-in-Stop : goal.returns-in-Stop
-returns-in-Stop g c = λ me e.
+pub returns-in-Stop-clause-state : goal.returns-in-Stop-clause-state
+returns-in-Stop-clause-state g c = λ me e.
     let s = c.args.machine.now.state in
     let named = pid_looked c.args.pid s.processes me e in
-    default_stops s me c.args.sig (ap (λ n. n == 1) named ∙ sym c.eq.ensures ∙ c.if-eq.false) (sym c.default_action.ensures ∙ c.in-Stop.is) ∙ c.stop.ensures me e
+    default_stops s me c.args.sig (ap (λ n. n == 1) named ∙ sym c.eq.ensures ∙ c.if-eq.false) (sym c.default_action.ensures ∙ c.in-Stop.is) ∙ c.stop.ensures.state me e
 
-pub returns-in-Ignore : goal.returns-in-Ignore
-returns-in-Ignore g c = λ me e.
+pub returns-in-Ignore-clause-state : goal.returns-in-Ignore-clause-state
+returns-in-Ignore-clause-state g c = λ me e.
     let s = c.args.machine.now.state in
     let named = pid_looked c.args.pid s.processes me e in
     by_default_if s me c.args.sig false (ap (λ n. n == 1) named ∙ sym c.eq.ensures ∙ c.if-eq.false)

@@ -20,9 +20,9 @@ handle-requires-clause-there g c = there_lent c.args.machine.now.state c.args.pi
 pub act_by_default-requires-clause-placed : goal.act_by_default-requires-clause-placed
 act_by_default-requires-clause-placed g c = placed_lent c.args.machine.now.state c.args.pid (record (c.own-own.result.now) { signals = c.take-carried.new.self }) c.requires.placed
 
-pub returns-in-At : goal.returns-in-At
+pub returns-in-At-clause-state : goal.returns-in-At-clause-state
 unfolding take_out
-returns-in-At g c = λ me e.
+returns-in-At-clause-state g c = λ me e.
     let s = c.args.machine.now.state in
     let p = c.args.pid in
     let o = c.own-own.result.now in
@@ -38,9 +38,9 @@ returns-in-At g c = λ me e.
     ∙ ap (handle t (take_out c.args.sig x) (record { sig = c.args.sig; carried = c.take-carried.result })) (sym kept)
     ∙ c.handle.ensures.does (take_out c.args.sig x) after)
 
-pub returns-in-Ignore : goal.returns-in-Ignore
+pub returns-in-Ignore-clause-state : goal.returns-in-Ignore-clause-state
 unfolding take_out
-returns-in-Ignore g c = λ me e.
+returns-in-Ignore-clause-state g c = λ me e.
     let s = c.args.machine.now.state in
     let p = c.args.pid in
     let o = c.own-own.result.now in
@@ -52,9 +52,9 @@ returns-in-Ignore g c = λ me e.
     of_own (λ x. deliver s x c.args.sig ≡ outcome_of t c.push.new.self.items) s p o me c.own-own.ensures.value e
     (deliver_ignored s x c.args.sig t c.action-action.result visits c.in-Ignore.is ∙ ap (outcome_of t) (shown_alone _ _ _ c.requires.none c.push.ensures.items))
 
-pub returns-in-Default : goal.returns-in-Default
+pub returns-in-Default-clause-state : goal.returns-in-Default-clause-state
 unfolding take_out
-returns-in-Default g c = λ me e.
+returns-in-Default-clause-state g c = λ me e.
     let s = c.args.machine.now.state in
     let p = c.args.pid in
     let o = c.own-own.result.now in
@@ -65,4 +65,4 @@ returns-in-Default g c = λ me e.
     let visits : Reads s x c.args.sig t c.action-action.result = record { action_is = c.action-action.ensures; state_is = changed } in
     let after = there_then s t p (take_out c.args.sig) (keeps_take_out {now = 0} c.args.sig).pid changed x (own_there s p o me c.own-own.ensures.value e) in
     of_own (λ x. deliver s x c.args.sig ≡ outcome_of c.act_by_default.new.machine.state c.act_by_default.new.entries.items) s p o me c.own-own.ensures.value e
-    (deliver_default s x c.args.sig t c.action-action.result visits c.in-Default.is ∙ c.act_by_default.ensures (take_out c.args.sig x) after)
+    (deliver_default s x c.args.sig t c.action-action.result visits c.in-Default.is ∙ c.act_by_default.ensures.state (take_out c.args.sig x) after)

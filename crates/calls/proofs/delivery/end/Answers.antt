@@ -1,4 +1,5 @@
 use Rattle.std.proofs.Common.{◌≡◌, ℕ, ◌+◌, ◌≤◌, ◌∙◌, ap, sym, subst, arith, append_assoc, ◌==◌, ◌++◌, ◌∷◌, [], List, true, false}
+use Rattle.std.proofs.Math.Nat.{le_trans}
 use Rattle.posix.specs.declared.entry.Entry.{Entry}
 use Rattle.posix.specs.declared.entry.Entry.TheVariants.{Ended, Halted}
 use Rattle.posix.specs.Processes.{Process}
@@ -77,3 +78,13 @@ returns-else-eq-clause-visits g c = λ me e.
     let hung = c.hang_up.ensures.state me e in
     let walk = subst (λ (t : State). c.heir-heir.new.self.visits ≤ c.hang_up.new.self.visits + slots_of_heir t.processes p) hung c.heir-heir.ensures.visits in
     read (hang_up s me) c.heir-heir.new.self.state me p c.heir-heir.result c.args.status c.args.machine.now.visits c.hang_up.new.self.visits c.heir-heir.new.self.visits c.end.new.self.visits _ (pid_looked p s.processes me e) (c.heir-heir.ensures.same.state ∙ hung) (c.heir-heir.ensures.heir ∙ ap (λ (t : State). heir_in t.processes p) hung) (c.hang_up.ensures.costs me e).visits walk (omega (arith, c.end.ensures.visits))
+
+pub returns-then-eq-clause-no_fewer : goal.returns-then-eq-clause-no_fewer
+returns-then-eq-clause-no_fewer g c =
+    let me = there _ c.requires.there in
+    le_trans (c.hang_up.ensures.costs me.what me.found).no_fewer (le_trans c.heir-heir.ensures.no_fewer c.end.ensures.no_fewer)
+
+pub returns-else-eq-clause-no_fewer : goal.returns-else-eq-clause-no_fewer
+returns-else-eq-clause-no_fewer g c =
+    let me = there _ c.requires.there in
+    le_trans (c.hang_up.ensures.costs me.what me.found).no_fewer (le_trans c.heir-heir.ensures.no_fewer c.end.ensures.no_fewer)

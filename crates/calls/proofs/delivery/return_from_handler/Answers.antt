@@ -11,8 +11,8 @@ use Rattle.calls.specs.Outcomes.{with_own}
 use Rattle.calls.proofs.OwnLemmas.{of_own, own_there, there_lent}
 use Rattle.calls.proofs.delivery.return_from_handler.Goals as goal
 
-pub returns-in-Ok : goal.returns-in-Ok
-returns-in-Ok g c = λ me e.
+pub returns-in-Ok-clause-state : goal.returns-in-Ok-clause-state
+returns-in-Ok-clause-state g c = λ me e.
     let s = c.args.machine.now.state in
     let p = c.args.pid in
     let o = c.own.result.now in
@@ -25,9 +25,9 @@ returns-in-Ok g c = λ me e.
 pub fault-requires-clause-there : goal.fault-requires-clause-there
 fault-requires-clause-there g c = there_lent c.args.machine.now.state c.args.pid c.return_from_handler.new.self c.requires.there
 
-pub returns-in-Err : goal.returns-in-Err
+pub returns-in-Err-clause-state : goal.returns-in-Err-clause-state
 unfolding return_from_handler
-returns-in-Err g c = λ me e.
+returns-in-Err-clause-state g c = λ me e.
     let s = c.args.machine.now.state in
     let p = c.args.pid in
     let o = c.own.result.now in

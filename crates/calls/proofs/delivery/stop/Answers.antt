@@ -1,4 +1,5 @@
 use Rattle.std.proofs.Common.{◌∙◌, ap, sym, [], ◌∷◌, true, false}
+use Rattle.std.proofs.Math.Nat.{le_trans}
 use Rattle.posix.specs.declared.entry.Entry.TheVariants.{Stopped, Discarded}
 use Rattle.posix.specs.States.{State, process}
 use Rattle.posix.specs.Delivery.{stop_process}
@@ -7,8 +8,8 @@ use Rattle.calls.proofs.CallLemmas.{outcome_of}
 use Rattle.calls.proofs.DeliveryLemmas.{shown_alone, stop_if}
 use Rattle.calls.proofs.delivery.stop.Goals as goal
 
-pub returns-then-is_stop_discarded : goal.returns-then-is_stop_discarded
-returns-then-is_stop_discarded g c = λ me e.
+pub returns-then-is_stop_discarded-clause-state : goal.returns-then-is_stop_discarded-clause-state
+returns-then-is_stop_discarded-clause-state g c = λ me e.
     let s = c.args.machine.now.state in
     let named = pid_looked c.args.pid s.processes me e in
     stop_if s me c.args.sig true (sym (c.is_stop_discarded.ensures.value me e) ∙ c.if-is_stop_discarded.true)
@@ -16,9 +17,9 @@ returns-then-is_stop_discarded g c = λ me e.
     ∙ ap (λ (t : State). outcome_of t (Discarded c.args.pid c.args.sig ∷ [])) (sym c.is_stop_discarded.ensures.same)
     ∙ ap (outcome_of c.is_stop_discarded.new.machine.state) (shown_alone _ _ _ c.requires.none c.push.ensures.items)
 
-pub returns-else-is_stop_discarded : goal.returns-else-is_stop_discarded
+pub returns-else-is_stop_discarded-clause-state : goal.returns-else-is_stop_discarded-clause-state
 unfolding stop_process
-returns-else-is_stop_discarded g c = λ me e.
+returns-else-is_stop_discarded-clause-state g c = λ me e.
     let s = c.args.machine.now.state in
     let same = c.is_stop_discarded.ensures.same in
     let named = pid_looked c.args.pid s.processes me e in
@@ -28,3 +29,9 @@ returns-else-is_stop_discarded g c = λ me e.
     ∙ ap (λ (t : State). outcome_of (stop_process t me c.args.sig).state (Stopped c.args.pid c.args.sig ∷ [])) (sym same)
     ∙ ap (λ (t : State). outcome_of t (Stopped c.args.pid c.args.sig ∷ [])) (sym (c.stop_process.ensures me there).state)
     ∙ ap (outcome_of c.stop_process.new.self.state) (shown_alone _ _ _ c.requires.none c.push-else-is_stop_discarded.ensures.items)
+
+pub returns-else-is_stop_discarded-clause-no_fewer : goal.returns-else-is_stop_discarded-clause-no_fewer
+returns-else-is_stop_discarded-clause-no_fewer g c =
+    let me = c.requires.placed in
+    let there = ap (λ (t : State). process t c.args.pid) c.is_stop_discarded.ensures.same ∙ me.found in
+    le_trans c.is_stop_discarded.ensures.no_fewer (c.stop_process.ensures me.what there).costs.no_fewer

@@ -1,4 +1,5 @@
 use Rattle.std.proofs.Common.{◌≡◌, ◌∙◌, ap, sym, subst, refl, true, pos, Option}
+use Rattle.std.proofs.Math.Nat.{le_trans}
 use Rattle.std.specs.Option.{IfSome, IsSome}
 use Rattle.posix.specs.declared.call.Call.TheVariants.{Setpgid}
 use Rattle.posix.specs.Processes.{Process, argument}
@@ -24,9 +25,9 @@ finish_with-requires-clause-there g c =
     subst (λ (x : State). IsSome (process x c.args.pid)) (sym state)
     (there_moved t c.args.pid who.what.pid c.in-Ok.field-0 (subst (λ (x : State). IsSome (process x c.args.pid)) (sym c.caller-me.ensures.finds.looks.same.state) (placed_some _ c.args.pid c.requires.placed)))
 
-pub returns-in-Ok : goal.returns-in-Ok
+pub returns-in-Ok-clause-attempts : goal.returns-in-Ok-clause-attempts
 unfolding attempt
-returns-in-Ok g c = λ me e.
+returns-in-Ok-clause-attempts g c = λ me e.
     let s = c.args.machine.now.state in
     let p = c.args.pid in
     let caller = c.caller-me.result in
@@ -44,3 +45,11 @@ returns-in-Ok g c = λ me e.
           (setpgid_moves s me who.what c.in-Ok.field-0 here can ∙ ap (λ q. finish_with (change s who.what.pid (in_group c.in-Ok.field-0)) q Setpgid (pos 0)) (pid_looked p s.processes me e))
           c.finish_with.ensures.done c.finish_with.ensures.state (state ∙ ap (λ (x : State). change x who.what.pid (in_group c.in-Ok.field-0)) same) c.finish_with.ensures.shown refl,
     )
+
+pub returns-in-Ok-clause-no_fewer : goal.returns-in-Ok-clause-no_fewer
+returns-in-Ok-clause-no_fewer g c =
+    let me = c.requires.placed in
+    let looks = c.caller-me.ensures.finds.looks in
+    let found = ap (λ (x : State). process x c.caller-me.result.pid) looks.same.state ∙ ap (process c.args.machine.now.state) c.caller-me.ensures.pid ∙ me.found in
+    let who = who_moves me.what _ _ _ _ (sym (c.move_group.ensures.value me.what found) ∙ c.in-Ok.is) in
+    le_trans looks.no_fewer (le_trans (c.in-Ok.ensures.costs me.what who.what found who.found).no_fewer c.finish_with.ensures.no_fewer)

@@ -27,9 +27,9 @@ refuse-requires-clause-there g c =
     let stays = has_not_led c.args.machine.now _ p me.what _ _ c.in-Err.is (c.new_session.ensures.refused me.what me.found) (c.new_session.ensures.leads me.what me.found) in
     subst (λ (t : State). IsSome (process t p)) (sym stays.state) (placed_some s.processes p me)
 
-pub returns-in-Ok : goal.returns-in-Ok
+pub returns-in-Ok-clause-attempts : goal.returns-in-Ok-clause-attempts
 unfolding attempt
-returns-in-Ok g c = λ me e.
+returns-in-Ok-clause-attempts g c = λ me e.
     let s = c.args.machine.now.state in
     let p = c.args.pid in
     let named = pid_looked p s.processes me e in
@@ -40,9 +40,9 @@ returns-in-Ok g c = λ me e.
           c.finish_with.ensures.done c.finish_with.ensures.state led.state c.finish_with.ensures.shown (kept ∙ c.from.ensures ∙ ap pos c.number.ensures.value),
     )
 
-pub returns-in-Err : goal.returns-in-Err
+pub returns-in-Err-clause-attempts : goal.returns-in-Err-clause-attempts
 unfolding attempt
-returns-in-Err g c = λ me e.
+returns-in-Err-clause-attempts g c = λ me e.
     let s = c.args.machine.now.state in
     let p = c.args.pid in
     let named = pid_looked p s.processes me e in

@@ -10,8 +10,8 @@ use Rattle.calls.specs.Outcomes.{id_told}
 use Rattle.calls.proofs.CallLemmas.{gives_is}
 use Rattle.calls.proofs.groups.tell.Goals as goal
 
-pub returns-in_default : goal.returns-in_default
-returns-in_default g c = λ me e.
+pub returns-in_default-clause-comes : goal.returns-in_default-clause-comes
+returns-in_default-clause-comes g c = λ me e.
     let s = c.args.machine.now.state in
     let p = c.args.pid in
     let call = c.args.call in
@@ -19,8 +19,8 @@ returns-in_default g c = λ me e.
     let is = ap (tells s me call (λ r. id_told call (snapshot_of r))) none ∙ ap (λ q. refused s q call ESRCH) (pid_looked p s.processes me e) in
     gives_is s s _ _ _ p call (refusal ESRCH) (refusal ESRCH) _ _ _ is c.refuse.ensures.done c.refuse.ensures.state c.named.ensures.same c.refuse.ensures.shown refl
 
-pub returns : goal.returns
-returns g c = λ me e.
+pub returns-clause-comes : goal.returns-clause-comes
+returns-clause-comes g c = λ me e.
     let s = c.args.machine.now.state in
     let p = c.args.pid in
     let call = c.args.call in

@@ -26,9 +26,9 @@ refuse-requires-clause-there g c =
     let idle = has_not_run s _ _ p _ _ same c.if-not-exec_named.true c.exec_named.ensures.done c.exec_named.ensures.none in
     subst (λ (t : State). IsSome (process t p)) (sym idle.state) c.requires.there
 
-pub returns-then-not-exec_named : goal.returns-then-not-exec_named
+pub returns-then-not-exec_named-clause-attempts : goal.returns-then-not-exec_named-clause-attempts
 unfolding attempt
-returns-then-not-exec_named g c = λ me e.
+returns-then-not-exec_named-clause-attempts g c = λ me e.
     let s = c.args.machine.now.state in
     let p = c.args.pid in
     let same = state_is c.look.follows.holds-at-none in
@@ -41,9 +41,9 @@ returns-then-not-exec_named g c = λ me e.
           c.refuse.ensures.done c.refuse.ensures.state idle.state c.refuse.ensures.shown refl,
     )
 
-pub returns : goal.returns
+pub returns-clause-attempts : goal.returns-clause-attempts
 unfolding attempt
-returns g c = λ me e.
+returns-clause-attempts g c = λ me e.
     let s = c.args.machine.now.state in
     let p = c.args.pid in
     let named = pid_looked p s.processes me e in

@@ -30,8 +30,8 @@ finish_with-requires-clause-there g c =
     let console = session_read _ c.args.session c.requires.console_index in
     subst (λ (t : State). IsSome (process t c.args.me.now.pid)) (sym (c.acquire_console.ensures.state console.what console.found)) c.requires.there
 
-pub returns-then-not-may_acquire : goal.returns-then-not-may_acquire
-returns-then-not-may_acquire g c = search rules
+pub returns-then-not-may_acquire-clause-comes : goal.returns-then-not-may_acquire-clause-comes
+returns-then-not-may_acquire-clause-comes g c = search rules
 
-pub returns : goal.returns
-returns g c = search rules
+pub returns-clause-comes : goal.returns-clause-comes
+returns-clause-comes g c = search rules

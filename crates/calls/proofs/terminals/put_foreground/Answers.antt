@@ -14,8 +14,8 @@ use Rattle.calls.proofs.CallLemmas.{gives_is}
 use Rattle.calls.proofs.TerminalCallLemmas.{in_session, names_group, none_found}
 use Rattle.calls.proofs.terminals.put_foreground.Goals as goal
 
-pub returns-in_default-group_of : goal.returns-in_default-group_of
-returns-in_default-group_of g c = λ r e.
+pub returns-in_default-group_of-clause-comes : goal.returns-in_default-group_of-clause-comes
+returns-in_default-group_of-clause-comes g c = λ r e.
     let s = c.args.machine.now.state in
     let me = c.args.me.now in
     let group = c.in-Some.group in
@@ -31,8 +31,8 @@ returns-in_default-group_of g c = λ r e.
 pub set_foreground-requires : goal.set_foreground-requires
 set_foreground-requires g c = in_session c.args.machine.now.state c.args.me.now.pid c.args.me.now c.requires.regular c.requires.there c.requires.caller
 
-pub returns : goal.returns
-returns g c = λ r e.
+pub returns-clause-comes : goal.returns-clause-comes
+returns-clause-comes g c = λ r e.
     let s = c.args.machine.now.state in
     let me = c.args.me.now in
     let group = c.in-Some.group in
@@ -50,5 +50,5 @@ returns g c = λ r e.
     ∙ ap (λ (n : ℕ). change_console s r.session (with_foreground n)) (sym found.1) in
     gives_is s now _ _ _ me.pid Tcsetpgrp (pos 0) (pos 0) _ _ _ is c.finish_with.ensures.done c.finish_with.ensures.state state c.finish_with.ensures.shown refl
 
-pub returns-in_default : goal.returns-in_default
-returns-in_default g c = search rules
+pub returns-in_default-clause-comes : goal.returns-in_default-clause-comes
+returns-in_default-clause-comes g c = search rules

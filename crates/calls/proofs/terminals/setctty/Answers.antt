@@ -12,9 +12,9 @@ use Rattle.calls.proofs.CallLemmas.{caller_is, gives_is}
 use Rattle.calls.proofs.TerminalCallLemmas.{none_read}
 use Rattle.calls.proofs.terminals.setctty.Goals as goal
 
-pub returns-in_default-session_at : goal.returns-in_default-session_at
+pub returns-in_default-session_at-clause-attempts : goal.returns-in_default-session_at-clause-attempts
 unfolding attempt setctty
-returns-in_default-session_at g c = λ me e.
+returns-in_default-session_at-clause-attempts g c = λ me e.
     let s = c.args.machine.now.state in
     let p = c.args.pid in
     let console_index = c.in-Some.console_index in

@@ -3,8 +3,8 @@ use Rattle.std.proofs.lemmas.Int.{to_z_pos}
 use Rattle.calls.proofs.TransferLemmas.{moved_is}
 use Rattle.calls.proofs.transfers.finish_moved.Goals as goal
 
-pub returns : goal.returns
-returns g c =
+pub returns-clause-comes : goal.returns-clause-comes
+returns-clause-comes g c =
     let bytes = c.as_slice-count.result.now in
     let few = c.as_slice-count.ensures.few in
     let size = ap (λ (bs : List ℕ). length bs) c.as_slice-count.ensures.value in

@@ -2,14 +2,14 @@ use Rattle.std.proofs.Common.{rules}
 use Rattle.posix.specs.Terminals.{read}
 use Rattle.calls.proofs.transfers.read.Goals as goal
 
-pub returns-in_default : goal.returns-in_default
+pub returns-in_default-clause-comes : goal.returns-in_default-clause-comes
 unfolding read
-returns-in_default g c = search rules
+returns-in_default-clause-comes g c = search rules
 
-pub returns-in-Ok : goal.returns-in-Ok
+pub returns-in-Ok-clause-comes : goal.returns-in-Ok-clause-comes
 unfolding read
-returns-in-Ok g c = search rules
+returns-in-Ok-clause-comes g c = search rules
 
-pub returns-in-Err : goal.returns-in-Err
+pub returns-in-Err-clause-comes : goal.returns-in-Err-clause-comes
 unfolding read
-returns-in-Err g c = search rules
+returns-in-Err-clause-comes g c = search rules

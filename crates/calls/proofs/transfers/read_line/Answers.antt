@@ -17,8 +17,8 @@ use Rattle.calls.proofs.transfers.read_line.Goals as goal
 pub take_bytes-requires-clause-session : goal.take_bytes-requires-clause-session
 take_bytes-requires-clause-session g c = in_session c.args.machine.now.state c.args.me.now.pid c.args.me.now c.requires.regular c.requires.there c.requires.caller
 
-pub returns-in_default : goal.returns-in_default
-returns-in_default g c = λ r k e f.
+pub returns-in_default-clause-comes : goal.returns-in_default-clause-comes
+returns-in_default-clause-comes g c = λ r k e f.
     let s = c.args.machine.now.state in
     let me = c.args.me.now in
     let count = c.args.span.count in
@@ -41,10 +41,10 @@ pub finish_moved-requires-clause-there : goal.finish_moved-requires-clause-there
 finish_moved-requires-clause-there g c =
     let p = c.args.me.now.pid in
     let here = subst (λ (t : State). IsSome (process t p)) (sym c.take_bytes.ensures.state) c.requires.there in
-    subst (λ (t : State). IsSome (process t p)) (sym c.store.ensures) (some_changed p p (with_bytes _ _) (pid_with_bytes _ _) _ here)
+    subst (λ (t : State). IsSome (process t p)) (sym c.store.ensures.state) (some_changed p p (with_bytes _ _) (pid_with_bytes _ _) _ here)
 
-pub returns : goal.returns
-returns g c = λ r k e f.
+pub returns-clause-comes : goal.returns-clause-comes
+returns-clause-comes g c = λ r k e f.
     let s = c.args.machine.now.state in
     let me = c.args.me.now in
     let span = c.args.span in
@@ -54,14 +54,14 @@ returns g c = λ r k e f.
     let some : first_bytes span.count k.lines ≡ Some bytes = sym (c.take_bytes.ensures.bytes k own) ∙ c.in-Some.is in
     let put = with_bytes span.address in
     let state : c.store.new.machine.state ≡ after_read s r span bytes =
-    c.store.ensures
+    c.store.ensures.state
     ∙ ap (λ (bs : List ℕ). change c.take_bytes.new.machine.state me.pid (put bs)) c.as_slice.ensures.value
     ∙ ap (λ (t : State). change t me.pid (put bytes)) c.take_bytes.ensures.state
     ∙ ap (λ (q : Caller). change (change_console s q.session (line_taken span.count)) q.pid (put bytes)) caller in
     let xs = c.args.entries.now.items in
     let ys = c.finish_moved.new.entries.items in
     let n = c.finish_moved.new.machine.state in
-    let there = subst (λ (t : State). Comes c.store.new.machine.state (finish_moved t me.pid Read bytes) c.finish_moved.result xs ys n) state c.finish_moved.ensures in
+    let there = subst (λ (t : State). Comes c.store.new.machine.state (finish_moved t me.pid Read bytes) c.finish_moved.result xs ys n) state c.finish_moved.ensures.comes in
     let named = subst (λ (q : ℕ). Comes c.store.new.machine.state (finish_moved (after_read s r span bytes) q Read bytes) c.finish_moved.result xs ys n) (ap (λ (q : Caller). q.pid) caller) there in
     subst (λ a. Comes s a c.finish_moved.result xs ys n) (sym (read_some s r span k.lines bytes some))
     (moved_since s c.store.new.machine.state (after_read s r span bytes) r.pid Read bytes c.finish_moved.result xs ys n named)

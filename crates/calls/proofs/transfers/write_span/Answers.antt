@@ -3,7 +3,7 @@ use Rattle.posix.proofs.TableLemmas.{pid_looked}
 use Rattle.life.specs.declared.consoles.Terminal.{Terminal}
 use Rattle.calls.proofs.transfers.write_span.Goals as goal
 
-pub returns-then-terminal : goal.returns-then-terminal
-returns-then-terminal g c = λ r its found is.
+pub returns-then-terminal-clause-comes : goal.returns-then-terminal-clause-comes
+returns-then-terminal-clause-comes g c = λ r its found is.
     let hung : its.hung_up ≡ true = ap (λ (t : Terminal). t.hung_up) (sym is) ∙ c.if-terminal.true in
     rw (hung, c.refuse.ensures.done, pid_looked c.args.me.now.pid _ r found) (c.refuse.ensures.shown, c.refuse.ensures.state)

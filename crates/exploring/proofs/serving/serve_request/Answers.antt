@@ -5,8 +5,8 @@ use Rattle.exploring.proofs.FirstLemmas.{of_family}
 use Rattle.exploring.proofs.ServingLemmas.{explored, means_explored, means_memory, means_unwritten}
 use Rattle.exploring.proofs.serving.serve_request.Goals as goal
 
-pub report-requires : goal.report-requires
-report-requires g c =
+pub report-reported-requires : goal.report-reported-requires
+report-reported-requires g c =
     of_family c.in_ok-inputs.inputs.world c.in_ok-inputs.inputs.events (said c.args.request.now).finds c.in_ok-upto.upto c.in_ok-ticks.ticks c.in_ok-book.book c.in_ok-book.ensures
 
 pub returns-in_err-text : goal.returns-in_err-text
@@ -24,7 +24,7 @@ returns-in_err-put_all g c =
 pub returns : goal.returns
 returns g c =
     let a = said c.args.request.now in
-    means_explored _ a _ _ _ _ c.is_told.result
-    (explored _ a c.in_ok-inputs.inputs.world c.in_ok-inputs.inputs.events c.in_ok-upto.upto c.in_ok-ticks.ticks _ c.in_ok-book.book c.is_told.result _ _
+    means_explored _ a _ _ _ _ c.is_told-is_told.result
+    (explored _ a c.in_ok-inputs.inputs.world c.in_ok-inputs.inputs.events c.in_ok-upto.upto c.in_ok-ticks.ticks _ c.in_ok-book.book c.is_told-is_told.result _ _
     c.in_ok-inputs.ensures.reads c.in_ok-ticks.ensures.1 (rw c.len.ensures at c.in_ok-upto.ensures.1) (rw c.len-2.ensures at c.in_ok-size_of.ensures.size.1) c.in_ok-size_of.ensures.size.0
-    c.in_ok-book.ensures c.is_told.ensures c.in_ok-text.ensures (rw (c.as_bytes.ensures.value, c.as_str.ensures.value) at c.in_ok-put_all.ensures.ok))
+    c.in_ok-book.ensures c.is_told-is_told.ensures c.in_ok-text.ensures (rw (c.as_bytes.ensures.value, c.as_str.ensures.value) at c.in_ok-put_all.ensures.ok))

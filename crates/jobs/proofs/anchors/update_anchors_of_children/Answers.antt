@@ -1,4 +1,5 @@
 use Rattle.std.proofs.Common.{arith, ◌∙◌, ap}
+use Rattle.std.proofs.Math.Nat.{le_trans}
 use Rattle.posix.specs.Tables.{lookup}
 use Rattle.posix.proofs.WalkLemmas.{at_child}
 use Rattle.pidset.proofs.AnchorLemmas.{turned_one}
@@ -28,6 +29,7 @@ loop-next-preserved g c =
       room = c.next_sibling-next.ensures.room ∙ c.update_anchor.ensures.room ∙ l.room;
       numbers = c.update_anchor.ensures.numbers ∙ l.numbers;
       read = let v = c.next_sibling-next.ensures.visits in let w = c.update_anchor.ensures.visits in let r = rw (c.in-Some.is, i.left) at l.read in omega (arith, v, w, r);
+      no_fewer = le_trans l.no_fewer (le_trans c.update_anchor.ensures.no_fewer c.next_sibling-next.ensures.no_fewer);
       begins = i.next;
       turned = turned_one c.args.pid c.in-Some.child (child_key c.args.parent.now) rs c.args.anchors.now.pairs c.loop-next.anchors.pairs _ _ i c.in-Some.is (c.update_anchor.ensures.moved i.what (ap (lookup c.in-Some.child) l.contents ∙ i.found)) l.turned;
     }

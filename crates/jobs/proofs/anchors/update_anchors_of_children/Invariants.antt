@@ -15,6 +15,7 @@ invariant-loop-next g l =
       room : g.K.ProcessTable.room l.table ≡ g.K.ProcessTable.room l.fn.table;
       numbers : l.anchors.numbers ≡ l.fn.anchors.numbers;
       read : g.K.ProcessTable.visits l.table + 2 * length (left_of l.next children) ≤ g.K.ProcessTable.visits l.fn.table + 1 + 2 * length children;
+      no_fewer : g.K.ProcessTable.visits l.fn.table ≤ g.K.ProcessTable.visits l.table;
       begins : first_pid (left_of l.next children) ≡ l.next;
       turned : (q : ℕ) → list_any (has_pid q) (left_of l.next children) ≡ false → (k : ℕ) → is_pair_in k q l.anchors.pairs ≡ is_turned l.fn.pid (child_key l.fn.parent) rs l.fn.anchors.pairs k q;
     }

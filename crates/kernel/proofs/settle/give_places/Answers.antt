@@ -46,6 +46,7 @@ loop-pid-preserved g c =
           let one = ap (λ (m : MachineView). m.visits) c.finish_recheck.ensures.rest in
           let was = c.loop-pid.invariant.visits in
           omega (arith, its, left, now, woke, one, was);
+      no_fewer = let one = ap (λ (m : MachineView). m.visits) c.finish_recheck.ensures.rest in omega (arith, one, c.wake-session.ensures.no_fewer, c.loop-pid.invariant.no_fewer);
     }
 
 pub returns-clause-state : goal.returns-clause-state

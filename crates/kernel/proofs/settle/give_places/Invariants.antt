@@ -10,6 +10,7 @@ pub record IsGiving (old now : MachineView) (last : Option ℕ) : Type 0 where
   pub foregrounds_unchecked : now.foregrounds_unchecked ≡ old.foregrounds_unchecked
   pub processes : now.state.processes ≡ old.state.processes
   pub visits : now.visits + slots_of_rechecks now.state.processes last now.to_recheck ≤ old.visits + slots_of_rechecks old.state.processes None old.to_recheck
+  pub no_fewer : old.visits ≤ now.visits
 
 abbrev pub invariant-loop-pid : goal.invariant-loop-pid
 invariant-loop-pid g l = IsGiving l.fn.machine l.machine l.last

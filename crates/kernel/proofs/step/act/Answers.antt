@@ -46,7 +46,7 @@ returns-in-Some-chosen-clause-acts g c = λ me e.
     let other : chosen me.life me.signals ≢ Some KILL = λ k. chosen_not c.args.snapshot.chosen KILL (sym c.eq.ensures ∙ c.if-eq.false) (ap (λ (f : Snapshot). f.chosen) is ∙ k) in
     let free : me.blocked ≡ None = ap (λ (f : Snapshot). f.blocked) (sym is) ∙ c.in_default.is in
     let takes : chosen me.life me.signals ≡ Some c.in-Some-chosen.sig = ap (λ (f : Snapshot). f.chosen) (sym is) ∙ c.in-Some-chosen.is in
-    (true, act_delivers true s me c.in-Some-chosen.sig (no_kill_chosen me.life me.signals other) free takes ∙ c.deliver.ensures me e)
+    (true, act_delivers true s me c.in-Some-chosen.sig (no_kill_chosen me.life me.signals other) free takes ∙ c.deliver.ensures.state me e)
 
 pub returns-in-None-clause-acts : goal.returns-in-None-clause-acts
 returns-in-None-clause-acts g c = λ me e.

@@ -1,4 +1,7 @@
 use Rattle.std.proofs.Common.{◌∙◌, arith, sym}
+use Rattle.std.proofs.Math.Nat.{le_trans}
+use Rattle.kernel.proofs.CountLemmas.{counts_one}
+use Rattle.posix.specs.States.{current_process}
 use Rattle.kernel.proofs.BurstLemmas.{placed_now, readies, shows}
 use Rattle.kernel.proofs.step.burst.Goals as goal
 
@@ -23,6 +26,8 @@ returns g c =
       numbers = shown.numbers;
       state = shown.state;
       visits = omega (arith, c.snapshot.ensures.looks.visits, e.runs.costs.visits);
+      no_fewer = le_trans c.snapshot.ensures.looks.no_fewer e.runs.costs.no_fewer;
+      counts = counts_one (current_process s) (le_trans (rw c.in-Some-snapshot.is at c.snapshot.ensures.counts) e.runs.costs.no_fewer);
       to_recheck = e.runs.to_recheck (placed_now s _ p c.snapshot.ensures.looks.same.state now) ∙ c.snapshot.ensures.looks.same.to_recheck;
       foregrounds_unchecked = e.runs.foregrounds_unchecked ∙ c.snapshot.ensures.looks.same.foregrounds_unchecked;
       regular = e.regular;

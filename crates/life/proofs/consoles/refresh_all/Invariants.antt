@@ -7,5 +7,6 @@ abbrev pub invariant-loop-console_index : goal.invariant-loop-console_index
 invariant-loop-console_index g l = record {
   consoles : l.consoles.items ≡ refreshed_to (refreshed_where l.fn.unchecked l.fn.table.processes) l.console_index l.fn.consoles.items;
   processes : l.table.processes ≡ l.fn.table.processes;
+  no_fewer : l.fn.table.visits ≤ l.table.visits;
   visits : l.table.visits ≤ l.fn.table.visits + count_by (is_unchecked l.fn.unchecked) (take l.console_index l.fn.consoles.items);
 }

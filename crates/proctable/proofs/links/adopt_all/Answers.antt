@@ -25,6 +25,7 @@ loop-next-init c =
       to = refl;
       room = c.ends_of.ensures.room;
       visits = omega (arith, from, to, length-filter all kids, count_by-le-length all kids, c.ends_of.ensures.visits);
+      no_fewer = c.ends_of.ensures.no_fewer;
       beside = beside_start c.args.to (records c.ends_of.new.cells.nodes) c.ends_of.result.last;
       adopting = subst (λ (l : List Node). IsAdopting ns c.args.from c.args.to l c.args.roots c.ends_of.result.last) (sym c.ends_of.ensures.nodes) start;
     }
@@ -72,6 +73,7 @@ loop-next-preserved c =
       from = refl;
       to = refl;
       visits = omega (arith, from, to, fewer, walked, c.ends_of-in-Some.ensures.visits, c.link-joined.ensures.visits, c.unlink-apart.ensures.visits, c.loop-next.invariant.visits);
+      no_fewer = omega (arith, c.ends_of-in-Some.ensures.no_fewer, c.link-joined.ensures.no_fewer, c.unlink-apart.ensures.no_fewer, c.loop-next.invariant.no_fewer);
       beside = subst (λ (l : List Node). IsBeside c.args.to (records l) c.ends_of-in-Some.result.last (Some c.in-Some.child)) (sym same) beside;
       room = c.ends_of-in-Some.ensures.room ∙ c.link-joined.ensures.room ∙ c.unlink-apart.ensures.room ∙ c.loop-next.invariant.room;
       adopting = subst (λ (l : List Node). IsAdopting c.args.cells.now.nodes c.args.from c.args.to l c.link-joined.result c.ends_of-in-Some.result.last) (sym same) step.0;

@@ -12,6 +12,7 @@ invariant-loop-next l = record {
   room : l.cells.room ≡ l.fn.cells.room;
   visits : l.cells.visits + 8 * length (children_in l.fn.from (records l.cells.nodes)) + length (left_before l.above (children_in l.fn.to (records l.cells.nodes)))
       ≤ l.fn.cells.visits + 1 + 8 * length (children_in l.fn.from (records l.fn.cells.nodes)) + length (children_in l.fn.to (records l.fn.cells.nodes));
+  no_fewer : l.fn.cells.visits ≤ l.cells.visits;
   beside : IsBeside l.fn.to (records l.cells.nodes) l.next l.above;
   adopting : IsAdopting l.fn.cells.nodes l.fn.from l.fn.to l.cells.nodes l.top l.next;
 }

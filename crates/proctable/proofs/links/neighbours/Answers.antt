@@ -14,6 +14,7 @@ loop-prev-init c = record {
   room = c.child_before-prev.ensures.room;
   pid = refl;
   visits = omega (arith, c.child_before-prev.ensures.visits);
+  no_fewer = c.child_before-prev.ensures.no_fewer;
   past = past_start c.args.cells.now.nodes c.args.roots c.args.pid c.args.parent c.child_before-prev.result c.args.above c.requires.rising c.requires.joined c.requires.parent c.requires.above c.child_before-prev.ensures.value;
 }
 
@@ -54,6 +55,7 @@ loop-prev-preserved c =
       room = c.prev_of-prev.ensures.room ∙ c.loop-prev.invariant.room;
       pid = refl;
       visits = omega (arith, less, c.prev_of-prev.ensures.visits, c.loop-prev.invariant.visits);
+      no_fewer = omega (arith, c.prev_of-prev.ensures.no_fewer, c.loop-prev.invariant.no_fewer);
       past = past_step ks c.args.pid c.in-Some.sibling c.loop-prev.prev c.loop-prev.next c.prev_of-prev.result c.loop-prev.invariant.past c.in-Some.is high value;
     }
 

@@ -13,6 +13,7 @@ invariant-loop-prev l =
       room : l.cells.room ≡ l.fn.cells.room;
       pid : l.pid ≡ l.fn.pid;
       visits : l.cells.visits + length (between l.fn.pid l.next ks) ≤ l.fn.cells.visits + 1 + length (between l.fn.pid l.fn.above ks);
+      no_fewer : l.fn.cells.visits ≤ l.cells.visits;
       past : IsPast ks l.fn.pid l.prev l.next;
     }
 

@@ -1,7 +1,8 @@
 use Rattle.std.proofs.Common.{◌≡◌, ◌++◌, ◌∷◌, [], ◌∙◌, Ok, sym, arith}
 use Rattle.std.proofs.lemmas.Grind.{common_steps}
 use Rattle.text.specs.Outlines.{completed}
-use Rattle.text.proofs.EachLemmas.{each-next, each-ends}
+use Rattle.posix.specs.Ranges.{is_instruction}
+use Rattle.text.proofs.EachLemmas.{all_and_one, each-next, each-ends}
 use Rattle.text.proofs.outline.instructions.Goals as goal
 
 pub loop-written-preserved : goal.loop-written-preserved
@@ -11,6 +12,7 @@ loop-written-preserved c =
     record {
       rest = rw pushed (each-next (completed c.args.names.programs.now c.args.names.labels.now) c.args.code.now c.loop-written.written-index c.written-item.result c.in_ok-instr.instr c.loop-written.instructions.items _ c.loop-written-test.true c.written-item.is gives c.loop-written.invariant.rest);
       len = grind (arith, common_steps);
+      range = rw pushed (all_and_one is_instruction c.loop-written.instructions.items c.in_ok-instr.instr c.loop-written.invariant.range c.range_holds.ensures);
     }
 
 pub returns-clause-answer : goal.returns-clause-answer

@@ -1,5 +1,7 @@
-use Rattle.std.proofs.Common.{◌≡◌, ◌++◌, length, drop}
+use Rattle.std.proofs.Common.{◌≡◌, ◌++◌, length, drop, true}
 use Rattle.std.specs.Prelude.{Ok}
+use Rattle.std.specs.List.{list_all}
+use Rattle.posix.specs.Ranges.{is_instruction}
 use Rattle.text.specs.Outlines.{completed}
 use Rattle.text.specs.Reading.{◌>>=◌, each}
 use Rattle.text.proofs.outline.instructions.Given as goal
@@ -9,4 +11,5 @@ invariant-loop-written l = record {
   rest : each (completed l.names.programs.now l.names.labels.now) l.code
       ≡ (each (completed l.names.programs.now l.names.labels.now) (drop l.written-index l.code) >>= λ rest. Ok (l.instructions.items ++ rest));
   len : length l.instructions.items ≡ l.written-index;
+  range : list_all is_instruction l.instructions.items ≡ true;
 }

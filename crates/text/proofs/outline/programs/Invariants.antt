@@ -1,5 +1,7 @@
-use Rattle.std.proofs.Common.{◌≡◌, ◌++◌, length, drop}
+use Rattle.std.proofs.Common.{◌≡◌, ◌++◌, length, drop, true}
 use Rattle.std.specs.Prelude.{Ok}
+use Rattle.std.specs.List.{list_all}
+use Rattle.posix.specs.Ranges.{is_program}
 use Rattle.text.specs.Outlines.{program_of}
 use Rattle.text.specs.Reading.{◌>>=◌, each}
 use Rattle.text.proofs.outline.programs.Given as goal
@@ -8,4 +10,5 @@ abbrev pub invariant-loop-outline : goal.invariant-loop-outline
 invariant-loop-outline l = record {
   rest : each (program_of l.names) l.outlines ≡ (each (program_of l.names) (drop l.outline-index l.outlines) >>= λ rest. Ok (l.programs.items ++ rest));
   len : length l.programs.items ≡ l.outline-index;
+  range : list_all is_program l.programs.items ≡ true;
 }

@@ -1,4 +1,5 @@
 use Rattle.std.proofs.Common.{ap, arith, sym, subst, refl, rules, true, ◌≡◌, ◌∙◌}
+use Rattle.std.proofs.Math.Nat.{le_trans}
 use Rattle.std.specs.Option.{option_map_or}
 use Rattle.posix.specs.Processes.{Process}
 use Rattle.posix.proofs.MapLemmas.{length_children}
@@ -56,11 +57,13 @@ unfolding give_record
 returns-clause-costs g c =
     let r = c.change_in-seen.ensures.run in
     let kids = rw (← r.0.is) at (length_children c.args.pid (give_record r.0.after) (λ r. refl) c.args.pid (g.K.ProcessTable.contents c.self.inside.table)) in
-    rw (← c.self.view_is) record { room = search rules; visits = grind (arith, c.update_anchors.ensures.visits, kids, c.change_in-seen.ensures.visits) }
+    let fewer = le_trans c.change_in-seen.ensures.no_fewer c.update_anchors.ensures.no_fewer in
+    rw (← c.self.view_is) record { room = search rules; visits = grind (arith, c.update_anchors.ensures.visits, kids, c.change_in-seen.ensures.visits); no_fewer = fewer }
 
 pub returns-clause-put : goal.returns-clause-put
 returns-clause-put g c = λ h.
     let r = c.change_in-seen.ensures.run in
     let put = subst (λ rs. StaysPut g.F.FnOnce c.args.change rs c.args.pid) (sym (processes_of c.self.view_is)) h in
     let keeps : keeps_group_and_session c.change_in-seen.result.before c.change_in-seen.result.after ≡ true = rw (r.1, r.2) (put _ _ _ r.0.found r.0.ran) in
-    rw (← c.self.view_is) record { room = search rules; visits = grind (arith, keeps, c.update_anchors.ensures.visits, c.change_in-seen.ensures.visits) }
+    let fewer = le_trans c.change_in-seen.ensures.no_fewer c.update_anchors.ensures.no_fewer in
+    rw (← c.self.view_is) record { room = search rules; visits = grind (arith, keeps, c.update_anchors.ensures.visits, c.change_in-seen.ensures.visits); no_fewer = fewer }

@@ -2,8 +2,8 @@ use Rattle.std.proofs.Common.{sym, subst, arith, ◌≤◌, []}
 use Rattle.posix.specs.States.{State}
 use Rattle.posix.specs.Settle.{IsSettled}
 use Rattle.posix.proofs.WakeLemmas.{first_settled}
-use Rattle.laws.specs.Agree.{Agree, AreTurns, IsOrderly}
-use Rattle.laws.proofs.AgreeRuns.{first_turns, first_orderly, first_agrees}
+use Rattle.laws.specs.Agree.{Agree, IsOrderly}
+use Rattle.laws.proofs.AgreeRuns.{first_orderly, first_agrees}
 use Rattle.kernel.proofs.kernel_on.KernelOn.boot.Goals as goal
 
 pub invariant_of-result : goal.invariant_of-result
@@ -15,14 +15,14 @@ invariant_of-result g c =
       c.in_ok-boot.ensures.regular,
       c.in_ok-boot.ensures.to_recheck,
       c.in_ok-boot.ensures.foregrounds_unchecked,
-      subst AreTurns (sym is) (first_turns c.args.world.now),
+      subst IsOrderly (sym is) (first_orderly c.args.world.now c.range_holds.ensures),
     )
 
 pub returns-clause-settled : goal.returns-clause-settled
 returns-clause-settled g c = subst IsSettled (sym c.in_ok-boot.ensures.state) (first_settled c.args.world.now)
 
 pub returns-clause-orderly : goal.returns-clause-orderly
-returns-clause-orderly g c = λ ranges. subst IsOrderly (sym c.in_ok-boot.ensures.state) (first_orderly c.args.world.now ranges)
+returns-clause-orderly g c = subst IsOrderly (sym c.in_ok-boot.ensures.state) (first_orderly c.args.world.now c.range_holds.ensures)
 
 pub returns-clause-agrees : goal.returns-clause-agrees
 returns-clause-agrees g c = subst (λ (s : State). Agree [] 0 s) (sym c.in_ok-boot.ensures.state) (first_agrees c.args.world.now)

@@ -2,11 +2,12 @@ use Rattle.std.proofs.Common.{◌≡◌, ◌<◌, true, ap, sym, subst, ◌∙�
 use Rattle.posix.specs.Outcomes.{Outcome}
 use Rattle.posix.proofs.WakeLemmas.{settled_stays}
 use Rattle.posix.proofs.CountLemmas.{next_halted}
+use Rattle.kernel.specs.Counts.{CountsOne}
 use Rattle.kernel.specs.Views.{KernelView}
 use Rattle.kernel.proofs.EventLemmas.{counts_on}
 use Rattle.posix.specs.NextPid.{is_free}
-use Rattle.laws.specs.Agree.{Agree, IsOrderly}
-use Rattle.laws.proofs.AgreeRuns.{step_agrees, step_turns, step_orderly}
+use Rattle.laws.specs.Agree.{Agree}
+use Rattle.laws.proofs.AgreeRuns.{step_agrees, step_orderly}
 use Rattle.laws.proofs.FormStays.{step_formed}
 use Rattle.laws.proofs.RefusalLemmas.{birth_free}
 use Rattle.kernel.proofs.kernel_on.KernelOn.event_into.Goals as goal
@@ -21,7 +22,7 @@ invariant_of-self g c =
       c.next.ensures.regular,
       c.next.ensures.to_recheck old.4,
       c.next.ensures.foregrounds_unchecked old.5,
-      step_turns c.self.inside.machine.state c.next.new.machine.state c.args.event _ c.next.ensures.step old.3 old.6,
+      step_orderly c.self.inside.machine.state c.next.new.machine.state c.args.event _ c.next.ensures.step c.range_holds.ensures old.3 old.6,
     )
 
 pub returns-clause-halted : goal.returns-clause-halted
@@ -34,19 +35,21 @@ pub returns-clause-settled : goal.returns-clause-settled
 returns-clause-settled g c = settled_stays c.self.inside.machine.state c.next.new.machine.state c.args.event _ c.next.ensures.step c.self.invariant.2
 
 pub returns-clause-orderly : goal.returns-clause-orderly
-returns-clause-orderly g c = λ ranges old.
-    step_orderly c.self.inside.machine.state c.next.new.machine.state c.args.event _ c.next.ensures.step ranges c.self.invariant.3 (subst (λ (k : KernelView). IsOrderly k.state) (sym c.self.view_is) old)
+returns-clause-orderly g c = step_orderly c.self.inside.machine.state c.next.new.machine.state c.args.event _ c.next.ensures.step c.range_holds.ensures c.self.invariant.3 c.self.invariant.6
 
 pub returns-clause-forms : goal.returns-clause-forms
-returns-clause-forms g c = λ ranges old.
-    step_formed c.self.inside.machine.state c.next.new.machine.state c.args.event _ c.next.ensures.step c.self.invariant.3 (subst (λ (k : KernelView). IsOrderly k.state) (sym c.self.view_is) old).kinds ranges c.self.inside.events
+returns-clause-forms g c =
+    step_formed c.self.inside.machine.state c.next.new.machine.state c.args.event _ c.next.ensures.step c.self.invariant.3 c.self.invariant.6.kinds c.range_holds.ensures c.self.inside.events
     (subst (λ (k : KernelView). k.events < 1000000000000) (sym c.self.view_is) c.requires.few)
 
 pub returns-clause-agrees : goal.returns-clause-agrees
 returns-clause-agrees g c = λ lines a.
-    step_agrees c.self.inside.machine.state c.next.new.machine.state c.args.event _ c.next.ensures.step c.self.invariant.3 c.self.invariant.6 lines c.self.inside.events
+    step_agrees c.self.inside.machine.state c.next.new.machine.state c.args.event _ c.next.ensures.step c.self.invariant.3 c.self.invariant.6.turns lines c.self.inside.events
     (subst (λ (k : KernelView). Agree lines k.events k.state) (sym c.self.view_is) a)
 
 pub returns-clause-no_number_is_given_out_twice : goal.returns-clause-no_number_is_given_out_twice
 returns-clause-no_number_is_given_out_twice g c = λ e n shown born.
     subst (λ (k : KernelView). is_free k.state.processes n ≡ true) c.self.view_is (birth_free c.self.inside.machine.state c.next.new.machine.state c.args.event _ c.next.ensures.step e n shown born)
+
+pub returns-clause-counts : goal.returns-clause-counts
+returns-clause-counts g c = λ steps. subst (λ (k : KernelView). CountsOne g.K.ProcessTable.one_more k.state k.visits c.next.new.machine.visits) c.self.view_is (c.next.ensures.counts steps)

@@ -2,7 +2,7 @@ use Rattle.std.proofs.Common.{rules, ◌∙◌, ◌≤◌, ◌+◌, ◌*◌, len
 use Rattle.posix.specs.Tables.{changed, children_in}
 use Rattle.posix.specs.Ends.{made_zombie}
 use Rattle.posix.specs.States.{State, is_in}
-use Rattle.life.specs.Machines.{state_of}
+use Rattle.life.specs.Machines.{state_of, IsNoted}
 use Rattle.life.specs.Rechecks.{with_numbers}
 use Rattle.posix.proofs.MapLemmas.{length_children}
 use Rattle.posix.proofs.RegularLemmas.{heir_there}
@@ -76,7 +76,7 @@ invariant_of-self g c =
     (rw up (i.sound.parents p me.what c.requires.other found)) (heir_there s p heir i.sound.regular h) c.insert.ensures.pids c.insert.ensures.room c.recheck_where.ensures c.recheck_where-2.ensures
     (deaf_parent s p parent c.args.status me.what _ c.change_seen-parent.result.after awaited found up made c.change_seen-parent.ensures.after c.is_awaited-awaited.ensures.value)
     (λ e. quiet_zombie s p c.args.status c.is_awaited-awaited.new.table.processes c.next_wanted.result i.sound.regular (c.is_awaited-awaited.ensures.same ∙ made) c.next_wanted.ensures (sym c.is_some-told.ensures ∙ e)) in
-    rw (c.adopt.ensures.processes, c.is_awaited-awaited.ensures.same, made, c.drop_place.ensures.pids) record { sound = search rules; listed = listed; noted = i.noted; fresh = fresh_all _ }
+    rw (c.adopt.ensures.processes, c.is_awaited-awaited.ensures.same, made, c.drop_place.ensures.pids) record { sound = search rules; listed = listed; noted = subst (λ n. IsNoted n m.groups_at_risk) (sym (room_of c.recheck_where-2.ensures ∙ room_of c.recheck_where.ensures ∙ c.insert.ensures.room)) i.noted; fresh = fresh_all _ }
 
 pub returns : goal.returns
 returns g c =

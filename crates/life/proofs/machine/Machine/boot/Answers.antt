@@ -1,9 +1,7 @@
 use Rattle.std.proofs.Common.{subst, sym, ap, ◌∙◌, ◌≡◌, arith, refl, [], ◌∷◌, replicate}
-use Rattle.std.specs.List.{AllByRecursion}
 use Rattle.posix.specs.Consoles.{unused_console}
 use Rattle.posix.specs.Processes.{first_process}
 use Rattle.posix.specs.Tables.{inserted}
-use Rattle.life.specs.Machines.{IsReaders}
 use Rattle.posix.specs.Settle.{AreFresh}
 use Rattle.posix.proofs.FreshLemmas.{first_fresh}
 use Rattle.posix.specs.States.{boot, is_in}
@@ -21,15 +19,15 @@ first_alone = refl
 pub invariant_of-result : goal.invariant_of-result
 unfolding Rises is_in
 invariant_of-result g c =
-    let bore = c.in_ok-lists.ensures.pids ∙ ap (λ m. born_in (unborne_table m) 1 1 1) c.pidmax-pidmax.ensures.value in
+    let bore = c.in_ok-lists.ensures.pids ∙ ap (λ m. record (born_in (unborne_table m) 1 1 1) { ready = c.in_ok-lists.lists.pids.ready }) c.pidmax-pidmax.ensures.value in
     let most = c.in_ok-lists.ensures.pidmax ∙ c.pidmax-pidmax.ensures.value in
     let unused : c.in_ok-terminals.terminals.consoles.items ≡ replicate c.in_ok-world.world.consoles unused_console = c.in_ok-terminals.ensures.consoles ∙ ap (λ n. replicate n unused_console) c.consoles.ensures.value in
     rw (c.in_ok-table.ensures.processes ∙ first_alone)
     (record {
-      sound = sound_first _ _ _ _ unused (omega (arith, c.pidmax-pidmax.ensures.range.0, c.pidmax-pidmax.ensures.value)) bore most c.in_ok-lists.ensures.kept c.in_ok-lists.ensures.order (omega (arith, c.in_ok-lists.ensures.places, c.pidmax-pidmax.ensures.value));
-      listed = listed_first _ _ _ _ (first_is_boot _ _ c.in_ok-lists.lists.pids c.in_ok-lists.lists.order unused c.in_ok-lists.ensures.last c.in_ok-lists.ensures.order) c.in_ok-lists.ensures.nobody c.pidmax-pidmax.ensures.value c.in_ok-lists.ensures.rechecks (subst (λ n. AllByRecursion (IsReaders n) c.in_ok-terminals.terminals.readers.items) c.pidmax-pidmax.ensures.value c.in_ok-terminals.ensures.each) (c.in_ok-terminals.ensures.many ∙ c.consoles.ensures.value) c.in_ok-terminals.ensures.none;
+      sound = sound_first _ _ _ _ unused (omega (arith, c.pidmax-pidmax.ensures.range.0, c.pidmax-pidmax.ensures.value)) bore most c.in_ok-lists.ensures.kept c.in_ok-lists.ensures.order c.in_ok-lists.ensures.places;
+      listed = listed_first _ _ _ (first_is_boot _ _ c.in_ok-lists.lists.pids c.in_ok-lists.lists.order unused c.in_ok-lists.ensures.last c.in_ok-lists.ensures.order) c.in_ok-lists.ensures.nobody c.in_ok-lists.ensures.rechecks (c.in_ok-terminals.ensures.each _) c.in_ok-terminals.ensures.ready (c.in_ok-terminals.ensures.many ∙ c.consoles.ensures.value) c.in_ok-terminals.ensures.none;
       fresh = subst AreFresh (sym (first_is_boot c.in_ok-world.world _ c.in_ok-lists.lists.pids c.in_ok-lists.lists.order unused c.in_ok-lists.ensures.last c.in_ok-lists.ensures.order)) (first_fresh c.in_ok-world.world);
-      noted = record { rising = rw c.in_ok-lists.ensures.no_group tt; within = λ q e. absurd (let none = ap (is_in q) c.in_ok-lists.ensures.no_group in cc); room = let few = c.pidmax-pidmax.ensures.value in let all = c.in_ok-lists.ensures.groups in omega (arith, few, all) };
+      noted = record { rising = rw c.in_ok-lists.ensures.no_group tt; room = omega (arith, c.in_ok-lists.ensures.rechecks, c.in_ok-lists.ensures.groups) };
     })
 
 pub returns-clause-state : goal.returns-clause-state

@@ -14,6 +14,7 @@ invariant-loop-next g l =
     record {
       same : AreSame l.fn.self l.self;
       read : l.self.visits + 2 * length (left_of l.next rs) ≤ l.fn.self.visits + 1 + 2 * length rs;
+      no_fewer : l.fn.self.visits ≤ l.self.visits;
       there : IfSome l.next (λ p. IsSome (lookup p rs));
       living : l.living + count_by is_living (left_of l.next rs) ≡ count_by is_living rs;
       zombies : l.zombies + count_by (λ r. is_zombie r.life) (left_of l.next rs) ≡ count_by (λ r. is_zombie r.life) rs;

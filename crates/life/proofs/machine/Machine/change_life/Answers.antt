@@ -1,4 +1,5 @@
 use Rattle.std.proofs.Common.{◌∙◌, arith, refl, rules, sym, [], ◌∷◌}
+use Rattle.std.proofs.Math.Nat.{le_trans}
 use Rattle.posix.proofs.TableLemmas.{rising_changed}
 use Rattle.life.specs.Changes.{lives}
 use Rattle.life.specs.Rechecks.{with_numbers}
@@ -47,7 +48,7 @@ returns-then-ne g c =
     let put = did.put (lived_put k c.requires.living (λ b d r k q. search rules)) in
     told_changes c.self.view_is k
     (told_parent c.self.invariant.sound k (sym c.ne.ensures ∙ c.if-ne.true) c.notice-acts.ensures.processes did.after c.notice-acts.ensures.acts c.insert.ensures.pids (pids_of c.recheck_where.ensures)) refl refl refl
-    (record { visits = omega (arith, put.visits, c.notice-acts.ensures.costs.visits); groups_at_risk = refl; regular = c.self.invariant.sound.regular })
+    (record { visits = omega (arith, put.visits, c.notice-acts.ensures.costs.visits); no_fewer = le_trans put.no_fewer c.notice-acts.ensures.costs.no_fewer; groups_at_risk = refl; regular = c.self.invariant.sound.regular })
 
 pub returns-else-ne : goal.returns-else-ne
 returns-else-ne g c =
@@ -55,4 +56,4 @@ returns-else-ne g c =
     let k = has_lived _ _ c.args.pid _ c.args.life c.args.news (state_is c.self.view_is) c.self.invariant.sound.regular c.requires.there did.run (λ b d r k q. search rules) did.parent in
     let put = did.put (lived_put k c.requires.living (λ b d r k q. search rules)) in
     told_changes c.self.view_is k (told_nobody c.self.invariant.sound.regular k (sym c.ne.ensures ∙ c.if-ne.false) c.insert.ensures.pids) refl refl refl
-    (record { visits = omega (arith, put.visits); groups_at_risk = refl; regular = c.self.invariant.sound.regular })
+    (record { visits = omega (arith, put.visits); no_fewer = put.no_fewer; groups_at_risk = refl; regular = c.self.invariant.sound.regular })

@@ -8,7 +8,7 @@ use Rattle.proctable.specs.Records.{process_of}
 use Rattle.jobs.proofs.KeptLemmas.{record_found}
 use Rattle.life.specs.Machines.{MachineView}
 use Rattle.life.specs.Rechecks.{with_numbers}
-use Rattle.life.specs.Changes.{StaysRegular}
+use Rattle.life.specs.Changes.{StaysRegular, StaysInSession}
 use Rattle.life.proofs.SoundLemmas.{here_in}
 use Rattle.life.proofs.RecheckLemmas.{has_room, room_after, pids_of, room_of}
 use Rattle.life.proofs.FunnelLemmas.{not_moved, machine_shown, can_move_numbers, seen_is, parent_there, there_record}
@@ -30,7 +30,9 @@ move_numbers-requires g c =
     let stays = subst (λ (s : State). StaysRegular g.F.FnOnce c.args.change s c.args.pid) (sym (state_is c.self.view_is)) c.requires.regular in
     let before = seen_is _ _ _ c.change_seen-parent.ensures.before run.found in
     let after = seen_is _ _ _ c.change_seen-parent.ensures.after (ap (lookup c.args.pid) run.is ∙ record_found _ c.args.pid run.before run.after run.found) in
-    rw (before, after) (can_move_numbers _ _ _ c.self.invariant.sound c.args.pid run.before run.after run.found (stays c.self.invariant.sound.regular _ _ _ run.found run.ran))
+    let grouped = subst (λ (s : State). StaysGrouped g.F.FnOnce c.args.change s.processes c.args.pid) (sym (state_is c.self.view_is)) c.requires.grouped in
+    let session = subst (λ (s : State). StaysInSession g.F.FnOnce c.args.change s.processes c.args.pid) (sym (state_is c.self.view_is)) c.requires.session in
+    rw (before, after) (can_move_numbers _ _ _ c.self.invariant.sound c.args.pid run.before run.after run.found (stays c.self.invariant.sound.regular _ _ _ run.found run.ran) (grouped _ _ _ run.found run.ran) (session _ _ _ run.found run.ran))
 
 pub invariant_of-self : goal.invariant_of-self
 invariant_of-self g c =

@@ -7,7 +7,7 @@ use Rattle.jobs.proofs.RunLemmas.{run_as, put_as, put_grouped}
 use Rattle.life.proofs.FunnelLemmas.{machine_changed}
 use Rattle.life.proofs.MoveLemmas.{told_put}
 use Rattle.life.proofs.NewsLemmas.{touches_told, keeps_told}
-use Rattle.life.proofs.RecheckLemmas.{listed_same}
+use Rattle.life.proofs.RecheckLemmas.{listed_same, many_changed}
 use Rattle.life.proofs.machine.Machine.clear_news.Goals as goal
 
 pub change_seen-requires-clause-grouped : goal.change_seen-requires-clause-grouped
@@ -17,8 +17,8 @@ pub invariant_of-self : goal.invariant_of-self
 invariant_of-self g c =
     let i = c.self.invariant in
     rw (run_as news_told c.change_seen.ensures.run i.sound.regular.rising (λ b d r k q. search rules))
-    (machine_changed _ _ _ _ _ c.args.pid news_told keeps_told (regular_change c.args.pid news_told _ keeps_news_told i.sound.regular) i
-    (listed_same _ _ _ [] i.listed (touches_told _ c.args.pid i.sound.regular.rising) (refl, refl, λ q u e. e) (λ q e. some_changed c.args.pid q news_told keeps_told.pid _ e) (λ q t e. absurd (in_none q e))))
+    (machine_changed _ _ _ _ _ c.args.pid news_told keeps_told (regular_change c.args.pid news_told _ keeps_news_told i.sound.regular) i refl
+    (listed_same _ _ _ [] i.listed (touches_told _ c.args.pid i.sound.regular.rising) (refl, refl, λ q u e. e) (many_changed c.args.pid news_told _) (λ q e. some_changed c.args.pid q news_told keeps_told.pid _ e) (λ q t e. absurd (in_none q e))))
 
 pub returns : goal.returns
 returns g c = record {

@@ -15,7 +15,7 @@ invariant_of-self g c =
     rw c.go_last.ensures.pids record {
       sound = sound_order _ _ _ _ _ (omega (arith, c.go_last.ensures.room)) (regular_last c.args.pid _ c.self.invariant.sound.regular h) c.self.invariant.sound;
       listed = listed_same _ _ _ [] c.self.invariant.listed (touches_last _ c.args.pid)
-          (refl, refl, λ q u e. in_last q c.args.pid _ ∙ ap (λ b. b || c.args.pid == q) (still_out c.args.pid q _ e) ∙ ne_eqb c.args.pid q (λ same. both_ways _ e (subst (λ n. is_in n c.self.inside.order.pids ≡ true) same h))) (λ q e. e) (λ q there e. absurd (in_none q e));
+          (refl, refl, λ q u e. in_last q c.args.pid _ ∙ ap (λ b. b || c.args.pid == q) (still_out c.args.pid q _ e) ∙ ne_eqb c.args.pid q (λ same. both_ways _ e (subst (λ n. is_in n c.self.inside.order.pids ≡ true) same h))) refl (λ q e. e) (λ q there e. absurd (in_none q e));
       noted = c.self.invariant.noted;
       fresh = c.self.invariant.fresh;
     }

@@ -9,7 +9,7 @@ use Rattle.life.specs.Rechecks.{with_parent}
 use Rattle.life.specs.Machines.{MachineView, state_of, with_processes}
 use Rattle.life.proofs.PartLemmas.{machine_counted}
 use Rattle.life.proofs.EndLemmas.{regular_ended}
-use Rattle.life.proofs.FunnelLemmas.{stays_so, with_lost}
+use Rattle.life.proofs.FunnelLemmas.{stays_so, with_lost, put_session}
 use Rattle.life.proofs.MoveLemmas.{ended_put}
 use Rattle.life.proofs.machine.Machine.halt.Goals as goal
 
@@ -37,3 +37,6 @@ returns g c =
 
 pub change_seen-requires-clause-grouped : goal.change_seen-requires-clause-grouped
 change_seen-requires-clause-grouped g c = put_grouped _ _ (put_as 1 _ (ended c.args.status) (λ r e. ended_put c.args.status r) (λ b d r k q. search rules))
+
+pub change_seen-requires-clause-session : goal.change_seen-requires-clause-session
+change_seen-requires-clause-session g c = put_session _ _ (put_as 1 _ (ended c.args.status) (λ r e. ended_put c.args.status r) (λ b d r k q. search rules))

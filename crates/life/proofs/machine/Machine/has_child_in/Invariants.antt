@@ -11,6 +11,7 @@ invariant-loop-next_child g l =
       same : AreSame l.fn.self l.self;
       walk : IsSeeking rs l.parent l.group l.next_child l.next_member;
       read : l.self.visits + 2 * length (left_of l.next_child (children_in l.parent rs)) ≤ l.fn.self.visits + 1 + 2 * length (children_in l.parent rs);
+      no_fewer : l.fn.self.visits ≤ l.self.visits;
     }
 
 abbrev pub decreases-loop-next_child : goal.decreases-loop-next_child

@@ -1,4 +1,4 @@
-use Rattle.std.proofs.Common.{rules, ◌≡◌, ◌∙◌, ◌&&◌, ◌==◌, ◌+◌, ◌-◌, ◌≤◌, not, ap, sym, arith, subst, refl, true, false, ℕ, None}
+use Rattle.std.proofs.Common.{rules, ◌≡◌, ◌∙◌, ◌&&◌, ◌==◌, ◌-◌, not, ap, sym, arith, subst, refl, false}
 use Rattle.posix.specs.Regular.{IsRegular}
 use Rattle.posix.proofs.HeirLemmas.{both, none_early, none_late}
 use Rattle.std.proofs.lemmas.Bool.{not-true}

@@ -14,6 +14,7 @@ invariant-loop-left g l =
       walk : walk_from rs l.pid l.left l.forebear ≡ heir_in rs l.pid;
       first : l.forebear ≡ 1 → walk_from rs l.pid l.left 1 ≡ 1;
       read : l.self.visits + slots_of_walk (forebears rs) l.pid l.left l.forebear ≤ l.fn.self.visits + slots_of_heir rs l.pid;
+      no_fewer : l.fn.self.visits ≤ l.self.visits;
     }
 
 abbrev pub decreases-loop-left : goal.decreases-loop-left

@@ -24,7 +24,7 @@ invariant_of-self g c =
     let p = c.args.pid in
     let i = c.self.invariant in
     rw (run_as f c.change_seen.ensures.run i.sound.regular.rising (λ b d r k q. search rules))
-    (machine_changed _ _ _ _ _ p f (marked_numbers c.args.mark) (regular_change p f _ (keeps_marked c.args.mark) i.sound.regular) i
+    (machine_changed _ _ _ _ _ p f (marked_numbers c.args.mark) (regular_change p f _ (keeps_marked c.args.mark) i.sound.regular) i (room_of c.recheck_later.ensures)
     (listed_change _ p f _ _ i.listed (marked_numbers c.args.mark).pid (touches_unseen _ p f (unseen_marked c.args.mark)) (here_in p (state_is c.self.view_is) c.requires) (pids_of c.recheck_later.ensures) (room_of c.recheck_later.ensures)))
 
 pub returns : goal.returns

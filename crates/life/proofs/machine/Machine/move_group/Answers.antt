@@ -1,4 +1,4 @@
-use Rattle.std.proofs.Common.{arith, length, rules, w64, to_z, of_z, ◌≡◌, ◌∙◌, ap, sym, Some, None, option_map, inr}
+use Rattle.std.proofs.Common.{arith, length, rules, w64, to_z, of_z, ◌≡◌, ◌∙◌, ap, sym, Some, None, option_map, inl, inr}
 use Rattle.std.proofs.lemmas.Result.{err_from_is_err_and}
 use Rattle.posix.specs.Tables.{children_in, lookup}
 use Rattle.posix.specs.Processes.{Process}
@@ -35,6 +35,7 @@ change_seen-requires g c =
       there = is_there _ it.what (ap (lookup c.in-Some.it.pid) c.group_to_join.ensures.looks.processes ∙ it.found);
       callable = search rules;
       grouped = λ b d r here k. inr (rw c.group_to_join.ensures.looks.processes (let is : d.group ≡ c.in_ok-group.group = search rules in rw is it.joins));
+      session = λ b d r here k. inl (search rules);
       regular = stays_so c.in-Some.it.pid (in_group c.in_ok-group.group) t (λ i. rw c.group_to_join.ensures.looks.processes it.regular) (λ b d r k q. search rules);
     }
 

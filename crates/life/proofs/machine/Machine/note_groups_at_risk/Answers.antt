@@ -1,18 +1,32 @@
-use Rattle.std.proofs.Common.{rules, ◌≡◌, ◌||◌, arith, ap, ◌∙◌, subst, cond, length, ℕ}
+use Rattle.std.proofs.Common.{rules, ◌≡◌, ◌||◌, arith, ap, refl, ◌∙◌, subst, cond, length, List, ℕ}
 use Rattle.std.specs.List.{list_any}
 use Rattle.posix.specs.Numbers.{with_number}
-use Rattle.posix.specs.Tables.{children_in, first_pid, next_sibling}
+use Rattle.posix.specs.Tables.{children_in, is_child, first_pid, next_sibling}
+use Rattle.posix.proofs.PassingLemmas.{filter_at_most}
 use Rattle.posix.specs.States.{State, process, is_in}
 use Rattle.posix.specs.Regular.{IsRegular}
 use Rattle.posix.specs.Groups.{is_anchor}
 use Rattle.life.proofs.SoundLemmas.{there}
 use Rattle.life.proofs.ChildLemmas.{child_here, first_here, first_todo, child_less, next_here}
-use Rattle.life.proofs.AtRiskLemmas.{noted_again, keeps, begin_noted, step_noted, noted_cleared}
+use Rattle.life.proofs.AtRiskLemmas.{noted_again, few_noted, keeps, begin_noted, step_noted, noted_cleared}
 use Rattle.life.proofs.ViewLemmas.{state_is}
 use Rattle.life.proofs.machine.Machine.note_groups_at_risk.Goals as goal
 
 pub invariant_of-self : goal.invariant_of-self
 invariant_of-self g c = noted_again c.self.invariant (noted_cleared _ _ _ c.self.invariant.noted c.clear.ensures.pids c.clear.ensures.room)
+
+pub note_anchor-requires : goal.note_anchor-requires
+note_anchor-requires g c = let none = ap (λ (ns : List ℕ). length ns) c.clear.ensures.pids in omega (arith, none)
+
+pub note_anchor-requires-in-Some : goal.note_anchor-requires-in-Some
+unfolding children_in
+note_anchor-requires-in-Some g c =
+    let i = c.loop-next.invariant in
+    let at = child_here i.walk c.in-Some.is in
+    let less = child_less i.walk c.in-Some.is refl in
+    let kids = filter_at_most (is_child c.args.pid) c.args.self.now.state.processes in
+    let same = ap (λ (t : State). length t.processes) i.same in
+    omega (arith, i.few, less, kids, same)
 
 pub loop-next-init : goal.loop-next-init
 loop-next-init g c =
@@ -29,6 +43,9 @@ loop-next-init g c =
     let walk = first_here s.processes regular.rising c.args.pid _ next in
     let todo = λ (n : ℕ). ap (λ qs. is_in n c.first_child-next.new.self.groups_at_risk || list_any (keeps s.processes n) qs) all ∙ begin_noted s.processes regular.rising c.args.pid me.what me.found _ _ c.clear.ensures.pids now n in
     let many = ap length all in
+    let few = few_noted (is_anchor s.processes me.what) me.what.group c.clear.new.self.pids in
+    let none = ap (λ (ns : List ℕ). length ns) c.clear.ensures.pids in
+    let count = ap (λ (ns : List ℕ). length ns) now in
     search (rules, arith)
 
 pub loop-next-preserved : goal.loop-next-preserved
@@ -43,4 +60,6 @@ loop-next-preserved g c =
     let walk = next_here i.walk c.in-Some.is next in
     let todo = λ (n : ℕ). step_noted c.args.self.now.state.processes c.args.pid c.in-Some.child _ _ at c.in-Some.is next ns _ now n ∙ i.todo n in
     let less = child_less i.walk c.in-Some.is next in
+    let more = few_noted (is_anchor c.args.self.now.state.processes at.what) at.what.group ns in
+    let count = ap (λ (ns : List ℕ). length ns) now in
     search (rules, arith)

@@ -14,7 +14,7 @@ invariant_of-self g c =
     let is = ap (λ (s : State). record s { ticks = s.ticks + 1 }) (state_is c.self.view_is ∙ c.ring_all.ensures.state) in
     record {
       sound = record { regular = subst IsRegular (sym is) (regular_pass c.args.self.now.state c.ring_all.ensures.costs.regular); parents = i.sound.parents; counted = i.sound.counted; kept = i.sound.kept };
-      listed = listed_same _ _ _ [] i.listed (touches_none _ _ refl refl refl) (refl, refl, λ q u e. e) (λ q e. e) (λ q there e. absurd (in_none q e));
+      listed = listed_same _ _ _ [] i.listed (touches_none _ _ refl refl refl) (refl, refl, λ q u e. e) refl (λ q e. e) (λ q there e. absurd (in_none q e));
       noted = i.noted;
       fresh = i.fresh;
     }

@@ -12,12 +12,17 @@ use Rattle.life.proofs.RecheckLemmas.{listed_same}
 use Rattle.life.proofs.ViewLemmas.{state_is}
 use Rattle.life.proofs.machine.Machine.place.Goals as goal
 
+pub place-requires-clause-some : goal.place-requires-clause-some
+place-requires-clause-some g c =
+    let there = subst (λ (s : State). IsPlaced s.processes c.args.pid) (sym (state_is c.self.view_is)) c.requires.there in
+    let l = (c.self.invariant.sound.regular.bounded c.args.pid there.what there.found).least in
+    let same = pid_looked c.args.pid _ there.what there.found in
+    omega (arith, l, same)
+
 pub place-requires-clause-room : goal.place-requires-clause-room
 place-requires-clause-room g c =
     let there = subst (λ (s : State). IsPlaced s.processes c.args.pid) (sym (state_is c.self.view_is)) c.requires.there in
-    let l = (c.self.invariant.sound.regular.bounded c.args.pid there.what there.found).pid in
-    let same = pid_looked c.args.pid _ there.what there.found in
-    omega (arith, l, same, c.self.invariant.sound.kept.room)
+    c.self.invariant.sound.kept.room c.args.pid (rw there.found refl)
 
 pub invariant_of-self : goal.invariant_of-self
 unfolding is_in
@@ -27,7 +32,7 @@ invariant_of-self g c =
     rw c.place.ensures.pids record {
       sound = sound_order _ _ _ _ _ (omega (arith, c.place.ensures.room)) (regular_placed c.args.pid _ c.self.invariant.sound.regular there none) c.self.invariant.sound;
       listed = listed_same _ _ _ (c.args.pid ∷ []) c.self.invariant.listed (λ q r e u. touches_placed _ c.args.pid q r e refl)
-          (refl, refl, λ q u e. in_last q c.args.pid _ ∙ ap (λ b. b || c.args.pid == q) e ∙ ne_eqb c.args.pid q (λ same. apart_first q c.args.pid [] u (sym same))) (λ q e. e)
+          (refl, refl, λ q u e. in_last q c.args.pid _ ∙ ap (λ b. b || c.args.pid == q) e ∙ ne_eqb c.args.pid q (λ same. apart_first q c.args.pid [] u (sym same))) refl (λ q e. e)
           (λ q there e. inl (subst (λ n. is_in n c.self.inside.to_recheck.pids ≡ true) (sym (in_one q c.args.pid e)) (ap (λ (m : MachineView). is_in c.args.pid m.to_recheck) c.self.view_is ∙ c.requires.to_recheck)));
       noted = c.self.invariant.noted;
       fresh = c.self.invariant.fresh;

@@ -1,4 +1,5 @@
 use Rattle.std.proofs.Common.{◌≡◌, ℕ, ◌+◌, ap, sym, ◌∙◌, subst, refl, arith, filter, length, true, Option}
+use Rattle.std.proofs.Math.Nat.{le_refl, le_trans}
 use Rattle.std.specs.Option.{IfSome, IsSome}
 use Rattle.posix.specs.Processes.{Process}
 use Rattle.posix.specs.Tables.{IsNext, lookup, changed}
@@ -19,6 +20,7 @@ loop-next-init g c =
       rising = n.regular.rising;
       due = n.due;
       costs = omega arith;
+      no_fewer = le_refl _;
       groups_at_risk = refl;
       foregrounds_unchecked = refl;
       rest = refl;
@@ -51,6 +53,7 @@ loop-next-preserved g c =
           let fewer = fewer_due (first.ticks + 1) pid s.processes it.what it.found (h.due pid it.what c.in-Some.is it.found) in
           let left = ap (λ (t : State). length (filter (λ (r : Process). is_due (first.ticks + 1) r.alarm) t.processes)) rung in
           omega (arith, fewer, left, c.ring.ensures.costs.visits, h.costs);
+      no_fewer = le_trans h.no_fewer c.ring.ensures.costs.no_fewer;
       groups_at_risk = c.ring.ensures.costs.groups_at_risk ∙ h.groups_at_risk;
       foregrounds_unchecked = c.ring.ensures.foregrounds_unchecked ∙ h.foregrounds_unchecked;
       rest = rung ∙ ap (λ (t : State). record t { processes = changed pid (ring_at (first.ticks + 1)) s.processes }) h.rest ∙ ap (λ rs. record first { processes = rs }) (sym (ap (λ (t : State). t.processes) rung));

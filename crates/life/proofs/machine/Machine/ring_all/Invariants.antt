@@ -17,6 +17,7 @@ invariant-loop-next g l =
       rising : IsRising now.processes;
       due : (p : ℕ) (r : Process) → l.next ≡ Some p → lookup p now.processes ≡ Some r → is_due (first.ticks + 1) r.alarm ≡ true;
       costs : l.self.visits + length (filter (λ r. is_due (first.ticks + 1) r.alarm) now.processes) ≤ l.fn.self.visits + length (filter (λ r. is_due (first.ticks + 1) r.alarm) first.processes);
+      no_fewer : l.fn.self.visits ≤ l.self.visits;
       groups_at_risk : l.self.groups_at_risk ≡ l.fn.self.groups_at_risk;
       foregrounds_unchecked : l.self.foregrounds_unchecked ≡ l.fn.self.foregrounds_unchecked;
       rest : now ≡ record first { processes = now.processes };

@@ -43,7 +43,7 @@ returns-in-Process-clause-changes g c =
       state = rw (c.in-Process.is, ← targets_numbered me c.in-Process.pid rs) changes.state;
       to_recheck = rw (c.in-Process.is, ← targets_numbered me c.in-Process.pid rs) changes.to_recheck;
       foregrounds_unchecked = changes.foregrounds_unchecked;
-      costs = record { visits = omega (arith, product, changes.costs.visits); groups_at_risk = changes.costs.groups_at_risk; regular = changes.costs.regular };
+      costs = record { visits = omega (arith, product, changes.costs.visits); no_fewer = changes.costs.no_fewer; groups_at_risk = changes.costs.groups_at_risk; regular = changes.costs.regular };
     }
 
 pub returns-in-Nobody-clause-sending : goal.returns-in-Nobody-clause-sending

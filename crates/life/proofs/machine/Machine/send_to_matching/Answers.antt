@@ -1,4 +1,5 @@
 use Rattle.std.proofs.Common.{subst, List, ap, sym, ◌∙◌, arith, filter, length, Option, ℕ, ◌+◌, ◌*◌, refl}
+use Rattle.std.proofs.Math.Nat.{le_trans}
 use Rattle.posix.specs.declared.process.Sending.TheVariants.{NobodyFound}
 use Rattle.posix.specs.Tables.{left_of}
 use Rattle.posix.specs.States.{State}
@@ -32,6 +33,7 @@ loop-next-init g c =
           let less = left_at_most c.next_target-next.result (filter (is_candidate r c.args.target.now) s.processes) in
           let product = mul-le-mul_left (2 + slots_of_send (number_of c.args.signal.now)) less in
           omega (arith, product, finds.looks.visits);
+      no_fewer = finds.looks.no_fewer;
       rising = finds.looks.regular.rising;
       room = subst (λ (l : List Process). HaveRoom (g.S.Pools.pools c.args.pools.now) (queuers (number_of c.args.signal.now) (permitted r (number_of c.args.signal.now) l))) (sym all) c.requires.room;
       rest = refl;
@@ -74,6 +76,7 @@ loop-next-preserved g c =
           let less = candidates_less r target pid rs mid c.loop-next.next next at c.in-Some.is (blank_sent r sig order _ k l sent) c.next_target-next-in-Some.ensures.is in
           let on = reads_on (1 + slots_of_send (number_of sig)) (length (left_of c.loop-next.next (filter (is_candidate r target) rs))) (length (left_of next (filter (is_candidate r target) mid))) c.loop-next.self.visits c.next_target-next-in-Some.new.self.visits (c.loop-next.self.visits + (1 + (1 + slots_of_send (number_of sig))) * length (left_of c.loop-next.next (filter (is_candidate r target) rs))) (omega (arith, less)) (omega (arith, changes.costs.visits, finds.looks.visits)) (omega arith) in
           omega (arith, on, i.read);
+      no_fewer = le_trans i.no_fewer (le_trans changes.costs.no_fewer finds.looks.no_fewer);
       rising = finds.looks.regular.rising;
       room =
           let left = subst (λ o. HaveRoom (g.S.Pools.pools c.loop-next.pools) (queuers_among r target (number_of sig) (left_of o rs))) c.in-Some.is i.room in
@@ -100,6 +103,6 @@ returns g c =
         state = ap (λ (t : State). with_processes t c.loop-next.self.state.processes) i.rest ∙ ap (λ (k : Sent). with_processes s k.processes) done;
         to_recheck = ap (λ (k : Sent). k.to_recheck) done;
         foregrounds_unchecked = i.foregrounds_unchecked;
-        costs = record { visits = omega (arith, i.read); groups_at_risk = i.groups_at_risk; regular = c.next_target-next.ensures.finds.looks.regular };
+        costs = record { visits = omega (arith, i.read); no_fewer = i.no_fewer; groups_at_risk = i.groups_at_risk; regular = c.next_target-next.ensures.finds.looks.regular };
       };
     }

@@ -21,6 +21,7 @@ invariant-loop-next g l =
       there : IfSome l.next (λ p. IsSome (lookup p now.processes));
       begins : first_pid (left_of l.next (filter (is_candidate r l.target) now.processes)) ≡ l.next;
       read : l.self.visits + (2 + slots_of_send (number_of l.signal)) * length (left_of l.next (filter (is_candidate r l.target) now.processes)) ≤ l.fn.self.visits + 1 + (2 + slots_of_send (number_of l.signal)) * length (filter (is_candidate r l.fn.target) first.processes);
+      no_fewer : l.fn.self.visits ≤ l.self.visits;
       rising : IsRising now.processes;
       room : HaveRoom (g.S.Pools.pools l.pools) (queuers_among r l.target (number_of l.signal) (left_of l.next now.processes));
       rest : with_processes now first.processes ≡ first;

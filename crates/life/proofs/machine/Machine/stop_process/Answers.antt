@@ -22,5 +22,5 @@ returns g c = λ me found.
           ∙ ap (λ q. record (lose_place s q) { processes = told_of_change (stopped n) me (changed q (stopped_by n) s.processes) }) (sym named);
       to_recheck = did.to_recheck ∙ told_lost (is_in p s.order) p (stopped_by n me) named (process c.change_life.new.self.state me.parent) _ c.args.self.now.to_recheck;
       foregrounds_unchecked = did.foregrounds_unchecked;
-      costs = record { visits = did.costs.visits; groups_at_risk = did.costs.groups_at_risk; regular = c.lose_place.ensures.regular };
+      costs = record { visits = did.costs.visits; no_fewer = did.costs.no_fewer; groups_at_risk = did.costs.groups_at_risk; regular = c.lose_place.ensures.regular };
     }

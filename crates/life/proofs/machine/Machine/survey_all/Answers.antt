@@ -1,4 +1,5 @@
 use Rattle.std.proofs.Common.{ap, ◌∙◌, arith, filter, length, subst}
+use Rattle.std.proofs.Math.Nat.{le_trans}
 use Rattle.posix.specs.Tables.{IsNext, above, first_pid}
 use Rattle.posix.specs.States.{State}
 use Rattle.posix.specs.Sends.{is_target, targets}
@@ -24,6 +25,7 @@ loop-next-init g c =
       there = finds.value.there;
       begins = next_begins 0 (filter (is_candidate r c.args.target.now) rs) c.next_target-next.result c.next_target-next.ensures.is;
       read = omega (arith, left_at_most c.next_target-next.result (filter (is_candidate r c.args.target.now) rs), finds.looks.visits);
+      no_fewer = finds.looks.no_fewer;
       surveyed = none_surveys _ ∙ ap (survey_of r c.args.sig) all;
     }
 
@@ -56,6 +58,7 @@ loop-next-preserved g c =
       there = is_next.there;
       begins = next_begins pid (filter (is_candidate r target) rs) next is;
       read = omega (arith, less, i.read, one.looks.visits, comes.finds.looks.visits);
+      no_fewer = le_trans i.no_fewer (le_trans one.looks.no_fewer comes.finds.looks.no_fewer);
       surveyed = surveyed_on r c.args.sig target pid rs c.loop-next.next next c.loop-next.survey c.survey_one.result c.and-survey.result _ up c.in-Some.is is_next (one.value ∙ ap here i.same.state) c.and-survey.ensures i.surveyed;
     }
 
@@ -64,5 +67,5 @@ returns g c =
     let i = c.loop-next.invariant in
     record {
       value = surveyed_all (process_like c.args.me.now) c.args.sig c.args.target.now c.args.self.now.state.processes c.loop-next.next c.loop-next.survey _ c.in_default.is i.surveyed;
-      looks = record { same = i.same; visits = omega (arith, i.read); regular = c.next_target-next.ensures.finds.looks.regular };
+      looks = record { same = i.same; visits = omega (arith, i.read); no_fewer = i.no_fewer; regular = c.next_target-next.ensures.finds.looks.regular };
     }

@@ -18,6 +18,7 @@ invariant-loop-next g l =
       there : IfSome l.next (λ p. IsSome (lookup p rs));
       begins : first_pid (left_of l.next (filter (is_candidate r l.target) rs)) ≡ l.next;
       read : l.self.visits + 3 * length (left_of l.next (filter (is_candidate r l.target) rs)) ≤ l.fn.self.visits + 1 + 3 * length (filter (is_candidate r l.target) rs);
+      no_fewer : l.fn.self.visits ≤ l.self.visits;
       surveyed : joined_surveys l.survey (survey_of r l.sig (targets r l.target (left_of l.next rs))) ≡ survey_of r l.sig (targets r l.target rs);
     }
 

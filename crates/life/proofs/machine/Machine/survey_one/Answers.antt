@@ -44,7 +44,7 @@ returns g c =
     let own = own_is c.snapshot.new.self.state c.args.pid c.look.result.now q c.look.ensures.value (ap (λ (s : State). process s c.args.pid) looks.same.state ∙ it.found) in
     let queuer = c.queues-queues.ensures ∙ queuer_read c.args.sig c.args.pid c.in-Some.it.life c.look.result.now.signals q (pid_looked c.args.pid _ q it.found) (ap (λ (f : Snapshot). f.life) it.snapshot) (ap (λ (o : OwnPart). o.signals) own) in
     let value = λ (b : Bool) (is : c.queues-queues.result ≡ b). survey_permitted (process_like c.args.me.now) c.args.sig c.args.target.now c.args.pid _ looks.regular.rising q it.found meant may b (sym is ∙ queuer) in
-    let seen = one_seen g.K.ProcessTable.one_more g.met.K.ProcessTable.at_most_one c.args.self.now c.snapshot.new.self looks in
+    let seen = one_seen g.K.ProcessTable.one_more g.met.K.ProcessTable.at_most_one g.met.K.ProcessTable.no_less c.args.self.now c.snapshot.new.self looks in
     elim c.if-queues.branch [
       | then-queues w ↦
           let full = w.result-is ∙ w.is_queue_full.ensures ∙ ap (λ (o : OwnPart). nat_le most_queued (length o.signals.queue)) own in

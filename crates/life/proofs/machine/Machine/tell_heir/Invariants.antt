@@ -10,6 +10,7 @@ invariant-loop-next g l =
       telling : IsTelling first l.self.state l.fn.pid l.fn.heir l.next;
       groups_at_risk : l.self.groups_at_risk ≡ l.fn.self.groups_at_risk;
       read : l.self.visits + 8 * kids_left l.self.state.processes l.fn.pid l.next ≤ l.fn.self.visits + 1 + 8 * length (children_in l.fn.pid first.processes);
+      no_fewer : l.fn.self.visits ≤ l.self.visits;
     }
 
 abbrev pub decreases-loop-next : goal.decreases-loop-next

@@ -1,7 +1,14 @@
-use Rattle.std.proofs.Common.{◌≡◌, ℕ, ◌<◌, ◌≤◌, false}
+use Rattle.std.proofs.Common.{◌≡◌, ℕ, ◌-◌, ◌<◌, ◌≤◌, false}
 use Rattle.pidalloc.specs.Rows.{is_free_in}
 use Rattle.pidalloc.proofs.table.PidTable.first_free.Given as goal
 
 -- none so far is free
-abbrev pub invariant-loop-n : goal.invariant-loop-n
-invariant-loop-n l = (k : ℕ) → l.from ≤ k → k < l.n → is_free_in l.self.rows k ≡ false
+abbrev pub invariant-loop-at : goal.invariant-loop-at
+invariant-loop-at l = record {
+  from : l.from ≤ l.at;
+  high : l.at ≤ 4195328;
+  borne : (k : ℕ) → l.from ≤ k → k < l.at → k ≤ l.self.pidmax → is_free_in l.self.rows k ≡ false;
+}
+
+abbrev pub decreases-loop-at : goal.decreases-loop-at
+decreases-loop-at l = 4195328 - l.at

@@ -1,16 +1,33 @@
-use Rattle.std.proofs.Common.{ap, arith, sym, slice_get, Some, ◌∙◌}
+use Rattle.std.proofs.Common.{◌≡◌, ◌<◌, length, subst, ap, arith, sym, slice_get, None, Some, ◌∙◌}
+use Rattle.std.specs.Option.{option_copied}
+use Rattle.sched.specs.Links.{next_of}
 use Rattle.sched.proofs.LinkLemmas.{next_read}
-use Rattle.sched.proofs.RingLemmas.{first_none, first_some}
+use Rattle.sched.proofs.RingLemmas.{first_none, first_some, no_first, next_inside}
+use Rattle.posix.proofs.MemberLemmas.{in_first}
 use Rattle.sched.proofs.links.Links.first.Goals as goal
 
-pub returns-then-first-self : goal.returns-then-first-self
-returns-then-first-self c =
-    let k = c.self.invariant in
-    let same = next_read c.self.inside.nodes.items c.self.inside.room c.index.result.now (omega (arith, k.ring.size)) c.index.ensures in
-    first_none _ _ _ k.ring (sym same ∙ c.if-first-self.true) ∙ ap (λ v. slice_get v.numbers 0) c.self.view_is
+pub returns-in-Some-clause-value : goal.returns-in-Some-clause-value
+returns-in-Some-clause-value c =
+    let x = c.in-Some.ensures.item in
+    let same = next_read c.deref.result.now 0 c.in-Some.node.now x.3.0 (x.3.1 c.in-Some.node.now) ∙ ap (λ ns. next_of ns 0) c.deref.ensures.value in
+    ap Some same ∙ first_some _ _ c.self.invariant.ring (λ e. c.if-node-ne0.true (same ∙ e)) ∙ ap (λ v. slice_get v.numbers 0) c.self.view_is
 
-pub returns-else-first-self : goal.returns-else-first-self
-returns-else-first-self c =
-    let k = c.self.invariant in
-    let same = next_read c.self.inside.nodes.items c.self.inside.room c.index.result.now (omega (arith, k.ring.size)) c.index.ensures in
-    ap Some same ∙ first_some _ _ _ k.ring (λ e. c.if-first-self.false (same ∙ e)) ∙ ap (λ v. slice_get v.numbers 0) c.self.view_is
+pub returns-in_default-clause-value : goal.returns-in_default-clause-value
+returns-in_default-clause-value c =
+    let x = c.in-Some.ensures.item in
+    let same = next_read c.deref.result.now 0 c.in-Some.node.now x.3.0 (x.3.1 c.in-Some.node.now) ∙ ap (λ ns. next_of ns 0) c.deref.ensures.value in
+    first_none _ _ c.self.invariant.ring (sym same ∙ c.if-node-ne0.false) ∙ ap (λ v. slice_get v.numbers 0) c.self.view_is
+
+pub returns-in_default-2-clause-value : goal.returns-in_default-2-clause-value
+returns-in_default-2-clause-value c =
+    let e : slice_get c.self.inside.nodes.items 0 ≡ None = ap (λ ns. slice_get ns 0) (sym c.deref.ensures.value) ∙ sym c.first.ensures.value ∙ ap option_copied c.in_default.is in
+    first_none _ _ c.self.invariant.ring (no_first c.self.inside.nodes.items e) ∙ ap (λ v. slice_get v.numbers 0) c.self.view_is
+
+pub returns-in-Some-clause-range : goal.returns-in-Some-clause-range
+returns-in-Some-clause-range c =
+    let x = c.in-Some.ensures.item in
+    let same = next_read c.deref.result.now 0 c.in-Some.node.now x.3.0 (x.3.1 c.in-Some.node.now) ∙ ap (λ ns. next_of ns 0) c.deref.ensures.value in
+    let some = subst (λ ns. 0 < length ns) c.deref.ensures.value x.3.0 in
+    let r = c.self.invariant.ring in
+    let n = next_inside r (omega (arith, some)) 0 (in_first 0 _) in
+    omega (arith, same, n, r.limit)

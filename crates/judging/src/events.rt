@@ -1,0 +1,68 @@
+//! Lines of events.
+
+use crate::fault::{Fault, Number, Refusal, Stop, Verdict, refuse};
+use crate::lines::Line;
+use crate::numbers::{judge_end, judge_number};
+use crate::words::is_byte;
+use text::Reason;
+
+/// The most bytes of a line.
+pub const MAX_LINE_LEN: usize = 200;
+
+/// Judges a line `key`.
+fn judge_keys<'a>(line: Line<'a>, consoles: u8) -> Verdict<'a> {
+    judge_number(line, 1, Number::KeyConsole(consoles))?;
+    let count = line.count();
+    if count < 3 {
+        return refuse(Reason::UnknownWord, 2, Fault::ByteMissing);
+    }
+    for place in 2..count {
+        if !is_byte(line.word(place)) {
+            return refuse(Reason::BadNumber, place, Fault::NoByte);
+        }
+    }
+    Ok(())
+}
+
+/// Judges a line `hangup`.
+fn judge_hangup<'a>(line: Line<'a>, consoles: u8) -> Verdict<'a> {
+    judge_number(line, 1, Number::HangupConsole(consoles))?;
+    if line.count() > 2 {
+        return refuse(Reason::UnknownWord, 2, Fault::ManyConsoles);
+    }
+    Ok(())
+}
+
+/// Judges a line of events in a world of so many consoles.
+fn judge_line(text: &[u8], consoles: u8) -> Verdict<'_> {
+    if text.len() > MAX_LINE_LEN {
+        return refuse(Reason::LineTooLong, 0, Fault::LongLine);
+    }
+    let line = Line::new(text);
+    if !line.has_words() {
+        return Ok(());
+    }
+    let word = line.first();
+    if word == b"key".as_slice() {
+        judge_keys(line, consoles)
+    } else if word == b"hangup".as_slice() {
+        judge_hangup(line, consoles)
+    } else if word == b"step".as_slice() || word == b"tick".as_slice() {
+        judge_number(line, 1, Number::Count)?;
+        judge_end(line, 2)
+    } else {
+        refuse(Reason::UnknownWord, 0, Fault::NoEvent)
+    }
+}
+
+/// Why a line of events is refused, for this reason. Where nothing is wrong with it there are too many events.
+pub fn refusal_of(text: &[u8], consoles: u8, reason: Reason) -> Refusal<'_> {
+    match judge_line(text, consoles) {
+        Err(Stop::Refused(refusal)) => refusal,
+        Ok(()) | Err(Stop::Memory) => Refusal {
+            reason,
+            place: 0,
+            fault: Fault::ManyEvents,
+        },
+    }
+}

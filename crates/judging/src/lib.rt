@@ -1,0 +1,24 @@
+//! What is wrong with a text that is refused: the line and the word, by the rules of docs/FORMATS.md; tables of what others
+//! call it; and names that are near to a word.
+#![tactic(auto)]
+
+mod events;
+mod fault;
+mod hints;
+mod instructions;
+mod lines;
+mod names;
+mod numbers;
+mod unknown;
+mod words;
+mod world;
+
+pub use events::refusal_of;
+pub use fault::{Definition, Fault, NameUse, Named, Number, Refusal};
+pub use hints::{no_text, oddity, other_call, other_instruction};
+pub use instructions::{INSTRUCTIONS_AND_END, Operands, is_call, is_instruction, operands_of};
+pub use lines::{Line, has_one_line, is_listed, last_with_words, line_at, next_line};
+pub use names::{nearest_call, nearest_in};
+pub use unknown::{Mistake, Note, label_line, mistake_of, program_line};
+pub use words::{are_digits, is_byte, is_long_name, is_name, is_number, is_register, lower, upper};
+pub use world::{Label, World};

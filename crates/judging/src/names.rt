@@ -1,0 +1,43 @@
+//! Names that are near to a word.
+
+use naming::{Nearest, next_word};
+use posix::Call;
+use std::alloc::{AllocError, Global};
+use std::str;
+
+/// Whether a name is near to a word.
+pub fn is_near(alloc: Global, word: &[u8], name: &[u8]) -> Result<bool, AllocError> {
+    Ok(distance(alloc, word, name)?.is_some())
+}
+
+/// How far a name is from a word that it is near to.
+pub fn distance(alloc: Global, word: &[u8], name: &[u8]) -> Result<Option<usize>, AllocError> {
+    match (str::from_utf8(word), str::from_utf8(name)) {
+        (Ok(word), Ok(name)) => naming::distance(alloc, word, name),
+        _ => Ok(None),
+    }
+}
+
+/// The word of a list, with blanks between its words, that is nearest to a word.
+pub fn nearest_in(
+    alloc: Global,
+    word: &[u8],
+    list: &'static str,
+) -> Result<Option<&'static [u8]>, AllocError> {
+    let mut nearest = Nearest::new(word);
+    let mut rest = list.as_bytes();
+    while let Some((_, name, more)) = next_word(rest) {
+        nearest.offer(alloc, name)?;
+        rest = more;
+    }
+    Ok(nearest.found())
+}
+
+/// The call whose name is nearest to a word.
+pub fn nearest_call(alloc: Global, word: &[u8]) -> Result<Option<&'static [u8]>, AllocError> {
+    let mut nearest = Nearest::new(word);
+    for call in &Call::ALL {
+        nearest.offer(alloc, call.name())?;
+    }
+    Ok(nearest.found())
+}

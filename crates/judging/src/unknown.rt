@@ -1,0 +1,334 @@
+//! Names that nothing defines. Below a refused line none counts as defined, so they are looked for in the lines as they
+//! stand.
+
+use crate::fault::{Definition, Fault, NameUse, Named, Refusal};
+use crate::lines::{Line, line_at, next_line};
+use crate::names::{distance, is_near};
+use crate::words::is_name_byte;
+use crate::world::World;
+use std::alloc::{AllocError, Global};
+use text::Reason;
+
+/// What is told of another line than the one that is shown.
+#[derive(Clone, Copy)]
+pub enum Note<'a> {
+    /// A line names what this one may define.
+    Right {
+        line: u64,
+        name: &'a [u8],
+        defined: Option<u64>,
+    },
+    /// This line is refused, too.
+    RefusedToo(u64),
+}
+
+/// The mistake behind a name that isn't known.
+#[derive(Clone, Copy)]
+pub struct Mistake<'a> {
+    pub line: u64,
+    pub refusal: Refusal<'a>,
+    pub note: Option<Note<'a>>,
+}
+
+/// The first line behind another one with the label, within the program that begins there.
+pub fn label_line(text: &[u8], name: &[u8], from: u64) -> Option<u64> {
+    let mut rest = text;
+    let mut here: u64 = 1;
+    while let Some((line, more)) = next_line(rest) {
+        if here > from {
+            let line = Line::new(line);
+            if is_label(line.first(), name) {
+                return Some(here);
+            }
+            if ends_program(line) {
+                return None;
+            }
+        }
+        here = here.saturating_add(1);
+        rest = more;
+    }
+    None
+}
+
+/// Whether a word is a label of this name.
+fn is_label(word: &[u8], name: &[u8]) -> bool {
+    match word {
+        [label @ .., b':'] => label == name,
+        _ => false,
+    }
+}
+
+/// Whether a line ends a program, or begins the next one.
+fn ends_program(line: Line<'_>) -> bool {
+    let word = line.first();
+    let count = line.count();
+    (word == b"end".as_slice() && count == 1) || (word == b"program".as_slice() && count > 1)
+}
+
+/// The line that begins a program of this name.
+pub fn program_line(text: &[u8], name: &[u8]) -> Option<u64> {
+    let mut rest = text;
+    let mut here: u64 = 1;
+    while let Some((line, more)) = next_line(rest) {
+        let line = Line::new(line);
+        if line.first() == b"program".as_slice() && line.word(1) == name {
+            return Some(here);
+        }
+        here = here.saturating_add(1);
+        rest = more;
+    }
+    None
+}
+
+/// A word up to its first colon, if it has one.
+fn before_colon(word: &[u8]) -> Option<&[u8]> {
+    let colon = word.iter().position(|b| *b == b':')?;
+    Some(&word[..colon])
+}
+
+/// Whether a line may be meant to define a label.
+fn resembles_label(alloc: Global, line: Line<'_>, name: &[u8]) -> Result<bool, AllocError> {
+    match before_colon(line.first()) {
+        Some(label) => is_near(alloc, name, label),
+        None if line.count() == 1 => is_near(alloc, name, line.first()),
+        None => Ok(false),
+    }
+}
+
+/// Whether a line may be meant to define a name.
+fn resembles(alloc: Global, line: Line<'_>, used: &NameUse<'_>) -> Result<bool, AllocError> {
+    match used.named {
+        Named::Label => resembles_label(alloc, line, used.name),
+        Named::Program if line.word(1) == used.name => Ok(true),
+        Named::Program if line.first() == b"program".as_slice() => {
+            is_near(alloc, used.name, line.word(1))
+        }
+        Named::Program => Ok(false),
+    }
+}
+
+/// Whether the line with a number may be meant to define a name.
+fn may_define(
+    alloc: Global,
+    text: &[u8],
+    number: u64,
+    used: &NameUse<'_>,
+) -> Result<bool, AllocError> {
+    match line_at(text, number) {
+        Some(line) => resembles(alloc, Line::new(line), used),
+        None => Ok(false),
+    }
+}
+
+/// How many times a name stands in a text as a word, in comments, too.
+fn mentions(text: &[u8], name: &[u8]) -> usize {
+    let mut rest = text;
+    let mut count = 0usize;
+    while !rest.is_empty() {
+        let end = rest
+            .iter()
+            .position(|b| !is_name_byte(*b))
+            .unwrap_or(rest.len());
+        if &rest[..end] == name {
+            count = count.saturating_add(1);
+        }
+        rest = if end < rest.len() {
+            &rest[end + 1..]
+        } else {
+            &[]
+        };
+    }
+    count
+}
+
+/// Whether a word is another one with a letter doubled.
+fn doubles(word: &[u8], other: &[u8]) -> bool {
+    for end in 1..=other.len() {
+        let (front, back) = (&other[..end], &other[end - 1..]);
+        if word.strip_prefix(front) == Some(back) {
+            return true;
+        }
+    }
+    false
+}
+
+/// Whether of two near names, each in one place alone, the second one is the wrong one.
+fn is_typo(text: &[u8], right: &[u8], wrong: &[u8]) -> bool {
+    let (of_right, of_wrong) = (mentions(text, right), mentions(text, wrong));
+    if of_right != of_wrong {
+        of_right > of_wrong
+    } else if right.len() == wrong.len() {
+        false
+    } else if doubles(wrong, right) {
+        true
+    } else {
+        wrong.len() < right.len() && !doubles(right, wrong)
+    }
+}
+
+/// Where the line that is refused by itself may be meant to define the name that another one uses: it.
+fn refused_definition<'a>(
+    alloc: Global,
+    text: &'a [u8],
+    world: &World<'a>,
+    used: NameUse<'a>,
+) -> Result<Option<Mistake<'a>>, AllocError> {
+    let Some((refused, refusal)) = world.refused else {
+        return Ok(None);
+    };
+    let defined = match used.named {
+        Named::Label => {
+            let from = world
+                .programs
+                .get(used.program)
+                .map_or(0, |program| program.line);
+            label_line(text, used.name, from)
+        }
+        Named::Program => program_line(text, used.name),
+    };
+    let below = defined.filter(|line| *line >= refused);
+    if below.is_none() && !may_define(alloc, text, refused, &used)? {
+        return Ok(None);
+    }
+    let mut refusal = refusal;
+    if below.is_none() && used.named == Named::Label {
+        refusal.fault = Fault::LabelWritten(used.name);
+    }
+    let note = Note::Right {
+        line: used.line,
+        name: used.name,
+        defined: below,
+    };
+    Ok(Some(Mistake {
+        line: refused,
+        refusal,
+        note: Some(note),
+    }))
+}
+
+/// Whether two uses are of one kind of name, and labels of one program.
+fn are_alike(used: &NameUse<'_>, other: &NameUse<'_>) -> bool {
+    used.named == other.named && (used.named == Named::Program || used.program == other.program)
+}
+
+/// How often a name is used as another one is.
+fn uses_of(world: &World<'_>, like: &NameUse<'_>, name: &[u8]) -> usize {
+    world
+        .uses
+        .iter()
+        .filter(|used| are_alike(like, used) && used.name == name)
+        .count()
+}
+
+/// The definitions among which a name is looked for.
+fn candidates<'a>(
+    alloc: Global,
+    world: &World<'a>,
+    used: &NameUse<'_>,
+) -> Result<Vec<Definition<'a>>, AllocError> {
+    match used.named {
+        Named::Program => world.programs.iter().copied().collect(alloc),
+        Named::Label => world
+            .labels
+            .iter()
+            .filter(|label| label.program == used.program)
+            .map(|label| label.is)
+            .collect(alloc),
+    }
+}
+
+/// A name that is defined and near to one that isn't.
+#[derive(Clone, Copy)]
+struct Near<'a> {
+    is: Definition<'a>,
+    is_used: bool,
+    distance: usize,
+}
+
+/// The nearest name that is defined; one that nothing uses comes first.
+fn nearest_defined<'a>(
+    alloc: Global,
+    world: &World<'a>,
+    used: &NameUse<'_>,
+) -> Result<Option<Near<'a>>, AllocError> {
+    let mut best: Option<Near<'a>> = None;
+    for is in &candidates(alloc, world, used)? {
+        let Some(distance) = distance(alloc, used.name, is.name)? else {
+            continue;
+        };
+        let near = Near {
+            is: *is,
+            is_used: uses_of(world, used, is.name) > 0,
+            distance,
+        };
+        let is_better = match best {
+            Some(best) => (near.is_used, near.distance) < (best.is_used, best.distance),
+            None => true,
+        };
+        if is_better {
+            best = Some(near);
+        }
+    }
+    Ok(best)
+}
+
+/// The mistake where a line uses a name that nothing defines.
+fn undefined<'a>(
+    alloc: Global,
+    text: &[u8],
+    world: &World<'a>,
+    used: NameUse<'a>,
+) -> Result<Mistake<'a>, AllocError> {
+    let near = nearest_defined(alloc, world, &used)?;
+    let note = match world.refused {
+        Some((refused, _)) => Some(Note::RefusedToo(refused)),
+        None => None,
+    };
+    let (line, place, fault) = match near {
+        Some(near)
+            if !near.is_used
+                && (uses_of(world, &used, used.name) > 1
+                    || is_typo(text, used.name, near.is.name)) => {
+            let place = usize::from(used.named == Named::Program);
+            (near.is.line, place, Fault::Unused(near.is, used))
+        }
+        _ => {
+            let near = near.map(|near| near.is);
+            (used.line, used.place, Fault::Unknown(used, near))
+        }
+    };
+    let refusal = Refusal {
+        reason: Reason::NameUnknown,
+        place,
+        fault,
+    };
+    Ok(Mistake {
+        line,
+        refusal,
+        note,
+    })
+}
+
+/// The mistake behind a name that a line uses and that isn't known. It may stand in another line.
+pub fn mistake_of<'a>(
+    alloc: Global,
+    text: &'a [u8],
+    world: &World<'a>,
+    line: u64,
+) -> Result<Mistake<'a>, AllocError> {
+    let Some(used) = world.uses.iter().find(|used| used.line == line).copied() else {
+        return Ok(Mistake {
+            line,
+            refusal: Refusal {
+                reason: Reason::NameUnknown,
+                place: 0,
+                fault: Fault::Unsaid,
+            },
+            note: None,
+        });
+    };
+    match refused_definition(alloc, text, world, used)? {
+        Some(mistake) => Ok(mistake),
+        None => undefined(alloc, text, world, used),
+    }
+}

@@ -1,0 +1,340 @@
+//! A world, up to the first of its lines that is refused by itself, whatever names it uses.
+
+use crate::events::MAX_LINE_LEN;
+use crate::fault::{Definition, Fault, NameUse, Named, Number, Refusal, Stop, Verdict, refuse};
+use crate::instructions::{Operands, is_call, operands_of};
+use crate::lines::{Line, next_line};
+use crate::numbers::{judge_end, judge_number};
+use crate::words::{is_name, is_number, is_register, number_in};
+use std::alloc::{AllocError, Global};
+use text::Reason;
+use umach::Program;
+
+/// The most programs of a world.
+const MAX_PROGRAMS: usize = 32;
+
+/// What the lines so far lead to.
+#[derive(Clone, Copy, Debug, PartialEq, Eq)]
+enum Stage {
+    Pidmax,
+    Consoles,
+    Between,
+    Within,
+}
+
+/// A label, and the program that has it.
+#[derive(Clone, Copy)]
+pub struct Label<'a> {
+    pub is: Definition<'a>,
+    pub program: usize,
+}
+
+/// What the lines of a world define and use, and the line that is refused, if one is.
+#[derive(Drop)]
+pub struct World<'a> {
+    stage: Stage,
+    pub programs: Vec<Definition<'a>>,
+    pub labels: Vec<Label<'a>>,
+    pub uses: Vec<NameUse<'a>>,
+    /// How many instructions the last program has.
+    instructions: usize,
+    /// The line of the last end.
+    end: u64,
+    pub refused: Option<(u64, Refusal<'a>)>,
+}
+
+impl<'a> World<'a> {
+    /// Judges the lines of a world.
+    pub fn judge(alloc: Global, text: &'a [u8]) -> Result<World<'a>, AllocError> {
+        let mut world = World {
+            stage: Stage::Pidmax,
+            programs: Vec::new(alloc),
+            labels: Vec::new(alloc),
+            uses: Vec::new(alloc),
+            instructions: 0,
+            end: 0,
+            refused: None,
+        };
+        let mut rest = text;
+        let mut number: u64 = 1;
+        while let Some((line, more)) = next_line(rest) {
+            match world.take_line(number, line) {
+                Ok(()) => {}
+                Err(Stop::Refused(refusal)) => {
+                    world.refused = Some((number, refusal));
+                    return Ok(world);
+                }
+                Err(Stop::Memory) => return Err(AllocError),
+            }
+            number = number.saturating_add(1);
+            rest = more;
+        }
+        Ok(world)
+    }
+
+    /// Whether the lines so far are of the header.
+    pub fn is_in_header(&self) -> bool {
+        matches!(self.stage, Stage::Pidmax | Stage::Consoles)
+    }
+
+    /// The program that the lines so far are in.
+    pub fn inside(&self) -> Option<Definition<'a>> {
+        match self.stage {
+            Stage::Within => self.programs.last().copied(),
+            _ => None,
+        }
+    }
+
+    /// How a text ends too early behind these lines.
+    pub fn end_of_text(&self) -> Fault<'a> {
+        match self.inside() {
+            Some(program) => Fault::ProgramEnds(program),
+            None if self.is_in_header() => Fault::HeaderEnds,
+            None => Fault::NoPrograms,
+        }
+    }
+
+    /// Judges a line in its place, and keeps what it defines and uses.
+    fn take_line(&mut self, number: u64, text: &'a [u8]) -> Verdict<'a> {
+        if text.len() > MAX_LINE_LEN {
+            return refuse(Reason::LineTooLong, 0, Fault::LongLine);
+        }
+        let line = Line::new(text);
+        if !line.has_words() {
+            return Ok(());
+        }
+        match self.stage {
+            Stage::Pidmax => {
+                judge_header(line, b"pidmax", Number::Pidmax)?;
+                self.stage = Stage::Consoles;
+                Ok(())
+            }
+            Stage::Consoles => {
+                judge_header(line, b"consoles", Number::Consoles)?;
+                self.stage = Stage::Between;
+                Ok(())
+            }
+            Stage::Between => self.take_program(number, line),
+            Stage::Within => self.take_inner(number, line),
+        }
+    }
+
+    /// Judges a line that is to begin a program.
+    fn take_program(&mut self, number: u64, line: Line<'a>) -> Verdict<'a> {
+        if line.first() != b"program".as_slice() {
+            let behind = self.programs.last().map(|last| (last.name, self.end));
+            return refuse(Reason::UnknownWord, 0, Fault::NoProgram(behind));
+        }
+        if self.programs.len() >= MAX_PROGRAMS {
+            return refuse(Reason::OutOfRange, 0, Fault::ManyPrograms);
+        }
+        let name = line.word(1);
+        if !is_name(name) {
+            return refuse(Reason::UnknownWord, 1, Fault::NoName(Named::Program));
+        }
+        if let Some(first) = self.programs.iter().find(|known| known.name == name) {
+            return refuse(
+                Reason::NameTwice,
+                1,
+                Fault::Twice(Named::Program, first.line),
+            );
+        }
+        self.programs
+            .push(Definition { name, line: number })
+            .map_err(AllocError::from)?;
+        judge_settings(line)?;
+        self.instructions = 0;
+        self.stage = Stage::Within;
+        Ok(())
+    }
+
+    /// Judges a line within a program.
+    fn take_inner(&mut self, number: u64, line: Line<'a>) -> Verdict<'a> {
+        let word = line.first();
+        if word == b"program".as_slice() {
+            return refuse(Reason::UnknownWord, 0, self.within());
+        }
+        if word == b"end".as_slice() {
+            if line.count() > 1 {
+                return refuse(Reason::UnknownWord, 1, Fault::EndNotAlone);
+            }
+            self.stage = Stage::Between;
+            self.end = number;
+            return Ok(());
+        }
+        match word {
+            [name @ .., b':'] if is_name(name) => self.take_label(number, line, name),
+            _ => self.take_instruction(number, line),
+        }
+    }
+
+    /// A program begins within another one.
+    fn within(&self) -> Fault<'a> {
+        match self.inside() {
+            Some(program) => Fault::Within(program),
+            None => Fault::Unsaid,
+        }
+    }
+
+    /// The number of the last program, from 0.
+    fn program(&self) -> usize {
+        self.programs.len().saturating_sub(1)
+    }
+
+    /// The line in which the last program begins.
+    fn first_line(&self) -> u64 {
+        match self.programs.last() {
+            Some(program) => program.line,
+            None => 0,
+        }
+    }
+
+    /// Judges a line with a label.
+    fn take_label(&mut self, number: u64, line: Line<'a>, name: &'a [u8]) -> Verdict<'a> {
+        let program = self.program();
+        for label in &self.labels {
+            if label.program == program && label.is.name == name {
+                return refuse(
+                    Reason::NameTwice,
+                    0,
+                    Fault::Twice(Named::Label, label.is.line),
+                );
+            }
+        }
+        let is = Definition { name, line: number };
+        self.labels
+            .push(Label { is, program })
+            .map_err(AllocError::from)?;
+        if line.count() > 1 {
+            return refuse(Reason::UnknownWord, 1, Fault::LabelNotAlone);
+        }
+        Ok(())
+    }
+
+    /// Judges a line with an instruction.
+    fn take_instruction(&mut self, number: u64, line: Line<'a>) -> Verdict<'a> {
+        let Some(operands) = operands_of(line.first()) else {
+            return refuse(Reason::UnknownWord, 0, Fault::NoInstruction);
+        };
+        if self.instructions >= Program::MAX_LEN {
+            return refuse(Reason::OutOfRange, 0, Fault::ManyInstructions);
+        }
+        self.instructions = self.instructions.saturating_add(1);
+        match operands {
+            Operands::Call => {
+                if !is_call(line.word(1)) {
+                    return refuse(Reason::UnknownWord, 1, Fault::NoCall);
+                }
+                judge_end(line, 2)
+            }
+            Operands::Label => {
+                self.take_name(number, line, 1)?;
+                judge_end(line, 2)
+            }
+            Operands::Register => {
+                judge_register(line, 1)?;
+                judge_end(line, 2)
+            }
+            Operands::Value => {
+                judge_register(line, 1)?;
+                self.take_value(number, line)?;
+                judge_end(line, 3)
+            }
+            Operands::Registers => {
+                judge_register(line, 1)?;
+                judge_register(line, 2)?;
+                judge_end(line, 3)
+            }
+            Operands::RegisterAndLabel => {
+                judge_register(line, 1)?;
+                self.take_name(number, line, 2)?;
+                judge_end(line, 3)
+            }
+        }
+    }
+
+    /// Judges the name of a label, which has to be known in the end.
+    fn take_name(&mut self, number: u64, line: Line<'a>, place: usize) -> Verdict<'a> {
+        let name = line.word(place);
+        if !is_name(name) {
+            return refuse(Reason::UnknownWord, place, Fault::NoName(Named::Label));
+        }
+        self.take_use(number, place, name, Named::Label)
+    }
+
+    /// Keeps that a line uses a name.
+    fn take_use(&mut self, number: u64, place: usize, name: &'a [u8], named: Named) -> Verdict<'a> {
+        let program = self.program();
+        let used = NameUse {
+            name,
+            line: number,
+            place,
+            named,
+            program,
+        };
+        self.uses.push(used).map_err(AllocError::from)?;
+        Ok(())
+    }
+
+    /// Judges the value of a `set`.
+    fn take_value(&mut self, number: u64, line: Line<'a>) -> Verdict<'a> {
+        match line.word(2) {
+            [] => refuse(Reason::UnknownWord, 2, Fault::NoValue),
+            [b'@', name @ ..] => self.take_marked(number, name, Named::Label),
+            [b'$', name @ ..] => self.take_marked(number, name, Named::Program),
+            word if !is_number(word) => {
+                refuse(Reason::BadNumber, 2, Fault::BadValue(self.first_line()))
+            }
+            word => match number_in(word) {
+                Some(_) => Ok(()),
+                None => refuse(Reason::OutOfRange, 2, Fault::WideValue),
+            },
+        }
+    }
+
+    /// Judges a name behind `@` or `$`.
+    fn take_marked(&mut self, number: u64, name: &'a [u8], named: Named) -> Verdict<'a> {
+        if is_name(name) {
+            self.take_use(number, 2, name, named)
+        } else if is_number(name) {
+            refuse(Reason::UnknownWord, 2, Fault::MarkedNumber)
+        } else {
+            refuse(Reason::UnknownWord, 2, Fault::NoMarkedName(named))
+        }
+    }
+}
+
+/// Judges a line of the header, which begins with this word.
+fn judge_header<'a>(line: Line<'a>, word: &[u8], number: Number) -> Verdict<'a> {
+    if line.first() != word {
+        return refuse(Reason::UnknownWord, 0, Fault::NoHeader(number));
+    }
+    judge_number(line, 1, number)?;
+    judge_end(line, 2)
+}
+
+/// Judges what stands behind the name of a program.
+fn judge_settings<'a>(line: Line<'a>) -> Verdict<'a> {
+    let mut place = 2;
+    if line.word(place) == b"setuid".as_slice() {
+        judge_number(line, 3, Number::Id)?;
+        place = 4;
+    }
+    if line.word(place) == b"setgid".as_slice() {
+        judge_number(line, place + 1, Number::Id)?;
+        place += 2;
+    }
+    if line.count() > place {
+        return refuse(Reason::UnknownWord, place, Fault::NoOption);
+    }
+    Ok(())
+}
+
+/// Judges a register at a place.
+fn judge_register<'a>(line: Line<'a>, place: usize) -> Verdict<'a> {
+    if is_register(line.word(place)) {
+        Ok(())
+    } else {
+        refuse(Reason::UnknownWord, place, Fault::NoRegister)
+    }
+}

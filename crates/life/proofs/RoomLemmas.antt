@@ -1,0 +1,72 @@
+-- A machine in which there is room for more.
+use Rattle.std.proofs.Common.{◌≡◌, ℕ, ◌<◌, ◌≤◌, Bool, true, false, refl, ap, sym, arith, subst, List}
+use Rattle.std.proofs.lemmas.Bool.{both_ways}
+use Rattle.posix.specs.Processes.{Process}
+use Rattle.posix.specs.Consoles.{Console}
+use Rattle.std.specs.List.{AllByRecursion}
+use Rattle.posix.specs.States.{World, State}
+use Rattle.pidalloc.specs.Rows.{Pids, row, is_free_in}
+use Rattle.pidalloc.proofs.TallyLemmas.{CanBear}
+use Rattle.sched.specs.Places.{Places}
+use Rattle.pidset.specs.Numbers.{PidSetView, Rises}
+use Rattle.life.specs.Machines.{state_of, MachineView, AreSame, AreSameButRoom, IsKept, IsMachine, HasRoomFor, AreRoomier, Terminals}
+use Rattle.life.proofs.PlaceLemmas.{roomier_same}
+use Rattle.life.proofs.RecheckLemmas.{listed_roomier}
+use Rattle.life.proofs.SoundLemmas.{kept_ready}
+
+-- it stays one
+pub machine_roomier : {s t : State} {pids now : Pids} {places order : Places} {l m groups after : PidSetView} {terminals : Terminals} {sets : List PidSetView}
+    → IsMachine s pids places l groups terminals → t ≡ s → now ≡ record pids { ready = now.ready } → places.room ≤ order.room → m.pids ≡ l.pids → l.room ≤ m.room → after.pids ≡ groups.pids → m.room ≤ after.room
+    → AreRoomier terminals.readers sets → AllByRecursion (HasRoomFor m.room) sets → IsMachine t now order m after (record terminals { readers = sets })
+machine_roomier {s = s} {pids = pids} {now = now} {places = places} {order = order} {l = l} {m = m} {groups = groups} {after = after} {terminals = terminals} {sets = sets} i same ready wider is more groups_same groups_more roomier enough =
+    subst (λ x. IsMachine x now order m after (record terminals { readers = sets })) (sym same) (record {
+      sound = record {
+        regular = i.sound.regular;
+        parents = i.sound.parents;
+        counted = i.sound.counted;
+        kept = subst (λ x. IsKept s.world.pidmax s.processes x order) (sym ready) (kept_ready s.world.pidmax s.processes pids now.ready order (record {
+          greatest = i.sound.kept.greatest;
+          table = i.sound.kept.table;
+          tallied = i.sound.kept.tallied;
+          room = λ q here. let low = i.sound.kept.room q here in omega (arith, low, wider);
+        }));
+      };
+      listed = listed_roomier s l m i.listed is more roomier enough;
+      noted = record { rising = subst Rises (sym groups_same) i.noted.rising; room = groups_more };
+      fresh = i.fresh;
+    })
+
+-- its state is the same
+pub state_roomier : (w : World) (rs ts : List Process) (cs : List Console) (pids now : Pids) (places order : Places) (births ticks dropped : ℕ) (halted : Bool) → ts ≡ rs → now ≡ record pids { ready = now.ready } → order.pids ≡ places.pids
+    → state_of w ts cs now order births ticks dropped halted ≡ state_of w rs cs pids places births ticks dropped halted
+state_roomier w rs ts cs pids now places order births ticks dropped halted same ready alike = let last : now.last ≡ pids.last = ap (λ (p : Pids). p.last) ready in rw (same, last, alike) refl
+
+-- what is the same is so but for room
+pub same_but_room : {old new : MachineView} → AreSame old new → AreSameButRoom old new
+same_but_room {old = old} a = record { state = a.state; to_recheck = a.to_recheck; groups_at_risk = a.groups_at_risk; foregrounds_unchecked = a.foregrounds_unchecked; readers = subst (AreRoomier old.readers) (sym a.readers) (roomier_same old.readers) }
+
+-- what the rows need before three numbers are borne, of which two are borne already
+pub record CanBearAll (p : Pids) (n group session : ℕ) : Type 0 where
+  pub pid_range : n ≤ p.pidmax
+  pub group_range : group ≤ p.pidmax
+  pub session_range : session ≤ p.pidmax
+  pub pid_count : (row p.rows n).process < 4294967295
+  pub group_count : (row p.rows group).group < 4294967295
+  pub session_count : (row p.rows session).session < 4294967295
+  pub ready : p.ready ≡ true
+  pub group_borne : is_free_in p.rows group ≡ true → group ≡ n
+  pub session_borne : is_free_in p.rows session ≡ true → session ≡ n
+
+-- it has it once it is ready
+pub can_bear_all : (p now : Pids) (n group session : ℕ) → now ≡ record p { ready = now.ready } → now.ready ≡ true → n ≤ p.pidmax → CanBear p n group session → is_free_in p.rows group ≡ false → is_free_in p.rows session ≡ false → CanBearAll now n group session
+can_bear_all p now n group session same ready low can group_borne session_borne = record {
+  pid_range = subst (λ (x : Pids). n ≤ x.pidmax) (sym same) low;
+  group_range = subst (λ (x : Pids). group ≤ x.pidmax) (sym same) can.group_range;
+  session_range = subst (λ (x : Pids). session ≤ x.pidmax) (sym same) can.session_range;
+  pid_count = subst (λ (x : Pids). (row x.rows n).process < 4294967295) (sym same) can.pid_count;
+  group_count = subst (λ (x : Pids). (row x.rows group).group < 4294967295) (sym same) can.group_count;
+  session_count = subst (λ (x : Pids). (row x.rows session).session < 4294967295) (sym same) can.session_count;
+  ready = ready;
+  group_borne = λ free. absurd (both_ways (is_free_in now.rows group) (subst (λ (x : Pids). is_free_in x.rows group ≡ false) (sym same) group_borne) free);
+  session_borne = λ free. absurd (both_ways (is_free_in now.rows session) (subst (λ (x : Pids). is_free_in x.rows session ≡ false) (sym same) session_borne) free);
+}

@@ -1,0 +1,3 @@
+pub mod SightLemmas
+pub mod RequestLemmas
+pub mod ServingLemmas

@@ -1,0 +1,18 @@
+-- How it ends where a put fails.
+use Rattle.std.proofs.Common.{◌≡◌, Bool, List, ℕ, Option, Some, None, Bor, refl, Result, Ok, Err}
+use Rattle.std.specs.Prelude.{IsErrAnd}
+use Rattle.inputs.specs.Reads.{Contents, Text}
+use Rattle.inputs.specs.declared.failure.FileFailure.{FileFailure}
+use Rattle.inputs.specs.declared.failure.FileFailure.TheVariants as failure
+use Rattle.sink.specs.Sinks.{BreaksOff, Seen}
+use Rattle.refusing.specs.Serving.{Ends}
+use Rattle.refusing.specs.Texts.{Input, IsInput, IsRefused}
+use Rattle.refusing.specs.Words.{Asked, name_told}
+
+pub unwritten : {S : Type 0} (contents : Contents) (asked : Option Asked) (a : Asked) (old new : S) (before after : Seen) (r : Result Bool FileFailure)
+    (world_name events_name : Text) (world events : Input) (out : List ℕ) → IsErrAnd r (λ f. f ≡ failure.Write) → asked ≡ Some a
+    → IsInput contents a.world world → IsInput contents a.events events → world_name ≡ name_told a.name a.world → events_name ≡ name_told a.name a.events
+    → IsRefused world_name events_name world events out → BreaksOff before after out → Ends contents asked old new before after r
+unwritten contents asked a old new before after (Ok is) world_name events_name world events out h is_asked of_world of_events first second refused put = absurd h
+unwritten contents asked a old new before after (Err f) world_name events_name world events out h is_asked of_world of_events first second refused put =
+    rw (h, is_asked) (world, events, of_world, of_events, (out, rw (first, second) at refused, put))

@@ -1,0 +1,56 @@
+-- What the program does with its words, and what its status means.
+use Rattle.std.specs.Prelude.{◌≡◌, ◌⊎◌, ℕ, Bool, true, false, List, map, Option, None, Some, Result, Ok, Err, IsSomeAnd}
+use Rattle.std.specs.Borrow.{Bor}
+use Rattle.host.specs.declared.words.WordsFault.{WordsFault}
+use Rattle.inputs.specs.Failures.{status_of}
+use Rattle.inputs.specs.Reads.{Contents, Text}
+use Rattle.inputs.specs.declared.failure.FileFailure.{FileFailure}
+use Rattle.inputs.specs.declared.failure.FileFailure.TheVariants as failure
+use Rattle.sink.specs.Sinks.{BreaksOff, Seen, TakesAll}
+use Rattle.refusing.specs.Texts.{AreAccepted, Input, IsInput, IsRefused}
+use Rattle.refusing.specs.Words.{Asked, name_told, request_of_words}
+
+-- the words of the command line, where they could be read
+abbrev pub Words : Type 0
+Words = Result (Bor (List (Bor Text))) WordsFault
+
+abbrev pub asked_by : Words → Option Asked
+asked_by (Ok words) = request_of_words (map (λ w. w.now) words.now)
+asked_by (Err fault) = None
+
+-- ---- what is asked for
+
+-- The two texts, with numbers for their names, are a world and events for it.
+abbrev pub IsAccepted : Contents → Asked → Type 0
+IsAccepted contents a = (world events : Input) × IsInput contents a.world world × IsInput contents a.events events × AreAccepted world events
+
+-- One of them is refused, and P holds of what is told of it.
+abbrev pub OfRefusal : Contents → (List ℕ → Type 0) → Asked → Type 0
+OfRefusal contents P a = (world events : Input) × IsInput contents a.world world × IsInput contents a.events events
+    × ((out : List ℕ) × IsRefused (name_told a.name a.world) (name_told a.name a.events) world events out × P out)
+
+-- ---- statuses
+
+abbrev pub answer_of : Result Bool FileFailure → ℕ
+answer_of (Ok false) = 0
+answer_of (Ok true) = 1
+answer_of (Err why) = status_of why
+
+-- How it ends: whether a text is refused.
+abbrev pub Ends : {S : Type 0} → Contents → Option Asked → S → S → Seen → Seen → Result Bool FileFailure → Type 0
+Ends contents asked old new before after (Ok false) = IsSomeAnd asked (IsAccepted contents) × (new ≡ old)
+Ends contents asked old new before after (Ok true) = IsSomeAnd asked (OfRefusal contents (TakesAll before after))
+Ends contents asked old new before after (Err failure.Usage) = (asked ≡ None) × (new ≡ old)
+Ends contents asked old new before after (Err (failure.CannotRead name)) = new ≡ old
+Ends contents asked old new before after (Err failure.Memory) = new ≡ old
+Ends contents asked old new before after (Err failure.Write) = IsSomeAnd asked (OfRefusal contents (BreaksOff before after))
+
+-- What a status means, with what is asked for, if something is, the files, and the output from the call to the return.
+pub record Means {S : Type 0} (contents : Contents) (asked : Option Asked) (old new : S) (before after : Seen) (status : ℕ) : Type 0 where
+  -- neither text is refused, and nothing is put
+  pub done : status ≡ 0 → IsSomeAnd asked (IsAccepted contents) × (new ≡ old)
+  -- one is, and all that is told of it was put
+  pub refused : status ≡ 1 → IsSomeAnd asked (OfRefusal contents (TakesAll before after))
+  pub other_words : status ≡ 2 → (asked ≡ None) × (new ≡ old)
+  -- nothing was put, or a beginning of what is told
+  pub cut_short : status ≡ 3 → (new ≡ old) ⊎ IsSomeAnd asked (OfRefusal contents (BreaksOff before after))

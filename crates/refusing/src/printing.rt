@@ -1,0 +1,152 @@
+//! What is told of a refusal, as it is printed.
+
+ghost use Rattle.std.specs.Prelude.{◌≡◌, ◌++◌, IfOk, OnOk, decimal, option_map};
+ghost use Rattle.std.specs.String.{string_bytes};
+ghost use Rattle.refusing.specs.Marks.{shown};
+ghost use Rattle.refusing.specs.Sections.{section_line};
+ghost use Rattle.refusing.specs.Printing.{behind_marks, file_line, first_lines, mark_line, note_line, place_line, printed as printed_of, sentence_line, text_line};
+
+use crate::marks::{write_blanks, write_marks, write_shown};
+use crate::prose::digits_of;
+use crate::sight::Sight;
+use crate::telling::{Section, Shown, Told};
+use std::alloc::{AllocError, Global};
+
+/// Adds the line with the name of the file.
+fn write_file(out: &mut Vec<u8>, name: &str) -> Result<(), AllocError>
+    ensures { OnOk result (out.new.items ≡ out.old.items ++ file_line name.now) }
+{
+    out.extend_from_slice(b" --> ")?;
+    out.extend_from_slice(name.as_bytes())?;
+    out.extend_from_slice(b"\n")
+}
+
+/// Adds the line with the name of the file and the number of a line in it.
+fn write_place(alloc: Global, out: &mut Vec<u8>, name: &str, number: u64) -> Result<(), AllocError>
+    ensures { OnOk result (out.new.items ≡ out.old.items ++ place_line name.now number) }
+{
+    let digits = digits_of(alloc, number)?;
+    out.extend_from_slice(b" --> ")?;
+    out.extend_from_slice(name.as_bytes())?;
+    out.extend_from_slice(b":")?;
+    out.extend_from_slice(digits.as_str().as_bytes())?;
+    out.extend_from_slice(b"\n")
+}
+
+/// Adds a sentence on a line of its own.
+fn write_sentence(out: &mut Vec<u8>, sentence: &[u8]) -> Result<(), AllocError>
+    ensures { OnOk result (out.new.items ≡ out.old.items ++ sentence_line sentence.now) }
+{
+    out.extend_from_slice(b"  ")?;
+    write_shown(out, sentence)?;
+    out.extend_from_slice(b"\n")
+}
+
+/// Adds a line with its number.
+fn write_line(alloc: Global, out: &mut Vec<u8>, number: u64, line: &[u8]) -> Result<(), AllocError>
+    ensures { OnOk result (out.new.items ≡ out.old.items ++ text_line number line.now) }
+{
+    let digits = digits_of(alloc, number)?;
+    out.extend_from_slice(b"  ")?;
+    out.extend_from_slice(digits.as_str().as_bytes())?;
+    out.extend_from_slice(b" | ")?;
+    write_shown(out, line)?;
+    out.extend_from_slice(b"\n")
+}
+
+/// A text as a terminal may show it.
+fn shown_text(alloc: Global, text: &[u8]) -> Result<Vec<u8>, AllocError>
+    ensures { IfOk result (λ v. v.items ≡ shown text.now) }
+{
+    let mut all = Vec::new(alloc);
+    write_shown(&mut all, text)?;
+    Ok(all)
+}
+
+/// Adds what stands behind the marks.
+fn write_behind_marks(out: &mut Vec<u8>, why: &[u8]) -> Result<(), AllocError>
+    ensures { OnOk result (out.new.items ≡ out.old.items ++ behind_marks why.now) }
+{
+    if why.is_empty() {
+        return Ok(());
+    }
+    out.extend_from_slice(b" ")?;
+    write_shown(out, why)
+}
+
+/// Adds the marks below a line, each in the column of what it marks, and why.
+fn write_mark_line(
+    alloc: Global,
+    out: &mut Vec<u8>,
+    number: u64,
+    sight: &Sight<'_>,
+    why: &[u8],
+) -> Result<(), AllocError>
+    ensures { OnOk result (out.new.items ≡ out.old.items ++ mark_line number sight.now.before.now sight.now.marked.now why.now) }
+{
+    let digits = digits_of(alloc, number)?;
+    let before = shown_text(alloc, sight.before)?;
+    let marked = shown_text(alloc, sight.marked)?;
+    out.extend_from_slice(b"  ")?;
+    write_blanks(out, digits.as_str().as_bytes())?;
+    out.extend_from_slice(b" | ")?;
+    write_blanks(out, before.as_slice())?;
+    write_marks(out, marked.as_slice())?;
+    write_behind_marks(out, why)?;
+    out.extend_from_slice(b"\n")
+}
+
+/// Adds what is told of another line, if something is.
+fn write_note(out: &mut Vec<u8>, note: &[u8]) -> Result<(), AllocError>
+    ensures { OnOk result (out.new.items ≡ out.old.items ++ note_line note.now) }
+{
+    if note.is_empty() {
+        return Ok(());
+    }
+    write_sentence(out, note)
+}
+
+/// Adds where docs/ERRORS.md tells more.
+fn write_section(out: &mut Vec<u8>, section: Section) -> Result<(), AllocError>
+    ensures { OnOk result (out.new.items ≡ out.old.items ++ section_line section) }
+{
+    out.extend_from_slice(section.line().as_bytes())
+}
+
+/// Adds the first lines.
+fn write_first(
+    alloc: Global,
+    out: &mut Vec<u8>,
+    name: &str,
+    why: &[u8],
+    shown: &Shown<'_>,
+) -> Result<(), AllocError>
+    ensures { OnOk result (out.new.items ≡ out.old.items ++ first_lines name.now why.now shown.now) }
+{
+    match shown {
+        Shown::File => {
+            write_file(out, name)?;
+            write_sentence(out, why)
+        }
+        Shown::FirstLine => {
+            write_place(alloc, out, name, 1)?;
+            write_sentence(out, why)
+        }
+        Shown::Line(number, sight) => {
+            write_place(alloc, out, name, *number)?;
+            write_line(alloc, out, *number, sight.line)?;
+            write_mark_line(alloc, out, *number, sight, why)
+        }
+    }
+}
+
+/// What is printed of a refusal of the text in a file with this name.
+pub fn printed(alloc: Global, name: &str, told: &Told<'_>) -> Result<Vec<u8>, AllocError>
+    ensures { IfOk result (λ v. v.items ≡ printed_of name.now told.now) }
+{
+    let mut out = Vec::new(alloc);
+    write_first(alloc, &mut out, name, told.why.as_bytes(), &told.shown)?;
+    write_note(&mut out, told.note.as_bytes())?;
+    write_section(&mut out, told.section)?;
+    Ok(out)
+}

@@ -1,0 +1,149 @@
+//! A line that is shown, and the words in it that are marked.
+
+ghost use Rattle.std.specs.Prelude.{◌≡◌, ◌≤◌, ◌-◌, ◌++◌, ◌⊎◌, List, [], drop, length, take};
+ghost use Rattle.text.specs.Words.{before_comment};
+ghost use Rattle.naming.specs.Lines.{from_word};
+ghost use Rattle.refusing.specs.Sights.{IsFront, IsLong, IsMarked, IsMissing, IsSight, behind_words as behind_words_of, without_return as without_return_of};
+
+use judging::Line;
+use naming::{next_word, skip_separators, split_comment};
+
+/// The most bytes that are shown of a line that is too long.
+const MOST_SHOWN: usize = 60;
+
+/// Words of a line: the first of them, from 0, and how many they are, one at least.
+#[derive(Clone, Copy)]
+pub struct Words {
+    pub first: usize,
+    /// How many words are behind the first.
+    pub more: usize,
+}
+
+/// A line, what stands in it before the words that are marked, and these; nothing where a word is missing.
+#[derive(Clone, Copy)]
+pub struct Sight<'a> {
+    pub line: &'a [u8],
+    pub before: &'a [u8],
+    pub marked: &'a [u8],
+}
+
+/// What follows so many words of a text.
+fn behind_words(text: &[u8], count: usize) -> &[u8]
+    ensures rest { result.now ≡ behind_words_of count text.now }
+    ensures within { length result.now ≤ length text.now }
+{
+    let mut rest = text;
+    let mut left = count;
+    while left > 0 {
+        match next_word(rest) {
+            Some((_, _, more)) => rest = more,
+            None => return &[],
+        }
+        left -= 1;
+    }
+    rest
+}
+
+/// How many bytes there are to the end of the last word.
+fn words_len(code: &[u8]) -> usize
+    ensures { result ≤ length code.now }
+{
+    let mut rest = code;
+    while let Some((_, _, more)) = next_word(rest) {
+        rest = more;
+    }
+    code.len() - rest.len()
+}
+
+/// What stands before a word that is missing: the line to the end of its last word, and one byte more, if there is one.
+fn before_missing(line: &[u8]) -> &[u8]
+    ensures { IsFront line.now result.now }
+{
+    let (code, _) = split_comment(line);
+    let end = words_len(code);
+    if end > 0 && end < line.len() {
+        &line[..end + 1]
+    } else {
+        &line[..end]
+    }
+}
+
+/// A line without a carriage return at its end.
+pub fn without_return(line: &[u8]) -> &[u8]
+    ensures { result.now ≡ without_return_of line.now }
+{
+    match line {
+        [front @ .., b'\r'] => front,
+        _ => line,
+    }
+}
+
+impl<'a> Sight<'a> {
+    /// The sight of a line in which a word is missing.
+    fn of_missing(line: &'a [u8]) -> Sight<'a>
+        ensures line { result.line.now ≡ line.entry.now }
+        ensures before { IsFront line.entry.now result.before.now }
+        ensures marked { result.marked.now ≡ [] }
+    {
+        Sight {
+            line,
+            before: before_missing(line),
+            marked: &[],
+        }
+    }
+
+    /// The sight of some words of a line.
+    pub fn of_words(line: &'a [u8], words: Words) -> Sight<'a>
+        ensures { IsSight line.entry.now result }
+    {
+        let (code, _) = split_comment(line);
+        let rest = skip_separators(behind_words(code, words.first));
+        if rest.is_empty() {
+            return Sight::of_missing(line);
+        }
+        let (before, _) = code.split_at(code.len() - rest.len());
+        let after = behind_words(rest, words.more.saturating_add(1));
+        let (marked, _) = rest.split_at(rest.len() - after.len());
+        Sight {
+            line,
+            before,
+            marked,
+        }
+    }
+
+    /// The sight of the beginning of a line that is too long, or of the first word of a line that isn't.
+    pub fn of_beginning(line: &'a [u8]) -> Sight<'a>
+        ensures { IsSight line.entry.now result }
+    {
+        if line.len() <= MOST_SHOWN {
+            return Sight::of_words(line, Words { first: 0, more: 0 });
+        }
+        let (beginning, _) = line.split_at(MOST_SHOWN);
+        Sight {
+            line: beginning,
+            before: &[],
+            marked: beginning,
+        }
+    }
+}
+
+/// The words of a line, as the user wrote it, that stand for one word of the line with numbers for names.
+pub fn words_at(line: &[u8], given: &[u8], place: usize) -> Words {
+    let (line, given) = (Line::new(line), Line::new(given));
+    let first = if line.first() == b"set".as_slice() {
+        if place == 2 {
+            let more = given.count().saturating_sub(line.count());
+            return Words { first: place, more };
+        }
+        if place > 2 {
+            place.saturating_add(given.count().saturating_sub(line.count()))
+        } else {
+            place
+        }
+    } else if place > 2 && given.first() == b"type".as_slice() {
+        2
+    } else {
+        place
+    };
+    Words { first, more: 0 }
+}

@@ -1,0 +1,337 @@
+//! What is told of a text that is refused.
+
+ghost use Rattle.std.specs.Prelude.{◌≡◌, IfOk, IfSome, MatchOption};
+ghost use Rattle.refusing.specs.Sections.{section_line};
+ghost use Rattle.refusing.specs.Sights.{IsSight};
+ghost use Rattle.refusing.specs.Telling.{EndsEarly, IsLineShown, IsNumber, IsShownOf};
+
+use crate::prose::Prose;
+use crate::sight::{Sight, without_return, words_at};
+use crate::why::{Seen, put_why};
+use judging::{
+    Fault, Line, Mistake, Note, Refusal, World, has_one_line, is_listed, last_with_words, line_at,
+    lower, mistake_of, next_line, no_text, refusal_of,
+};
+use std::alloc::{AllocError, Global};
+use text::{Reason, TextFault};
+
+/// A text that is refused.
+#[derive(Clone, Copy)]
+pub struct Refused<'a> {
+    /// As the user wrote it.
+    pub given: &'a [u8],
+    /// With numbers for its names.
+    pub named: &'a [u8],
+    /// What is wrong with names.
+    pub told: &'a [u8],
+    pub fault: TextFault,
+}
+
+/// A part of docs/ERRORS.md.
+#[derive(Clone, Copy, Debug, PartialEq, Eq)]
+pub enum Section {
+    Header,
+    Programs,
+    ProgramLines,
+    Events,
+}
+
+impl Section {
+    /// The line that leads to it.
+    pub fn line(self) -> &'static str
+        ensures { result.now ≡ section_line self }
+    {
+        match self {
+            Section::Header => "  see docs/ERRORS.md, \"The header of a world\"\n",
+            Section::Programs => "  see docs/ERRORS.md, \"Programs\"\n",
+            Section::ProgramLines => "  see docs/ERRORS.md, \"Program lines\"\n",
+            Section::Events => "  see docs/ERRORS.md, \"Events\"\n",
+        }
+    }
+
+    /// The part about a line of a world.
+    fn of_world(
+        alloc: Global,
+        world: &World<'_>,
+        refusal: &Refusal<'_>,
+        line: Line<'_>,
+    ) -> Result<Section, AllocError> {
+        let reason = refusal.reason;
+        if reason == Reason::NameUnknown {
+            return Ok(Section::ProgramLines);
+        }
+        if world.is_in_header() || reason == Reason::NoProgram {
+            return Ok(Section::Header);
+        }
+        let is_many = reason == Reason::OutOfRange && refusal.place == 0;
+        if reason == Reason::EndMissing || is_many || world.inside().is_none() {
+            return Ok(Section::Programs);
+        }
+        let is_word = matches!(reason, Reason::UnknownWord | Reason::NameTwice);
+        let first = lower(alloc, line.first())?;
+        Ok(if is_word && is_listed("program end", first.as_slice()) {
+            Section::Programs
+        } else {
+            Section::ProgramLines
+        })
+    }
+}
+
+/// Adds what is told of another line.
+fn put_note(prose: &mut Prose, note: Note<'_>) -> Result<(), AllocError> {
+    match note {
+        Note::Right {
+            line,
+            name,
+            defined,
+        } => {
+            prose.say_number("line ", line)?;
+            prose.say_with(" is right: it names ", name)?;
+            if let Some(defined) = defined {
+                prose.say_number(", and line ", defined)?;
+                prose.say(" defines that")?;
+            }
+            prose.say(", but below a refused line nothing counts as defined")
+        }
+        Note::RefusedToo(line) => {
+            prose.say_number("line ", line)?;
+            prose.say(" is refused, too")
+        }
+    }
+}
+
+/// What is wrong with the names of a line, the first of it.
+fn told_of<'a>(alloc: Global, told: &'a [u8], line: u64) -> Result<Option<&'a [u8]>, AllocError> {
+    let mut begin = Prose::new(alloc);
+    begin.say_number("jobk: line ", line)?;
+    begin.say(": ")?;
+    let mut rest = told;
+    while let Some((fault, more)) = next_line(rest) {
+        if let Some(why) = fault.strip_prefix(begin.as_bytes()) {
+            return Ok(Some(why));
+        }
+        rest = more;
+    }
+    Ok(None)
+}
+
+/// Whether a word of a line may be one that stands for a number.
+fn may_be_name(line: Line<'_>, place: usize) -> bool {
+    match line.first() {
+        b"set" => place == 2,
+        b"key" => place > 1 && line.word(place).starts_with(b"^"),
+        _ => true,
+    }
+}
+
+/// What is shown of a text.
+#[derive(Clone, Copy)]
+pub enum Shown<'a> {
+    /// Nothing.
+    File,
+    /// The number of its first line.
+    FirstLine,
+    /// A line with its number.
+    Line(u64, Sight<'a>),
+}
+
+/// What is told of a refusal.
+#[derive(Drop)]
+pub struct Told<'a> {
+    pub shown: Shown<'a>,
+    pub why: Prose,
+    pub note: Prose,
+    pub section: Section,
+}
+
+/// What is told of a file that is no text.
+fn told_of_file<'a>(alloc: Global, what: &str, section: Section) -> Result<Told<'a>, AllocError>
+    ensures { IfOk result (λ told. told.shown ≡ Shown.FirstLine) }
+{
+    let mut why = Prose::new(alloc);
+    why.say(what)?;
+    Ok(Told {
+        shown: Shown::FirstLine,
+        why,
+        note: Prose::new(alloc),
+        section,
+    })
+}
+
+/// The sight of the word that is wrong in a line, as the user wrote it.
+fn sight_of<'a>(line: &[u8], given: &'a [u8], refusal: &Refusal<'_>) -> Sight<'a>
+    ensures { IsSight given.entry.now result }
+{
+    if refusal.reason == Reason::LineTooLong {
+        Sight::of_beginning(given)
+    } else {
+        Sight::of_words(given, words_at(line, given, refusal.place))
+    }
+}
+
+/// What is shown of the line with a number, which has this text with numbers for names; nothing where there is none.
+fn shown_line<'a>(given: &'a [u8], number: u64, line: &[u8], refusal: &Refusal<'_>) -> Shown<'a>
+    ensures { IsLineShown number given.entry.now result }
+{
+    match line_at(given, number) {
+        Some(written) => {
+            let sight = sight_of(line, without_return(written), refusal);
+            Shown::Line(number, sight)
+        }
+        None => Shown::File,
+    }
+}
+
+/// The line with a number; empty where there is none.
+fn line_or_empty(text: &[u8], number: u64) -> &[u8] {
+    line_at(text, number).unwrap_or(&[])
+}
+
+/// Why a word of a line is refused: what is wrong with its name, or with the word.
+fn why_of(
+    alloc: Global,
+    refused: &Refused<'_>,
+    seen: &Seen<'_, '_>,
+    number: u64,
+    refusal: &Refusal<'_>,
+) -> Result<Prose, AllocError> {
+    let mut why = Prose::new(alloc);
+    if may_be_name(Line::new(seen.line), refusal.place) && refusal.reason != Reason::NameUnknown {
+        if let Some(told) = told_of(alloc, refused.told, number)? {
+            why.quote(told)?;
+            return Ok(why);
+        }
+    }
+    put_why(&mut why, seen, refusal)?;
+    Ok(why)
+}
+
+/// What is wrong with a text whose first line is refused and shows that it is none.
+fn no_text_of(refused: &Refused<'_>) -> Option<&'static str>
+    ensures { IfSome result (λ _. refused.now.fault.line ≡ 1) }
+{
+    if refused.fault.line == 1 {
+        no_text(line_or_empty(refused.named, 1), has_one_line(refused.named))
+    } else {
+        None
+    }
+}
+
+/// What is told of a line of events.
+pub fn told_of_events<'a>(
+    alloc: Global,
+    refused: &Refused<'a>,
+    consoles: u8,
+) -> Result<Told<'a>, AllocError>
+    ensures { IfOk result (λ told. IsShownOf refused.now.fault refused.now.given.now told.shown) }
+{
+    if let Some(what) = no_text_of(refused) {
+        return told_of_file(alloc, what, Section::Events);
+    }
+    let number = refused.fault.line;
+    let line = line_or_empty(refused.named, number);
+    let refusal = refusal_of(line, consoles, refused.fault.reason);
+    let seen = Seen {
+        text: refused.named,
+        line,
+        given: line_or_empty(refused.given, number),
+        world: None,
+    };
+    Ok(Told {
+        shown: shown_line(refused.given, number, line, &refusal),
+        why: why_of(alloc, refused, &seen, number, &refusal)?,
+        note: Prose::new(alloc),
+        section: Section::Events,
+    })
+}
+
+/// The mistake behind a fault of a world. It stands in the line of the fault, unless a name isn't known.
+fn mistake_in<'a>(
+    alloc: Global,
+    refused: &Refused<'a>,
+    world: &World<'a>,
+) -> Result<Mistake<'a>, AllocError>
+    ensures { IfOk result (λ mistake. IsNumber refused.now.fault.reason refused.now.fault.line mistake.line) }
+{
+    let TextFault { line, reason } = refused.fault;
+    let refusal = match (reason, world.refused) {
+        (Reason::NameUnknown, _) => return mistake_of(alloc, refused.named, world, line),
+        (Reason::EndMissing | Reason::NoProgram, _) => Refusal {
+            reason,
+            place: usize::MAX,
+            fault: world.end_of_text(),
+        },
+        (_, Some((number, refusal))) if number == line => refusal,
+        _ => Refusal {
+            reason,
+            place: 0,
+            fault: Fault::Unsaid,
+        },
+    };
+    Ok(Mistake {
+        line,
+        refusal,
+        note: None,
+    })
+}
+
+/// The line that is shown of a mistake: the last one that has words, where the text ends too early.
+fn number_of(refused: &Refused<'_>, mistake: &Mistake<'_>) -> Option<u64>
+    requires { IsNumber refused.now.fault.reason refused.now.fault.line mistake.now.line }
+    ensures { MatchOption result (EndsEarly refused.now.fault.reason) (IsNumber refused.now.fault.reason refused.now.fault.line) }
+{
+    match refused.fault.reason {
+        Reason::EndMissing | Reason::NoProgram => last_with_words(refused.named, mistake.line),
+        _ => Some(mistake.line),
+    }
+}
+
+/// What is shown of the line with a number, if there is one.
+fn shown_of<'a>(
+    given: &'a [u8],
+    number: Option<u64>,
+    line: &[u8],
+    refusal: &Refusal<'_>,
+) -> Shown<'a>
+    ensures { MatchOption number (result ≡ Shown.File) (λ n. IsLineShown n given.entry.now result) }
+{
+    match number {
+        Some(number) => shown_line(given, number, line, refusal),
+        None => Shown::File,
+    }
+}
+
+/// What is told of another line.
+fn note_of(alloc: Global, note: Option<Note<'_>>) -> Result<Prose, AllocError> {
+    let mut prose = Prose::new(alloc);
+    if let Some(note) = note {
+        put_note(&mut prose, note)?;
+    }
+    Ok(prose)
+}
+
+/// What is told of a line of a world.
+pub fn told_of_world<'a>(alloc: Global, refused: &Refused<'a>) -> Result<Told<'a>, AllocError>
+    ensures { IfOk result (λ told. IsShownOf refused.now.fault refused.now.given.now told.shown) }
+{
+    if let Some(what) = no_text_of(refused) {
+        return told_of_file(alloc, what, Section::Header);
+    }
+    let world = World::judge(alloc, refused.named)?;
+    let mistake = mistake_in(alloc, refused, &world)?;
+    let number = number_of(refused, &mistake);
+    let here = number.unwrap_or(0);
+    let refusal = mistake.refusal;
+    let seen = Seen {
+        text: refused.named,
+        line: line_or_empty(refused.named, here),
+        given: line_or_empty(refused.given, here),
+        world: Some(&world),
+    };
+    Ok(Told {
+        shown: shown_of(refused.given, number, seen.line, &refusal),
+        why: why_of(alloc, refused, &seen, here, &refusal)?,
+        note: note_of(alloc, mistake.note)?,
+        section: Section::of_world(alloc, &world, &refusal, Line::new(seen.line))?,
+    })
+}
