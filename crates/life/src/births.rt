@@ -53,7 +53,7 @@ impl<K: ProcessTable> Machine<K> {
 
     /// A child of a process that is there, and no zombie, is born like its parent, with the number that
     /// [`Machine::next_pid`] gives (XSH fork). At an error the host has no memory for it, and nothing has
-    /// changed: all memory is taken before the first change.
+    /// changed but that there may be more room: all memory is taken before the first change.
     #[tactic(auto, using(crate::proofs::RecheckLemmas::has_room, crate::proofs::RoomLemmas::same_but_room))]
     pub fn fork(&mut self, parent: Pid, child: Pid) -> Result<(), AllocError>
         requires parent { IsPlaced self.old.state.processes parent }
