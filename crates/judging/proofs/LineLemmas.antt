@@ -1,22 +1,6 @@
 -- Where lines begin and end.
-use Rattle.std.proofs.Common.{◌≡◌, ℕ, ◌+◌, ◌-◌, ◌<◌, ◌≤◌, ◌==◌, zero, suc, Bool, true, false, List, [], ◌∷◌, length, drop, refl, ap, sym, ◌∙◌, arith}
-use Rattle.std.specs.Prelude.{nat_lt, not, unwrap_or}
-use Rattle.std.specs.List.{position, position_or_len}
-use Rattle.std.proofs.lemmas.Bool.{ltb-false}
-use Rattle.std.proofs.lemmas.List.Sums.{prefix_len-le-length}
+use Rattle.std.proofs.Common.{◌≡◌, ℕ, ◌+◌, zero, suc, List, [], ◌∷◌, length, refl, arith}
 use Rattle.judging.specs.Lines.{behind_line, behind_lines}
-
-by_test : (p : ℕ → Bool) (xs : List ℕ) (b : Bool) → nat_lt (position_or_len p xs) (length xs) ≡ b → unwrap_or (position p xs) (length xs) ≡ position_or_len p xs
-by_test p xs true e = rw e refl
-by_test p xs false e =
-    let ge = ltb-false (position_or_len p xs) (length xs) e in
-    let le = prefix_len-le-length (λ x. not (p x)) xs in
-    let same : length xs ≡ position_or_len p xs = omega (arith, ge, le) in
-    rw e same
-
--- the first place, or the end
-pub first_or_end : (p : ℕ → Bool) (xs : List ℕ) → unwrap_or (position p xs) (length xs) ≡ position_or_len p xs
-first_or_end p xs = by_test p xs (nat_lt (position_or_len p xs) (length xs)) refl
 
 -- behind the end nothing follows
 pub behind_nothing : (count : ℕ) → behind_lines count [] ≡ []

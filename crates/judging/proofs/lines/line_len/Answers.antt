@@ -1,6 +1,6 @@
 use Rattle.std.proofs.Common.{◌∙◌, ℕ, ap, length, Option, ◌==◌}
 use Rattle.std.specs.Prelude.{unwrap_or}
-use Rattle.judging.proofs.LineLemmas.{first_or_end}
+use Rattle.naming.proofs.CutLemmas.{first_or_end}
 use Rattle.judging.proofs.lines.line_len.Goals as goal
 
 pub returns-clause-len : goal.returns-clause-len
