@@ -10,7 +10,7 @@ use Rattle.laws.specs.Keeping.{Kept, Phase, kept_of, kept_after, last_number, ph
 use Rattle.laws.proofs.KeptLemmas.{kept_more, last_where_more}
 use Rattle.laws.proofs.TestLemmas.{tests_are_laws}
 use Rattle.laws.proofs.LawfulLemmas.{laws_more, laws_at}
-use Rattle.traceline.proofs.EntryLemmas.{says_guess}
+use Rattle.traceline.proofs.EntryLemmas.{says_one}
 use Rattle.audit.proofs.PassLemmas.{tested_other}
 use Rattle.audit.specs.Knowing.{AuditView, kept_at, AllSay, AreLawful, Knows, Heard, StaysWith, IsRead, IsAnswer, IsNewBirth}
 use Rattle.audit.specs.Faults.{number_of}
@@ -22,11 +22,6 @@ use Rattle.audit.specs.declared.fault.AuditFault.TheVariants.{NoLine, Memory}
 line_in : Option (ℕ × Entry) → Line
 line_in None = line 0 Halted
 line_in (Some x) = line x.0 x.1
-
--- a text says one line
-pub says_one : (text : List ℕ) (l m : Line) → Says text l → Says text m → l ≡ m
-unfolding line_in
-says_one text l m a b = ap line_in (sym (says_guess text l a) ∙ says_guess text m b)
 
 -- texts say one list of lines
 pub all_one : (texts : List (List ℕ)) (ls ms : List Line) → AllSay texts ls → AllSay texts ms → ls ≡ ms
@@ -93,18 +88,6 @@ knows_more texts old new k text l says h heard = record {
   last = heard.last ∙ sym (ap last_number (last_where_more (λ x. true) k.lines l));
   phase = heard.phase ∙ sym (ap phase_of (last_where_more (λ x. true) k.lines l));
   fault = heard.fault ∙ k.fault;
-}
-
--- an audit that stays as it was knows what it did
-pub knows_still : (texts : List (List ℕ)) (old new : AuditView) → Knows texts old → StaysWith old.fault old new → Knows texts new
-knows_still texts old new k s = record {
-  lines = k.lines;
-  say = k.say;
-  laws = k.laws;
-  kept = λ c. s.kept c ∙ k.kept c;
-  last = s.last ∙ k.last;
-  phase = s.phase ∙ k.phase;
-  fault = s.fault ∙ k.fault;
 }
 
 -- a line that a test refuses, and a text that says none, is said by no lawful lines

@@ -116,9 +116,6 @@ pub record HasHeard (text : List ℕ) (number : ℕ) (rest : List ℕ) (audit : 
   pub is : text ≡ joined texts ++ rest
   pub counted : number ≡ length texts + 1
 
-pub heard_none : (text : List ℕ) (a : AuditView) → Knows [] a → HasHeard text 1 text a
-heard_none text a k = record { texts = []; knows = k; one = refl; is = refl; counted = refl }
-
 -- with one line more
 joined_more : (text : List ℕ) (texts : List (List ℕ)) (rest line later : List ℕ) → text ≡ joined texts ++ rest → IsCut rest line later → text ≡ joined (texts ++ line ∷ []) ++ later
 joined_more text texts rest line later is cut =

@@ -27,9 +27,3 @@ read_access_of s me c =
 -- to write to it: only where TOSTOP is set does it matter who writes
 abbrev pub write_access_of : State → Process → Console → Access
 write_access_of s me c = if c.tostop then change_access_of s me c else Allowed
-
--- what a call comes to by its access
-abbrev pub by_access : Access → Attempted → Attempted → Attempted → Attempted
-by_access Allowed allowed refused signalled = allowed
-by_access Refused allowed refused signalled = refused
-by_access Signalled allowed refused signalled = signalled

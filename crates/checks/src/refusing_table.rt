@@ -2,7 +2,7 @@
 
 ghost use Rattle.std.specs.Prelude.{◌≡◌, refl};
 ghost use Rattle.std.proofs.Common.{arith};
-ghost use Rattle.proctable.specs.ScanTable.{scan_with_record};
+ghost use Rattle.proctable.specs.Tables.{scan_with_record};
 
 use posix::Pid;
 use proctable::{GrantedPools, ProcessTable, Record, ScanTable, Snapshot, Spare};
@@ -85,6 +85,10 @@ impl<const REFUSED: usize> ProcessTable for RefusingTable<REFUSED> {
         self.table.update(pid)
     }
 
+    fn set_parent(&mut self, pid: Pid, parent: Pid) {
+        self.table.set_parent(pid, parent);
+    }
+
     fn spare(&mut self) -> Option<Spare> {
         self.table.spare()
     }
@@ -93,20 +97,8 @@ impl<const REFUSED: usize> ProcessTable for RefusingTable<REFUSED> {
         self.table.remove(pid);
     }
 
-    fn first_child(&mut self, pid: Pid) -> Option<Pid> {
-        self.table.first_child(pid)
-    }
-
-    fn next_sibling(&mut self, pid: Pid) -> Option<Pid> {
-        self.table.next_sibling(pid)
-    }
-
     fn next_after(&mut self, pid: Pid) -> Option<Pid> {
         self.table.next_after(pid)
-    }
-
-    fn adopt(&mut self, from: Pid, to: Pid) {
-        self.table.adopt(from, to);
     }
 
     fn visits(&self) -> u128 {

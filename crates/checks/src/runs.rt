@@ -1,7 +1,7 @@
 //! Worlds that are run over both tables of processes.
 
 use kernel::{RunError, Summary, WriteSink, run_on};
-use proctable::{LinkedTable, ProcessTable, ScanTable};
+use proctable::{ProcessTable, ScanTable, SlabTable};
 use std::alloc::Global;
 use std::process::Abort;
 
@@ -481,7 +481,7 @@ fn worlds_are_run_over_both_tables(rt: HostRuntime) {
     .iter()
     .enumerate()
     {
-        let well = comes_out::<LinkedTable>(rt.alloc(), run)
+        let well = comes_out::<SlabTable>(rt.alloc(), run)
             && comes_out::<ScanTable>(rt.alloc(), run);
         assert!(rt; well, "world {number}");
     }

@@ -99,12 +99,6 @@ end_added a b console console_then bytes now rest same none h =
     subst (λ (l : List ℕ). AddsFirst a (map (Key console) bytes) [] b (map (Key console_then) l)) (sym none)
     (first_ended a b (map (Key console) bytes) (subst (λ (l : List ℕ). AddsLines a (map (Key console) l) b) same h))
 
--- a console may change where no key waits
-pub console_changed : (a b : List ℕ) (waited : List Event) (console console_then : ℕ) (bytes : List ℕ) → bytes ≡ [] → AddsFirst a waited [] b (map (Key console) bytes)
-    → AddsFirst a waited [] b (map (Key console_then) bytes)
-console_changed a b waited console console_then [] none h = h
-console_changed a b waited console console_then (c ∷ cs) none h = cc
-
 pub key_put : (a b c : List ℕ) (u v : List Event) (i console console_then byte : ℕ) (bytes bytes_then : List ℕ) → AddsFirst a u (replicate i (Key console byte)) b v
     → AddsFirst b v [] c (map (Key console_then) bytes) → console_then ≡ console → bytes_then ≡ bytes ++ byte ∷ [] → AddsFirst a u (replicate (i + 1) (Key console byte)) c (map (Key console_then) bytes_then)
 key_put a b c u v i console console_then byte bytes bytes_then h k same more =

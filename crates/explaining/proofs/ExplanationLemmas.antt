@@ -9,8 +9,8 @@ use Rattle.sink.specs.Sinks.{BreaksOff, Gathers, Seen, TakesAll}
 use Rattle.sink.proofs.SinkLemmas.{break_on, gathers_break, gathers_then}
 use Rattle.traceline.specs.Lines.{IsCut, is_one_line}
 use Rattle.explaining.specs.Explanations.{AreOneLine, Explains, IsBegun, IsExplained, OfExplained, Stops, Told, told_line}
-use Rattle.explaining.specs.declared.texts.ExplainFault.{ExplainFault}
-use Rattle.explaining.specs.declared.texts.ExplainFault.TheVariants.{Memory, Write}
+use Rattle.inputs.specs.declared.failure.FileFailure.{FileFailure}
+use Rattle.inputs.specs.declared.failure.FileFailure.TheVariants.{Usage, CannotRead, Memory, Write}
 
 -- ---- texts
 
@@ -125,9 +125,11 @@ begun before now trace rest waiting h = (
 )
 
 -- a line isn't told
-pub told_no_more : {S : Type 0} (seen : S → Seen) (before : Seen) (old new : S) (trace rest line after waiting said : List ℕ) (why : ExplainFault)
+pub told_no_more : {S : Type 0} (seen : S → Seen) (before : Seen) (old new : S) (trace rest line after waiting said : List ℕ) (why : FileFailure)
     → HasTold before trace rest (seen old) waiting → IsCut rest line after → is_one_line said ≡ true
     → Stops why old new (seen old) (seen new) (waiting ++ told_line line said) → Explains before (seen new) trace (Err why)
+told_no_more seen before old new trace rest line after waiting said Usage h cut clean stops = absurd stops
+told_no_more seen before old new trace rest line after waiting said (CannotRead name) h cut clean stops = absurd stops
 told_no_more seen before old new trace rest line after waiting said Memory h cut clean stops =
     subst (λ s. OfExplained trace (IsBegun before (seen s))) (sym stops) (begun before (seen old) trace rest waiting h)
 told_no_more seen before old new trace rest line after waiting said Write h cut clean stops = (
@@ -142,7 +144,7 @@ pub untold : (s : Seen) (trace : List ℕ) → Explains s s trace (Err Memory)
 untold s trace = begun s s trace trace [] (nothing_told s trace)
 
 -- what `?` hands on
-pub explains_by : (r : Result (Unit {0}) ExplainFault) (why : ExplainFault) (before after : Seen) (trace : List ℕ) → IsErrAnd r (λ e. e ≡ why) → Explains before after trace (Err why)
+pub explains_by : (r : Result (Unit {0}) FileFailure) (why : FileFailure) (before after : Seen) (trace : List ℕ) → IsErrAnd r (λ e. e ≡ why) → Explains before after trace (Err why)
     → Explains before after trace r
 explains_by (Ok done) why before after trace is h = absurd is
 explains_by (Err e) why before after trace is h = rw is h

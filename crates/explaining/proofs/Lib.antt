@@ -1,3 +1,2 @@
-pub mod PutLemmas
 pub mod ExplanationLemmas
 pub mod ServingLemmas

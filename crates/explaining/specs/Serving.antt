@@ -2,21 +2,12 @@
 use Rattle.std.specs.Prelude.{◌≡◌, ◌⊎◌, ℕ, List, Option, None, Result, Ok, Err, IfSome, IsSomeAnd, codes, map}
 use Rattle.std.specs.Borrow.{Bor}
 use Rattle.host.specs.declared.words.WordsFault.{WordsFault}
-use Rattle.inputs.specs.Failures.{status_of}
+use Rattle.inputs.specs.Failures.{MeansOf, status_of}
 use Rattle.inputs.specs.Reads.{Contents, Text}
 use Rattle.inputs.specs.Words.{file_in_words}
 use Rattle.inputs.specs.declared.failure.FileFailure.{FileFailure}
-use Rattle.inputs.specs.declared.failure.FileFailure.TheVariants.{Memory, Write}
 use Rattle.sink.specs.Sinks.{BreaksOff, Seen, TakesAll}
 use Rattle.explaining.specs.Explanations.{IsBegun, OfExplained}
-use Rattle.explaining.specs.declared.texts.ExplainFault.{ExplainFault}
-use Rattle.explaining.specs.declared.texts.ExplainFault.TheVariants as fault
-
--- ---- failures
-
-abbrev pub failure_of_explaining : ExplainFault → FileFailure
-failure_of_explaining fault.Memory = Memory
-failure_of_explaining fault.Write = Write
 
 -- the status of any end
 abbrev pub answer_of : Result (Unit {0}) FileFailure → ℕ
@@ -45,11 +36,8 @@ OfFile contents P name = (trace : List ℕ) × IfSome (contents name) (λ known.
 abbrev pub IsCutShort : Seen → Seen → List ℕ → Type 0
 IsCutShort before after text = BreaksOff before after text ⊎ IsBegun before after text
 
--- What a status means, with the file that is asked for, if one is, the files, and the output from the call to the return.
-pub record Means {S : Type 0} (contents : Contents) (asked : Option Text) (old new : S) (before after : Seen) (status : ℕ) : Type 0 where
-  -- the whole trace was put, with what its lines say
-  pub done : status ≡ 0 → IsSomeAnd asked (OfFile contents (TakesAll before after))
-  pub other_words : status ≡ 2 → (asked ≡ None) × (new ≡ old)
-  -- nothing was put, or a beginning of the trace with what its lines say
-  pub cut_short : status ≡ 3 → (new ≡ old) ⊎ IsSomeAnd asked (OfFile contents (IsCutShort before after))
-  pub no_other : status ≡ 1 → ⊥
+-- What a status means, with the file that is asked for, if one is, the files, and the output from the call to the return: the whole trace was
+-- put, with what its lines say; or nothing, or a beginning.
+abbrev pub Means : {S : Type 0} → Contents → Option Text → S → S → Seen → Seen → ℕ → Type 0
+Means contents asked old new before after status =
+    MeansOf (IsSomeAnd asked (OfFile contents (TakesAll before after))) ⊥ (IsSomeAnd asked (OfFile contents (IsCutShort before after))) asked old new status

@@ -7,4 +7,4 @@ mod serving;
 mod texts;
 
 pub use serving::serve;
-pub use texts::{ExplainFault, explain_text};
+pub use texts::explain_text;

@@ -4,24 +4,11 @@ ghost use Rattle.std.specs.Prelude.{◌≡◌, ◌≤◌, Err, Some, map};
 ghost use Rattle.host.specs.declared.words.WordsFault.{WordsFault};
 ghost use Rattle.explaining.specs.Serving.{Means, answer_of, asked_by, trace_in_words};
 
-use crate::texts::{ExplainFault, explain_text};
+use crate::texts::explain_text;
 use host::{ReadFiles, WordsFault};
 use inputs::{FileFailure, named_file, read_file};
-use sink::{Sink, SinkFault, put_all};
+use sink::Sink;
 use std::alloc::Global;
-
-impl From<ExplainFault> for FileFailure<'_> {
-    ghost use Rattle.explaining.specs.Serving.{failure_of_explaining};
-
-    ghost from_gives = { λ why failure. failure ≡ failure_of_explaining why };
-
-    fn from(why: ExplainFault) -> Self {
-        match why {
-            ExplainFault::Memory => FileFailure::Memory,
-            ExplainFault::Write => FileFailure::Write,
-        }
-    }
-}
 
 /// Explains a file.
 fn explain_file<'a, F: ReadFiles, O: Sink>(
@@ -33,8 +20,7 @@ fn explain_file<'a, F: ReadFiles, O: Sink>(
     ensures { Means (F.contents files.now) (Some name.entry.now) out.old out.new (O.seen out.old) (O.seen out.new) (answer_of result) }
 {
     let trace = read_file(files, name)?;
-    explain_text(alloc, trace.as_slice(), out)?;
-    Ok(())
+    explain_text(alloc, trace.as_slice(), out)
 }
 
 /// Does what the words ask for.
@@ -50,20 +36,6 @@ fn serve_words<'a, F: ReadFiles, O: Sink>(
     explain_file(alloc, files, name, out)
 }
 
-/// Tells a failure, as far as the error output takes it. It takes no memory.
-fn tell<E: Sink>(failure: FileFailure<'_>, err: &mut E) -> Result<(), SinkFault> {
-    match failure {
-        FileFailure::Usage => put_all(err, b"usage: jobk explain TRACE\n"),
-        FileFailure::CannotRead(name) => {
-            put_all(err, b"jobk: cannot read ")?;
-            put_all(err, name.as_bytes())?;
-            put_all(err, b"\n")
-        }
-        FileFailure::Memory => put_all(err, b"jobk: out of memory\n"),
-        FileFailure::Write => put_all(err, b"jobk: cannot write\n"),
-    }
-}
-
 /// The status of the program. A failure is told.
 fn told<E: Sink>(done: Result<(), FileFailure<'_>>, err: &mut E) -> u8
     ensures most { result ≤ 3 }
@@ -71,10 +43,7 @@ fn told<E: Sink>(done: Result<(), FileFailure<'_>>, err: &mut E) -> u8
 {
     match done {
         Ok(()) => 0,
-        Err(failure) => {
-            let _ = tell(failure, err);
-            failure.status()
-        }
+        Err(failure) => failure.end(b"usage: jobk explain TRACE\n", err),
     }
 }
 

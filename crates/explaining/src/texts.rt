@@ -1,45 +1,17 @@
 //! A trace, and behind its lines what they say.
 
 ghost use Rattle.std.specs.Prelude.{◌≡◌, ℕ, ◌++◌, List, [], true, IfErr, OnErr, OnOk};
-ghost use Rattle.sink.specs.Sinks.{BreaksOff, Gathers, TakesAll};
+ghost use Rattle.sink.specs.Sinks.{BreaksOff, Gathers};
 ghost use Rattle.traceline.specs.Lines.{is_one_line};
 ghost use Rattle.explaining.specs.Explanations.{Explains, Stops, behind, told_line};
 
 use crate::known::Known;
 use crate::meaning::put_meaning;
+use inputs::{FileFailure, put_both};
 use sink::{Sink, SinkFault, put_all};
 use std::alloc::{AllocError, Global};
 use traceline::{next_line, read_line};
 use wording::Prose;
-
-/// Why a trace isn't explained to its end.
-#[derive(Clone, Copy, Debug, PartialEq, Eq)]
-pub enum ExplainFault {
-    /// There was no memory.
-    Memory,
-    /// A put failed.
-    Write,
-}
-
-impl From<AllocError> for ExplainFault {
-    ghost use Rattle.explaining.specs.declared.texts.ExplainFault.TheVariants.{Memory};
-
-    ghost from_gives = { λ _ why. why ≡ Memory };
-
-    fn from(_: AllocError) -> ExplainFault {
-        ExplainFault::Memory
-    }
-}
-
-impl From<SinkFault> for ExplainFault {
-    ghost use Rattle.explaining.specs.declared.texts.ExplainFault.TheVariants.{Write};
-
-    ghost from_gives = { λ _ why. why ≡ Write };
-
-    fn from(_: SinkFault) -> ExplainFault {
-        ExplainFault::Write
-    }
-}
 
 /// At least so many bytes are put at once, but for the last ones: a put may be a system call, which costs more than a
 /// line.
@@ -79,12 +51,12 @@ fn put_if_full<O: Sink>(waiting: &mut Vec<u8>, out: &mut O) -> Result<(), SinkFa
 }
 
 /// Adds a line to what waits, and words behind it. All that waits is put once it is 8 KiB or more.
-fn tell_line<O: Sink>(
+fn tell_line<'a, O: Sink>(
     waiting: &mut Vec<u8>,
     line: &[u8],
     words: &[u8],
     out: &mut O,
-) -> Result<(), ExplainFault>
+) -> Result<(), FileFailure<'a>>
     ensures ok { OnOk result (Gathers (O.seen out.old) waiting.old.items (O.seen out.new) waiting.new.items (told_line line.now words.now)) }
     ensures err { IfErr result (λ why. Stops why out.old out.new (O.seen out.old) (O.seen out.new) (waiting.old.items ++ told_line line.now words.now)) }
 {
@@ -113,13 +85,13 @@ fn say(known: &mut Known, words: &mut Prose, line: &[u8]) -> Result<(), AllocErr
 }
 
 /// Tells a line, and what it says.
-fn explain_line<O: Sink>(
+fn explain_line<'a, O: Sink>(
     known: &mut Known,
     words: &mut Prose,
     waiting: &mut Vec<u8>,
     line: &[u8],
     out: &mut O,
-) -> Result<(), ExplainFault>
+) -> Result<(), FileFailure<'a>>
     ensures ok { OnOk result ((said : List ℕ) × (is_one_line said ≡ true) × Gathers (O.seen out.old) waiting.old.items (O.seen out.new) waiting.new.items (told_line line.now said)) }
     ensures err { IfErr result (λ why. (said : List ℕ) × (is_one_line said ≡ true) × Stops why out.old out.new (O.seen out.old) (O.seen out.new) (waiting.old.items ++ told_line line.now said)) }
 {
@@ -128,21 +100,16 @@ fn explain_line<O: Sink>(
     tell_line(waiting, line, one_line(said.as_bytes()), out)
 }
 
-/// Puts what waits, and then what follows the last line feed.
-fn put_rest<O: Sink>(waiting: &[u8], last: &[u8], out: &mut O) -> Result<(), SinkFault>
-    ensures ok { OnOk result (TakesAll (O.seen out.old) (O.seen out.new) (waiting.now ++ last.now)) }
-    ensures err { OnErr result (BreaksOff (O.seen out.old) (O.seen out.new) (waiting.now ++ last.now)) }
-{
-    put_all(out, waiting)?;
-    put_all(out, last)
-}
-
 /// Puts a trace, and behind each line, after three spaces, what its numbers say. A line whose numbers say no more than
 /// they show stays as it is; so does one that isn't of a trace, and what follows the last line feed, as it may be the
 /// beginning of a longer line.
 ///
 /// At an error a beginning of such a text was put.
-pub fn explain_text<O: Sink>(alloc: Global, trace: &[u8], out: &mut O) -> Result<(), ExplainFault>
+pub fn explain_text<'a, O: Sink>(
+    alloc: Global,
+    trace: &[u8],
+    out: &mut O,
+) -> Result<(), FileFailure<'a>>
     ensures { Explains (O.seen out.old) (O.seen out.new) trace.now result }
 {
     let mut known = Known::new(alloc)?;
@@ -153,6 +120,6 @@ pub fn explain_text<O: Sink>(alloc: Global, trace: &[u8], out: &mut O) -> Result
         explain_line(&mut known, &mut words, &mut waiting, line, out)?;
         rest = more;
     }
-    put_rest(waiting.as_slice(), rest, out)?;
+    put_both(out, waiting.as_slice(), rest)?;
     Ok(())
 }

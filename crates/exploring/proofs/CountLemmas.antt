@@ -71,6 +71,3 @@ pub book_more : (world : World) (events : List Event) (texts : List (List ℕ)) 
 book_more world events texts done ps lines e c =
     let same = is_course world events ps lines e c in
     rw (endings_more world events done ps e same.1, finds_more world events done ps lines same.0 texts, length-append done (ps ∷ [])) refl
-
-pub book_begins : (world : World) (events : List Event) (texts : List (List ℕ)) → book_over world events texts [] ≡ empty_book texts
-book_begins world events texts = refl

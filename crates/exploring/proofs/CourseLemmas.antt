@@ -65,13 +65,6 @@ none_of_both true b p q = cc
 both_grant : (ls ms : List Line) → one_denies_memory ls ≡ false → one_denies_memory ms ≡ false → one_denies_memory (ls ++ ms) ≡ false
 both_grant ls ms p q = list_any-append (λ (l : Line). denies_memory l.entry) ls ms ∙ none_of_both (one_denies_memory ls) (one_denies_memory ms) p q
 
-later_denies : (n : ℕ) (ls : List Line) → one_denies_memory (later n ls) ≡ one_denies_memory ls
-later_denies n [] = refl
-later_denies n (l ∷ ls) = ap (λ b. denies_memory l.entry || b) (later_denies n ls)
-
-pub grants_none : (k : ℕ) (s : State) → RunsGranted k s [] [] s
-grants_none k s = record { runs = (refl, refl); all = refl }
-
 pub grants_then : (xs ys : List Event) (k j : ℕ) (a b c : State) (ls ms : List Line) → j ≡ k + length xs → RunsGranted k a xs ls b → RunsGranted j b ys ms c → RunsGranted k a (xs ++ ys) (ls ++ ms) c
 grants_then xs ys k j a b c ls ms at p q = record {
   runs = runs_then xs ys k a b c ls ms p.runs (subst (λ n. RunsFrom n b ys ms c) at q.runs);
@@ -137,12 +130,6 @@ rest_idle s going none regular settled_s =
 pub mapped_more : {X Y : Type 0} (f : X → Y) (xs : List X) (i : ℕ) (x : X) → i < length xs → x ≡ get_or xs i x → map f (take (i + 1) xs) ≡ map f (take i xs) ++ f x ∷ []
 mapped_more f xs i x lt is = ap (map f) (take_more xs i x lt ∙ ap (λ y. take i xs ++ y ∷ []) (sym is)) ∙ map-append f (take i xs) (x ∷ [])
 
-pub notes_more : (n p : ℕ) (notes : List Note) (i : ℕ) (note : Note) → i < length notes → note ≡ get_or notes i note
-    → later n (noted_lines p (take (i + 1) notes)) ≡ later n (noted_lines p (take i notes)) ++ line (n + note.step) (Noted p note.value) ∷ []
-notes_more n p notes i note lt is =
-    ap (later n) (mapped_more (λ (x : Note). line x.step (Noted p x.value)) notes i note lt is)
-    ∙ map-append (λ (l : Line). line (n + l.event) l.entry) (noted_lines p (take i notes)) (line note.step (Noted p note.value) ∷ [])
-
 pub added_more : (before now next ls : List Line) (l : Line) → now ≡ before ++ ls → next ≡ now ++ l ∷ [] → next ≡ before ++ (ls ++ l ∷ [])
 added_more before now next ls l a b = b ∙ ap (λ xs. xs ++ l ∷ []) a ∙ append_assoc before ls (l ∷ [])
 
@@ -189,9 +176,6 @@ adds_later n k e p a b xs notes entries before mid after run first last granted 
       grants = grants_later n k xs a b (noted_lines p notes ++ numbered e entries) run
           (ap one_denies_memory parts ∙ both_grant (later n (noted_lines p notes)) (numbered (n + e) entries) (notes_grant n p notes) granted);
     }
-
-pub adds_none : (k : ℕ) (s : State) (lines : List Line) → Adds k s [] s lines lines
-adds_none k s lines = record { shows = []; added = sym (append-nil lines); grants = grants_none k s }
 
 pub adds_then : (xs ys zs : List Event) (k j : ℕ) (a b c : State) (before mid after : List Line) → j ≡ k + length xs → xs ++ ys ≡ zs → Adds k a xs b before mid → Adds j b ys c mid after → Adds k a zs c before after
 adds_then xs ys zs k j a b c before mid after at all p q = record {

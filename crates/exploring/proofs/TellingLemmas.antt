@@ -17,10 +17,6 @@ pub has_come : (b : Bool) (all : List Places) (ps : Places) (told : List Places 
 has_come true all ps told book e h = h
 has_come false all ps told book e h = cc
 
-pub has_told : (b : Bool) (all : List Places) (ps : Places) (told : List Places → BookView) (book : BookView) → b ≡ false → IsOnItsWay b all ps told book → book ≡ told all
-has_told true all ps told book e h = cc
-has_told false all ps told book e h = h
-
 -- before the last schedule there are fewer told of than there are
 pub fewer_told : (world : World) (events : List Event) (texts : List (List ℕ)) (all : List Places) (ps : Places) (book : BookView) → HasCome all ps (book_over world events texts) book → book.total < length all
 fewer_told world events texts all ps book h =

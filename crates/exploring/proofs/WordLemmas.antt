@@ -17,9 +17,6 @@ whole_words Any finds others more = refl
 whole_words Sought finds others more = absurd (more refl)
 whole_words File finds others more = refl
 
-pub missing_text : (p : Parted) → p.next ≡ Sought → asked_by_parts p ≡ None
-missing_text p missing = ap (λ n. asked_if_whole n p.finds p.others) missing
-
 -- what is asked for by the matches is by the words
 pub asked_alike : (result : Result Request NoRequest) (by_matches by_words : Option Asked) → by_words ≡ by_matches
     → MatchResult result (λ r. by_matches ≡ Some (said r)) (λ why. by_matches ≡ None)

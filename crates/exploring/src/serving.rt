@@ -12,7 +12,7 @@ use crate::words::{Parts, Request, parts_of, requested};
 use crate::{Book, Family, Progress, explore};
 use arrayvec::ArrayString;
 use host::{ReadFiles, WordsFault};
-use inputs::{InputFault, NoRequest, number, read_inputs};
+use inputs::{InputFault, NoRequest, number, read_inputs, tell_unread};
 use kernel::{Sink, SinkFault, put_all};
 use schedules::family_size;
 use std::alloc::{AllocError, Global};
@@ -235,9 +235,7 @@ fn serve_request<'a, 'w, F: ReadFiles, O: Sink, P: Progress>(
 /// Tells a failure, as far as the error output takes it. It takes no memory.
 fn tell<E: Sink>(failure: Failure<'_>, err: &mut E) -> Result<(), SinkFault> {
     if let Failure::Input(InputFault::CannotRead(name)) = failure {
-        put_all(err, b"jobk: cannot read ")?;
-        put_all(err, name.as_bytes())?;
-        return put_all(err, b"\n");
+        return tell_unread(name, err);
     }
     let mut text = ArrayString::<256>::new();
     let _ = writeln!(text, "{failure}");

@@ -1,8 +1,9 @@
--- The failures of programs that are given one file, and their statuses.
-use Rattle.std.specs.Prelude.{ℕ}
+-- The failures of programs that are given one file, what is told of them, and their statuses.
+use Rattle.std.specs.Prelude.{◌≡◌, ◌⊎◌, ℕ, List, [], ◌∷◌, ◌++◌, codes, None, Option}
 use Rattle.std.specs.Borrow.{Bor}
 use Rattle.host.specs.declared.files.FileFault.{FileFault}
 use Rattle.host.specs.declared.files.FileFault.TheVariants as file
+use Rattle.sink.specs.Sinks.{BreaksOff, Seen, TakesAll}
 use Rattle.inputs.specs.Reads.{Text}
 use Rattle.inputs.specs.declared.failure.FileFailure.{FileFailure}
 use Rattle.inputs.specs.declared.failure.FileFailure.TheVariants.{Usage, CannotRead, Memory, Write}
@@ -23,3 +24,26 @@ status_of Usage = 2
 status_of (CannotRead name) = 3
 status_of Memory = 3
 status_of Write = 3
+
+-- what is told of a file that isn't read
+abbrev pub message_unread : Text → List ℕ
+message_unread name = codes "jobk: cannot read " ++ (name ++ 10 ∷ [])
+
+-- and of a failure, by a program that is used so
+abbrev pub message_of : List ℕ → FileFailure → List ℕ
+message_of usage Usage = usage
+message_of usage (CannotRead name) = message_unread name.now
+message_of usage Memory = codes "jobk: out of memory\n"
+message_of usage Write = codes "jobk: cannot write\n"
+
+-- A message was taken, or a beginning of it, and a put failed.
+abbrev pub Tells : Seen → Seen → List ℕ → Type 0
+Tells before after message = TakesAll before after message ⊎ BreaksOff before after message
+
+-- What a status means, with what is asked for, if something is, and the output from the call to the return.
+pub record MeansOf {A S : Type 0} (Done Refused IsBegun : Type 0) (asked : Option A) (old new : S) (status : ℕ) : Type 0 where
+  pub done : status ≡ 0 → Done
+  pub refused : status ≡ 1 → Refused
+  pub other_words : status ≡ 2 → (asked ≡ None) × (new ≡ old)
+  -- nothing was put, or a beginning
+  pub cut_short : status ≡ 3 → (new ≡ old) ⊎ IsBegun

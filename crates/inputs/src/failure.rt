@@ -1,12 +1,13 @@
 //! Why a program that is given one file fails.
 
-ghost use Rattle.std.specs.Prelude.{◌≡◌, IfErr, IfOk, IfSome};
+ghost use Rattle.std.specs.Prelude.{◌≡◌, ◌++◌, IfErr, IfOk, IfSome, OnErr, OnOk};
 ghost use Rattle.host.specs.declared.files.FileFault.{FileFault};
-ghost use Rattle.inputs.specs.Failures.{failure_of_file, status_of};
+ghost use Rattle.sink.specs.Sinks.{BreaksOff, TakesAll};
+ghost use Rattle.inputs.specs.Failures.{Tells, failure_of_file, message_of, message_unread, status_of};
 
 use crate::words::NoRequest;
 use host::{FileFault, ReadFiles};
-use sink::SinkFault;
+use sink::{Sink, SinkFault, put_all};
 use std::alloc::AllocError;
 
 /// Why a program that is given one file fails.
@@ -66,15 +67,50 @@ impl<'a> FileFailure<'a> {
         }
     }
 
-    /// The status of the program: 2 for other words, 3 for a device or memory.
-    pub fn status(self) -> u8
-        ensures { result ≡ status_of self.entry }
+    /// Tells it, and how the program is used where the words ask for no file. At an `Err` a beginning was taken, and a put
+    /// failed. It takes no memory.
+    pub fn tell<E: Sink>(self, usage: &[u8], err: &mut E) -> Result<(), SinkFault>
+        ensures ok { OnOk result (TakesAll (E.seen err.old) (E.seen err.new) (message_of usage.now self.entry)) }
+        ensures err { OnErr result (BreaksOff (E.seen err.old) (E.seen err.new) (message_of usage.now self.entry)) }
     {
+        match self {
+            FileFailure::Usage => put_all(err, usage),
+            FileFailure::CannotRead(name) => tell_unread(name, err),
+            FileFailure::Memory => put_all(err, b"jobk: out of memory\n"),
+            FileFailure::Write => put_all(err, b"jobk: cannot write\n"),
+        }
+    }
+
+    /// The status of a program that ends by it: 2 for other words, 3 for a device or memory. It is told, as far as the
+    /// error output takes it.
+    pub fn end<E: Sink>(self, usage: &[u8], err: &mut E) -> u8
+        ensures status { result ≡ status_of self.entry }
+        ensures told { Tells (E.seen err.old) (E.seen err.new) (message_of usage.now self.entry) }
+    {
+        let _ = self.tell(usage, err);
         match self {
             FileFailure::Usage => 2,
             FileFailure::CannotRead(_) | FileFailure::Memory | FileFailure::Write => 3,
         }
     }
+}
+
+/// Puts bytes, and then others. At an `Err` a beginning of them was taken, and a put failed.
+pub fn put_both<O: Sink>(out: &mut O, first: &[u8], second: &[u8]) -> Result<(), SinkFault>
+    ensures ok { OnOk result (TakesAll (O.seen out.old) (O.seen out.new) (first.now ++ second.now)) }
+    ensures err { OnErr result (BreaksOff (O.seen out.old) (O.seen out.new) (first.now ++ second.now)) }
+{
+    put_all(out, first)?;
+    put_all(out, second)
+}
+
+/// Tells that the file with a name can't be read. At an `Err` a beginning was taken, and a put failed. It takes no memory.
+pub fn tell_unread<E: Sink>(name: &str, err: &mut E) -> Result<(), SinkFault>
+    ensures ok { OnOk result (TakesAll (E.seen err.old) (E.seen err.new) (message_unread name.now)) }
+    ensures err { OnErr result (BreaksOff (E.seen err.old) (E.seen err.new) (message_unread name.now)) }
+{
+    put_all(err, b"jobk: cannot read ")?;
+    put_both(err, name.as_bytes(), b"\n")
 }
 
 /// The bytes of a file.

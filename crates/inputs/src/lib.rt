@@ -12,7 +12,7 @@ ghost use Rattle.inputs.specs.Statuses.{status_of};
 ghost use Rattle.inputs.specs.Reads.{Reads, RefusesEvents, RefusesWorld, fault_of_file, unless_memory};
 ghost use Rattle.inputs.specs.Numbers.{number_of};
 
-pub use failure::{FileFailure, read_file};
+pub use failure::{FileFailure, put_both, read_file, tell_unread};
 use host::{FileFault, ReadFiles};
 use std::alloc::Global;
 use text::{EventList, Reason, TextFault, World, read_events, read_world};

@@ -67,9 +67,18 @@ fits rs n b h e = (omega (arith, e, h.reporting.room), omega (arith, e, h.stoppe
 pub fits_more : (k n : ℕ) (b : Indexes) → 0 < lesser k (room_in n b) → Fits (n + 1) b
 fits_more k n b h = (grind (arith, nat_tests, h), grind (arith, nat_tests, h), grind (arith, nat_tests, h), grind (arith, nat_tests, h))
 
+-- one process more takes the room of one
+pub room_less : {p parent : ℕ} {it : Option IndexedFields} (k j n : ℕ) (old new : Indexes) → k ≤ j + 1 → AreMoved p parent it old new → lesser k (room_in n old) ≤ lesser j (room_in (n + 1) new) + 1
+room_less k j n old new few m =
+    let a = m.reporting.room in
+    let b = m.stopped.room in
+    let d = m.alarmed.room in
+    let e = m.subreapers.room in
+    grind (arith, nat_tests, few, a, b, d, e)
+
 -- the record of p is changed, comes or goes, and p moves
-pub indexes_moved : (p parent : ℕ) (it : Option IndexedFields) (rs ts : List Process) (old new : Indexes) (anchors : ListsView) → IsElsewhere p rs ts → Fits (length ts) old → AreIndexes rs old → Sees p parent it ts → AreMoved p parent it old new → AreIndexes ts (record new { anchors = anchors })
-indexes_moved p parent it rs ts old new anchors same fits h s k = record {
+pub indexes_moved : (p parent : ℕ) (it : Option IndexedFields) (rs ts : List Process) (old new : Indexes) (anchors children : ListsView) → IsElsewhere p rs ts → Fits (length ts) old → AreIndexes rs old → Sees p parent it ts → AreMoved p parent it old new → AreIndexes ts (record new { anchors = anchors; children = children })
+indexes_moved p parent it rs ts old new anchors children same fits h s k = record {
   members = index_moved member_key p rs ts old.members.pairs new.members.pairs same h.members (rw s.members k.members);
   reporting = indexed_moved report_key p rs ts old.reporting new.reporting same fits.0 h.reporting (rw s.reporting k.reporting);
   stopped = indexed_moved stopped_key p rs ts old.stopped new.stopped same fits.1 h.stopped (rw s.stopped k.stopped);

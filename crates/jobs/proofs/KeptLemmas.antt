@@ -13,23 +13,23 @@ use Rattle.posix.proofs.TableLemmas.{pid_looked, lookup_changed, remove_none, ri
 use Rattle.posix.proofs.MapLemmas.{lookup_map, lookup_back, at_pid, at_keeps}
 use Rattle.posix.proofs.RegularLemmas.{lookup_new, lookup_removed}
 use Rattle.posix.proofs.WalkLemmas.{all_looked, some_looked}
-use Rattle.pidset.specs.Indexes.{AreTurned, HaveParents, IndexView, key_of, IsAnchorIndex, IsMoved, IsReplaced}
+use Rattle.pidset.specs.Indexes.{ArePairsRekeyed, AreTurned, HaveParents, IsIndex, IndexView, key_of, IsAnchorIndex, IsMoved, IsReplaced}
 use Rattle.pidset.specs.Lists.{ListsView}
-use Rattle.pidset.proofs.IndexLemmas.{IsElsewhere, elsewhere_changed, elsewhere_inserted, elsewhere_removed}
+use Rattle.pidset.proofs.IndexLemmas.{IsElsewhere, elsewhere_changed, elsewhere_inserted, elsewhere_removed, index_moved, key_removed}
 use Rattle.proctable.specs.declared.records.Record.{Record}
 use Rattle.proctable.specs.Records.{process_of, snapshot_of, give_record, with_record}
 use Rattle.proctable.proofs.RecordLemmas.{record_rises}
 use Rattle.jobs.specs.declared.indexes.Indexes.{Indexes}
 use Rattle.jobs.specs.declared.indexes.IndexedFields.{IndexedFields}
-use Rattle.jobs.specs.Indexes.{AreIndexes, AreMoved, CanMove, snapshot_seen, IsInside, anchor_in, child_key, member_in, member_key, record_seen, seen_of}
-use Rattle.jobs.specs.IndexedTables.{AreNumbers, AreWithin, HasParent, IsGroupFor, IsKept, IsRun, StaysGrouped}
+use Rattle.jobs.specs.Indexes.{AreIndexes, AreMoved, CanMove, list_of_parent, parent_key, snapshot_seen, IsInside, anchor_in, child_key, member_in, member_key, record_seen, seen_of}
+use Rattle.jobs.specs.IndexedTables.{AreKin, AreNumbers, AreWithin, HasParent, HaveOneRoot, IsGroupFor, IsKept, IsRun, StaysGrouped}
 use Rattle.proctable.specs.declared.snapshot.Snapshot.{Snapshot}
 use Rattle.jobs.proofs.SnapshotLemmas.{is_there, some_read, none_read, snapshot_are}
 use Rattle.jobs.proofs.IndexLemmas.{Fits, Sees, can_move, sees, sees_none, fits, indexes_moved, indexes_unmoved}
 use Rattle.pidset.proofs.AnchorLemmas.{anchors_inserted, anchors_removed, anchors_adopted}
-use Rattle.proctable.proofs.LinkLemmas.{no_child}
+use Rattle.jobs.proofs.ChildLemmas.{kin_adopted, kin_record, root_adopted, root_inserted, root_record, root_removed}
 use Rattle.jobs.proofs.AnchorLemmas.{seen_at, seen_found, key_at, child_is, stance_in, anchors_same, number_within}
-use Rattle.pidset.proofs.ParentLemmas.{parents_map, parents_inserted, parents_removed, parents_adopted}
+use Rattle.pidset.proofs.ParentLemmas.{no_child, parents_map, parents_inserted, parents_removed, parents_adopted}
 use Rattle.jobs.proofs.NumberLemmas.{absent_changed, least_number, no_more, above_none}
 
 -- ---- few enough to be counted
@@ -58,21 +58,34 @@ within_at n p it rs ts same inside s h q r e = elim (cases_eq q p) [
 ]
 
 -- where p moves in the indexes, and all others stay, all is kept
-kept_at : (n m p parent : ℕ) (it : Option IndexedFields) (rs ts : List Process) (old now : Indexes) (set : ListsView) → IsElsewhere p rs ts → 1 ≤ p → IsInside p it old → IsRising ts → m ≡ length ts → Fits m old → Sees p parent it ts → AreMoved p parent it old now
-    → IsAnchorIndex ts set.pairs → set.numbers ≡ old.anchors.numbers → HaveParents HasParent ts → IsKept n old rs → IsKept m (record now { anchors = set }) ts
-kept_at n m p parent it rs ts old now set same least inside up count free s moved index numbers parents k = record {
+kept_at : (n m p parent : ℕ) (it : Option IndexedFields) (rs ts : List Process) (old now : Indexes) (set kin : ListsView) → IsElsewhere p rs ts → 1 ≤ p → IsInside p it old → IsRising ts → m ≡ length ts → Fits m old → Sees p parent it ts → AreMoved p parent it old now
+    → IsAnchorIndex ts set.pairs → set.numbers ≡ old.anchors.numbers → HaveParents HasParent ts → IsIndex parent_key ts kin.pairs → kin.numbers ≡ old.children.numbers → HaveOneRoot ts → IsKept n old rs → IsKept m (record now { anchors = set; children = kin }) ts
+kept_at n m p parent it rs ts old now set kin same least inside up count free s moved index numbers parents children wide root k = record {
   rising = up;
   numbers = λ q out. elim (cases_eq q p) [ inl e ↦ let low = inside.0 in let limit = k.limit in ⊎_elim (λ none. absurd (omega (arith, e, none, least))) (λ above. absurd (omega (arith, e, above, low, limit))) out | inr ne ↦ same q ne ∙ k.numbers q out ];
   within = rw moved.numbers (within_at old.members.numbers p it rs ts same inside s.members k.within);
   limit = rw moved.numbers k.limit;
   count = count;
-  indexes = indexes_moved p parent it rs ts old now set same (rw (← count) free) k.indexes s moved;
+  indexes = indexes_moved p parent it rs ts old now set kin same (rw (← count) free) k.indexes s moved;
   anchors = record { index = index; wide = let e = moved.numbers in let wide = k.anchors.wide in omega (arith, e, numbers, wide); parents = parents };
+  children = record { index = children; wide = let e = moved.numbers in let was = k.children.wide in omega (arith, e, wide, was); root = root };
 }
 
 -- who is there has a number, and there is memory for it
 pub number_kept : {n p : ℕ} {rs : List Process} {indexes : Indexes} → IsKept n indexes rs → IsSome (lookup p rs) → (1 ≤ p) × (p < indexes.members.numbers)
 number_kept {p = p} {rs = rs} k there = number_within _ p rs k.within (k.numbers 0 (inl refl)) there
+
+-- it isn't 0
+pub some_number : {n p : ℕ} {rs : List Process} {indexes : Indexes} → IsKept n indexes rs → IsSome (lookup p rs) → p ≢ 0
+some_number k there none = let least = (number_kept k there).0 in omega (arith, least, none)
+
+-- the process that is there
+pub who_is : (p : ℕ) (rs : List Process) → IsSome (lookup p rs) → (me : Process) × (lookup p rs ≡ Some me)
+who_is p rs h = elim (lookup p rs) as (λ o. IsSome o → (me : Process) × (o ≡ Some me)) [ None ↦ λ k. absurd (cc) | Some me ↦ λ k. (me, refl) ] h
+
+-- its children stand under it
+pub kin_kept : {n : ℕ} {rs : List Process} {indexes : Indexes} → IsKept n indexes rs → AreKin rs indexes.children.pairs
+kin_kept k = record { rising = k.rising; index = k.children.index }
 
 -- ---- another record
 
@@ -126,12 +139,13 @@ ready_run {g = g} {change = change} {rs = rs} {n = n} {p = p} {indexes = indexes
 
 -- p moves in the indexes
 pub kept_moved : (n : ℕ) (rs new : List Process) (p : ℕ) (b c : Record) (old now : Indexes) (set : ListsView) → lookup p rs ≡ Some (process_of p (parent_of p rs) b) → new ≡ with_record rs p c → AreMoved p (parent_of p rs) (Some (record_seen c)) old now
-    → IsInside p (Some (record_seen c)) old → IsAnchorIndex (with_record rs p c) set.pairs → set.numbers ≡ old.anchors.numbers → IsKept n old rs → IsKept n (record now { anchors = set }) new
+    → IsInside p (Some (record_seen c)) old → IsAnchorIndex (with_record rs p c) set.pairs → set.numbers ≡ old.anchors.numbers → now.children ≡ old.children → IsKept n old rs → IsKept n (record now { anchors = set }) new
 unfolding give_record changed
-kept_moved n rs new p b c old now set found is moved inside index numbers k =
-    rw is (kept_at n n p (parent_of p rs) (Some (record_seen c)) rs (with_record rs p c) old now set (elsewhere_record rs p c) (number_kept k (rw found refl)).0 inside (record_rises rs k.rising p c)
+kept_moved n rs new p b c old now set found is moved inside index numbers same k =
+    rw is (kept_at n n p (parent_of p rs) (Some (record_seen c)) rs (with_record rs p c) old now set now.children (elsewhere_record rs p c) (number_kept k (rw found refl)).0 inside (record_rises rs k.rising p c)
     (k.count ∙ sym (length_record rs p c)) (fits rs n old k.indexes (rw k.count (omega arith))) (sees p (process_of p (parent_of p rs) c) (with_record rs p c) (record_found rs p b c found)) moved index numbers
-    (parents_map HasParent (at p (give_record c)) (at_pid p (give_record c) (λ r. refl)) (at_keeps (λ r. r.parent) p (give_record c) (λ r. refl)) (λ q r some none. some (at_keeps (λ r. r.parent) p (give_record c) (λ r. refl) r ∙ none)) rs k.anchors.parents) k)
+    (parents_map HasParent (at p (give_record c)) (at_pid p (give_record c) (λ r. refl)) (at_keeps (λ r. r.parent) p (give_record c) (λ r. refl)) (λ q r some none. some (at_keeps (λ r. r.parent) p (give_record c) (λ r. refl) r ∙ none)) rs k.anchors.parents)
+    (rw same (kin_record rs p c old.children.pairs k.children.index)) (ap (λ (l : ListsView). l.numbers) same) (root_record rs p c k.children.root) k)
 
 -- the indexes see at most an alarm of a change of signals
 pub seen_same : (b c : Record) → c ≡ record b { alarm = c.alarm; own = record (b.own) { signals = c.own.signals } } → record (record_seen c) { alarm = b.alarm } ≡ record_seen b
@@ -145,7 +159,7 @@ kept_alarmed n rs new p b c indexes set found is same moved k =
     let rest = indexes_unmoved p (parent_of p rs) (Some (record (record_seen c) { alarm = b.alarm })) rs indexes k.indexes (rw same (sees p _ rs found)) in
     kept_moved n rs new p b c indexes (record indexes { alarmed = set }) indexes.anchors found is (record { members = rest.members; numbers = refl; reporting = rest.reporting; stopped = rest.stopped; alarmed = moved; subreapers = rest.subreapers })
     (ready_record n p rs b c indexes found (inl (ap (λ (w : IndexedFields). w.group) same)) k).1
-    (anchors_same p rs (with_record rs p c) (record_seen b) (record_seen c) indexes.anchors.pairs (elsewhere_record rs p c) (ap (option_map seen_of) found) (ap (option_map seen_of) now) (rw now refl) (ap stance_in same) (ap (λ (w : IndexedFields). is_zombie w.life) same) k.anchors.index) refl k
+    (anchors_same p rs (with_record rs p c) (record_seen b) (record_seen c) indexes.anchors.pairs (elsewhere_record rs p c) (ap (option_map seen_of) found) (ap (option_map seen_of) now) (rw now refl) (ap stance_in same) (ap (λ (w : IndexedFields). is_zombie w.life) same) k.anchors.index) refl refl k
 
 -- or no index sees it
 pub kept_unseen : (n : ℕ) (rs new : List Process) (p : ℕ) (b c : Record) (indexes : Indexes) → lookup p rs ≡ Some (process_of p (parent_of p rs) b) → new ≡ with_record rs p c → record_seen c ≡ record_seen b → IsKept n indexes rs → IsKept n indexes new
@@ -154,17 +168,20 @@ kept_unseen n rs new p b c indexes found is same k =
 
 -- ---- births, removals and adoptions
 
-pub kept_inserted : (n : ℕ) (rs new : List Process) (r : Process) (old now : Indexes) (set : ListsView) → 1 ≤ r.pid → IsInside r.pid (Some (seen_of r)) old → lookup r.pid rs ≡ None → (r.parent ≡ 0) ⊎ IsSome (lookup r.parent rs) → new ≡ inserted r rs → Fits (n + 1) old
-    → AreMoved r.pid r.parent (Some (seen_of r)) old now → IsMoved r.pid (anchor_in (seen_of r) (seen_at r.parent rs)) old.anchors.pairs set.pairs → set.numbers ≡ old.anchors.numbers → IsKept n old rs → IsKept (n + 1) (record now { anchors = set }) new
-kept_inserted n rs new r old now set least inside fresh parent is free moved anchor numbers k =
+pub kept_inserted : (n : ℕ) (rs new : List Process) (r : Process) (old now : Indexes) (set kin : ListsView) → 1 ≤ r.pid → IsInside r.pid (Some (seen_of r)) old → lookup r.pid rs ≡ None → ((r.parent ≡ 0) × (rs ≡ [])) ⊎ IsSome (lookup r.parent rs) → new ≡ inserted r rs → Fits (n + 1) old
+    → AreMoved r.pid r.parent (Some (seen_of r)) old now → IsMoved r.pid (anchor_in (seen_of r) (seen_at r.parent rs)) old.anchors.pairs set.pairs → set.numbers ≡ old.anchors.numbers → IsMoved r.pid (list_of_parent r.parent) old.children.pairs kin.pairs → kin.numbers ≡ old.children.numbers
+    → IsKept n old rs → IsKept (n + 1) (record now { anchors = set; children = kin }) new
+kept_inserted n rs new r old now set kin least inside fresh parent is free moved anchor numbers child wide k =
     let here = lookup_new r rs fresh in
-    let up : lookup r.parent (inserted r rs) ≡ lookup r.parent rs = elsewhere_inserted r rs r.parent (λ own. ⊎_elim (λ none. omega (arith, none, own, least)) (λ there. let no : false ≡ true = sym (ap is_some (ap (λ m. lookup m rs) own ∙ fresh)) ∙ there in cc) parent) in
+    let up : lookup r.parent (inserted r rs) ≡ lookup r.parent rs = elsewhere_inserted r rs r.parent (λ own. ⊎_elim (λ first. let none = first.0 in omega (arith, none, own, least)) (λ there. let no : false ≡ true = sym (ap is_some (ap (λ m. lookup m rs) own ∙ fresh)) ∙ there in cc) parent) in
     let apart : (q : ℕ) (x : Process) → lookup q rs ≡ Some x → x.parent ≢ r.pid = λ q x e its.
     let there = subst (λ m. IsSome (lookup m rs)) its (k.anchors.parents q x (λ none. omega (arith, least, its, none)) e) in
     let no : false ≡ true = sym (ap is_some fresh) ∙ there in
     absurd (cc) in
-    rw is (kept_at n (n + 1) r.pid r.parent (Some (seen_of r)) rs (inserted r rs) old now set (elsewhere_inserted r rs) least inside (rising_inserted r rs k.rising fresh) (rw (length_inserted r rs, k.count) refl) free (sees r.pid r (inserted r rs) here) moved
-    (anchors_inserted r rs old.anchors.pairs set.pairs apart (rw (key_at r.pid (inserted r rs) (seen_of r) (ap (option_map seen_of) here), here, up) anchor) k.anchors.index) numbers (parents_inserted HasParent r rs fresh (λ some. ⊎_elim (λ none. absurd (some none)) (λ there. there) parent) k.anchors.parents) k)
+    rw is (kept_at n (n + 1) r.pid r.parent (Some (seen_of r)) rs (inserted r rs) old now set kin (elsewhere_inserted r rs) least inside (rising_inserted r rs k.rising fresh) (rw (length_inserted r rs, k.count) refl) free (sees r.pid r (inserted r rs) here) moved
+    (anchors_inserted r rs old.anchors.pairs set.pairs apart (rw (key_at r.pid (inserted r rs) (seen_of r) (ap (option_map seen_of) here), here, up) anchor) k.anchors.index) numbers (parents_inserted HasParent r rs fresh (λ some. ⊎_elim (λ first. absurd (some first.0)) (λ there. there) parent) k.anchors.parents)
+    (index_moved parent_key r.pid rs (inserted r rs) old.children.pairs kin.pairs (elsewhere_inserted r rs) k.children.index (rw here child)) wide
+    (root_inserted r rs fresh (⊎_elim (λ first. inl first) (λ there. inr (λ none. let no : false ≡ true = sym (ap is_some (ap (λ m. lookup m rs) none ∙ k.numbers 0 (inl refl))) ∙ there in absurd (cc))) parent) k.children.root) k)
 
 -- where p was read as nobody nothing goes, and else one process less is there
 pub ruleset leave_rules = (none_read, remove_none, length_removed)
@@ -176,18 +193,20 @@ can_leave {p = p} {rs = rs} {f = f} {indexes = indexes} read k =
     let can = can_move p it.what.parent (Some (seen_of it.what)) rs indexes k.rising k.indexes (sees p it.what rs it.found) (λ none. let no = sym none ∙ it.found in absurd (cc)) in
     (rw (snapshot_are (lookup p rs) it.what f read it.found) can, number_kept k (is_there _ it.what it.found), k.count ∙ length_removed p it.what rs k.rising it.found)
 
-pub kept_removed : (n : ℕ) (rs new : List Process) (p : ℕ) (f : Snapshot) (old now : Indexes) (set : ListsView) → Some f ≡ option_map snapshot_of (lookup p rs) → children_in p rs ≡ [] → new ≡ removed p rs → AreMoved p f.parent None old now
-    → IsMoved p None old.anchors.pairs set.pairs → set.numbers ≡ old.anchors.numbers → IsKept n old rs → IsKept (n - 1) (record now { anchors = set }) new
-kept_removed n rs new p f old now set read none is moved anchor numbers k =
+pub kept_removed : (n : ℕ) (rs new : List Process) (p : ℕ) (f : Snapshot) (old now : Indexes) (set kin : ListsView) → Some f ≡ option_map snapshot_of (lookup p rs) → children_in p rs ≡ [] → new ≡ removed p rs → AreMoved p f.parent None old now
+    → IsMoved p None old.anchors.pairs set.pairs → set.numbers ≡ old.anchors.numbers → IsMoved p None old.children.pairs kin.pairs → kin.numbers ≡ old.children.numbers → IsKept n old rs → IsKept (n - 1) (record now { anchors = set; children = kin }) new
+kept_removed n rs new p f old now set kin read none is moved anchor numbers child wide k =
     let goes = can_leave read k in
     let count = goes.2 in
-    rw is (kept_at n (n - 1) p f.parent None rs (removed p rs) old now set (elsewhere_removed p rs) goes.1.0 (goes.1.1, tt) (rising_removed p rs k.rising) (omega (arith, count)) (fits rs (n - 1) old k.indexes (omega (arith, k.count))) (sees_none p f.parent (removed p rs) (lookup_removed p rs)) moved
-    (anchors_removed p rs old.anchors.pairs set.pairs (no_child p rs none) anchor k.anchors.index) numbers (parents_removed HasParent p rs (no_child p rs none) k.anchors.parents) k)
+    rw is (kept_at n (n - 1) p f.parent None rs (removed p rs) old now set kin (elsewhere_removed p rs) goes.1.0 (goes.1.1, tt) (rising_removed p rs k.rising) (omega (arith, count)) (fits rs (n - 1) old k.indexes (omega (arith, k.count))) (sees_none p f.parent (removed p rs) (lookup_removed p rs)) moved
+    (anchors_removed p rs old.anchors.pairs set.pairs (no_child p rs none) anchor k.anchors.index) numbers (parents_removed HasParent p rs (no_child p rs none) k.anchors.parents)
+    (index_moved parent_key p rs (removed p rs) old.children.pairs kin.pairs (elsewhere_removed p rs) k.children.index (rw (key_removed parent_key p rs) child)) wide (root_removed p rs k.children.root) k)
 
 pub kept_adopted : (n : ℕ) (rs new : List Process) (from to : ℕ) (old now : Indexes) → from ≢ to → new ≡ adopted from to rs → (AreIndexes rs old → AreIndexes (adopted from to rs) now) → now.members ≡ old.members
-    → (heir : IndexedFields) → seen_at to rs ≡ Some heir → AreTurned from (child_key heir) rs old.anchors.pairs now.anchors.pairs → now.anchors.numbers ≡ old.anchors.numbers → IsKept n old rs → IsKept n now new
+    → (heir : IndexedFields) → seen_at to rs ≡ Some heir → AreTurned from (child_key heir) rs old.anchors.pairs now.anchors.pairs → now.anchors.numbers ≡ old.anchors.numbers
+    → IsSome (lookup from rs) → ArePairsRekeyed from to old.children.pairs now.children.pairs → now.children.numbers ≡ old.children.numbers → IsKept n old rs → IsKept n now new
 unfolding adopted
-kept_adopted n rs new from to old now ne is indexes members heir there turned numbers k = rw is (record {
+kept_adopted n rs new from to old now ne is indexes members heir there turned numbers giver rekeyed wide k = rw is (record {
   rising = rising_adopted from to rs k.rising;
   numbers = λ q out. lookup_map (reparented from to) (pid_reparented from to) q rs ∙ ap (option_map (reparented from to)) (k.numbers q out);
   within = rw members (λ q r e.
@@ -200,5 +219,10 @@ kept_adopted n rs new from to old now ne is indexes members heir there turned nu
     index = anchors_adopted from to (child_key heir) rs old.anchors.pairs now.anchors.pairs turned (λ r. child_is to rs heir there (record r { parent = to }) refl) k.anchors.index;
     wide = rw (members, numbers) k.anchors.wide;
     parents = parents_adopted HasParent from to rs (rw (seen_found to rs heir there).1 refl) k.anchors.parents;
+  };
+  children = record {
+    index = kin_adopted from to ne (some_number k giver) (some_number k (is_there _ _ (seen_found to rs heir there).1)) rs old.children.pairs now.children.pairs k.children.index rekeyed;
+    wide = rw (members, wide) k.children.wide;
+    root = root_adopted from to (some_number k (is_there _ _ (seen_found to rs heir there).1)) rs k.children.root;
   };
 })

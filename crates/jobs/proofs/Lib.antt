@@ -4,6 +4,7 @@ pub mod LoanLemmas
 pub mod ReadLemmas
 pub mod GroupLemmas
 pub mod MoveLemmas
+pub mod ChildLemmas
 pub mod KeptLemmas
 pub mod IndexLemmas
 pub mod RunLemmas

@@ -11,8 +11,9 @@ use Rattle.proctable.specs.declared.records.Record.{Record}
 use Rattle.proctable.specs.declared.own_part.OwnPart.{OwnPart}
 use Rattle.proctable.specs.Records.{give_own, process_of, with_record}
 use Rattle.jobs.specs.declared.indexes.Indexes.{Indexes}
-use Rattle.pidset.specs.Indexes.{HaveParents, IsAnchorIndex}
-use Rattle.jobs.specs.Indexes.{AreIndexes, record_seen, keeps_group_and_session}
+use Rattle.pidset.specs.declared.index.Pair.{Pair}
+use Rattle.pidset.specs.Indexes.{HaveParents, IsAnchorIndex, IsIndex}
+use Rattle.jobs.specs.Indexes.{AreIndexes, record_seen, keeps_group_and_session, parent_key}
 
 -- the processes in rising order of their numbers, how many more can be put in without memory, with numbers below which
 -- limit, and how many slots have been read
@@ -40,6 +41,21 @@ pub record AreAnchors (rs : List Process) (b : Indexes) : Type 0 where
   pub wide : b.members.numbers ≤ b.anchors.numbers
   pub parents : HaveParents HasParent rs
 
+-- the children of a process are those that stand under it in this index
+pub record AreKin (rs : List Process) (pairs : List Pair) : Type 0 where
+  pub rising : IsRising rs
+  pub index : IsIndex parent_key rs pairs
+
+-- at most one has no parent
+abbrev pub HaveOneRoot : List Process → Type 0
+HaveOneRoot rs = (p q : ℕ) (r s : Process) → lookup p rs ≡ Some r → lookup q rs ≡ Some s → r.parent ≡ 0 → s.parent ≡ 0 → q ≡ p
+
+-- the children are in their index, which has memory for each number
+pub record AreChildren (rs : List Process) (b : Indexes) : Type 0 where
+  pub index : IsIndex parent_key rs b.children.pairs
+  pub wide : b.members.numbers ≤ b.children.numbers
+  pub root : HaveOneRoot rs
+
 -- their numbers rise, it is known how many there are, and their indexes are right
 pub record IsKept (n : ℕ) (b : Indexes) (rs : List Process) : Type 0 where
   pub rising : IsRising rs
@@ -49,6 +65,7 @@ pub record IsKept (n : ℕ) (b : Indexes) (rs : List Process) : Type 0 where
   pub count : n ≡ length rs
   pub indexes : AreIndexes rs b
   pub anchors : AreAnchors rs b
+  pub children : AreChildren rs b
 
 -- A look leaves the processes and the room as they are, and reads at most n slots, so no fewer were read after it. From each look it is known
 -- that the numbers rise, and which there are.

@@ -34,6 +34,13 @@ member_in (Some w) = Some w.group
 abbrev pub member_key : Process → Option ℕ
 member_key r = member_in (Some (seen_of r))
 
+-- a process stands under its parent, if it has one
+abbrev pub list_of_parent : ℕ → Option ℕ
+list_of_parent parent = if parent == 0 then None else Some parent
+
+abbrev pub parent_key : Process → Option ℕ
+parent_key r = list_of_parent r.parent
+
 -- a process that keeps its process group from being orphaned, by the state of its parent, stands under that group
 abbrev pub is_outside : IndexedFields → IndexedFields → Bool
 is_outside w up = up.session == w.session && not (up.group == w.group)

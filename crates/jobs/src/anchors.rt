@@ -6,8 +6,9 @@ ghost use Rattle.posix.specs.Processes.{Process};
 ghost use Rattle.posix.specs.Tables.{lookup, children_in, parent_of};
 ghost use Rattle.pidset.specs.Indexes.{AreTurned, IsAnchorIndex, IsMoved};
 ghost use Rattle.jobs.specs.Indexes.{seen_of, child_key, keeps_group_and_session as keeps_group_and_session_in};
-ghost use Rattle.jobs.specs.IndexedTables.{AreWithin};
+ghost use Rattle.jobs.specs.IndexedTables.{AreKin, AreWithin};
 
+use crate::children::next_child;
 use crate::indexes::{Change, IndexedFields, anchor_key, is_dead, of_record, of_snapshot};
 use pidset::Lists;
 use posix::Pid;
@@ -91,6 +92,7 @@ fn update_anchor<K: ProcessTable>(
 /// The index of anchors follows the children of a process that is there, and now is in this state.
 pub(crate) fn update_anchors_of_children<K: ProcessTable>(
     table: &mut K,
+    children: &Lists,
     anchors: &mut Lists,
     pid: Pid,
     parent: &IndexedFields,
@@ -98,6 +100,7 @@ pub(crate) fn update_anchors_of_children<K: ProcessTable>(
     requires there { IsSome (lookup pid (K.contents table.old)) }
     requires none { lookup 0 (K.contents table.old) ≡ None }
     requires within { AreWithin anchors.old.numbers (K.contents table.old) }
+    requires kin { AreKin (K.contents table.old) children.now.pairs }
     ensures turned { AreTurned pid (child_key parent.now) (K.contents table.old) anchors.old.pairs anchors.new.pairs }
     ensures numbers { anchors.new.numbers ≡ anchors.old.numbers }
     ensures contents { K.contents table.new ≡ K.contents table.old }
@@ -105,20 +108,22 @@ pub(crate) fn update_anchors_of_children<K: ProcessTable>(
     ensures visits { K.visits table.new ≤ K.visits table.old + 1 + 2 * length (children_in pid (K.contents table.old)) }
     ensures no_fewer { K.visits table.old ≤ K.visits table.new }
 {
-    let mut next = table.first_child(pid);
+    let mut next = next_child(children, pid, Pid::NONE);
     while let Some(child) = next {
         update_anchor(table, anchors, child, parent);
-        next = table.next_sibling(child);
+        next = next_child(children, pid, child);
     }
 }
 
 /// The index of anchors follows a change of a process, which has happened, and with it the children of the process.
 pub(crate) fn update_anchors<K: ProcessTable>(
     table: &mut K,
+    children: &Lists,
     anchors: &mut Lists,
     pid: Pid,
     change: &Change,
 )
+    requires kin { AreKin (K.contents table.old) children.now.pairs }
     requires after { option_map seen_of (lookup pid (K.contents table.old)) ≡ Some change.now.after }
     requires parent { change.now.parent ≡ parent_of pid (K.contents table.old) }
     requires none { lookup 0 (K.contents table.old) ≡ None }
@@ -138,7 +143,7 @@ pub(crate) fn update_anchors<K: ProcessTable>(
     if !keeps_group_and_session(before, after) {
         let parent = seen_in(table, *parent);
         anchors.put(pid, anchor_key(after, &parent));
-        update_anchors_of_children(table, anchors, pid, after);
+        update_anchors_of_children(table, children, anchors, pid, after);
     } else if is_dead(after) {
         anchors.put(pid, None);
     }

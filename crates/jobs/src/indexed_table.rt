@@ -16,8 +16,9 @@ ghost use Rattle.jobs.specs.Indexes.{is_living_subreaper, record_seen, seen_of};
 ghost use Rattle.jobs.specs.IndexedTables.{takes_signal, ChangesSignals, IsRun, StaysGrouped, lent, looked, Looks, Finds, Costs, StaysPut};
 
 use crate::anchors::{seen_above, seen_there, update_anchors, update_anchors_of_children};
+use crate::children::{next_child, set_parents};
 use crate::indexes::{
-    Change, IndexedFields, Indexes, anchor_key, is_unseen, of_record, of_snapshot,
+    Change, IndexedFields, Indexes, anchor_key, is_unseen, of_record, of_snapshot, parent_list,
 };
 use posix::{Pid, WaitidOptions};
 use proctable::{GrantedPools, OwnPart, ProcessTable, Record, Snapshot};
@@ -107,17 +108,18 @@ impl<K: ProcessTable> IndexedTable<K> {
     }
 
     /// Puts in a process that isn't there, where there is room for one with this number. Its number isn't 0, its parent
-    /// is there, or number 0, and there is room for the number of its process group. The others are unchanged.
+    /// is there, or, for the first process, number 0, and there is room for the number of its process group. The others are
+    /// unchanged.
     pub fn insert(&mut self, pid: Pid, parent: Pid, fields: Record)
         requires room { 0 < self.old.room }
         requires number { pid ≢ 0 }
         requires limit { pid < self.old.limit }
         requires group { (1 ≤ fields.group) × (fields.group < self.old.limit) }
         requires fresh { lookup pid self.old.processes ≡ None }
-        requires parent { (parent ≡ 0) ⊎ IsSome (lookup parent self.old.processes) }
+        requires parent { ((parent ≡ 0) × (self.old.processes ≡ [])) ⊎ IsSome (lookup parent self.old.processes) }
         ensures processes { self.new.processes ≡ inserted (process_of pid parent fields) self.old.processes }
         ensures room { self.old.room ≤ self.new.room + 1 }
-        ensures visits { self.new.visits ≤ self.old.visits + 6 + length (children_in parent self.old.processes) }
+        ensures visits { self.new.visits ≤ self.old.visits + 2 }
         ensures no_fewer { self.old.visits ≤ self.new.visits }
     {
         let after = of_record(&fields);
@@ -125,6 +127,7 @@ impl<K: ProcessTable> IndexedTable<K> {
         self.table.insert(pid, parent, fields);
         self.indexes.reindex(pid, parent, &None, &Some(after));
         self.indexes.anchors.put(pid, anchor_key(&after, &above));
+        self.indexes.children.put(pid, parent_list(parent));
         self.count += 1;
     }
 
@@ -144,7 +147,7 @@ impl<K: ProcessTable> IndexedTable<K> {
         ensures value { result ≡ option_map snapshot_of (lookup pid self.old.processes) }
         ensures processes { self.new.processes ≡ removed pid self.old.processes }
         ensures room { self.old.room ≤ self.new.room }
-        ensures visits { self.new.visits ≤ self.old.visits + 5 }
+        ensures visits { self.new.visits ≤ self.old.visits + 2 }
         ensures no_fewer { self.old.visits ≤ self.new.visits }
     {
         let Some(snapshot) = self.table.get(pid) else {
@@ -154,6 +157,7 @@ impl<K: ProcessTable> IndexedTable<K> {
         let before = Some(of_snapshot(&snapshot));
         self.indexes.reindex(pid, snapshot.parent, &before, &None);
         self.indexes.anchors.put(pid, None);
+        self.indexes.children.put(pid, None);
         self.count -= 1;
         Some(snapshot)
     }
@@ -164,7 +168,7 @@ impl<K: ProcessTable> IndexedTable<K> {
         requires { IsSome (lookup pid self.old.processes) }
         ensures { Finds 1 self.old self.new (result ≡ first_pid (children_in pid self.old.processes)) }
     {
-        self.table.first_child(pid)
+        next_child(&self.indexes.children, pid, Pid::NONE)
     }
 
     /// Of the children of the same parent, the one with the least number above that of a process that is
@@ -173,7 +177,10 @@ impl<K: ProcessTable> IndexedTable<K> {
         requires { IsSome (lookup pid self.old.processes) }
         ensures { Finds 1 self.old self.new (result ≡ next_sibling_of pid self.old.processes) }
     {
-        self.table.next_sibling(pid)
+        let Some(parent) = self.indexes.children.list(pid) else {
+            return None;
+        };
+        next_child(&self.indexes.children, parent, pid)
     }
 
     /// The process with the least number above `pid`, which need not be there; none where there is none.
@@ -189,11 +196,18 @@ impl<K: ProcessTable> IndexedTable<K> {
         requires there { IsSome (lookup to self.old.processes) }
         requires apart { from ≢ to }
         ensures processes { self.new.processes ≡ adopted from to self.old.processes }
-        ensures costs { Costs (3 + 10 * length (children_in from self.old.processes) + length (children_in to self.old.processes)) self.old self.new }
+        ensures costs { Costs (2 + 3 * length (children_in from self.old.processes)) self.old self.new }
     {
         let heir = seen_there(&mut self.table, to);
-        update_anchors_of_children(&mut self.table, &mut self.indexes.anchors, from, &heir);
-        self.table.adopt(from, to);
+        update_anchors_of_children(
+            &mut self.table,
+            &self.indexes.children,
+            &mut self.indexes.anchors,
+            from,
+            &heir,
+        );
+        set_parents(&mut self.table, &self.indexes.children, from, to);
+        self.indexes.children.rekey(from, to);
         self.indexes.reparent(from, to);
     }
 
@@ -292,7 +306,13 @@ impl<K: ProcessTable> IndexedTable<K> {
             return seen;
         }
         self.indexes.reindex_change(pid, &seen);
-        update_anchors(&mut self.table, &mut self.indexes.anchors, pid, &seen);
+        update_anchors(
+            &mut self.table,
+            &self.indexes.children,
+            &mut self.indexes.anchors,
+            pid,
+            &seen,
+        );
         seen
     }
 
@@ -316,14 +336,14 @@ impl<K: ProcessTable> IndexedTable<K> {
         &mut fields.own
     }
 
-    /// Shows what a process that is there may change of itself. Nothing changes.
-    pub fn look(&mut self, pid: Pid) -> &OwnPart
+    /// Shows the record of a process that is there. Nothing changes.
+    #[inline(always)]
+    pub fn look(&mut self, pid: Pid) -> &Record
         requires { IsSome (lookup pid self.old.processes) }
         ensures* lends { sem 𝓛 (follows_so (jobs_row K.row K.ProcessTable) (jobs_row K.row K.ProcessTable) self.entry.ghost_name none (λ _ _. ⊤) (λ n. n ≡ looked K.one_more self.old)) }
-        ensures value { IfSome (lookup pid self.old.processes) (λ me. result.now ≡ own_of me) }
+        ensures value { lookup pid self.old.processes ≡ Some (process_of pid (parent_of pid self.old.processes) result.now) }
     {
-        let seen = self.table.update(pid);
-        &seen.own
+        self.table.update(pid)
     }
 }
 

@@ -5,7 +5,7 @@ ghost use Rattle.posix.specs.Processes.{Process, is_zombie};
 ghost use Rattle.posix.specs.Tables.{IsRising, above, adopted, children_in, first_pid};
 ghost use Rattle.posix.specs.Waits.{wanted_in};
 ghost use Rattle.pidset.specs.Indexes.{has_within, IsNextPair};
-ghost use Rattle.jobs.specs.Indexes.{AreIndexes, record_seen, snapshot_seen, member_in, anchor_in, is_of_sort, report_in, sort_of, sorted, stopped_in, alarm_in, marked_in, CanMove, IsInside, AreMoved, least};
+ghost use Rattle.jobs.specs.Indexes.{AreIndexes, record_seen, snapshot_seen, member_in, anchor_in, is_of_sort, report_in, sort_of, list_of_parent, sorted, stopped_in, alarm_in, marked_in, CanMove, IsInside, AreMoved, least};
 
 use bitflags::Flags;
 use pidset::{Index, Lists};
@@ -55,6 +55,8 @@ enum Sort {
 /// The indexes.
 #[derive(Drop)]
 pub struct Indexes {
+    /// The processes by their parents, zombies included; one without a parent stands in no list.
+    pub children: Lists,
     /// The processes by their process groups, zombies included.
     pub members: Lists,
     /// The processes that keep their process groups from being orphaned, by these groups.
@@ -130,6 +132,18 @@ fn member_key(it: &Option<IndexedFields>) -> Option<Pid>
     match it {
         Some(it) => Some(it.group),
         None => None,
+    }
+}
+
+/// The list of the children of a process; none for number 0.
+#[inline(always)]
+pub(crate) fn parent_list(parent: Pid) -> Option<Pid>
+    ensures { result ≡ list_of_parent parent }
+{
+    if parent == Pid::NONE {
+        None
+    } else {
+        Some(parent)
     }
 }
 
@@ -234,9 +248,11 @@ impl Indexes {
     pub(crate) fn new(alloc: Global) -> Indexes
         ensures indexes { AreIndexes [] result }
         ensures anchors { result.anchors.pairs ≡ [] }
+        ensures children { result.children.pairs ≡ [] }
         ensures none { result.members.numbers ≡ 0 }
     {
         Indexes {
+            children: Lists::new(alloc),
             members: Lists::new(alloc),
             anchors: Lists::new(alloc),
             reporting: Index::new(alloc),
@@ -252,6 +268,7 @@ impl Indexes {
         requires { most < 2 ^ 63 }
         ensures members { self.new.members.pairs ≡ self.old.members.pairs }
         ensures anchors { self.new.anchors.pairs ≡ self.old.anchors.pairs }
+        ensures children { self.new.children.pairs ≡ self.old.children.pairs }
         ensures reporting { self.new.reporting.pairs ≡ self.old.reporting.pairs }
         ensures stopped { self.new.stopped.pairs ≡ self.old.stopped.pairs }
         ensures alarmed { self.new.alarmed.pairs ≡ self.old.alarmed.pairs }
@@ -259,14 +276,16 @@ impl Indexes {
         ensures grows_members { self.old.members.numbers ≤ self.new.members.numbers }
         ensures most_members { self.old.members.numbers ≤ 2147483648 → self.new.members.numbers ≤ 2147483648 }
         ensures wide { self.old.members.numbers ≤ self.old.anchors.numbers → self.new.members.numbers ≤ self.new.anchors.numbers }
+        ensures wide_children { self.old.members.numbers ≤ self.old.children.numbers → self.new.members.numbers ≤ self.new.children.numbers }
         ensures grows_reporting { self.old.reporting.room ≤ self.new.reporting.room }
         ensures grows_stopped { self.old.stopped.room ≤ self.new.stopped.room }
         ensures grows_alarmed { self.old.alarmed.room ≤ self.new.alarmed.room }
         ensures grows_subreapers { self.old.subreapers.room ≤ self.new.subreapers.room }
         ensures ok { OnOk result ((greatest < self.new.members.numbers) × (most ≤ self.new.reporting.room) × (most ≤ self.new.stopped.room) × (most ≤ self.new.alarmed.room) × (most ≤ self.new.subreapers.room)) }
     {
-        // There is never less memory for the anchors than for the members.
+        // There is never less memory for the anchors and the children than for the members.
         self.anchors.reserve(greatest)?;
+        self.children.reserve(greatest)?;
         self.members.reserve(greatest)?;
         self.reporting.reserve(most)?;
         self.stopped.reserve(most)?;
@@ -289,6 +308,7 @@ impl Indexes {
         requires inside { IsInside pid after.now self.old }
         ensures moved { AreMoved pid parent after.now self.old self.new }
         ensures anchors { self.new.anchors ≡ self.old.anchors }
+        ensures children { self.new.children ≡ self.old.children }
     {
         self.members.put(pid, member_key(after));
         self.reporting
@@ -309,6 +329,7 @@ impl Indexes {
         requires inside { IsInside pid (Some change.now.after) self.old }
         ensures moved { AreMoved pid change.now.parent (Some change.now.after) self.old self.new }
         ensures anchors { self.new.anchors ≡ self.old.anchors }
+        ensures children { self.new.children ≡ self.old.children }
     {
         self.reindex(
             pid,
@@ -329,12 +350,13 @@ impl Indexes {
         self.reporting.has_within(least, greatest)
     }
 
-    /// The children of one process become those of another. Mostly none of them has something to report.
+    /// The children of one process that have something to report become those of another. Mostly there are none.
     pub(crate) fn reparent(&mut self, from: Pid, to: Pid)
         requires { from ≢ to }
         ensures indexes { (rs : List Process) → AreIndexes rs self.old → AreIndexes (adopted from to rs) self.new }
         ensures members { self.new.members ≡ self.old.members }
         ensures anchors { self.new.anchors ≡ self.old.anchors }
+        ensures children { self.new.children ≡ self.old.children }
         ensures room { self.new.reporting.room ≡ self.old.reporting.room }
         ensures stopped { self.new.stopped ≡ self.old.stopped }
         ensures alarmed { self.new.alarmed ≡ self.old.alarmed }

@@ -6,6 +6,7 @@
 #![tactic(auto)]
 
 pub mod anchors;
+mod children;
 pub mod groups;
 pub mod indexed_table;
 pub mod indexes;

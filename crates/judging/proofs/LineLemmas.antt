@@ -7,11 +7,6 @@ pub behind_nothing : (count : ℕ) → behind_lines count [] ≡ []
 behind_nothing zero = refl
 behind_nothing (suc count) = behind_nothing count
 
--- one line less
-pub behind_lines_step : (count left : ℕ) (text : List ℕ) → count ≡ left + 1 → behind_lines count text ≡ behind_lines left (behind_line text)
-behind_lines_step zero left text e = absurd (omega (arith, e))
-behind_lines_step (suc count) left text e = let same : left ≡ count = omega (arith, e) in rw same refl
-
 -- what has no bytes is nothing
 pub is_nothing : (text : List ℕ) → length text ≡ 0 → text ≡ []
 is_nothing [] e = refl

@@ -4,10 +4,8 @@ use crate::fault::{Fault, Number, Refusal, Stop, Verdict, refuse};
 use crate::lines::Line;
 use crate::numbers::{judge_end, judge_number};
 use crate::words::is_byte;
+use naming::MAX_LINE_LEN;
 use text::Reason;
-
-/// The most bytes of a line.
-pub const MAX_LINE_LEN: usize = 200;
 
 /// Judges a line `key`.
 fn judge_keys<'a>(line: Line<'a>, consoles: u8) -> Verdict<'a> {

@@ -96,8 +96,6 @@ pub enum Fault<'a> {
     ProgramEnds(Definition<'a>),
     /// The text ends behind its header.
     NoPrograms,
-    /// A name that stands for a number is refused, for this reason.
-    Told(&'a [u8]),
     /// A line that may be meant to be a label of this name.
     LabelWritten(&'a [u8]),
     /// A name that nothing uses, where another one is used that nothing defines.

@@ -20,27 +20,27 @@ pub enum Operands {
     Call,
 }
 
-/// The words that begin instructions, and the one that ends a program.
-pub const INSTRUCTIONS_AND_END: &str =
-    "set mov add sub mul div rem and or xor ld st jmp jz jnz jlt note sys end";
+/// The words that begin instructions, by what stands behind them.
+pub static INSTRUCTIONS: [(&str, Operands); 6] = [
+    ("set", Operands::Value),
+    (
+        "mov add sub mul div rem and or xor ld st",
+        Operands::Registers,
+    ),
+    ("jmp", Operands::Label),
+    ("jz jnz jlt", Operands::RegisterAndLabel),
+    ("note", Operands::Register),
+    ("sys", Operands::Call),
+];
 
 /// What stands behind a word that begins an instruction; none where a word begins none.
 pub fn operands_of(word: &[u8]) -> Option<Operands> {
-    if is_listed("mov add sub mul div rem and or xor ld st", word) {
-        Some(Operands::Registers)
-    } else if is_listed("jz jnz jlt", word) {
-        Some(Operands::RegisterAndLabel)
-    } else if word == b"set".as_slice() {
-        Some(Operands::Value)
-    } else if word == b"jmp".as_slice() {
-        Some(Operands::Label)
-    } else if word == b"note".as_slice() {
-        Some(Operands::Register)
-    } else if word == b"sys".as_slice() {
-        Some(Operands::Call)
-    } else {
-        None
+    for (words, operands) in &INSTRUCTIONS {
+        if is_listed(words, word) {
+            return Some(*operands);
+        }
     }
+    None
 }
 
 /// Whether a word begins an instruction.

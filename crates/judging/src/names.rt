@@ -1,5 +1,6 @@
 //! Names that are near to a word.
 
+use crate::instructions::INSTRUCTIONS;
 use naming::{Nearest, next_word};
 use posix::Call;
 use std::alloc::{AllocError, Global};
@@ -18,6 +19,20 @@ pub fn distance(alloc: Global, word: &[u8], name: &[u8]) -> Result<Option<usize>
     }
 }
 
+/// Offers the words of a list, with blanks between them.
+fn offer_all(
+    nearest: &mut Nearest<'_, 'static>,
+    alloc: Global,
+    list: &'static str,
+) -> Result<(), AllocError> {
+    let mut rest = list.as_bytes();
+    while let Some((_, name, more)) = next_word(rest) {
+        nearest.offer(alloc, name)?;
+        rest = more;
+    }
+    Ok(())
+}
+
 /// The word of a list, with blanks between its words, that is nearest to a word.
 pub fn nearest_in(
     alloc: Global,
@@ -25,11 +40,20 @@ pub fn nearest_in(
     list: &'static str,
 ) -> Result<Option<&'static [u8]>, AllocError> {
     let mut nearest = Nearest::new(word);
-    let mut rest = list.as_bytes();
-    while let Some((_, name, more)) = next_word(rest) {
-        nearest.offer(alloc, name)?;
-        rest = more;
+    offer_all(&mut nearest, alloc, list)?;
+    Ok(nearest.found())
+}
+
+/// The word that begins an instruction or ends a program, and is nearest to a word.
+pub fn nearest_instruction(
+    alloc: Global,
+    word: &[u8],
+) -> Result<Option<&'static [u8]>, AllocError> {
+    let mut nearest = Nearest::new(word);
+    for (words, _) in &INSTRUCTIONS {
+        offer_all(&mut nearest, alloc, words)?;
     }
+    offer_all(&mut nearest, alloc, "end")?;
     Ok(nearest.found())
 }
 

@@ -1,11 +1,11 @@
 //! A world, up to the first of its lines that is refused by itself, whatever names it uses.
 
-use crate::events::MAX_LINE_LEN;
 use crate::fault::{Definition, Fault, NameUse, Named, Number, Refusal, Stop, Verdict, refuse};
 use crate::instructions::{Operands, is_call, operands_of};
 use crate::lines::{Line, next_line};
 use crate::numbers::{judge_end, judge_number};
 use crate::words::{is_name, is_number, is_register, number_in};
+use naming::MAX_LINE_LEN;
 use std::alloc::{AllocError, Global};
 use text::Reason;
 use umach::Program;

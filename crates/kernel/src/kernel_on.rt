@@ -32,14 +32,14 @@ use arrayvec::ArrayVec;
 use calls::Entries;
 use life::{Census, Machine, Notes};
 use posix::{Event, Pid, Trap};
-use proctable::{LinkedTable, OwnPart, ProcessTable, Snapshot};
+use proctable::{OwnPart, ProcessTable, SlabTable, Snapshot};
 use std::alloc::{AllocError, Global};
 use std::marker::Model;
 use tty::Console;
 use umach::World;
 
 /// The kernel of one world.
-pub type Kernel = KernelOn<LinkedTable>;
+pub type Kernel = KernelOn<SlabTable>;
 
 /// The kernel of one world over a table of processes: the machine, and the count of events.
 #[derive(Drop)]

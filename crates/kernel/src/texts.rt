@@ -10,7 +10,7 @@ ghost use Rattle.kernel.specs.Accounts.{Accounts};
 use crate::kernel_on::KernelOn;
 use crate::progress::write_trace;
 use crate::summary::Summary;
-use proctable::{LinkedTable, ProcessTable};
+use proctable::{ProcessTable, SlabTable};
 use sink::Sink;
 use std::alloc::Global;
 use text::{EventList, Reason, TextFault, read_events, read_world};
@@ -107,5 +107,5 @@ pub fn run<S: Sink>(
     ensures headline { Headline world.now events.now out.old out.new (S.seen out.old) (S.seen out.new) result }
     ensures accounts { IfOk result (λ summary. Accounts (S.seen out.old) (S.seen out.new) summary) }
 {
-    run_on::<LinkedTable, S>(alloc, world, events, out)
+    run_on::<SlabTable, S>(alloc, world, events, out)
 }

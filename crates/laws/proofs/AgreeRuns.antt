@@ -1,17 +1,17 @@
 -- Steps and whole runs: the lines agree with the state.
-use Rattle.std.proofs.Common.{◌≡◌, ◌≢◌, ℕ, ◌+◌, ◌≤◌, Bool, true, false, cond, refl, ap, sym, ◌∙◌, arith, subst, List, [], ◌∷◌, ◌++◌, append_assoc, append-nil, add-zero, length, Option, Some, None, option_and_then, ◌==◌, inl, inr, ◌⊎◌, ◌<◌}
+use Rattle.std.proofs.Common.{◌≡◌, ◌≢◌, ℕ, ◌+◌, ◌≤◌, Bool, true, false, cond, refl, ap, sym, ◌∙◌, arith, subst, List, [], ◌∷◌, ◌++◌, append_assoc, append-nil, add-zero, length, Some, None, ◌==◌, inl, inr, ◌⊎◌, ◌<◌}
 use Rattle.std.proofs.lemmas.Bool.{ne_eqb, cases_eq}
 use Rattle.posix.specs.declared.event.Event.{Event}
 use Rattle.posix.specs.declared.event.Event.TheVariants.{Step, Tick, Key, Hangup}
 use Rattle.posix.specs.declared.entry.Entry.{Entry}
 use Rattle.posix.specs.Processes.{Process, first_process, is_zombie, is_stopped}
 use Rattle.posix.specs.Tables.{lookup}
-use Rattle.posix.specs.States.{State, World, boot, is_in, current, process}
+use Rattle.posix.specs.States.{State, World, boot, is_in, current_process}
 use Rattle.posix.specs.Entries.{Line, numbered}
 use Rattle.posix.specs.Runs.{RunsFrom, Runs}
 use Rattle.posix.specs.Outcomes.{Outcome}
 use Rattle.posix.specs.Regular.{IsRegular}
-use Rattle.posix.specs.Step.{IsStep, next, happens, step}
+use Rattle.posix.specs.Step.{IsStep, happens, step, settled}
 use Rattle.posix.specs.SignalNumbers.{KILL}
 use Rattle.posix.specs.Generation.{is_pending}
 use Rattle.laws.specs.Lives.{parents_from, newest_life}
@@ -25,8 +25,8 @@ use Rattle.laws.proofs.FormStays.{first_kinds, step_formed, step_kinds}
 use Rattle.laws.specs.Agree.{AgreeOn, AgreeIn, Agree, AreTurns, IsOrderly, IsTraceOf, phase_between}
 use Rattle.posix.proofs.TableLemmas.{pid_looked}
 use Rattle.posix.proofs.OrderLemmas.{first_in}
-use Rattle.posix.proofs.CountLemmas.{next_halted}
-use Rattle.posix.proofs.WakeLemmas.{next_awake}
+use Rattle.posix.proofs.CountLemmas.{by_next}
+use Rattle.posix.proofs.DeliveryLemmas.{by_step}
 use Rattle.posix.proofs.RegularLemmas.{regular_first}
 use Rattle.laws.proofs.LawfulLemmas.{laws_none}
 use Rattle.laws.proofs.RegularStays.{happens_regular, step_regular}
@@ -37,36 +37,27 @@ use Rattle.laws.proofs.AgreeStays.{told_act}
 
 -- ---- an event
 
--- a step of the process that is found
-told_found : (granted : Bool) (s : State) (p : ℕ) → s.halted ≡ false → IsRegular s → AreTurns s → current s ≡ Some p → (o : Option Process) → lookup p s.processes ≡ o → IsTold s (step granted s o)
-unfolding step
-told_found granted s p awake i turns first None e = told_quiet s s awake (quiet_same s)
-told_found granted s p awake i turns first (Some r) e =
+-- a step
+told_step : (granted : Bool) (s : State) → s.halted ≡ false → IsRegular s → AreTurns s → IsTold s (step granted s (current_process s))
+told_step granted s awake i turns = by_step (IsTold s) granted s (told_quiet s s awake (quiet_same s)) (λ p r first e.
     let named : p ≡ r.pid = sym (pid_looked p s.processes r e) in
     let placed = i.placed p (first_in p s.order first) in
     let same : placed.what ≡ r = let both = sym placed.found ∙ e in cc in
     told_act granted s r awake i.rising (subst (λ n. lookup n s.processes ≡ Some r) named e) (subst (λ n. is_in n s.order ≡ true) named (first_in p s.order first))
-    (ap (λ (r : Process). is_zombie r.life) (sym same) ∙ placed.living) turns
-
--- a step
-told_step : (granted : Bool) (s : State) (c : Option ℕ) → s.halted ≡ false → IsRegular s → AreTurns s → current s ≡ c → IsTold s (step granted s (option_and_then (process s) c))
-unfolding step
-told_step granted s None awake i turns e = told_quiet s s awake (quiet_same s)
-told_step granted s (Some p) awake i turns e = told_found granted s p awake i turns e (lookup p s.processes) refl
+    (ap (λ (r : Process). is_zombie r.life) (sym same) ∙ placed.living) turns)
 
 -- what happens at an event
 told_happens : (granted : Bool) (s : State) (event : Event) → s.halted ≡ false → IsRegular s → AreTurns s → IsTold s (happens granted s event)
 unfolding happens
-told_happens granted s Step awake i turns = told_step granted s (current s) awake i turns refl
+told_happens granted s Step awake i turns = told_step granted s awake i turns
 told_happens granted s Tick awake i turns = told_quiet s _ awake (quiet_tick s)
 told_happens granted s (Key console byte) awake i turns = told_quiet s _ awake (quiet_key s console byte)
 told_happens granted s (Hangup console) awake i turns = told_quiet s _ awake (quiet_hangup s console)
 
 -- and to settle after it
-told_next : (granted : Bool) (s : State) (event : Event) → s.halted ≡ false → IsRegular s → AreTurns s → IsTold s (next granted s event)
-told_next granted s event awake i turns =
-    subst (IsTold s) (sym (next_awake granted s event awake))
-    (told_before s (happens granted s event).state _ (happens granted s event).entries (told_happens granted s event awake i turns) (quiet_settle (happens granted s event).state (happens_regular granted s event i awake).rising))
+told_settled : (granted : Bool) (s : State) (event : Event) → s.halted ≡ false → IsRegular s → AreTurns s → IsTold s (settled (happens granted s event))
+told_settled granted s event awake i turns =
+    told_before s (happens granted s event).state _ (happens granted s event).entries (told_happens granted s event awake i turns) (quiet_settle (happens granted s event).state (happens_regular granted s event i awake).rising)
 
 -- ---- a step of the relation
 
@@ -77,29 +68,16 @@ agree_later phase lines j k s more h = record { laws = h.laws; number = let n = 
 -- After an event the lines so far and those of the event agree with the state.
 pub step_agrees : (old new : State) (event : Event) (entries : List Entry) → IsStep old event entries new → IsRegular old → AreTurns old
     → (lines : List Line) (k : ℕ) → Agree lines k old → Agree (lines ++ numbered (k + 1) entries) (k + 1) new
-step_agrees old new event entries h i turns lines k a = by old.halted refl
-  where
-    later : AgreeIn (phase_between old.halted) lines (k + 1) old
-    later = agree_later (phase_between old.halted) lines k (k + 1) old (omega arith) a
-
-    by : (b : Bool) → old.halted ≡ b → Agree (lines ++ numbered (k + 1) entries) (k + 1) new
-    by true t =
-        let is = sym h.comes ∙ next_halted h.granted old event t in
-        let state : new ≡ old = ap (λ (o : Outcome). o.state) is in
-        let none : entries ≡ [] = ap (λ (o : Outcome). o.entries) is in
-        subst (λ s. Agree (lines ++ numbered (k + 1) entries) (k + 1) s) (sym state)
-        (subst (λ es. Agree (lines ++ numbered (k + 1) es) (k + 1) old) (sym none) (subst (λ ls. Agree ls (k + 1) old) (sym (append-nil lines)) later))
-    by false t =
-        subst (λ (o : Outcome). Agree (lines ++ numbered (k + 1) o.entries) (k + 1) o.state) h.comes
-        ((told_next h.granted old event t i turns).agree lines (k + 1) (subst (λ b. AgreeIn (phase_between b) lines (k + 1) old) t later))
+step_agrees old new event entries h i turns lines k a =
+    let later : AgreeIn (phase_between old.halted) lines (k + 1) old = agree_later (phase_between old.halted) lines k (k + 1) old (omega arith) a in
+    subst (λ (o : Outcome). Agree (lines ++ numbered (k + 1) o.entries) (k + 1) o.state) h.comes
+    (by_next (λ o. Agree (lines ++ numbered (k + 1) o.entries) (k + 1) o.state) h.granted old event (λ t. subst (λ ls. Agree ls (k + 1) old) (sym (append-nil lines)) later)
+    (λ t. (told_settled h.granted old event t i turns).agree lines (k + 1) (subst (λ b. AgreeIn (phase_between b) lines (k + 1) old) t later)))
 
 -- who has a place and is stopped has KILL pending, still
 pub step_turns : (old new : State) (event : Event) (entries : List Entry) → IsStep old event entries new → IsRegular old → AreTurns old → AreTurns new
-step_turns old new event entries h i turns = by old.halted refl
-  where
-    by : (b : Bool) → old.halted ≡ b → AreTurns new
-    by true t = subst AreTurns (ap (λ (o : Outcome). o.state) (sym (next_halted h.granted old event t) ∙ h.comes)) turns
-    by false t = subst (λ (o : Outcome). AreTurns o.state) h.comes ((told_next h.granted old event t i turns).turns turns)
+step_turns old new event entries h i turns =
+    subst (λ (o : Outcome). AreTurns o.state) h.comes (by_next (λ o. AreTurns o.state) h.granted old event (λ t. turns) (λ t. (told_settled h.granted old event t i turns).turns turns))
 
 -- ---- the start
 

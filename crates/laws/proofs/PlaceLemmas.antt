@@ -17,8 +17,8 @@ use Rattle.posix.specs.Step.{IsStep, next, happens}
 use Rattle.posix.proofs.MemberLemmas.{in_append, in_first, in_last, in_rest, still_out}
 use Rattle.posix.proofs.OrderLemmas.{first_in}
 use Rattle.posix.proofs.ActLemmas.{Turned}
-use Rattle.posix.proofs.CountLemmas.{next_halted}
-use Rattle.posix.proofs.WakeLemmas.{next_awake, act_has_place}
+use Rattle.posix.proofs.CountLemmas.{by_next}
+use Rattle.posix.proofs.WakeLemmas.{act_has_place}
 use Rattle.posix.proofs.SeeLemmas.{can_act_order, block_read}
 use Rattle.laws.specs.Stamps.{Move, Lose, GoLast, Place, Leads}
 use Rattle.laws.proofs.TurnLemmas.{FirstTurned, turned_first}
@@ -59,17 +59,9 @@ acts_settled s i q out there =
 
 -- the same of any event
 acts_next : (granted : Bool) (s : State) (event : Event) → IsRegular s → (q : ℕ) → is_in q s.order ≡ false → is_in q (next granted s event).state.order ≡ true → CanAct (next granted s event).state q
-acts_next granted s event i q out there =
-    elim s.halted as (λ b. s.halted ≡ b → CanAct (next granted s event).state q) [
-      | true ↦ λ h.
-          let no = sym out ∙ ap (λ (o : Outcome). is_in q o.state.order) (sym (next_halted granted s event h)) ∙ there in
-          absurd (cc)
-      | false ↦ λ h.
-          let is = next_awake granted s event h in
-          let placed = ap (λ (o : Outcome). is_in q o.state.order) (sym is) ∙ there in
-          subst (λ (o : Outcome). CanAct o.state q) (sym is)
-          (acts_settled (happens granted s event).state (happens_regular granted s event i h) q (none_before granted s event q out) placed)
-    ] refl
+acts_next granted s event i q out =
+    by_next (λ o. is_in q o.state.order ≡ true → CanAct o.state q) granted s event (λ h there. let no = sym out ∙ there in absurd (cc))
+    (λ h there. acts_settled (happens granted s event).state (happens_regular granted s event i h) q (none_before granted s event q out) there)
 
 -- who is given a place by an event can act after it
 pub given_can_act : (old new : State) (event : Event) (entries : List Entry) → IsStep old event entries new → IsRegular old
@@ -122,12 +114,8 @@ leads_turned old mid new moves (inr (p, first, inr (inr last))) h = (GoLast p �
 -- moves lead from the order before an event to that after it
 leads_next : (granted : Bool) (s : State) (event : Event) → IsRegular s → (moves : List Move) × Leads (current s) s.order moves (next granted s event).state.order
 leads_next granted s event i =
-    elim s.halted as (λ b. s.halted ≡ b → (moves : List Move) × Leads (current s) s.order moves (next granted s event).state.order) [
-      | true ↦ λ h. ([], ap (λ (o : Outcome). o.state.order) (next_halted granted s event h))
-      | false ↦ λ h.
-          subst (λ (o : Outcome). (moves : List Move) × Leads (current s) s.order moves o.state.order) (sym (next_awake granted s event h))
-          (leads_turned s.order _ _ _ (turned_first granted s event) (leads_settled (current s) (happens granted s event).state (happens_regular granted s event i h)))
-    ] refl
+    by_next (λ o. (moves : List Move) × Leads (current s) s.order moves o.state.order) granted s event (λ h. ([], refl))
+    (λ h. leads_turned s.order _ _ _ (turned_first granted s event) (leads_settled (current s) (happens granted s event).state (happens_regular granted s event i h)))
 
 -- the same in the relation
 pub order_moves : (old new : State) (event : Event) (entries : List Entry) → IsStep old event entries new → IsRegular old → (moves : List Move) × Leads (current old) old.order moves new.order

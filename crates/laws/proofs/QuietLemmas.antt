@@ -104,6 +104,20 @@ pub length_changed : (p : ℕ) (f : Process → Process) (rs : List Process) →
 unfolding changed
 length_changed p f rs = length-map rs (at p f)
 
+-- who has a place and is stopped has KILL pending, still, where it does after the change of one record that had it pending
+pub turns_changed : (s : State) (p : ℕ) (f : Process → Process) → ((r : Process) → (f r).pid ≡ r.pid) → (me : Process) → lookup p s.processes ≡ Some me
+    → (is_stopped (f me).life ≡ true → (is_stopped me.life ≡ true → is_pending me.signals KILL ≡ true) → is_pending (f me).signals KILL ≡ true)
+    → AreTurns s → AreTurns (change s p f)
+turns_changed s p f pid me here waits a = record { turns = λ q r e found stops. turn q r e (q == p) refl (sym (lookup_changed p q f pid s.processes) ∙ found) stops }
+  where
+    turn : (q : ℕ) (r : Process) → is_in q s.order ≡ true → (b : Bool) → (q == p) ≡ b → cond b (option_map f (lookup q s.processes)) (lookup q s.processes) ≡ Some r → is_stopped r.life ≡ true → is_pending r.signals KILL ≡ true
+    turn q r e true t found stops =
+        let same : q ≡ p = eqb-true q p t in
+        let was : lookup q s.processes ≡ Some me = ap (λ n. lookup n s.processes) same ∙ here in
+        let is : f me ≡ r = let both = sym (ap (option_map f) was) ∙ found in cc in
+        subst (λ (r : Process). is_pending r.signals KILL ≡ true) is (waits (ap (λ (r : Process). is_stopped r.life) is ∙ stops) (λ stopped. a.turns q me e was stopped))
+    turn q r e false t found stops = a.turns q r e found stops
+
 -- where the record of p goes on to agree, and to have KILL pending if it has a place and is stopped
 pub quiet_at : (s : State) (p : ℕ) (f : Process → Process) → ((r : Process) → (f r).pid ≡ r.pid) → (me : Process) → lookup p s.processes ≡ Some me
     → ((k : Kept) → AgreeOn k (Some me) → AgreeOn k (Some (f me)))
@@ -115,7 +129,7 @@ quiet_at s p f pid me here agrees waits = record {
   births = refl;
   halted = refl;
   rising = λ up. rising_changed p f pid s.processes up;
-  turns = λ a. record { turns = λ q r e found stops. turn a q r e (q == p) refl (sym (lookup_changed p q f pid s.processes) ∙ found) stops };
+  turns = turns_changed s p f pid me here waits;
 }
   where
     still : (k : Kept) (q : ℕ) (b : Bool) → (q == p) ≡ b → AgreeOn k (lookup q s.processes) → AgreeOn k (lookup q (changed p f s.processes))
@@ -124,14 +138,6 @@ quiet_at s p f pid me here agrees waits = record {
         let was : lookup q s.processes ≡ Some me = ap (λ n. lookup n s.processes) same ∙ here in
         subst (AgreeOn k) (sym (lookup_changed p q f pid s.processes ∙ rw (t, was) refl)) (agrees k (subst (AgreeOn k) was h))
     still k q false t h = subst (AgreeOn k) (sym (lookup_changed p q f pid s.processes ∙ rw t refl)) h
-
-    turn : AreTurns s → (q : ℕ) (r : Process) → is_in q s.order ≡ true → (b : Bool) → (q == p) ≡ b → cond b (option_map f (lookup q s.processes)) (lookup q s.processes) ≡ Some r → is_stopped r.life ≡ true → is_pending r.signals KILL ≡ true
-    turn a q r e true t found stops =
-        let same : q ≡ p = eqb-true q p t in
-        let was : lookup q s.processes ≡ Some me = ap (λ n. lookup n s.processes) same ∙ here in
-        let is : f me ≡ r = let both = sym (ap (option_map f) was) ∙ found in cc in
-        subst (λ (r : Process). is_pending r.signals KILL ≡ true) is (waits (ap (λ (r : Process). is_stopped r.life) is ∙ stops) (λ stopped. a.turns q me e was stopped))
-    turn a q r e false t found stops = a.turns q r e found stops
 
 -- ---- a zombie dropped
 

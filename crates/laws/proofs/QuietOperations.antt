@@ -172,6 +172,13 @@ pub record IsGone (rs : List Process) (c : ℕ) : Type 0 where
   pub found : lookup c rs ≡ Some what
   pub dead : is_zombie what.life ≡ true
 
+-- it is, after a change of one record that leaves zombies zombies
+pub gone_changed : (p c : ℕ) (f : Process → Process) → ((r : Process) → (f r).pid ≡ r.pid) → ((r : Process) → is_zombie (f r).life ≡ is_zombie r.life) → (rs : List Process) → IsGone rs c → IsGone (changed p f rs) c
+gone_changed p c f same life rs h =
+    cond_both (c == p) (option_map f (lookup c rs)) (lookup c rs) (λ o. lookup c (changed p f rs) ≡ o → IsGone (changed p f rs) c)
+    (λ t found. record { what = f h.what; found = found ∙ ap (option_map f) h.found; dead = life h.what ∙ h.dead })
+    (λ t found. record { what = h.what; found = found ∙ h.found; dead = h.dead }) (lookup_changed p c f same rs)
+
 -- notice of an end, of which the record may be dropped
 pub quiet_notice : (s : State) (parent child status : ℕ) → IsRising s.processes → IsGone s.processes child → Quiet s (notice_of_end s parent child status)
 unfolding notice_of_end noticed
@@ -180,15 +187,11 @@ quiet_notice s parent child status up gone =
     let told = change s parent (noticed signal) in
     let u = untold (noticed signal) (unseen_noticed signal) (mark_cond (λ r. ignores_children r.signals) (λ r. r) (signalled signal) (λ r. refl) (mark_signalled signal)) in
     let one : Quiet s told = quiet_change s parent (noticed signal) u (kill_cond (λ r. ignores_children r.signals) (λ r. r) (signalled signal) kill_same (kill_signalled signal)) in
-    let there = lookup_changed parent child (noticed signal) u.pid s.processes in
-    cond_both (is_dropping parent s.processes) (drop_child told child) told (Quiet s)
-    (λ e. cond_both (child == parent) (option_map (noticed signal) (lookup child s.processes)) (lookup child s.processes) (λ o. lookup child told.processes ≡ o → Quiet s (drop_child told child))
-    (λ t found. quiet_then s told _ one (quiet_dropped told child (noticed signal gone.what) (one.rising up) (found ∙ ap (option_map (noticed signal)) gone.found) (ap is_zombie (u.life gone.what) ∙ gone.dead)))
-    (λ t found. quiet_then s told _ one (quiet_dropped told child gone.what (one.rising up) (found ∙ gone.found) gone.dead)) there)
-    (λ e. one)
+    let there = gone_changed parent child (noticed signal) u.pid (λ r. ap is_zombie (u.life r)) s.processes gone in
+    cond_both (is_dropping parent s.processes) (drop_child told child) told (Quiet s) (λ e. quiet_then s told _ one (quiet_dropped told child there.what (one.rising up) there.found there.dead)) (λ e. one)
 
 -- another one stays
-gone_noticed : (s : State) (parent child status c : ℕ) → c ≢ child → IsGone s.processes c → IsGone (notice_of_end s parent child status).processes c
+pub gone_noticed : (s : State) (parent child status c : ℕ) → c ≢ child → IsGone s.processes c → IsGone (notice_of_end s parent child status).processes c
 gone_noticed s parent child status c other h =
     let l = lasting_notice s parent child status c h.what h.found other in
     record { what = l.what; found = l.found; dead = l.zombie ∙ h.dead }
@@ -197,7 +200,7 @@ gone_noticed s parent child status c other h =
 abbrev pub AllGone : List Process → List Process → Type 0
 AllGone rs zs = AllByRecursion (λ (z : Process). IsGone rs z.pid) zs
 
-still_gone : (n : ℕ) (rs ts : List Process) → ((c : ℕ) → n < c → IsGone rs c → IsGone ts c) → (zs : List Process) → Above n zs → AllGone rs zs → AllGone ts zs
+pub still_gone : (n : ℕ) (rs ts : List Process) → ((c : ℕ) → n < c → IsGone rs c → IsGone ts c) → (zs : List Process) → Above n zs → AllGone rs zs → AllGone ts zs
 still_gone n rs ts h [] up k = tt
 still_gone n rs ts h (z ∷ zs) up k = (h z.pid up.0 k.0, still_gone n rs ts h zs up.1 k.1)
 

@@ -107,11 +107,6 @@ agree_plain lines k s p e h me named plain =
       total = rw (t.born, t.ends) refl;
     }))
 
--- several such lines
-pub data AllPlain (p : ℕ) : List Entry → Type 0 where
-  NoneSaid : AllPlain p []
-  Said : (e : Entry) (es : List Entry) → process_of e ≡ Some p → is_plain e ≡ true → AllPlain p es → AllPlain p (e ∷ es)
-
 -- ---- ends
 
 parent_reparented : (p heir : ℕ) (r : Process) → (reparented p heir r).parent ≡ moved_from p heir r.parent
@@ -208,14 +203,13 @@ agree_ended lines k s p w h me other word =
     one heir c false t = rw (ne_eqb c p (λ e. eqb-false p c t (sym e))) (agree_given p heir (kept_of lines c) (process s c) (h.records c))
 
 -- a line that changes one process, and what is kept of its number
-changed_agree : (lines : List Line) (s : State) (p : ℕ) (g : Kept → Kept) (x : Process → Process) (me : IsLiving s p)
-    → ((r : Process) → (x r).pid ≡ r.pid) → ((k : Kept) → AgreeOn k (Some me.what) → AgreeOn (g k) (Some (x me.what))) → ((c : ℕ) → AgreeOn (kept_of lines c) (process s c))
+changed_agree : (lines : List Line) (s : State) (p : ℕ) (g : Kept → Kept) (x : Process → Process) (me : Process) → lookup p s.processes ≡ Some me
+    → ((r : Process) → (x r).pid ≡ r.pid) → (AgreeOn (kept_of lines p) (Some me) → AgreeOn (g (kept_of lines p)) (Some (x me))) → ((c : ℕ) → AgreeOn (kept_of lines c) (process s c))
     → (c : ℕ) (b : Bool) → (p == c) ≡ b → AgreeOn (cond b (g (kept_of lines c)) (kept_of lines c)) (lookup c (changed p x s.processes))
-changed_agree lines s p g x me pid told records c true t =
-    let same = eqb-true p c t in
-    let there = ap (process s) (sym same) ∙ me.found in
-    rw (lookup_changed p c x pid s.processes, eq-eqb c p (sym same), there) (told (kept_of lines c) (subst (AgreeOn (kept_of lines c)) there (records c)))
-changed_agree lines s p g x me pid told records c false t = rw (lookup_changed p c x pid s.processes, ne_eqb c p (λ e. eqb-false p c t (sym e))) (records c)
+changed_agree lines s p g x me found pid told records c true t =
+    subst (λ n. AgreeOn (g (kept_of lines n)) (lookup n (changed p x s.processes))) (eqb-true p c t)
+    (rw (lookup_changed p p x pid s.processes, eq-eqb p p refl, found) (told (subst (AgreeOn (kept_of lines p)) found (records p))))
+changed_agree lines s p g x me found pid told records c false t = rw (lookup_changed p c x pid s.processes, ne_eqb c p (λ e. eqb-false p c t (sym e))) (records c)
 
 -- ---- a halt
 
@@ -253,7 +247,7 @@ agree_halted lines k s w h me word =
       place = may_say kept 1 (Ended 1 w) (in_life Going lines k s 1 h me) refl;
       birth = refl;
       report = refl;
-      records = λ c. rw (given_same (kept_of lines c)) (changed_agree lines s 1 (ended_with w) (ended w) me (ended_pid w) (λ q. agree_first w q me.what (pid_looked 1 s.processes me.what me.found) word me.lives) h.records c (1 == c) refl);
+      records = λ c. rw (given_same (kept_of lines c)) (changed_agree lines s 1 (ended_with w) (ended w) me.what me.found (ended_pid w) (agree_first w (kept_of lines 1) me.what (pid_looked 1 s.processes me.what me.found) word me.lives) h.records c (1 == c) refl);
       births = omega arith;
       total = omega (arith, l);
     }) in
@@ -276,7 +270,7 @@ agree_stopped lines k s p n h me word =
       place = may_say kept p (Stopped p n) (in_life Going lines k s p h me) refl;
       birth = refl;
       report = refl;
-      records = λ c. changed_agree lines s p (after_stop n) (stopped_by n) me (stopped_pid n) (λ q. agree_stops n q me.what word me.lives) h.records c (p == c) refl;
+      records = λ c. changed_agree lines s p (after_stop n) (stopped_by n) me.what me.found (stopped_pid n) (agree_stops n (kept_of lines p) me.what word me.lives) h.records c (p == c) refl;
       births = omega arith;
       total = omega (arith, l);
     })
@@ -303,7 +297,7 @@ agree_marked lines k s p mark h me =
       place = may_say kept p (Marked p mark) (in_life Going lines k s p h me) refl;
       birth = refl;
       report = refl;
-      records = λ c. changed_agree lines s p (after_mark mark) (marked_as mark) me (marked_pid mark) (λ q. agree_marks mark q me.what me.lives) h.records c (p == c) refl;
+      records = λ c. changed_agree lines s p (after_mark mark) (marked_as mark) me.what me.found (marked_pid mark) (agree_marks mark (kept_of lines p) me.what me.lives) h.records c (p == c) refl;
       births = omega arith;
       total = omega (arith, l);
     })
@@ -443,17 +437,10 @@ agree_news lines k s p call c w r h me found told =
       place = may_say kept p (Reported p call c w) (in_life Going lines k s p h me) refl;
       birth = refl;
       report = told.passes;
-      records = λ q. one q (c == q) refl;
+      records = λ q. changed_agree lines s c (after_report w) news_told r found told_pid (λ agrees. told.after) h.records q (c == q) refl;
       births = omega arith;
       total = rw told.tells (omega (arith, l));
     })
-  where
-    one : (q : ℕ) (b : Bool) → (c == q) ≡ b → AgreeOn (cond b (after_report w (kept_of lines q)) (kept_of lines q)) (lookup q (changed c news_told s.processes))
-    one q true t =
-        let same : c ≡ q = eqb-true c q t in
-        subst (λ n. AgreeOn (after_report w (kept_of lines n)) (lookup n (changed c news_told s.processes))) same
-        (rw (lookup_changed c c news_told told_pid s.processes, eq-eqb c c refl, found) told.after)
-    one q false t = rw (lookup_changed c q news_told told_pid s.processes, ne_eqb q c (λ e. eqb-false c q t (sym e))) (h.records q)
 
 -- news that a living child has tell of its last stop, or of its continue
 news_are_told : (lines : List Line) (p c w : ℕ) (r : Process) → AgreeOn (kept_of lines c) (Some r) → r.parent ≡ p → is_zombie r.life ≡ false → IsNewsOf r w → ToldAs p w (kept_of lines c) r

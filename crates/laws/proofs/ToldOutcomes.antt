@@ -1,5 +1,5 @@
 -- What a process does in its turn, and the lines that tell of it.
-use Rattle.std.proofs.Common.{◌≡◌, ◌≢◌, ℕ, ◌+◌, ◌≤◌, Bool, true, false, cond, not, ◌&&◌, ◌==◌, List, [], ◌∷◌, ◌++◌, append_assoc, append-nil, filter, Option, Some, None, option_map, refl, ap, sym, ◌∙◌, arith, subst, pos, inl, inr, ◌⊎◌}
+use Rattle.std.proofs.Common.{◌≡◌, ◌≢◌, ℕ, ◌+◌, ◌≤◌, Bool, true, false, not, ◌&&◌, ◌==◌, List, [], ◌∷◌, ◌++◌, append_assoc, append-nil, filter, Option, Some, None, option_map, refl, ap, sym, ◌∙◌, arith, subst, pos, inl, inr, ◌⊎◌}
 use Rattle.std.proofs.lemmas.Bool.{eqb-true, eqb-false, eq-eqb, ne_eqb, cases_eq, cond_both}
 use Rattle.posix.specs.declared.call.Call.TheVariants.{Fork}
 use Rattle.posix.specs.declared.entry.Entry.{Entry}
@@ -34,7 +34,7 @@ use Rattle.posix.proofs.RegularLemmas.{lookup_left, lookup_inserted, lookup_new}
 use Rattle.posix.proofs.HupAndContLemmas.{lasts_members, lasts_hup_and_cont_all, still_there}
 use Rattle.posix.proofs.OrphanLemmas.{lasting_told, not_told}
 use Rattle.laws.proofs.NextLineLemmas.{counted_all}
-use Rattle.laws.proofs.QuietLemmas.{Quiet, quiet_then, IsRunning, runs_on}
+use Rattle.laws.proofs.QuietLemmas.{Quiet, quiet_then, turns_changed, IsRunning, runs_on}
 use Rattle.laws.proofs.QuietOperations.{quiet_hup_and_cont, quiet_hung_up, IsGone, AllGone, quiet_notice, quiet_told, quiet_told_of_change}
 use Rattle.laws.proofs.NewsLemmas.{IsNewsOf}
 use Rattle.laws.proofs.ToldLines.{is_plain, IsLiving, agree_plain, departed, agree_ended, agree_halted, agree_stopped, agree_marked, agree_reaped, agree_reported, agree_looked_at_end, agree_looked_at_news, agree_born, pid_child, life_child}
@@ -96,7 +96,7 @@ told_one s t e awake h turns = record { agree = λ lines k a. subst (λ b. Agree
 -- ---- ends
 
 -- the departed are gone
-gone_departed : (s : State) (p heir w : ℕ) → IsLiving s p → IsGone (leave_children_and_die s p heir w).processes p
+pub gone_departed : (s : State) (p heir w : ℕ) → IsLiving s p → IsGone (leave_children_and_die s p heir w).processes p
 unfolding made_zombie
 gone_departed s p heir w me = record {
   what = reparented p heir (made_zombie w me.what);
@@ -117,7 +117,7 @@ gone_before s p heir w c g = by (c == p) refl
     by false t = record { what = reparented p heir g.what; found = departed s p heir w c ∙ rw (t, g.found) refl; dead = zombie g.what ∙ g.dead }
 
 -- zombies among the children are gone
-children_gone : (s : State) (p heir w : ℕ) → IsRising s.processes → AllGone (leave_children_and_die s p heir w).processes (zombies_of p s.processes)
+pub children_gone : (s : State) (p heir w : ℕ) → IsRising s.processes → AllGone (leave_children_and_die s p heir w).processes (zombies_of p s.processes)
 unfolding zombies_of children_in
 children_gone s p heir w up =
     let kids = filter (is_child p) s.processes in
@@ -128,20 +128,20 @@ children_gone s p heir w up =
     let here : z.pid ≡ c = pid_looked c s.processes z b.found in
     gone_before s p heir w z.pid (record { what = z; found = ap (λ n. lookup n s.processes) here ∙ b.found; dead = a.passes }))
 
-zombies_rise : (s : State) (p : ℕ) → IsRising s.processes → IsRising (zombies_of p s.processes)
+pub zombies_rise : (s : State) (p : ℕ) → IsRising s.processes → IsRising (zombies_of p s.processes)
 unfolding zombies_of children_in
 zombies_rise s p up = rising_filter _ (filter (is_child p) s.processes) (rising_filter (is_child p) s.processes up)
 
 -- who lives is none of them
-not_among : (s : State) (p q : ℕ) → IsRising s.processes → IsLiving s q → is_in q (pids (zombies_of p s.processes)) ≡ false
+pub not_among : (s : State) (p q : ℕ) → IsRising s.processes → IsLiving s q → is_in q (pids (zombies_of p s.processes)) ≡ false
 not_among s p q up me = not_told s up p q me.what me.found (λ dead. let no : false ≡ true = sym me.lives ∙ dead in absurd (cc))
 
 -- it stays gone while its children's ends are told
-gone_told : (s : State) (heir : ℕ) (zs : List Process) (c : ℕ) → is_in c (pids zs) ≡ false → IsGone s.processes c → IsGone (tell_of_all s heir zs).processes c
+pub gone_told : (s : State) (heir : ℕ) (zs : List Process) (c : ℕ) → is_in c (pids zs) ≡ false → IsGone s.processes c → IsGone (tell_of_all s heir zs).processes c
 gone_told s heir zs c out g = let l = lasting_told s heir zs c g.what g.found out in record { what = l.what; found = l.found; dead = l.zombie ∙ g.dead }
 
 -- and while groups get HUP and CONT
-gone_hup_and_cont : (gs : List ℕ) (s : State) (c : ℕ) → IsRising s.processes → IsGone s.processes c → IsGone (hup_and_cont_all gs s.processes) c
+pub gone_hup_and_cont : (gs : List ℕ) (s : State) (c : ℕ) → IsRising s.processes → IsGone s.processes c → IsGone (hup_and_cont_all gs s.processes) c
 gone_hup_and_cont gs s c up g = let l = still_there c s.processes _ (lasts_hup_and_cont_all gs s.processes up).same g.what g.found in record { what = l.what; found = l.found; dead = l.zombie ∙ g.dead }
 
 rising_departed : (s : State) (p heir w : ℕ) → IsRising s.processes → IsRising (leave_children_and_die s p heir w).processes
@@ -205,7 +205,7 @@ living_group n group rs p r up e =
     cond_both (group == 0) rs (signalled_members (record { sig = n; carried = from_kernel }) group rs) (λ ts. (q : Process) × (lookup p ts ≡ Some q) × (is_zombie q.life ≡ is_zombie r.life)) (λ t. (r, e, refl))
     (λ t. let l = still_there p rs _ (lasts_members (record { sig = n; carried = from_kernel }) group rs up).same r e in (l.what, l.found, l.zombie))
 
-living_hung_up : (s : State) (r : Process) (p : ℕ) → IsRising s.processes → IsLiving s p → IsLiving (hang_up s r) p
+pub living_hung_up : (s : State) (r : Process) (p : ℕ) → IsRising s.processes → IsLiving s p → IsLiving (hang_up s r) p
 unfolding hang_up
 living_hung_up s r p up me = cond_both (not (r.pid == 1) && r.session == r.pid) _ _ (λ t. IsLiving t p) (λ e. of (console_of r.session s.consoles)) (λ e. me)
   where
@@ -261,14 +261,7 @@ pub told_marked : (s : State) (p : ℕ) (mark : Bool) → s.halted ≡ false →
 unfolding marked_as finished
 told_marked s p mark awake me =
     told_one s (change s p (marked_as mark)) (Marked p mark) awake (λ lines k a. agree_marked lines k s p mark a (running_living s p me))
-    (λ a. record { turns = λ q r e found stops. by a q r e (q == p) refl (sym (lookup_changed p q (marked_as mark) (λ r. refl) s.processes) ∙ found) stops })
-  where
-    by : AreTurns s → (q : ℕ) (x : Process) → is_in q s.order ≡ true → (b : Bool) → (q == p) ≡ b → cond b (option_map (marked_as mark) (lookup q s.processes)) (lookup q s.processes) ≡ Some x → is_stopped x.life ≡ true → is_pending x.signals KILL ≡ true
-    by a q x e true t f stops =
-        let here : lookup q s.processes ≡ Some me.what = ap (λ n. lookup n s.processes) (eqb-true q p t) ∙ me.found in
-        let is : marked_as mark me.what ≡ x = let both = sym (ap (option_map (marked_as mark)) here) ∙ f in cc in
-        absurd (runs_on me.what.life me.runs (ap (λ (r : Process). is_stopped r.life) is ∙ stops))
-    by a q x e false t f stops = a.turns q x e f stops
+    (turns_changed s p (marked_as mark) (λ r. refl) me.what me.found (λ stops was. absurd (runs_on me.what.life me.runs stops)))
 
 -- ---- births
 
@@ -305,15 +298,7 @@ pub told_news : (s : State) (p : ℕ) (call : WaitCall) (c w : ℕ) (r : Process
     → IsTold s (record { state = change s c news_told; entries = Reported p call c w ∷ [] })
 unfolding news_told
 told_news s p call c w r awake me found parent lives what =
-    told_one s (change s c news_told) (Reported p call c w) awake (λ lines k a. agree_reported lines k s p call c w r a me found parent lives what)
-    (λ a. record { turns = λ q x e f stops. by a q x e (q == c) refl (sym (lookup_changed c q news_told (λ r. refl) s.processes) ∙ f) stops })
-  where
-    by : AreTurns s → (q : ℕ) (x : Process) → is_in q s.order ≡ true → (b : Bool) → (q == c) ≡ b → cond b (option_map news_told (lookup q s.processes)) (lookup q s.processes) ≡ Some x → is_stopped x.life ≡ true → is_pending x.signals KILL ≡ true
-    by a q x e true t f stops =
-        let here : lookup q s.processes ≡ Some r = ap (λ n. lookup n s.processes) (eqb-true q c t) ∙ found in
-        let is : news_told r ≡ x = let both = sym (ap (option_map news_told) here) ∙ f in cc in
-        ap (λ (r : Process). is_pending r.signals KILL) (sym is) ∙ a.turns q r e here (ap (λ (r : Process). is_stopped r.life) is ∙ stops)
-    by a q x e false t f stops = a.turns q x e f stops
+    told_one s (change s c news_told) (Reported p call c w) awake (λ lines k a. agree_reported lines k s p call c w r a me found parent lives what) (turns_changed s c news_told (λ r. refl) r found (λ stops was. was stops))
 
 -- or a child is looked at
 pub told_looked_at_end : (s : State) (p c w : ℕ) (r : Process) → s.halted ≡ false → IsLiving s p → lookup c s.processes ≡ Some r → r.parent ≡ p → r.life ≡ Zombie w → IsTold s (record { state = s; entries = Looked p c w ∷ [] })

@@ -1,13 +1,11 @@
 -- Who has a place keeps it, and comes nearer to its turn.
-use Rattle.std.proofs.Common.{◌≡◌, ◌≢◌, ℕ, zero, suc, add-zero, append_assoc, ◌+◌, ◌≤◌, Bool, true, false, cond, not, refl, ap, sym, ◌∙◌, arith, subst, List, [], ◌∷◌, ◌++◌, filter, Option, Some, None, option_and_then, ◌==◌, slice_get, inl, inr, ◌⊎◌}
+use Rattle.std.proofs.Common.{◌≡◌, ◌≢◌, ℕ, zero, suc, add-zero, append_assoc, ◌+◌, ◌≤◌, Bool, true, false, cond, not, refl, ap, sym, ◌∙◌, arith, subst, List, [], ◌∷◌, ◌++◌, filter, Option, Some, None, ◌==◌, slice_get, inl, inr, ◌⊎◌}
 use Rattle.std.proofs.lemmas.Bool.{eqb-true, eq-eqb, ne_eqb, or_left}
 use Rattle.std.proofs.lemmas.List.Sums.{sum_by-cons}
 use Rattle.posix.specs.declared.event.Event.{Event}
 use Rattle.posix.specs.declared.event.Event.TheVariants.{Step, Tick, Key, Hangup}
 use Rattle.posix.specs.declared.entry.Entry.{Entry}
-use Rattle.posix.specs.Processes.{Process}
-use Rattle.posix.specs.Tables.{lookup}
-use Rattle.posix.specs.States.{State, is_in, without, current, process}
+use Rattle.posix.specs.States.{State, is_in, without, current, current_process}
 use Rattle.posix.specs.Regular.{IsDistinct}
 use Rattle.posix.specs.Consoles.{Console, console_at}
 use Rattle.posix.specs.Outcomes.{Outcome}
@@ -20,7 +18,8 @@ use Rattle.laws.specs.Turns.{places_before, is_tick, ticks_in, HasTurn}
 use Rattle.posix.proofs.TableLemmas.{pid_looked}
 use Rattle.posix.proofs.OrderLemmas.{without_absent}
 use Rattle.posix.proofs.ActLemmas.{Turned, acted}
-use Rattle.posix.proofs.CountLemmas.{next_halted}
+use Rattle.posix.proofs.DeliveryLemmas.{by_step}
+use Rattle.posix.proofs.CountLemmas.{by_next}
 use Rattle.posix.proofs.MemberLemmas.{in_append, others_stay}
 use Rattle.posix.proofs.WakeLemmas.{next_awake, nothing_after_halt}
 use Rattle.laws.proofs.WokenLemmas.{given_places, order_settled}
@@ -31,21 +30,9 @@ use Rattle.laws.proofs.WokenLemmas.{given_places, order_settled}
 abbrev pub FirstTurned : List ℕ → List ℕ → Type 0
 FirstTurned old new = (new ≡ old) ⊎ ((p : ℕ) × (slice_get old 0 ≡ Some p) × Turned p old new)
 
--- a step turns the process that is found
-turned_found : (granted : Bool) (s : State) (p : ℕ) → current s ≡ Some p → (o : Option Process) → lookup p s.processes ≡ o → FirstTurned s.order (step granted s o).state.order
-unfolding step
-turned_found granted s p first None e = inl refl
-turned_found granted s p first (Some r) e = inr (r.pid, first ∙ ap Some (sym (pid_looked p s.processes r e)), (acted granted s r).order)
-
--- no process, no turn
-turned_none : (granted : Bool) (s : State) → FirstTurned s.order (step granted s None).state.order
-unfolding step
-turned_none granted s = inl refl
-
 -- a step turns the current process
-turned_step : (granted : Bool) (s : State) (c : Option ℕ) → current s ≡ c → FirstTurned s.order (step granted s (option_and_then (process s) c)).state.order
-turned_step granted s None first = turned_none granted s
-turned_step granted s (Some p) first = turned_found granted s p first (lookup p s.processes) refl
+turned_step : (granted : Bool) (s : State) → FirstTurned s.order (step granted s (current_process s)).state.order
+turned_step granted s = by_step (λ o. FirstTurned s.order o.state.order) granted s (inl refl) (λ p r first e. inr (r.pid, first ∙ ap Some (sym (pid_looked p s.processes r e)), (acted granted s r).order))
 
 -- so does a tick
 turned_rotate : (s : State) (c : Option ℕ) → current s ≡ c → FirstTurned s.order (rotate (pass_time s) c).order
@@ -65,7 +52,7 @@ turned_hangup s console (Some c) = inl refl
 -- before places are given an event turns nobody but the current process
 pub turned_first : (granted : Bool) (s : State) (event : Event) → FirstTurned s.order (happens granted s event).state.order
 unfolding happens tick key hangup
-turned_first granted s Step = turned_step granted s (current s) refl
+turned_first granted s Step = turned_step granted s
 turned_first granted s Tick = turned_rotate s (current s) refl
 turned_first granted s (Key console byte) = turned_key s console byte (console_at console s.consoles)
 turned_first granted s (Hangup console) = turned_hangup s console (console_at console s.consoles)
@@ -129,11 +116,7 @@ nearer_awake granted s event q e ne =
 
 -- an event brings q nearer
 nearer_next : (granted : Bool) (s : State) (event : Event) (q : ℕ) → is_in q s.order ≡ true → current s ≢ Some q → Nearer q s.order (next granted s event).state.order
-nearer_next granted s event q e ne =
-    elim s.halted as (λ b. s.halted ≡ b → Nearer q s.order (next granted s event).state.order) [
-      | true ↦ λ h. subst (λ (o : Outcome). Nearer q s.order o.state.order) (sym (next_halted granted s event h)) (e, omega arith)
-      | false ↦ λ h. subst (λ (o : Outcome). Nearer q s.order o.state.order) (sym (next_awake granted s event h)) (nearer_awake granted s event q e ne)
-    ] refl
+nearer_next granted s event q e ne = by_next (λ o. Nearer q s.order o.state.order) granted s event (λ h. (e, omega arith)) (λ h. nearer_awake granted s event q e ne)
 
 -- a step of the relation brings q nearer
 nearer_after : (old new : State) (event : Event) (entries : List Entry) → IsStep old event entries new

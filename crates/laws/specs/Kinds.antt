@@ -1,5 +1,5 @@
 -- States whose parts are of their kinds: what lines show is within its range.
-use Rattle.std.specs.Prelude.{◌≡◌, ℕ, ◌≤◌, ◌<◌, ◌&&◌, Bool, true, Option, Some, None, length, nat_le, nat_lt}
+use Rattle.std.specs.Prelude.{◌≡◌, ℕ, ◌&&◌, Bool, true, Option, Some, None, length, nat_le, nat_lt}
 use Rattle.std.specs.List.{list_all}
 use Rattle.posix.specs.declared.ids.Ids.{Ids}
 use Rattle.posix.specs.declared.process.Action.{Action}

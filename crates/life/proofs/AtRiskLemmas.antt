@@ -46,7 +46,7 @@ noted_without n g groups_at_risk after i out same = record {
 
 -- and the machine stays one
 pub noted_again : {s : State} {pids : Pids} {places : Places} {to_recheck groups_at_risk after : PidSetView} {terminals : Terminals} → IsMachine s pids places to_recheck groups_at_risk terminals → IsNoted to_recheck.room after → IsMachine s pids places to_recheck after terminals
-noted_again i noted = record { sound = i.sound; listed = i.listed; noted = noted; fresh = i.fresh }
+noted_again i noted = record { sound = i.sound; listed = i.listed; noted = noted; fresh = i.fresh; indexed = i.indexed; within = i.within }
 
 -- ---- noting
 

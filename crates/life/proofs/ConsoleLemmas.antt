@@ -20,18 +20,22 @@ use Rattle.posix.specs.Settle.{can_act, can_go_on}
 use Rattle.posix.specs.Regular.{IsRegular, AreConsoles}
 use Rattle.posix.proofs.TableLemmas.{pid_looked}
 use Rattle.posix.proofs.SeeLemmas.{block_read, acts_reading}
-use Rattle.posix.proofs.ConsoleLemmas.{consoles_set, consoles_freed, consoles_acquired, none_of, changed_at_place, regular_consoles, console_is, found_put, changed_none}
+use Rattle.posix.proofs.ConsoleLemmas.{consoles_set, consoles_freed, consoles_acquired, none_of, changed_at_place, regular_consoles, console_is, changed_none}
 use Rattle.posix.proofs.ReaderLemmas.{IsOfOrFree, console_of_set, touches_unread}
 use Rattle.posix.proofs.RealtimeLemmas.{key_standard}
 use Rattle.pidalloc.specs.Rows.{Pids}
 use Rattle.sched.specs.Places.{Places}
+use Rattle.pidset.specs.Lists.{ListsView}
 use Rattle.pidset.specs.Numbers.{PidSetView}
-use Rattle.life.specs.Machines.{IsListed, IsWaiting, IsMachine, MachineView, readers_at}
+use Rattle.life.specs.Machines.{AreTerminals, IsListed, IsMachine, MachineView}
+use Rattle.life.proofs.TerminalLemmas.{terminals_put}
+use Rattle.pidset.specs.declared.index.Pair.{Pair}
+use Rattle.pidset.specs.Indexes.{IsMoved}
 use Rattle.proctable.specs.Records.{snapshot_of}
 use Rattle.life.specs.Consoles.{AreReaders, CanBecome, HasChanged, IsTerminalIndex, hangs_up, slots_of_key, slots_of_hangup}
 use Rattle.life.specs.Rechecks.{slots_of_signal}
 use Rattle.life.proofs.ForegroundLemmas.{fresh_alike, fresh_put}
-use Rattle.life.proofs.PlaceLemmas.{set_same, set_other}
+use Rattle.life.proofs.RecheckLemmas.{watched_alike}
 use Rattle.posix.specs.Tables.{members_in}
 use Rattle.life.specs.declared.consoles.Unchecked.{Unchecked}
 use Rattle.life.specs.Foregrounds.{AreFreshBut}
@@ -40,24 +44,21 @@ use Rattle.life.specs.Foregrounds.{AreFreshBut}
 abbrev pub put : State → ℕ → Console → State
 put s k d = record s { consoles = slice_set s.consoles k d }
 
--- It can be put there: a session has one console at most, nobody can act for it who isn't rechecked and has no place, and
--- just those who wait to read from it are known.
-pub record CanPut (s : State) (to_recheck : List ℕ) (readers : List PidSetView) (k : ℕ) (d : Console) : Type 0 where
+-- It can be put there: a session has one console at most, and nobody can act for it who isn't rechecked and has no place.
+pub record CanPut (s : State) (to_recheck : List ℕ) (k : ℕ) (d : Console) : Type 0 where
   pub apart : AreConsoles s.world.consoles (slice_set s.consoles k d)
   pub acts : (p : ℕ) (r : Process) → process s p ≡ Some r → has_place s p ≡ false → is_in p to_recheck ≡ false → can_act (put s k d) r ≡ true → can_act s r ≡ true
-  pub known : (p : ℕ) (r : Process) → process s p ≡ Some r → is_reader d.session r ≡ true → has_place s p ≡ false → is_in p to_recheck ≡ false → is_in p (readers_at k readers) ≡ true
-  pub waits : (p : ℕ) → is_in p to_recheck ≡ false → (w : IsWaiting s k p) → is_reader d.session w.reader ≡ true
 
 -- ---- the machine
 
 -- who can act and has no place is on the list
-on_list : {readers : List PidSetView} (s : State) (l : PidSetView) (p : ℕ) (r : Process) → IsListed s l readers → process s p ≡ Some r → has_place s p ≡ false → can_act s r ≡ true → is_in p l.pids ≡ true
+on_list : {readers : ListsView} (s : State) (l : PidSetView) (p : ℕ) (r : Process) → IsListed s l readers → process s p ≡ Some r → has_place s p ≡ false → can_act s r ≡ true → is_in p l.pids ≡ true
 on_list s l p r h found out acts =
     let unplaced : is_in r.pid s.order ≡ false = ap (λ n. is_in n s.order) (pid_looked p s.processes r found) ∙ out in
     h.covers p r found (rw (unplaced, acts) refl)
 
-listed_put : {readers : List PidSetView} (s : State) (l : PidSetView) (k : ℕ) (d : Console) → IsListed s l readers → CanPut s l.pids readers k d → IsListed (put s k d) l readers
-listed_put {readers = readers} s l k d h can = record {
+listed_put : {readers : ListsView} (s : State) (l : PidSetView) (k : ℕ) (d : Console) → IsListed s l readers → CanPut s l.pids k d → IsListed (put s k d) l readers
+listed_put s l k d h can = record {
   covers = λ p r found w.
       let awake = and_parts (not (is_in r.pid s.order)) _ w in
       let out : is_in p s.order ≡ false = ap (λ n. is_in n s.order) (sym (pid_looked p s.processes r found)) ∙ not-true _ awake.0 in
@@ -65,32 +66,14 @@ listed_put {readers = readers} s l k d h can = record {
   rising = h.rising;
   there = h.there;
   room = h.room;
-  ready = h.ready;
-  watched = record {
-    known = λ j p c r at found visits out unasked. ⊎_elim
-        (λ here.
-        let mine : is_reader d.session r ≡ true = ap (λ (c : Console). is_reader c.session r) here.1 ∙ visits in
-        ap (λ i. is_in p (readers_at i readers)) here.0 ∙ can.known p r found mine out unasked)
-        (λ other. h.watched.known j p c r other.1 found visits out unasked)
-        (found_put s.consoles k j d c at);
-    waits = λ j p on unasked.
-        let w = h.watched.waits j p on unasked in
-        elim (j == k) as (λ b. (j == k) ≡ b → IsWaiting (put s k d) j p) [
-          | true ↦ λ e.
-              let here = subst (λ n. IsWaiting s n p) (eqb-true j k e) w in
-              subst (λ n. IsWaiting (put s k d) n p) (sym (eqb-true j k e)) (record { console = d; reader = here.reader; at = set_same s.consoles k here.console d here.at; found = here.found; reads = can.waits p unasked here; out = here.out })
-          | false ↦ λ e. record { console = w.console; reader = w.reader; at = set_other s.consoles k j d (eqb-false j k e) ∙ w.at; found = w.found; reads = w.reads; out = w.out }
-        ] refl;
-    each = h.watched.each;
-    many = h.watched.many;
-  };
+  watched = watched_alike s _ _ h.watched;
 }
 
 -- the machine stays one
-pub machine_put : (s : State) (pids : Pids) (places : Places) (to_recheck : PidSetView) (groups_at_risk : PidSetView) (readers : List PidSetView) (before after : Unchecked) (k : ℕ) (d : Console)
-    → IsMachine s pids places to_recheck groups_at_risk (record { readers = readers; foregrounds_unchecked = before }) → CanPut s to_recheck.pids readers k d → AreFreshBut after s.processes (slice_set s.consoles k d)
-    → IsMachine (put s k d) pids places to_recheck groups_at_risk (record { readers = readers; foregrounds_unchecked = after })
-machine_put s pids places to_recheck groups_at_risk readers before after k d h can fresh =
+pub machine_put : (s : State) (pids : Pids) (places : Places) (to_recheck : PidSetView) (groups_at_risk : PidSetView) (readers : ListsView) (before after : Unchecked) (was now : List Pair) (k : ℕ) (d : Console)
+    → IsMachine s pids places to_recheck groups_at_risk (record { readers = readers; foregrounds_unchecked = before; terminals = was }) → CanPut s to_recheck.pids k d → AreFreshBut after s.processes (slice_set s.consoles k d) → AreTerminals (slice_set s.consoles k d) now
+    → IsMachine (put s k d) pids places to_recheck groups_at_risk (record { readers = readers; foregrounds_unchecked = after; terminals = now })
+machine_put s pids places to_recheck groups_at_risk readers before after was now k d h can fresh terminals =
     let regular = regular_consoles s _ h.sound.regular can.apart in
     let listed = listed_put s to_recheck k d h.listed can in
     search rules
@@ -110,8 +93,8 @@ reader_is session r h =
     record { runs = a.0; visits = b.0; own = eqb-true r.session session b.1 }
 
 -- one with the same session and foreground process group, and no line where there was none
-pub put_unread : {readers : List PidSetView} (s : State) (l : PidSetView) (k : ℕ) (c d : Console) → IsRegular s → IsListed s l readers → slice_get s.consoles k ≡ Some c
-    → d.session ≡ c.session → d.foreground ≡ c.foreground → d.hung_up ≡ c.hung_up → (c.lines ≡ [] → d.lines ≡ []) → CanPut s l.pids readers k d
+pub put_unread : {readers : ListsView} (s : State) (l : PidSetView) (k : ℕ) (c d : Console) → IsRegular s → IsListed s l readers → slice_get s.consoles k ≡ Some c
+    → d.session ≡ c.session → d.foreground ≡ c.foreground → d.hung_up ≡ c.hung_up → (c.lines ≡ [] → d.lines ≡ []) → CanPut s l.pids k d
 unfolding is_in
 put_unread s l k c d i h at owner foreground hung lines = record {
   apart = consoles_set s.world.consoles s.consoles k c d at owner i.consoles;
@@ -120,36 +103,24 @@ put_unread s l k c d i h at owner foreground hung lines = record {
       let was = u.found in
       let same : u.old ≡ r = cc in
       ap (can_act s) (sym same) ∙ u.acts acts;
-  known = λ p r found visits out unasked. h.watched.known k p c r at found (ap (λ n. is_reader n r) (sym owner) ∙ visits) out unasked;
-  waits = λ p unasked w. ap (λ n. is_reader n w.reader) (owner ∙ ap (λ (c : Console). c.session) (same_Some _ _ (sym at ∙ w.at))) ∙ w.reads;
 }
 
 -- where whoever waits to read from it is rechecked, one with the same session, or nobody's
-put_rechecked : {readers : List PidSetView} (s : State) (l : PidSetView) (k : ℕ) (c d : Console) → IsRegular s → IsListed s l readers → slice_get s.consoles k ≡ Some c
-    → AreReaders s k l.pids → IsOfOrFree c.session d → CanPut s l.pids readers k d
+put_rechecked : {readers : ListsView} (s : State) (l : PidSetView) (k : ℕ) (c d : Console) → IsRegular s → IsListed s l readers → slice_get s.consoles k ≡ Some c
+    → AreReaders s c.session l.pids → IsOfOrFree c.session d → CanPut s l.pids k d
 unfolding waits_to_read
-put_rechecked {readers = readers} s l k c d i h at to_recheck kind = record {
+put_rechecked s l k c d i h at to_recheck kind = record {
   apart = ⊎_elim (λ same. consoles_set s.world.consoles s.consoles k c d at same i.consoles) (λ free. consoles_freed s.world.consoles s.consoles k d free i.consoles) kind;
   acts = λ p r found out unasked acts. acts_reading s (put s k d) r refl (λ runs visits w.
       elim (r.session == c.session) as (λ b. (r.session == c.session) ≡ b → waits_to_read (slice_set s.consoles k d) r ≡ true) [
-        | true ↦ λ e. absurd (let reader : is_reader c.session r ≡ true = rw (runs, visits, e) refl in both_ways _ unasked (to_recheck p c r at found reader out))
+        | true ↦ λ e. absurd (let reader : is_reader c.session r ≡ true = rw (runs, visits, e) refl in both_ways _ unasked (to_recheck p r found reader out))
         | false ↦ λ e. ap (waits_on r) (console_of_set r.session k c d s.consoles at (λ same. eqb-false _ _ e (sym same)) (others r d (i.bounded p r found).session_least (eqb-false _ _ e) kind)) ∙ w
       ] refl) acts;
-  known = λ p r found visits out unasked. ⊎_elim
-      (λ same. h.watched.known k p c r at found (ap (λ n. is_reader n r) (sym same) ∙ visits) out unasked)
-      (λ free. absurd (nobody r d (i.bounded p r found).session_least free visits))
-      kind;
-  waits = λ p unasked w. absurd (both_ways _ unasked (to_recheck p w.console w.reader w.at w.found w.reads w.out));
 }
   where
     others : (r : Process) (d : Console) → 1 ≤ r.session → r.session ≢ c.session → IsOfOrFree c.session d → d.session ≢ r.session
     others r d least ne (inl h) same = ne (sym same ∙ h)
     others r d least ne (inr h) same = omega (arith, h, same, least)
-
-    nobody : (r : Process) (d : Console) → 1 ≤ r.session → d.session ≡ 0 → is_reader d.session r ≡ true → ⊥
-    nobody r d least free visits =
-        let own = (reader_is d.session r visits).own in
-        omega (arith, least, free, own)
 
 -- who reads where there is no line to wait for can act
 pub reads_on : (s : State) (r : Process) → is_running r.life ≡ true → is_in_read r.blocked ≡ true → waits_to_read s.consoles r ≡ false → can_act s r ≡ true
@@ -163,8 +134,8 @@ reads_on s r runs visits none =
     goes b e = absurd (cc)
 
 -- in the place of one that was nobody's, one of a session that had none: its reads were refused, and needn't wait
-put_acquired : {readers : List PidSetView} (s : State) (l : PidSetView) (k : ℕ) (c d : Console) → IsRegular s → IsListed s l readers → slice_get s.consoles k ≡ Some c
-    → c.session ≡ 0 → console_of d.session s.consoles ≡ None → CanPut s l.pids readers k d
+put_acquired : {readers : ListsView} (s : State) (l : PidSetView) (k : ℕ) (c d : Console) → IsRegular s → IsListed s l readers → slice_get s.consoles k ≡ Some c
+    → c.session ≡ 0 → console_of d.session s.consoles ≡ None → CanPut s l.pids k d
 unfolding waits_to_read
 put_acquired {readers = readers} s l k c d i h at free none = record {
   apart = consoles_acquired s.world.consoles s.consoles k d none i.consoles;
@@ -173,12 +144,6 @@ put_acquired {readers = readers} s l k c d i h at free none = record {
         | true ↦ λ e. absurd (both_ways _ (no_wait r (eqb-true _ _ e)) w)
         | false ↦ λ e. ap (waits_on r) (console_of_set r.session k c d s.consoles at (nobody r (i.bounded p r found).session_least) (λ same. eqb-false _ _ e (sym same))) ∙ w
       ] refl) acts;
-  known = λ p r found visits out unasked.
-      let it = reader_is d.session r visits in
-      absurd (both_ways _ unasked (on_list s l p r h found out (reads_on s r it.runs it.visits (no_wait r it.own))));
-  waits = λ p unasked w.
-      let own = (reader_is w.console.session w.reader w.reads).own in
-      absurd (nobody w.reader (i.bounded p w.reader w.found).session_least (ap (λ (c : Console). c.session) (same_Some _ _ (sym at ∙ w.at)) ∙ sym own));
 }
   where
     no_wait : (r : Process) → r.session ≡ d.session → waits_to_read s.consoles r ≡ false
@@ -190,14 +155,15 @@ put_acquired {readers = readers} s l k c d i h at free none = record {
 -- ---- what a console can become
 
 -- the machine stays one
-pub machine_became : {pids : Pids} {places : Places} {groups_at_risk : PidSetView} (m : MachineView) (to_recheck : PidSetView) (k : ℕ) (c d : Console) → to_recheck.pids ≡ m.to_recheck → slice_get m.state.consoles k ≡ Some c → CanBecome m k c d
-    → IsMachine m.state pids places to_recheck groups_at_risk (record { readers = m.readers; foregrounds_unchecked = m.foregrounds_unchecked })
-    → IsMachine (put m.state k d) pids places to_recheck groups_at_risk (record { readers = m.readers; foregrounds_unchecked = m.foregrounds_unchecked })
-machine_became m to_recheck k c d list at h i = machine_put _ _ _ _ _ _ _ _ k d i
-    (⊎_elim (λ quiet. put_unread _ _ k c d i.sound.regular i.listed at quiet.0.0 quiet.0.1 quiet.1 quiet.2) (λ those. rechecked (subst (AreReaders m.state k) (sym list) those)) h.readers)
+pub machine_became : {pids : Pids} {places : Places} {groups_at_risk : PidSetView} {was now : List Pair} (m : MachineView) (to_recheck : PidSetView) (k : ℕ) (c d : Console) → to_recheck.pids ≡ m.to_recheck → slice_get m.state.consoles k ≡ Some c → CanBecome m k c d
+    → IsMachine m.state pids places to_recheck groups_at_risk (record { readers = m.readers; foregrounds_unchecked = m.foregrounds_unchecked; terminals = was }) → IsMoved (k + 1) (Some d.session) was now
+    → IsMachine (put m.state k d) pids places to_recheck groups_at_risk (record { readers = m.readers; foregrounds_unchecked = m.foregrounds_unchecked; terminals = now })
+machine_became m to_recheck k c d list at h i moved = machine_put _ _ _ _ _ _ _ _ _ _ k d i
+    (⊎_elim (λ quiet. put_unread _ _ k c d i.sound.regular i.listed at quiet.0.0 quiet.0.1 quiet.1 quiet.2) (λ those. rechecked (subst (AreReaders m.state c.session) (sym list) those)) h.readers)
     (⊎_elim (λ same. fresh_alike _ _ _ k c d at same.0 same.1 i.fresh) (fresh_put _ _ _ k d i.fresh) h.foreground)
+    (terminals_put _ k c d _ _ at moved i.indexed)
   where
-    rechecked : AreReaders m.state k to_recheck.pids → CanPut m.state to_recheck.pids m.readers k d
+    rechecked : AreReaders m.state c.session to_recheck.pids → CanPut m.state to_recheck.pids k d
     rechecked theirs = ⊎_elim (λ same. put_rechecked _ _ k c d i.sound.regular i.listed at theirs (inl same))
         (λ other. ⊎_elim (λ free. put_rechecked _ _ k c d i.sound.regular i.listed at theirs (inr free)) (λ new. put_acquired _ _ k c d i.sound.regular i.listed at new.0 new.1) other) h.session
 
@@ -223,19 +189,16 @@ pub put_changed : (s : State) (k session : ℕ) (c : Console) (f : Console → C
 put_changed s k session c f i at own some = ap (λ cs. record s { consoles = cs }) (sym (changed_at_place s.world.consoles s.consoles k session c f i.consoles at own some))
 
 -- by a closure that does so
-pub terminal_changed : {F T : Type 0} {g : Once F (MutBor Console × Unit {0}) (T × (MutBor Console × Unit {0}))} {change : F} (s t : State) (k : ℕ) (o : Option T) {cs : List Console} (session : ℕ) (f : Console → Console) → IsRegular s
-    → session ≢ 0 → cs ≡ s.consoles → IsTerminalIndex session cs (Some k) → HasChanged g change s t k o → ((c d : Console) (r : T) → FnOnceReturnsAtMut g change c r d → d ≡ f c) → t ≡ record s { consoles = changed_console session f s.consoles }
-terminal_changed s t k o session f i some all it h did =
-    let here = ap (λ cs. slice_get cs k) (sym all) ∙ it.1 in
-    let run = rw here at h in
-    run.4 ∙ ap (put s k) (did it.0 run.0 run.1 run.3) ∙ put_changed s k session it.0 f i here it.3 some
+pub terminal_changed : {F T : Type 0} {g : Once F (MutBor Console × Unit {0}) (T × (MutBor Console × Unit {0}))} {change : F} (s t : State) (k : ℕ) (o : Option T) (session : ℕ) (f : Console → Console) → IsRegular s
+    → session ≢ 0 → IsTerminalIndex session s.consoles (Some k) → HasChanged g change s t k o → ((c d : Console) (r : T) → FnOnceReturnsAtMut g change c r d → d ≡ f c) → t ≡ record s { consoles = changed_console session f s.consoles }
+terminal_changed s t k o session f i some it h did =
+    let run = rw it.1 at h in
+    run.4 ∙ ap (put s k) (did it.0 run.0 run.1 run.3) ∙ put_changed s k session it.0 f i it.1 it.3 some
 
 -- and nothing is changed where it has none
-pub none_changed : {s t : State} {cs : List Console} (session : ℕ) (f : Console → Console) → s ≡ t → cs ≡ s.consoles → console_of session cs ≡ None → t ≡ record t { consoles = changed_console session f t.consoles }
+pub none_changed : (t : State) (session : ℕ) (f : Console → Console) → console_of session t.consoles ≡ None → t ≡ record t { consoles = changed_console session f t.consoles }
 unfolding changed_console
-none_changed {t = t} session f same all none =
-    let nobody = ap (λ (s : State). console_of session s.consoles) (sym same) ∙ ap (console_of session) (sym all) ∙ none in
-    ap (λ cs. record t { consoles = cs }) (sym (changed_none session f t.consoles (none_of session t.consoles nobody)))
+none_changed t session f none = ap (λ cs. record t { consoles = cs }) (sym (changed_none session f t.consoles (none_of session t.consoles none)))
 
 -- ---- keys
 

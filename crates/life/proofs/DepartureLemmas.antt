@@ -15,6 +15,7 @@ use Rattle.posix.proofs.MapLemmas.{at_pid, some_map, lookup_back}
 use Rattle.posix.proofs.RegularLemmas.{lookup_other}
 use Rattle.posix.proofs.MemberLemmas.{each, in_append, others_stay, still_out}
 use Rattle.posix.proofs.TouchLemmas.{Touches, touches_both, touches_shown, touches_lost, touches_adopted}
+use Rattle.pidset.specs.Lists.{ListsView}
 use Rattle.pidset.specs.Numbers.{PidSetView, with_number}
 use Rattle.pidset.proofs.NumberLemmas.{in_with}
 use Rattle.jobs.specs.declared.indexes.IndexedFields.{IndexedFields}
@@ -67,7 +68,7 @@ quiet_zombie s p w mid (Some c) i is e none = absurd (cc)
 
 -- Who departs is on the list; its parent is, or has a place, but where it doesn't wait for this child; and so its heir, but
 -- where none of the children has anything to report.
-listed_departed : {readers : List PidSetView} (s : State) (p heir w : ℕ) (me : Process) (l : PidSetView) → IsRegular s → IsListed s l readers → process s p ≡ Some me → is_in p l.pids ≡ true
+listed_departed : {readers : ListsView} (s : State) (p heir w : ℕ) (me : Process) (l : PidSetView) → IsRegular s → IsListed s l readers → process s p ≡ Some me → is_in p l.pids ≡ true
     → ((up : Process) → me.parent ≢ p → process s me.parent ≡ Some up → awaits up (made_zombie w me) ≡ false) ⊎ IsAsked s me.parent l.pids → AreQuiet p (changed p (made_zombie w) s.processes) ⊎ IsAsked s heir l.pids → IsListed (leave_children_and_die s p heir w) l readers
 unfolding changed adopted
 listed_departed s p heir w me l i h found mine up its =
@@ -111,7 +112,7 @@ listed_departed s p heir w me l i h found mine up its =
     gives = ⊎_elim (λ silent. within left t (p ∷ []) (here, tt) (touches_quiet left p heir silent)) (λ k. within left t (p ∷ heir ∷ []) (here, (k, tt)) (touches_adopted left p heir)) its
 
 -- where they were put on it so
-pub listed_left : {readers : List PidSetView} (s : State) (p heir w parent : ℕ) (me : Process) (before put then after : PidSetView) (awaited told : Bool) → IsRegular s → IsListed s before readers → process s p ≡ Some me → parent ≡ me.parent → IsSome (process s parent) → IsSome (process s heir)
+pub listed_left : {readers : ListsView} (s : State) (p heir w parent : ℕ) (me : Process) (before put then after : PidSetView) (awaited told : Bool) → IsRegular s → IsListed s before readers → process s p ≡ Some me → parent ≡ me.parent → IsSome (process s parent) → IsSome (process s heir)
     → put.pids ≡ with_number p before.pids → put.room ≡ before.room → then ≡ record put { pids = cond awaited (rechecking parent s.order put.pids) put.pids } → after ≡ record then { pids = cond told (rechecking heir s.order then.pids) then.pids }
     → (awaited ≡ false → is_in parent s.order ≡ false → (up : Process) → me.parent ≢ p → process s me.parent ≡ Some up → awaits up (made_zombie w me) ≡ false) → (told ≡ false → AreQuiet p (changed p (made_zombie w) s.processes)) → IsListed (leave_children_and_die s p heir w) after readers
 unfolding with_numbers

@@ -30,6 +30,7 @@ use Rattle.pidalloc.specs.Rows.{Pids, regrouped, is_free_in}
 use Rattle.pidalloc.proofs.TallyLemmas.{AreBorne, are_borne}
 use Rattle.pidalloc.proofs.MoveLemmas.{tallied_regrouped, pids_regrouped, greatest_regrouped, CanRegroup, can_regroup}
 use Rattle.sched.specs.Places.{Places}
+use Rattle.pidset.specs.Lists.{ListsView}
 use Rattle.pidset.specs.Numbers.{PidSetView, with_number}
 use Rattle.proctable.specs.declared.records.Record.{Record}
 use Rattle.proctable.specs.Records.{process_of, give_record, with_record}
@@ -41,7 +42,7 @@ use Rattle.jobs.proofs.NumberLemmas.{absent_changed}
 use Rattle.jobs.proofs.RunLemmas.{run_as, put_as, parent_is}
 use Rattle.jobs.proofs.SnapshotLemmas.{differs, equals, Named, named_there}
 use Rattle.jobs.proofs.KeptLemmas.{record_found, length_record}
-use Rattle.life.specs.Machines.{with_processes, IsKept, IsSound, IsListed, IsNoted, IsMachine, Terminals, MachineView, Costs, Changes, IfThere, IsOther}
+use Rattle.life.specs.Machines.{with_processes, IsKept, IsSound, IsListed, IsNoted, IsMachine, Terminals, MachineView, Costs, Changes, IfThere, IsOther, AreWithin}
 use Rattle.life.specs.Rechecks.{with_numbers, with_parent, rechecking, rechecking_by_signals, rechecking_effect, rechecking_generated, slots_of_signal, awaits, rechecking_told}
 use Rattle.life.specs.declared.consoles.Unchecked.{Unchecked}
 use Rattle.life.specs.declared.consoles.Unchecked.TheVariants.{All}
@@ -50,7 +51,7 @@ use Rattle.life.proofs.ForegroundLemmas.{fresh_all, fresh_still}
 use Rattle.life.specs.Changes.{has_moved, CanMoveNumbers, StaysInSession, StaysRegular, lives}
 use Rattle.pidset.specs.Indexes.{HaveParents}
 use Rattle.pidset.proofs.ParentLemmas.{parents_map}
-use Rattle.life.proofs.SoundLemmas.{found_in, kept_map, kept_ready, some_back, not_many}
+use Rattle.life.proofs.SoundLemmas.{found_in, kept_map, kept_ready, some_back, not_many, within_map}
 use Rattle.life.proofs.RecheckLemmas.{IsBeside, listed_with, listed_signals}
 use Rattle.life.proofs.SignalLemmas.{with_signals, only_noticed_of_change, touches_signals}
 use Rattle.posix.specs.declared.process.Life.{Life}
@@ -82,9 +83,14 @@ sound_changed s pids places p f k regular i = record {
 fresh_on : (u : Unchecked) (s : State) (p : ℕ) (f : Process → Process) → KeepsNumbers f → AreFreshBut u s.processes s.consoles → AreFreshBut u (changed p f s.processes) s.consoles
 fresh_on u s p f k fresh = fresh_still _ s.processes _ s.consoles (λ ds h. fresh_changed p f k.group k.session s.processes ds h) fresh
 
+-- and their numbers are below the same one
+within_on : {n : ℕ} (p : ℕ) (f : Process → Process) (rs : List Process) → KeepsNumbers f → AreWithin n rs → AreWithin n (changed p f rs)
+unfolding changed
+within_on p f rs k h = within_map (at p f) rs (at_pid p f k.pid) (at_keeps (λ r. r.session) p f k.session) h
+
 pub machine_changed : {groups_at_risk : PidSetView} {terminals : Terminals} (s : State) (pids : Pids) (places : Places) (to_recheck after : PidSetView) (p : ℕ) (f : Process → Process) → KeepsNumbers f
     → IsRegular (change s p f) → IsMachine s pids places to_recheck groups_at_risk terminals → after.room ≡ to_recheck.room → IsListed (change s p f) after terminals.readers → IsMachine (change s p f) pids places after groups_at_risk terminals
-machine_changed {groups_at_risk = groups_at_risk} s pids places to_recheck after p f k regular i room listed = record { sound = sound_changed s pids places p f k regular i.sound; listed = listed; noted = subst (λ n. IsNoted n groups_at_risk) (sym room) i.noted; fresh = fresh_on _ s p f k i.fresh }
+machine_changed {groups_at_risk = groups_at_risk} s pids places to_recheck after p f k regular i room listed = record { sound = sound_changed s pids places p f k regular i.sound; listed = listed; noted = subst (λ n. IsNoted n groups_at_risk) (sym room) i.noted; fresh = fresh_on _ s p f k i.fresh; indexed = i.indexed; within = within_on p f _ k i.within }
 
 -- a record with other signals, and another alarm
 signals_are : (rs : List Process) → IsRising rs → (p : ℕ) (b c : Record) → lookup p rs ≡ Some (process_of p (parent_of p rs) b) → c ≡ record b { alarm = c.alarm; own = record (b.own) { signals = c.own.signals } } → with_record rs p c ≡ changed p (with_signals c.own.signals c.alarm) rs
@@ -142,7 +148,7 @@ numbers_kept m p b c rs pids now places up found is k = by (has_moved (record_se
     by false e still = subst (λ x. IsKept m (with_record rs p c) x places) (sym still) (kept_ready m (with_record rs p c) pids now.ready places (rw (numbers_as rs up p b c found e) (kept_map (at p (keep_numbers c)) (at_pid p (keep_numbers c) (λ r. refl)) (at_keeps (λ r. r.group) p (keep_numbers c) (λ r. refl)) (at_keeps (λ r. r.session) p (keep_numbers c) (λ r. refl)) m rs pids places places (omega arith) k)))
 
 -- those who are rechecked: the process, and its parent if it has one that is there
-pub listed_changed : {readers : List PidSetView} (s t : State) (p parent : ℕ) (before after : PidSetView) (touched : List ℕ) → IsListed s before readers → Touches s t touched → IsBeside s t touched → t.order ≡ s.order → length t.processes ≡ length s.processes → ((q : ℕ) → IsSome (process s q) → IsSome (process t q))
+pub listed_changed : {readers : ListsView} (s t : State) (p parent : ℕ) (before after : PidSetView) (touched : List ℕ) → IsListed s before readers → Touches s t touched → IsBeside s t touched → t.order ≡ s.order → length t.processes ≡ length s.processes → ((q : ℕ) → IsSome (process s q) → IsSome (process t q))
     → IsSome (process t p) → (parent ≢ 0 → IsSome (process t parent)) → process t 0 ≡ None → ((q : ℕ) → is_in q touched ≡ true → (q ≡ p) ⊎ (q ≡ parent))
     → after.pids ≡ with_parent parent t.order (with_number p before.pids) → after.room ≡ before.room → IsListed t after readers
 unfolding with_numbers is_in
@@ -178,13 +184,31 @@ pub there_record : (rs : List Process) (p : ℕ) (c : Record) (q : ℕ) → IsSo
 unfolding give_record
 there_record rs p c q there = some_changed p q (give_record c) (λ r. refl) rs there
 
+-- it is in its session, or in one that it leads
+within_shown : {n : ℕ} (p : ℕ) (b c : Record) (rs : List Process) → lookup p rs ≡ Some (process_of p (parent_of p rs) b) → (c.session ≡ b.session) ⊎ (c.session ≡ p) → AreWithin n rs → AreWithin n (with_record rs p c)
+unfolding give_record changed
+within_shown {n = n} p b c rs found session h q r e =
+    let was = lookup_back (at p (give_record c)) (at_pid p (give_record c) (λ r. refl)) q rs r e in
+    let low = h q was.what was.found in
+    let mine = h p _ found in (
+      low.0,
+      elim (was.what.pid == p) as (λ t. (was.what.pid == p) ≡ t → r.session < n) [
+        | true ↦ λ t.
+            let now : r.session ≡ c.session = ap (λ (x : Process). x.session) was.is ∙ ap (λ b. (cond b (give_record c was.what) was.what).session) t in
+            ⊎_elim (λ same. let low : b.session < n = mine.1 in omega (arith, now, same, low)) (λ own. let low = mine.0 in omega (arith, now, own, low)) session
+        | false ↦ λ t.
+            let now : r.session ≡ was.what.session = ap (λ (x : Process). x.session) was.is ∙ ap (λ b. (cond b (give_record c was.what) was.what).session) t in
+            omega (arith, now, low.1)
+      ] refl,
+    )
+
 pub machine_shown : {groups_at_risk : PidSetView} {terminals : Terminals} (s : State) (pids now : Pids) (places : Places) (to_recheck after : PidSetView) (p parent : ℕ) (b c : Record) (ts : List Process) (foregrounds_unchecked : Unchecked)
-    → lookup p s.processes ≡ Some (process_of p (parent_of p s.processes) b) → ts ≡ with_record s.processes p c → IsRegular (record s { processes = with_record s.processes p c }) → parent ≡ parent_of p s.processes
+    → lookup p s.processes ≡ Some (process_of p (parent_of p s.processes) b) → ts ≡ with_record s.processes p c → IsRegular (record s { processes = with_record s.processes p c }) → (c.session ≡ b.session) ⊎ (c.session ≡ p) → parent ≡ parent_of p s.processes
     → now ≡ record (cond (has_moved (record_seen b) (record_seen c)) (regrouped pids b.group b.session c.group c.session) pids) { ready = now.ready } → foregrounds_unchecked ≡ cond (has_moved (record_seen b) (record_seen c)) All terminals.foregrounds_unchecked → s.last_pid ≡ now.last
     → IsMachine s pids places to_recheck groups_at_risk terminals → after.pids ≡ with_parent parent s.order (with_number p to_recheck.pids) → after.room ≡ to_recheck.room
-    → IsMachine (record s { processes = ts; last_pid = now.last }) now places after groups_at_risk (record { readers = terminals.readers; foregrounds_unchecked = foregrounds_unchecked })
+    → IsMachine (record s { processes = ts; last_pid = now.last }) now places after groups_at_risk (record terminals { foregrounds_unchecked = foregrounds_unchecked })
 unfolding give_record
-machine_shown {groups_at_risk = groups_at_risk} {terminals = terminals} s pids now places to_recheck after p parent b c ts foregrounds_unchecked found is regular its moved mark given i put room =
+machine_shown {groups_at_risk = groups_at_risk} {terminals = terminals} s pids now places to_recheck after p parent b c ts foregrounds_unchecked found is regular session its moved mark given i put room =
     let rs = s.processes in
     let f = give_record c in
     let up = i.sound.regular.rising in
@@ -206,6 +230,8 @@ machine_shown {groups_at_risk = groups_at_risk} {terminals = terminals} s pids n
         | true ↦ λ e. fresh_all s.consoles
         | false ↦ λ e. fresh_still _ rs _ s.consoles (λ ds h. rw (numbers_as rs up p b c found e) (fresh_changed p (keep_numbers c) (λ r. refl) (λ r. refl) rs ds h)) i.fresh
       ] refl);
+      indexed = i.indexed;
+      within = within_shown p b c rs found session i.within;
     }))
 
 -- ---- a child that was stopped or continued
@@ -224,7 +250,7 @@ unfolding awaits noticed_of_change signalled
 awaits_noticed signal parent child = cond_both (ignores_stops parent.signals) parent (signalled signal parent) (λ q. awaits q child ≡ awaits parent child) (λ e. refl) (λ e. refl)
 
 -- who is rechecked then: the child, and its parent where that waits for the child, or takes a signal
-listed_told : {readers : List PidSetView} (s : State) (pids : Pids) (places : Places) → IsSound s pids places → (p w : ℕ) (l : Life) (n : News) (me : Process) → process s p ≡ Some me → (before after : PidSetView) → IsListed s before readers
+listed_told : {readers : ListsView} (s : State) (pids : Pids) (places : Places) → IsSound s pids places → (p w : ℕ) (l : Life) (n : News) (me : Process) → process s p ≡ Some me → (before after : PidSetView) → IsListed s before readers
     → let t = record s { processes = told_of_change w me (changed p (lives l n) s.processes) } in after.pids ≡ rechecking_told (lives l n me) (process t me.parent) s.order before.pids → after.room ≡ before.room → IsListed t after readers
 unfolding told_of_change with_numbers changed
 listed_told {readers = readers} s pids places i p w l n me found before after h put room = by (process t q) refl put
@@ -418,6 +444,8 @@ machine_told {groups_at_risk = groups_at_risk} {terminals = terminals} {s = s} {
       listed = listed_told s pids places i.sound p w l n me k.found before after i.listed put room;
       noted = subst (λ n. IsNoted n groups_at_risk) (sym room) i.noted;
       fresh = fresh_on _ (change s p f) me.parent g (keeps_notice signal) (fresh_on _ s p f (keeps_lives l n) i.fresh);
+      indexed = i.indexed;
+      within = within_on me.parent g _ (keeps_notice signal) (within_on p f _ (keeps_lives l n) i.within);
     })
 
 pub told_changes : {was old new : MachineView} {p parent w : ℕ} {l : Life} {n : News} {me : Process} {mid ts : List Process} {after : List ℕ} → was ≡ old → HasLived was.state p parent l n me mid → IsTold was.state p w (lives l n) me ts was.to_recheck after → new.state ≡ with_processes was.state ts → new.to_recheck ≡ after

@@ -1,7 +1,7 @@
 pub mod SoundLemmas
-pub mod PlaceLemmas
 pub mod RoomLemmas
 pub mod ReaderLemmas
+pub mod TerminalLemmas
 pub mod ReadingLemmas
 pub mod FunnelLemmas
 pub mod RingLemmas

@@ -15,13 +15,12 @@ use Rattle.pidalloc.specs.Rows.{Pids, gone_from}
 use Rattle.pidalloc.specs.Tallies.{IsTallied}
 use Rattle.pidalloc.proofs.TallyLemmas.{can_give_up, tallied_gone, tallied_ready}
 use Rattle.sched.specs.Places.{Places}
-use Rattle.life.specs.Machines.{IsSound, IsMachine, Terminals, CanGo, IsGone, IsOther}
+use Rattle.life.specs.Machines.{AreWithin, IsSound, IsMachine, Terminals, CanGo, IsGone, IsOther}
 use Rattle.life.proofs.RecheckLemmas.{listed_same}
 use Rattle.pidset.specs.Numbers.{PidSetView}
 use Rattle.posix.proofs.MemberLemmas.{in_none}
 use Rattle.posix.proofs.TouchLemmas.{touches_none}
-use Rattle.proctable.proofs.LinkLemmas.{no_child}
-use Rattle.pidset.proofs.ParentLemmas.{parents_removed}
+use Rattle.pidset.proofs.ParentLemmas.{no_child, parents_removed}
 
 -- a zombie other than process 1 can go
 pub can_go : (s : State) (p : Pids) (places : Places) (c : ℕ) (r : Process) → IsSound s p places → lookup c s.processes ≡ Some r → is_zombie r.life ≡ true → c ≢ 1 → CanGo s.processes p c
@@ -46,6 +45,10 @@ sound_gone s p q a c last dropped r i found dead other g most =
     let tallied = subst (λ x. IsTallied x (removed c s.processes)) (sym g.rows) (tallied_ready (gone_from p c r.group r.session) (removed c s.processes) q.ready (tallied_gone p c r s.processes i.kept.table.size i.regular.rising i.kept.tallied found)) in
     let room : (k : ℕ) → IsSome (lookup k (removed c s.processes)) → k < a.room = λ k here. elim (cases_eq k c) [ inl mine ↦ let no = subst IsSome (ap (λ n. lookup n (removed c s.processes)) mine ∙ lookup_removed c s.processes) here in absurd (cc) | inr other ↦ i.kept.room k (subst IsSome (lookup_kept c k s.processes other) here) ] in
     record { regular = regular; parents = parents; counted = omega (arith, i.counted, many, most); kept = record { greatest = g.greatest ∙ i.kept.greatest; table = g.table; tallied = tallied; room = room } }
+
+-- numbers are below the same one where one has gone
+pub within_removed : {n : ℕ} (c : ℕ) (rs : List Process) → AreWithin n rs → AreWithin n (removed c rs)
+within_removed c rs h q r e = elim (cases_eq q c) [ inl mine ↦ let no = sym (ap (λ n. lookup n (removed c rs)) mine ∙ lookup_removed c rs) ∙ e in absurd (cc) | inr other ↦ h q r (sym (lookup_kept c q rs other) ∙ e) ]
 
 -- it stays a machine where only the count of those dropped changes, and whether it has halted
 pub machine_counted : {groups_at_risk : PidSetView} {terminals : Terminals} (s : State) (pids : Pids) (places : Places) (to_recheck : PidSetView) (dropped : ℕ) (halted : Bool) → dropped + length s.processes ≤ s.births

@@ -318,7 +318,3 @@ standard_goes qs other e = ap (λ l. queued_for true l other) (sym e)
 -- a count that lets more
 pub sends_more : {n : ℕ} (m : ℕ) (me : Process) (target : Target) (k : Option PendingSignal) (old new : MachineView) (answer : Sending) → Sends answer me target k n old new → Sends answer me target k (n + m) old new
 sends_more m me target k old new answer did = record { state = did.state; to_recheck = did.to_recheck; foregrounds_unchecked = did.foregrounds_unchecked; costs = record { visits = omega (arith, did.costs.visits); no_fewer = did.costs.no_fewer; groups_at_risk = did.costs.groups_at_risk; regular = did.costs.regular } }
-
--- one that is sent with this number
-pub standard_sent : (k m : PendingSignal) → is_realtime k.sig ≡ false → Some k ≡ Some m → is_realtime m.sig ≡ false
-standard_sent k m standard e = ap (λ (x : PendingSignal). is_realtime x.sig) (sym (same_Some k m e)) ∙ standard

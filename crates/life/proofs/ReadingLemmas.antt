@@ -18,9 +18,11 @@ use Rattle.posix.specs.Settle.{NoWakeIsLost}
 use Rattle.posix.proofs.MemberLemmas.{in_first, is_other}
 use Rattle.posix.proofs.OrderLemmas.{without_absent, one_less_at_most}
 use Rattle.posix.proofs.ConsoleLemmas.{console_is}
-use Rattle.pidset.specs.Numbers.{PidSetView, Rises}
+use Rattle.pidset.specs.Indexes.{is_pair_in}
+use Rattle.pidset.specs.Lists.{ListsView}
+use Rattle.pidset.specs.Numbers.{Rises}
 use Rattle.pidset.proofs.NumberLemmas.{not_in_above, rises_without}
-use Rattle.life.specs.Machines.{IsWatched, readers_at}
+use Rattle.life.specs.Machines.{IsWatched}
 use Rattle.life.proofs.ConsoleLemmas.{reader_is, reads_on}
 
 -- ---- members of a process group
@@ -63,28 +65,28 @@ in_foreground : (me : Process) (c : Console) (span : Result Span Errno) → wait
 in_foreground me c (Err why) w = absurd (cc)
 in_foreground me c (Ok span) w = not-false _ (not-true _ (and_parts (not (not (me.group == c.foreground))) (not (span.count == 0) && (not c.hung_up && length c.lines == 0)) w).0)
 
--- Where each process that can act has a place, who is known by a console and needn't be rechecked is a member of the
--- console's foreground process group: a read in the background doesn't block.
-reader_member : {readers : List PidSetView} (s : State) (to_recheck : List ℕ) (k p : ℕ) (c : Console) → IsRegular s → IsWatched s to_recheck readers → NoWakeIsLost s → slice_get s.consoles k ≡ Some c
-    → is_in p (readers_at k readers) ≡ true → is_in p to_recheck ≡ false → IsMember c.foreground s.processes p
+-- Where each process that can act has a place, who is known to read from a session's terminal and needn't be rechecked is
+-- a member of its foreground process group: a read in the background doesn't block.
+reader_member : {readers : ListsView} (s : State) (to_recheck : List ℕ) (k p : ℕ) (c : Console) → IsRegular s → IsWatched s to_recheck readers → NoWakeIsLost s → slice_get s.consoles k ≡ Some c
+    → is_pair_in c.session p readers.pairs ≡ true → is_in p to_recheck ≡ false → IsMember c.foreground s.processes p
 unfolding waits_to_read
 reader_member s to_recheck k p c i h awake at on off =
-    let w = h.waits k p on off in
-    let it = reader_is w.console.session w.reader w.reads in
+    let w = h.waits c.session p on off in
+    let it = reader_is c.session w.reader w.reads in
     let some = (i.bounded p w.reader w.found).session_least in
-    let own = console_is s.world.consoles s.consoles k w.reader.session w.console i.consoles w.at (sym it.own) (λ none. omega (arith, none, some)) in
+    let own = console_is s.world.consoles s.consoles k w.reader.session c i.consoles at (sym it.own) (λ none. omega (arith, none, some)) in
     let waits : waits_to_read s.consoles w.reader ≡ true = true_from_ne_false _ (λ e. both_ways _ w.out (awake p w.reader w.found (reads_on s w.reader it.runs it.visits e))) in
-    let here = in_foreground w.reader w.console (span_in (argument w.reader 1) (argument w.reader 2)) (ap (waits_on w.reader) (sym own) ∙ waits) in
-    record { what = w.reader; found = w.found; member = ap (λ (c : Console). w.reader.group == c.foreground) (same_Some _ _ (sym at ∙ w.at)) ∙ here }
+    let here = in_foreground w.reader c (span_in (argument w.reader 1) (argument w.reader 2)) (ap (waits_on w.reader) (sym own) ∙ waits) in
+    record { what = w.reader; found = w.found; member = here }
 
--- so where nobody was to be rechecked, and then those are who are known by a console
-pub readers_wait : {readers : List PidSetView} (s : State) (before ns : List ℕ) (k : ℕ) (c : Console) → IsRegular s → IsWatched s before readers → NoWakeIsLost s → before ≡ [] → slice_get s.consoles k ≡ Some c
-    → Rises ns → ((p : ℕ) → is_in p ns ≡ true → (is_in p before || is_in p (readers_at k readers)) ≡ true) → WaitForNoChild s.processes ns × (length ns ≤ length (members_in c.foreground s.processes))
+-- so where nobody was to be rechecked, and then those are who are known to read from it
+pub readers_wait : {readers : ListsView} (s : State) (before ns : List ℕ) (k : ℕ) (c : Console) → IsRegular s → IsWatched s before readers → NoWakeIsLost s → before ≡ [] → slice_get s.consoles k ≡ Some c
+    → Rises ns → ((p : ℕ) → is_in p ns ≡ true → (is_in p before || is_pair_in c.session p readers.pairs) ≡ true) → WaitForNoChild s.processes ns × (length ns ≤ length (members_in c.foreground s.processes))
 unfolding is_in
 readers_wait {readers = readers} s before ns k c i h awake none at up those = (
   λ p e.
-      let w = h.waits k p (known p e) (off p) in
-      let it = reader_is w.console.session w.reader w.reads in
+      let w = h.waits c.session p (known p e) (off p) in
+      let it = reader_is c.session w.reader w.reads in
       (w.reader, w.found, reading w.reader.blocked it.visits),
   few_members c.foreground s.processes ns up (λ p e. reader_member s before k p c i h awake at (known p e) (off p)),
 )
@@ -92,8 +94,8 @@ readers_wait {readers = readers} s before ns k c i h awake none at up those = (
     off : (p : ℕ) → is_in p before ≡ false
     off p = ap (is_in p) none
 
-    known : (p : ℕ) → is_in p ns ≡ true → is_in p (readers_at k readers) ≡ true
-    known p e = sym (ap (λ b. b || is_in p (readers_at k readers)) (off p)) ∙ those p e
+    known : (p : ℕ) → is_in p ns ≡ true → is_pair_in c.session p readers.pairs ≡ true
+    known p e = sym (ap (λ b. b || is_pair_in c.session p readers.pairs) (off p)) ∙ those p e
 
     reading : (b : Option Blocked) → is_in_read b ≡ true → is_in_wait b ≡ false
     reading None e = absurd (cc)

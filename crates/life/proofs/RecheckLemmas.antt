@@ -1,15 +1,15 @@
 -- The list of those who are to be rechecked.
-use Rattle.std.proofs.Common.{◌≡◌, ◌≢◌, ℕ, ◌+◌, ◌<◌, ◌≤◌, true, false, cond, not, ◌||◌, ◌&&◌, refl, ap, sym, ◌∙◌, arith, subst, List, [], ◌∷◌, ◌++◌, length, Option, Some, None, ◌==◌, slice_get, ◌⊎◌, ⊎_elim, inl, inr, Bool, map, option_map, zero, suc, rules}
+use Rattle.std.proofs.Common.{◌≡◌, ◌≢◌, ℕ, ◌+◌, ◌<◌, ◌≤◌, true, false, cond, not, ◌||◌, ◌&&◌, refl, ap, sym, ◌∙◌, arith, subst, List, [], ◌∷◌, ◌++◌, length, Option, Some, None, ◌==◌, slice_get, ◌⊎◌, ⊎_elim, inl, inr, Bool, map, rules}
 use Rattle.std.specs.List.{AllByRecursion}
-use Rattle.std.specs.Option.{IfSome, IsSome, option_map_or}
+use Rattle.std.specs.Option.{IfSome, IsSome}
 use Rattle.std.proofs.lemmas.Bool.{eqb-true, eq-eqb, and_parts, or_left, or_right, or_cases, both_ways, false_from_ne_true}
-use Rattle.std.proofs.lemmas.Option.{IfSome_then, same_Some, slice_get-map, slice_get_past}
+use Rattle.std.proofs.lemmas.Option.{IfSome_then, same_Some}
 use Rattle.std.proofs.lemmas.List.{length-map}
 use Rattle.posix.specs.Processes.{Process, Signals, first_process}
 use Rattle.posix.specs.Tables.{IsNext, lookup, at, changed, inserted, removed, pids}
 use Rattle.posix.specs.States.{World, State, boot, process, is_in, change, lose_place, without}
 use Rattle.posix.specs.Regular.{IsRegular}
-use Rattle.posix.specs.Settle.{Covers, can_act, wakes, is_fresh, refreshed, clear_foregrounds}
+use Rattle.posix.specs.Settle.{Covers, can_act, wakes, refreshed, clear_foregrounds}
 use Rattle.posix.proofs.TableLemmas.{pid_looked, length_inserted, length_removed}
 use Rattle.posix.proofs.MapLemmas.{at_pid, some_map}
 use Rattle.posix.proofs.RegularLemmas.{lookup_new, some_inserted, lookup_kept, lookup_removed}
@@ -18,17 +18,18 @@ use Rattle.posix.proofs.MemberLemmas.{each, in_append, in_none, in_one, is_other
 use Rattle.posix.proofs.OrderLemmas.{without_absent}
 use Rattle.posix.proofs.UnseenLemmas.{covers_none}
 use Rattle.posix.proofs.WakeLemmas.{first_has_place}
+use Rattle.pidset.specs.Indexes.{is_pair_in}
+use Rattle.pidset.specs.Lists.{ListsView}
 use Rattle.pidset.specs.Numbers.{PidSetView, Rises, with_number, numbers_above}
 use Rattle.pidset.proofs.NumberLemmas.{IsLeastAbove, all_in, in_with, rises_with, rises_without, next_is, next_some}
 use Rattle.pidset.proofs.IndexLemmas.{shorter, rises_pids, in_pids}
 use Rattle.posix.specs.Terminals.{is_reader}
-use Rattle.posix.specs.Consoles.{Console, with_foreground}
+use Rattle.posix.specs.Consoles.{Console}
 use Rattle.posix.proofs.ReaderLemmas.{touches_cleared}
-use Rattle.life.specs.Machines.{IsListed, IsWatched, IsReaders, HasRoomFor, IsRoomier, AreRoomier, readers_at, IsWaiting, AreUnread}
+use Rattle.life.specs.Machines.{IsListed, IsWatched, IsWaiting}
 use Rattle.life.specs.Rechecks.{with_numbers, rechecking, rechecking_by_signals, without_gone}
 use Rattle.life.proofs.SignalLemmas.{with_signals, unseen_signals, touches_signals}
 use Rattle.jobs.specs.IndexedTables.{takes_signal}
-use Rattle.life.proofs.PlaceLemmas.{at_place, all_places, none_at}
 use Rattle.life.proofs.SoundLemmas.{there}
 use Rattle.pidset.proofs.WalkLemmas.{above_rest, all_above}
 
@@ -70,29 +71,26 @@ pub none_asked : (s t : State) (to_recheck : List ℕ) → AreAsked s t [] to_re
 none_asked s t to_recheck q here e = absurd (in_none q e)
 
 -- just those who wait to read stay known where those are asked who are touched
-pub watched_on : {readers : List PidSetView} (s t : State) (before after touched : List ℕ) → IsWatched s before readers → Touches s t touched → IsBeside s t touched
+pub watched_on : {readers : ListsView} (s t : State) (before after touched : List ℕ) → IsWatched s before readers → Touches s t touched → IsBeside s t touched
     → AreAsked s t touched after
     → ((q : ℕ) → IsSome (process t q) → is_in q before ≡ true → is_in q after ≡ true)
     → ((q : ℕ) → is_in q before ≡ true → IsSome (process s q))
-    → ((k q : ℕ) → is_in q (readers_at k readers) ≡ true → IsSome (process s q) → IsSome (process t q)) → IsWatched t after readers
-watched_on {readers = readers} s t before after touched h touches same gets keeps theirs stay = record {
-  known = λ k p c r at found visits out unasked.
+    → ((session q : ℕ) → is_pair_in session q readers.pairs ≡ true → IsSome (process s q) → IsSome (process t q)) → IsWatched t after readers
+watched_on s t before after touched h touches same gets keeps theirs stay = record {
+  known = λ session p r found visits out unasked.
       let u = others p r found unasked (λ was now. both_ways _ out now) in
-      h.known k p c u.old (ap (λ cs. slice_get cs k) (sym same.1) ∙ at) u.found (sym (reads_still c.session u.old r u.blocked u.session u.life) ∙ visits) (u.placed out) (unasked_before p (rw found refl) unasked);
-  waits = λ k p on unasked. elim (is_in p before) as (λ b. is_in p before ≡ b → IsWaiting t k p) [
-    | true ↦ λ e. absurd (both_ways _ (unasked_before p (stay k p on (theirs p e)) unasked) e)
+      h.known session p u.old u.found (sym (reads_still session u.old r u.blocked u.session u.life) ∙ visits) (u.placed out) (unasked_before p (rw found refl) unasked);
+  waits = λ session p on unasked. elim (is_in p before) as (λ b. is_in p before ≡ b → IsWaiting t session p) [
+    | true ↦ λ e. absurd (both_ways _ (unasked_before p (stay session p on (theirs p e)) unasked) e)
     | false ↦ λ e.
-        let w = h.waits k p on e in
-        let r = there (process t p) (stay k p on (rw w.found refl)) in
+        let w = h.waits session p on e in
+        let r = there (process t p) (stay session p on (rw w.found refl)) in
         let u = others p r.what r.found unasked (λ was now. both_ways _ w.out was) in
-        let was = ap (is_reader w.console.session) (same_Some _ _ (sym u.found ∙ w.found)) in
-        let at = ap (λ cs. slice_get cs k) same.1 ∙ w.at in
-        let reads = reads_still w.console.session u.old r.what u.blocked u.session u.life ∙ was ∙ w.reads in
+        let was = ap (is_reader session) (same_Some _ _ (sym u.found ∙ w.found)) in
+        let reads = reads_still session u.old r.what u.blocked u.session u.life ∙ was ∙ w.reads in
         let out = same.2 p (untouched p (rw r.found refl) unasked (λ was now. both_ways _ w.out was)) w.out in
         search (rules, arith)
   ] refl;
-  each = subst (λ (w : World). AllByRecursion (IsReaders w.pidmax) readers) (sym same.0) h.each;
-  many = h.many ∙ ap (λ (w : World). w.consoles) (sym same.0);
 }
   where
     untouched : (p : ℕ) → IsSome (process t p) → is_in p after ≡ false → (is_in p s.order ≡ true → is_in p t.order ≡ true → ⊥) → is_in p touched ≡ false
@@ -104,21 +102,19 @@ watched_on {readers = readers} s t before after touched h touches same gets keep
     unasked_before : (p : ℕ) → IsSome (process t p) → is_in p after ≡ false → is_in p before ≡ false
     unasked_before p here unasked = false_from_ne_true _ (λ e. both_ways _ unasked (keeps p here e))
 
--- so in sets with more room
-pub watched_roomier : {readers sets : List PidSetView} (s : State) (to_recheck : List ℕ) → AreRoomier readers sets → IsWatched s to_recheck readers → IsWatched s to_recheck sets
-watched_roomier {readers = readers} {sets = sets} s to_recheck same w = record {
-  known = λ k p c r at found visits out unasked. ap (is_in p) (alike k) ∙ w.known k p c r at found visits out unasked;
-  waits = λ k p on unasked. w.waits k p (sym (ap (is_in p) (alike k)) ∙ on) unasked;
-  each = all_places (IsReaders s.world.pidmax) sets (λ k set at. let was = subst (λ o. IfSome o (λ (set : PidSetView). (was : PidSetView) × (slice_get readers k ≡ Some was) × IsRoomier was set)) at (same.sets k) in let old = at_place (IsReaders s.world.pidmax) readers k was.0 w.each was.1 in record { rising = subst Rises (sym was.2.pids) old.rising; within = λ p e. old.within p (sym (ap (is_in p) was.2.pids) ∙ e) });
-  many = same.many ∙ w.many;
+-- so where there is memory for more
+pub watched_roomier : {readers sets : ListsView} (s : State) (to_recheck : List ℕ) → sets.pairs ≡ readers.pairs → IsWatched s to_recheck readers → IsWatched s to_recheck sets
+watched_roomier s to_recheck same w = record {
+  known = λ session p r found visits out unasked. ap (is_pair_in session p) same ∙ w.known session p r found visits out unasked;
+  waits = λ session p on unasked. w.waits session p (sym (ap (is_pair_in session p) same) ∙ on) unasked;
 }
-  where
-    alike : (k : ℕ) → readers_at k sets ≡ readers_at k readers
-    alike k = by (slice_get sets k) refl (same.sets k)
-      where
-        by : (o : Option PidSetView) → slice_get sets k ≡ o → IfSome o (λ (set : PidSetView). (was : PidSetView) × (slice_get readers k ≡ Some was) × IsRoomier was set) → option_map_or (λ (x : PidSetView). x.pids) (slice_get sets k) [] ≡ readers_at k readers
-        by None at w = rw (at, slice_get_past readers k (let l = none_at sets k at in omega (arith, l, same.many))) refl
-        by (Some set) at w = rw (at, w.1) w.2.pids
+
+-- and whatever the consoles are
+pub watched_alike : {readers : ListsView} (s : State) (cs : List Console) (to_recheck : List ℕ) → IsWatched s to_recheck readers → IsWatched (record s { consoles = cs }) to_recheck readers
+watched_alike s cs to_recheck w = record {
+  known = w.known;
+  waits = λ session p on unasked. let it = w.waits session p on unasked in record { reader = it.reader; found = it.found; reads = it.reads; out = it.out };
+}
 
 -- ---- there is room for whoever is there
 
@@ -127,39 +123,37 @@ room_for s ns room i up theirs enough =
     let most = shorter ns (pids s.processes) up (rises_pids s.processes i.rising) (λ q e. let r = there (process s q) (theirs q e) in in_pids q s.processes r.what r.found) in
     omega (arith, most, length-map s.processes (λ (r : Process). r.pid), enough)
 
-pub has_room : {readers : List PidSetView} (s : State) (l : PidSetView) → IsRegular s → IsListed s l readers → length l.pids < l.room
+pub has_room : {readers : ListsView} (s : State) (l : PidSetView) → IsRegular s → IsListed s l readers → length l.pids < l.room
 has_room s l i h = room_for s l.pids l.room i h.rising h.there h.room
 
 -- a list with more of those who are there is one too
-pub listed_more : {readers : List PidSetView} (s : State) (l m : PidSetView) (ps : List ℕ) → IsListed s l readers → AllByRecursion (λ q. IsSome (process s q)) ps → m.pids ≡ with_numbers ps l.pids → m.room ≡ l.room → IsListed s m readers
+pub listed_more : {readers : ListsView} (s : State) (l m : PidSetView) (ps : List ℕ) → IsListed s l readers → AllByRecursion (λ q. IsSome (process s q)) ps → m.pids ≡ with_numbers ps l.pids → m.room ≡ l.room → IsListed s m readers
 listed_more {readers = readers} s l m ps h theirs is same = record {
   covers = λ q r e w. ap (is_in q) is ∙ in_numbers q ps l.pids ∙ or_right _ _ (h.covers q r e w);
   rising = subst Rises (sym is) (rises_numbers ps l.pids h.rising);
   there = λ q e. ⊎_elim (each (λ q. IsSome (process s q)) ps theirs q) (h.there q) (or_cases _ _ (sym (ap (is_in q) is ∙ in_numbers q ps l.pids) ∙ e));
   room = let room = h.room in omega (arith, room, same);
-  ready = subst (λ n. AllByRecursion (HasRoomFor n) readers) (sym same) h.ready;
   watched = watched_on s s l.pids m.pids [] h.watched (touches_none s s refl refl refl) (refl, refl, λ q u e. e) (none_asked s s m.pids) (λ q t e. ap (is_in q) is ∙ in_numbers q ps l.pids ∙ or_right _ _ e) h.there (λ k q on e. e);
 }
 
 -- it stays one where there is more room
-pub listed_roomier : {readers sets : List PidSetView} (s : State) (l m : PidSetView) → IsListed s l readers → m.pids ≡ l.pids → l.room ≤ m.room → AreRoomier readers sets → AllByRecursion (HasRoomFor m.room) sets → IsListed s m sets
-listed_roomier {readers = readers} {sets = sets} s l m h is more same ready = record {
+pub listed_roomier : {readers sets : ListsView} (s : State) (l m : PidSetView) → IsListed s l readers → m.pids ≡ l.pids → l.room ≤ m.room → sets.pairs ≡ readers.pairs → IsListed s m sets
+listed_roomier {sets = sets} s l m h is more same = record {
   covers = subst (Covers s) (sym is) h.covers;
   rising = subst Rises (sym is) h.rising;
   there = λ q e. h.there q (sym (ap (is_in q) is) ∙ e);
   room = omega (arith, h.room, more);
-  ready = ready;
   watched = subst (λ ns. IsWatched s ns sets) (sym is) (watched_roomier s l.pids same h.watched);
 }
 
 -- so where one more is rechecked if it can act
-pub listed_where : {readers : List PidSetView} (s : State) (l m : PidSetView) (p : ℕ) (acts : Bool) → IsListed s l readers → IsSome (process s p) → m.pids ≡ cond acts (rechecking p s.order l.pids) l.pids → m.room ≡ l.room → IsListed s m readers
+pub listed_where : {readers : ListsView} (s : State) (l m : PidSetView) (p : ℕ) (acts : Bool) → IsListed s l readers → IsSome (process s p) → m.pids ≡ cond acts (rechecking p s.order l.pids) l.pids → m.room ≡ l.room → IsListed s m readers
 unfolding with_numbers
 listed_where {readers = readers} s l m p true h there is same = elim (is_in p s.order) as (λ b. m.pids ≡ cond b l.pids (with_number p l.pids) → IsListed s m readers) [ true ↦ λ e. listed_more s l m [] h tt e same | false ↦ λ e. listed_more s l m (p ∷ []) h (there, tt) e same ] is
 listed_where s l m p false h there is same = listed_more s l m [] h tt is same
 
 -- so there is room for one more behind these
-pub room_after : {readers : List PidSetView} (s : State) (l m : PidSetView) (ps : List ℕ) → IsRegular s → IsListed s l readers → AllByRecursion (λ q. IsSome (process s q)) ps → m.pids ≡ with_numbers ps l.pids → m.room ≡ l.room → length m.pids < m.room
+pub room_after : {readers : ListsView} (s : State) (l m : PidSetView) (ps : List ℕ) → IsRegular s → IsListed s l readers → AllByRecursion (λ q. IsSome (process s q)) ps → m.pids ≡ with_numbers ps l.pids → m.room ≡ l.room → length m.pids < m.room
 room_after s l m ps i h theirs is same = has_room s m i (listed_more s l m ps h theirs is same)
 
 -- ---- the list after a change of the state
@@ -171,17 +165,16 @@ awake_out s p r found w placed =
     let none : false ≡ true = sym (ap (λ b. not b && can_act s r) has) ∙ w in
     absurd (cc)
 
-pub listed_on : {readers : List PidSetView} (s t : State) (before after : PidSetView) (touched : List ℕ) → IsListed s before readers → Touches s t touched → IsBeside s t touched → Rises after.pids → after.room ≡ before.room → length t.processes < before.room
+pub listed_on : {readers : ListsView} (s t : State) (before after : PidSetView) (touched : List ℕ) → IsListed s before readers → Touches s t touched → IsBeside s t touched → Rises after.pids → after.room ≡ before.room → length t.processes < before.room
     → ((q : ℕ) → is_in q after.pids ≡ true → IsSome (process t q))
     → AreAsked s t touched after.pids
     → ((q : ℕ) → IsSome (process t q) → is_in q before.pids ≡ true → is_in q after.pids ≡ true)
-    → ((k q : ℕ) → is_in q (readers_at k readers) ≡ true → IsSome (process s q) → IsSome (process t q)) → IsListed t after readers
+    → ((session q : ℕ) → is_pair_in session q readers.pairs ≡ true → IsSome (process s q) → IsSome (process t q)) → IsListed t after readers
 listed_on {readers = readers} s t before after touched h touches most rises same fits theirs gets keeps stay = record {
   covers = λ q r found w. ⊎_elim (λ k. ⊎_elim (λ on. on) (λ placed. absurd (awake_out t q r found w placed.1)) (gets q (rw found refl) k)) (λ on. on) (or_cases _ _ (sym (in_append q touched after.pids) ∙ covers q r found w));
   rising = rises;
   there = theirs;
   room = omega (arith, fits, same);
-  ready = subst (λ n. AllByRecursion (HasRoomFor n) readers) (sym same) h.ready;
   watched = watched_on s t before.pids after.pids touched h.watched touches most gets keeps h.there stay;
 }
   where
@@ -189,13 +182,13 @@ listed_on {readers = readers} s t before after touched h touches most rises same
     covers = goes_on s t before.pids (touched ++ after.pids) touched h.covers touches (λ q here e. in_append q touched after.pids ∙ or_left _ _ e) (λ q here e. in_append q touched after.pids ∙ or_right (is_in q touched) _ (keeps q here e))
 
 -- where it is the same list
-pub listed_same : {readers : List PidSetView} (s t : State) (l : PidSetView) (touched : List ℕ) → IsListed s l readers → Touches s t touched → IsBeside s t touched → length t.processes ≡ length s.processes → ((q : ℕ) → IsSome (process s q) → IsSome (process t q))
+pub listed_same : {readers : ListsView} (s t : State) (l : PidSetView) (touched : List ℕ) → IsListed s l readers → Touches s t touched → IsBeside s t touched → length t.processes ≡ length s.processes → ((q : ℕ) → IsSome (process s q) → IsSome (process t q))
     → AreAsked s t touched l.pids → IsListed t l readers
 listed_same s t l touched h touches most many stay gets =
     listed_on s t l l touched h touches most h.rising refl (omega (arith, many, h.room)) (λ q e. stay q (h.there q e)) gets (λ q theirs e. e) (λ k q on e. stay q e)
 
 -- where these were put in
-pub listed_with : {readers : List PidSetView} (s t : State) (before after : PidSetView) (ps touched : List ℕ) → IsListed s before readers → Touches s t touched → IsBeside s t touched → length t.processes < before.room → ((q : ℕ) → IsSome (process s q) → IsSome (process t q))
+pub listed_with : {readers : ListsView} (s t : State) (before after : PidSetView) (ps touched : List ℕ) → IsListed s before readers → Touches s t touched → IsBeside s t touched → length t.processes < before.room → ((q : ℕ) → IsSome (process s q) → IsSome (process t q))
     → AllByRecursion (λ q. IsSome (process t q)) ps → AreAsked s t touched ps → after.pids ≡ with_numbers ps before.pids → after.room ≡ before.room → IsListed t after readers
 listed_with s t before after ps touched h touches most fits stay theirs among is same =
     listed_on s t before after touched h touches most (subst Rises (sym is) (rises_numbers ps before.pids h.rising)) same fits
@@ -212,7 +205,7 @@ unfolding changed
 many_changed p f rs = length-map rs (at p f)
 
 -- one record that changed and keeps its number
-pub listed_change : {readers : List PidSetView} (s : State) (p : ℕ) (f : Process → Process) (before after : PidSetView) → IsListed s before readers → ((r : Process) → (f r).pid ≡ r.pid) → Touches s (change s p f) (p ∷ []) → IsSome (process s p)
+pub listed_change : {readers : ListsView} (s : State) (p : ℕ) (f : Process → Process) (before after : PidSetView) → IsListed s before readers → ((r : Process) → (f r).pid ≡ r.pid) → Touches s (change s p f) (p ∷ []) → IsSome (process s p)
     → after.pids ≡ rechecking p s.order before.pids → after.room ≡ before.room → IsListed (change s p f) after readers
 unfolding with_numbers changed
 listed_change {readers = readers} s p f before after h keeps touches here is same =
@@ -224,7 +217,7 @@ listed_change {readers = readers} s p f before after h keeps touches here is sam
     ] refl is
 
 -- one whose signals changed, and its alarm
-pub listed_signals : {readers : List PidSetView} (s : State) (p : ℕ) (g : Signals) (a : Option ℕ) (before after : PidSetView) → IsListed s before readers → IsSome (process s p)
+pub listed_signals : {readers : ListsView} (s : State) (p : ℕ) (g : Signals) (a : Option ℕ) (before after : PidSetView) → IsListed s before readers → IsSome (process s p)
     → after.pids ≡ rechecking_by_signals (process (change s p (with_signals g a)) p) s.order before.pids → after.room ≡ before.room → IsListed (change s p (with_signals g a)) after readers
 unfolding with_numbers changed
 listed_signals {readers = readers} s p g a before after h here is same =
@@ -259,7 +252,7 @@ next_known test rs ns n next up covers theirs is =
     }
 
 -- the first of all who are on the list
-pub first_rechecked : {readers : List PidSetView} (s : State) (l : PidSetView) (next : Option ℕ) → IsRegular s → IsListed s l readers → next ≡ slice_get l.pids 0 → IsNext (wakes s) 0 s.processes next
+pub first_rechecked : {readers : ListsView} (s : State) (l : PidSetView) (next : Option ℕ) → IsRegular s → IsListed s l readers → next ≡ slice_get l.pids 0 → IsNext (wakes s) 0 s.processes next
 first_rechecked s l next i h is =
     let numbered : (q : ℕ) → is_in q l.pids ≡ true → 0 < q = λ q e. let it = there _ (h.there q e) in omega (arith, (i.bounded q it.what it.found).least, pid_looked q s.processes it.what it.found) in
     next_known (wakes s) s.processes l.pids 0 next h.rising h.covers h.there (is ∙ ap (λ ns. slice_get ns 0) (sym (all_above 0 l.pids (all_in (λ q. 0 < q) l.pids numbered))))
@@ -279,21 +272,20 @@ without_only (n ∷ []) p only = elim (n == p) as (λ b. (b || false) ≡ true �
 without_only (n ∷ m ∷ ns) p only = absurd (omega (arith, eqb-true (length (n ∷ m ∷ ns)) 1 (and_parts (length (n ∷ m ∷ ns) == 1) (is_in p (n ∷ m ∷ ns)) only).0))
 
 -- who was rechecked and needn't be given a place is taken off, where those who wait to read stay known
-pub listed_rechecked : {readers : List PidSetView} (s : State) (p : ℕ) (before after : PidSetView) (sets : List PidSetView) → IsListed s before readers → ((r : Process) → process s p ≡ Some r → wakes s r ≡ false)
-    → after.pids ≡ without p before.pids → after.room ≡ before.room → AllByRecursion (HasRoomFor before.room) sets → IsWatched s after.pids sets → IsListed s after sets
-listed_rechecked s p before after sets h asleep is same ready watched = record {
+pub listed_rechecked : {readers : ListsView} (s : State) (p : ℕ) (before after : PidSetView) (sets : ListsView) → IsListed s before readers → ((r : Process) → process s p ≡ Some r → wakes s r ≡ false)
+    → after.pids ≡ without p before.pids → after.room ≡ before.room → IsWatched s after.pids sets → IsListed s after sets
+listed_rechecked s p before after sets h asleep is same watched = record {
   covers = λ q r e w. ap (is_in q) is ∙ others_stay p q before.pids (λ k. both_ways (wakes s r) (asleep r (subst (λ n. process s n ≡ Some r) k e)) w) ∙ h.covers q r e w;
   rising = subst Rises (sym is) (rises_without p before.pids h.rising);
   there = λ q e. h.there q (is_other p q before.pids (sym (ap (is_in q) is) ∙ e)).among;
   room = let room = h.room in omega (arith, room, same);
-  ready = subst (λ n. AllByRecursion (HasRoomFor n) sets) (sym same) ready;
   watched = watched;
 }
 
 -- ---- a record that goes
 
-pub listed_removed : {readers : List PidSetView} (s : State) (c last dropped : ℕ) (it : Process) (before after : PidSetView) → IsRegular s → IsListed s before readers → lookup c s.processes ≡ Some it → IsSome (process s it.parent)
-    → after.pids ≡ without_gone c it.parent before.pids → after.room ≡ before.room → ((k : ℕ) → is_in c (readers_at k readers) ≡ false) → IsListed (record s { processes = removed c s.processes; last_pid = last; dropped = dropped }) after readers
+pub listed_removed : {readers : ListsView} (s : State) (c last dropped : ℕ) (it : Process) (before after : PidSetView) → IsRegular s → IsListed s before readers → lookup c s.processes ≡ Some it → IsSome (process s it.parent)
+    → after.pids ≡ without_gone c it.parent before.pids → after.room ≡ before.room → ((session : ℕ) → is_pair_in session c readers.pairs ≡ false) → IsListed (record s { processes = removed c s.processes; last_pid = last; dropped = dropped }) after readers
 listed_removed {readers = readers} s c last dropped it before after i h found parent is same unread =
     let t = record s { processes = removed c s.processes; last_pid = last; dropped = dropped } in
     listed_on s t before after (it.parent ∷ []) h (touches_removed s c it.parent last dropped i.rising (rw found refl)) (refl, refl, λ q u e. e)
@@ -303,7 +295,7 @@ listed_removed {readers = readers} s c last dropped it before after i h found pa
     rw (lookup_kept c q s.processes k.apart) (⊎_elim (λ t. subst (λ n. IsSome (process s n)) (eqb-true it.parent q t) parent) (h.there q) (or_cases _ _ (sym (in_with q it.parent before.pids) ∙ k.among))))
     (λ q theirs e. inl (ap (is_in q) is ∙ others_stay c q _ (apart q theirs) ∙ in_with q it.parent before.pids ∙ or_left _ _ (eq-eqb it.parent q (sym (in_one q it.parent e)))))
     (λ q theirs e. ap (is_in q) is ∙ others_stay c q _ (apart q theirs) ∙ in_with q it.parent before.pids ∙ or_right (it.parent == q) _ e)
-    (λ k q on e. rw (lookup_kept c q s.processes (λ same. both_ways _ (unread k) (subst (λ n. is_in n (readers_at k readers) ≡ true) same on))) e)
+    (λ k q on e. rw (lookup_kept c q s.processes (λ same. both_ways _ (unread k) (subst (λ n. is_pair_in k n readers.pairs ≡ true) same on))) e)
   where
     apart : (q : ℕ) → IsSome (lookup q (removed c s.processes)) → q ≢ c
     apart q theirs e = let no : IsSome (lookup c (removed c s.processes)) = subst (λ n. IsSome (lookup n (removed c s.processes))) e theirs in let none = rw (lookup_removed c s.processes) at no in absurd (cc)
@@ -311,7 +303,7 @@ listed_removed {readers = readers} s c last dropped it before after i h found pa
 -- ---- births
 
 -- a birth touches the child and its parent
-pub listed_born : {readers : List PidSetView} (s : State) (new : Process) (last births : ℕ) (before after : PidSetView) → IsListed s before readers → length s.processes + 1 < before.room → lookup new.pid s.processes ≡ None → IsSome (process s new.parent)
+pub listed_born : {readers : ListsView} (s : State) (new : Process) (last births : ℕ) (before after : PidSetView) → IsListed s before readers → length s.processes + 1 < before.room → lookup new.pid s.processes ≡ None → IsSome (process s new.parent)
     → after.pids ≡ with_number new.pid (with_number new.parent before.pids) → after.room ≡ before.room → IsListed (record s { processes = inserted new s.processes; last_pid = last; births = births }) after readers
 unfolding with_numbers
 listed_born s new last births before after h fits fresh up put room =
@@ -329,15 +321,14 @@ unfolding lookup
 first_reads session q r found visits = nobody_reads session (1 == q) r found visits
 
 -- at the start nobody is to be rechecked
-pub listed_first : {readers : List PidSetView} (s : State) (w : World) (l : PidSetView) → s ≡ boot w → l.pids ≡ [] → l.room ≡ 2 → AllByRecursion (IsReaders w.pidmax) readers → AllByRecursion (HasRoomFor 2) readers → length readers ≡ w.consoles → AreUnread readers → IsListed s l readers
-unfolding Rises
-listed_first {readers = readers} s w l first is room each ready many unread = subst (λ (s : State). IsListed s l readers) (sym first) (record {
+pub listed_first : {readers : ListsView} (s : State) (w : World) (l : PidSetView) → s ≡ boot w → l.pids ≡ [] → l.room ≡ 2 → readers.pairs ≡ [] → IsListed s l readers
+unfolding Rises is_pair_in
+listed_first {readers = readers} s w l first is room unread = subst (λ (s : State). IsListed s l readers) (sym first) (record {
   covers = λ q r e k. ap (is_in q) is ∙ covers_none (boot w) (first_has_place w) q r e k;
   rising = subst Rises (sym is) tt;
   there = λ q e. absurd (in_none q (sym (ap (is_in q) is) ∙ e));
   room = omega (arith, room);
-  ready = subst (λ n. AllByRecursion (HasRoomFor n) readers) (sym room) ready;
-  watched = record { known = λ k q c r at found visits out unasked. absurd (first_reads c.session q r found visits); waits = λ k q on unasked. absurd (in_none q (sym (ap (is_in q) (unread k)) ∙ on)); each = each; many = many };
+  watched = record { known = λ session q r found visits out unasked. absurd (first_reads session q r found visits); waits = λ session q on unasked. absurd (both_ways _ (ap (is_pair_in session q) unread) on) };
 })
 
 -- ---- places
@@ -348,13 +339,8 @@ loses_none s p e = ap (λ o. record s { order = o }) (sym (without_absent p s.or
 
 -- ---- foregrounds that are cleared
 
-session_kept : (b : Bool) (c : Console) → (cond b c (with_foreground 0 c)).session ≡ c.session
-unfolding with_foreground
-session_kept true c = refl
-session_kept false c = refl
-
 -- nobody has to be rechecked for them, nor to be known anew
-pub listed_cleared : {readers : List PidSetView} (s : State) (to_recheck : PidSetView) → IsRegular s → IsListed s to_recheck readers → IsListed (clear_foregrounds s) to_recheck readers
+pub listed_cleared : {readers : ListsView} (s : State) (to_recheck : PidSetView) → IsRegular s → IsListed s to_recheck readers → IsListed (clear_foregrounds s) to_recheck readers
 unfolding clear_foregrounds
 listed_cleared {readers = readers} s to_recheck i h =
     let t = record s { consoles = map (refreshed s.processes) s.consoles } in
@@ -363,21 +349,5 @@ listed_cleared {readers = readers} s to_recheck i h =
       rising = h.rising;
       there = h.there;
       room = h.room;
-      ready = h.ready;
-      watched = record {
-        known = λ k p c r at found visits out unasked.
-            let old = was s.consoles k c at in
-            h.watched.known k p old.0 r old.1 found (subst (λ n. is_reader n r ≡ true) (sym old.2) visits) out unasked;
-        waits = λ k p on unasked.
-            let w = h.watched.waits k p on unasked in
-            let kept = session_kept (is_fresh s.processes w.console) w.console in
-            record { console = refreshed s.processes w.console; reader = w.reader; at = slice_get-map (refreshed s.processes) s.consoles k ∙ ap (option_map (refreshed s.processes)) w.at; found = w.found; reads = ap (λ n. is_reader n w.reader) kept ∙ w.reads; out = w.out };
-        each = h.watched.each;
-        many = h.watched.many;
-      };
+      watched = watched_alike s _ _ h.watched;
     }
-  where
-    was : (cs : List Console) (k : ℕ) (c : Console) → slice_get (map (refreshed s.processes) cs) k ≡ Some c → (d : Console) × (slice_get cs k ≡ Some d) × (d.session ≡ c.session)
-    was [] k c e = absurd (cc)
-    was (d ∷ ds) zero c e = (d, refl, sym (session_kept (is_fresh s.processes d) d) ∙ ap (λ (x : Console). x.session) (same_Some _ _ e))
-    was (d ∷ ds) (suc k) c e = was ds k c e

@@ -3,22 +3,21 @@ use Rattle.std.proofs.Common.{◌≡◌, ℕ, ◌<◌, ◌≤◌, Bool, true, fa
 use Rattle.std.proofs.lemmas.Bool.{both_ways}
 use Rattle.posix.specs.Processes.{Process}
 use Rattle.posix.specs.Consoles.{Console}
-use Rattle.std.specs.List.{AllByRecursion}
 use Rattle.posix.specs.States.{World, State}
 use Rattle.pidalloc.specs.Rows.{Pids, row, is_free_in}
 use Rattle.pidalloc.proofs.TallyLemmas.{CanBear}
 use Rattle.sched.specs.Places.{Places}
+use Rattle.pidset.specs.Lists.{ListsView}
 use Rattle.pidset.specs.Numbers.{PidSetView, Rises}
-use Rattle.life.specs.Machines.{state_of, MachineView, AreSame, AreSameButRoom, IsKept, IsMachine, HasRoomFor, AreRoomier, Terminals}
-use Rattle.life.proofs.PlaceLemmas.{roomier_same}
+use Rattle.life.specs.Machines.{state_of, MachineView, AreSame, AreSameButRoom, IsKept, IsMachine, Terminals}
 use Rattle.life.proofs.RecheckLemmas.{listed_roomier}
 use Rattle.life.proofs.SoundLemmas.{kept_ready}
 
 -- it stays one
-pub machine_roomier : {s t : State} {pids now : Pids} {places order : Places} {l m groups after : PidSetView} {terminals : Terminals} {sets : List PidSetView}
+pub machine_roomier : {s t : State} {pids now : Pids} {places order : Places} {l m groups after : PidSetView} {terminals : Terminals} {sets : ListsView}
     → IsMachine s pids places l groups terminals → t ≡ s → now ≡ record pids { ready = now.ready } → places.room ≤ order.room → m.pids ≡ l.pids → l.room ≤ m.room → after.pids ≡ groups.pids → m.room ≤ after.room
-    → AreRoomier terminals.readers sets → AllByRecursion (HasRoomFor m.room) sets → IsMachine t now order m after (record terminals { readers = sets })
-machine_roomier {s = s} {pids = pids} {now = now} {places = places} {order = order} {l = l} {m = m} {groups = groups} {after = after} {terminals = terminals} {sets = sets} i same ready wider is more groups_same groups_more roomier enough =
+    → sets.pairs ≡ terminals.readers.pairs → terminals.readers.numbers ≤ sets.numbers → IsMachine t now order m after (record terminals { readers = sets })
+machine_roomier {s = s} {pids = pids} {now = now} {places = places} {order = order} {l = l} {m = m} {groups = groups} {after = after} {terminals = terminals} {sets = sets} i same ready wider is more groups_same groups_more roomier longer =
     subst (λ x. IsMachine x now order m after (record terminals { readers = sets })) (sym same) (record {
       sound = record {
         regular = i.sound.regular;
@@ -31,9 +30,11 @@ machine_roomier {s = s} {pids = pids} {now = now} {places = places} {order = ord
           room = λ q here. let low = i.sound.kept.room q here in omega (arith, low, wider);
         }));
       };
-      listed = listed_roomier s l m i.listed is more roomier enough;
+      listed = listed_roomier s l m i.listed is more roomier;
       noted = record { rising = subst Rises (sym groups_same) i.noted.rising; room = groups_more };
       fresh = i.fresh;
+      indexed = i.indexed;
+      within = λ p r e. let low = i.within p r e in (omega (arith, low.0, longer), omega (arith, low.1, longer));
     })
 
 -- its state is the same
@@ -43,7 +44,7 @@ state_roomier w rs ts cs pids now places order births ticks dropped halted same 
 
 -- what is the same is so but for room
 pub same_but_room : {old new : MachineView} → AreSame old new → AreSameButRoom old new
-same_but_room {old = old} a = record { state = a.state; to_recheck = a.to_recheck; groups_at_risk = a.groups_at_risk; foregrounds_unchecked = a.foregrounds_unchecked; readers = subst (AreRoomier old.readers) (sym a.readers) (roomier_same old.readers) }
+same_but_room a = record { state = a.state; to_recheck = a.to_recheck; groups_at_risk = a.groups_at_risk; foregrounds_unchecked = a.foregrounds_unchecked; readers = ap (λ (l : ListsView). l.pairs) a.readers }
 
 -- what the rows need before three numbers are borne, of which two are borne already
 pub record CanBearAll (p : Pids) (n group session : ℕ) : Type 0 where

@@ -2,6 +2,7 @@
 use Rattle.std.proofs.Common.{rules, ◌≡◌, ◌≢◌, ℕ, ◌+◌, ◌<◌, ◌≤◌, Bool, false, refl, ap, sym, ◌∙◌, arith, subst, List, [], ◌∷◌, length, map, replicate, Some, None, inl, inr}
 use Rattle.std.specs.Option.{IsSome}
 use Rattle.std.proofs.lemmas.Bool.{cases_eq}
+use Rattle.std.proofs.lemmas.Option.{same_Some}
 use Rattle.std.proofs.lemmas.List.{length-map, length-replicate}
 use Rattle.posix.specs.Processes.{Process, is_zombie, first_process}
 use Rattle.posix.specs.Tables.{at, lookup, changed, inserted, adopted, reparented}
@@ -11,7 +12,7 @@ use Rattle.posix.specs.NextPid.{next_free}
 use Rattle.posix.specs.Regular.{IsRegular, IsPlaced, CanInherit}
 use Rattle.posix.specs.Ends.{made_zombie, leave_children_and_die}
 use Rattle.posix.proofs.NextLemmas.{IsNew, new_number}
-use Rattle.posix.proofs.RegularLemmas.{lookup_inserted, regular_as, regular_inserted, regular_first, regular_depart, heir_there}
+use Rattle.posix.proofs.RegularLemmas.{lookup_inserted, lookup_new, regular_as, regular_inserted, regular_first, regular_depart, heir_there}
 use Rattle.posix.proofs.TableLemmas.{length_inserted}
 use Rattle.posix.proofs.MapLemmas.{at_pid, lookup_back}
 use Rattle.posix.proofs.WalkLemmas.{all_looked}
@@ -20,7 +21,7 @@ use Rattle.pidalloc.specs.Rows.{Pids, IsPids, is_free_in, unborne_table, born_in
 use Rattle.pidalloc.specs.Tallies.{IsTallied}
 use Rattle.pidalloc.proofs.TallyLemmas.{CanBear, can_bear, next_same, tallied_unborne, tallied_born, tallied_map, tallied_ready}
 use Rattle.sched.specs.Places.{Places}
-use Rattle.life.specs.Machines.{IsKept, IsSound, state_of, IsOther}
+use Rattle.life.specs.Machines.{AreWithin, IsKept, IsSound, state_of, IsOther}
 pub use Rattle.jobs.proofs.SnapshotLemmas.{There, there, is_there, snapshot_are, some_read, none_read}
 use Rattle.jobs.proofs.NumberLemmas.{no_more, above_none, nobody_there}
 use Rattle.pidset.proofs.ParentLemmas.{parents_map, parents_adopted, parents_inserted}
@@ -42,6 +43,14 @@ heir_in {p = p} {heir = heir} same h = subst (λ (s : State). CanInherit s.proce
 -- who is there after a change of each record was there before
 pub some_back : (g : Process → Process) → ((r : Process) → (g r).pid ≡ r.pid) → (q : ℕ) (rs : List Process) → IsSome (lookup q (map g rs)) → IsSome (lookup q rs)
 some_back g keeps q rs here = let r = there (lookup q (map g rs)) here in rw (lookup_back g keeps q rs r.what r.found).found refl
+
+-- numbers are below the same one where each record keeps its own and its session's
+pub within_map : {n : ℕ} (g : Process → Process) (rs : List Process) → ((r : Process) → (g r).pid ≡ r.pid) → ((r : Process) → (g r).session ≡ r.session) → AreWithin n rs → AreWithin n (map g rs)
+within_map {n = n} g rs keeps session h q r e =
+    let was = lookup_back g keeps q rs r e in
+    let low = h q was.what was.found in
+    let same = ap (λ (x : Process). x.session) was.is ∙ session was.what in
+    (low.0, omega (arith, low.1, same))
 
 -- the numbers and the room stay kept where each record keeps its numbers
 pub kept_map : (g : Process → Process) → ((r : Process) → (g r).pid ≡ r.pid) → ((r : Process) → (g r).group ≡ r.group) → ((r : Process) → (g r).session ≡ r.session)
@@ -90,6 +99,11 @@ sound_departed p heir w s pids a b least other h room i =
       kept = kept_map (reparented p heir) (λ r. grind arith) (λ r. grind arith) (λ r. grind arith) s.world.pidmax dead pids a b room
           (kept_map (at p (made_zombie w)) (λ r. grind arith) (λ r. grind arith) (λ r. grind arith) s.world.pidmax s.processes pids a a (omega arith) i.kept);
     }
+
+-- and numbers are below the same one
+pub within_departed : {n : ℕ} (p heir w : ℕ) (rs : List Process) → AreWithin n rs → AreWithin n (adopted p heir (changed p (made_zombie w) rs))
+unfolding changed adopted made_zombie
+within_departed p heir w rs h = within_map (reparented p heir) _ (λ r. grind arith) (λ r. grind arith) (within_map (at p (made_zombie w)) rs (λ r. grind arith) (λ r. grind arith) h)
 
 -- ---- numbers
 
@@ -142,6 +156,13 @@ sound_born w rs cs p q a births ticks dropped h new me i fresh there up group se
     let room : (k : ℕ) → IsSome (lookup k (inserted new rs)) → k < a.room = λ k here. elim (cases_eq k new.pid) [ inl mine ↦ omega (arith, mine, low) | inr other ↦ i.kept.room k (subst IsSome (lookup_inserted new k rs other) here) ] in
     record { regular = regular; parents = parents; counted = search (rules, arith); kept = record { greatest = same ∙ i.kept.greatest; table = table; tallied = tallied; room = room } }
 
+-- where the numbers of one more are below the same one
+pub within_inserted : {n : ℕ} (new : Process) (rs : List Process) → lookup new.pid rs ≡ None → (new.pid < n) × (new.session < n) → AreWithin n rs → AreWithin n (inserted new rs)
+within_inserted {n = n} new rs fresh low h q r e = elim (cases_eq q new.pid) [
+  | inl mine ↦ let same : new ≡ r = same_Some _ _ (sym (ap (λ p. lookup p (inserted new rs)) mine ∙ lookup_new new rs fresh) ∙ e) in (omega (arith, mine, low.0), subst (λ (x : Process). x.session < n) same low.1)
+  | inr other ↦ h q r (sym (lookup_inserted new q rs other) ∙ e)
+]
+
 -- ---- the start
 
 -- process 1 alone
@@ -160,6 +181,10 @@ sound_first w cs q b unused most bore same table order room = record {
       let tallied = subst (λ x. IsTallied x (inserted first_process [])) (sym bore) (tallied_ready (born_in (unborne_table w.pidmax) 1 1 1) (inserted first_process []) q.ready (tallied_born (unborne_table w.pidmax) first_process [] (length-replicate _ _) (tallied_unborne w.pidmax))) in
       record { greatest = same; table = table; tallied = tallied; room = λ k here. elim (cases_eq k 1) [ inl mine ↦ omega (arith, mine, room) | inr other ↦ let no = subst IsSome (lookup_inserted first_process k [] other ∙ nobody_there k) here in absurd (cc) ] };
 }
+
+-- its number and that of its session are 1
+pub within_first : {n : ℕ} → 1 < n → AreWithin n (inserted first_process [])
+within_first room = within_inserted first_process [] (nobody_there 1) (room, room) (λ q r e. let no = sym (nobody_there q) ∙ e in absurd (cc))
 
 -- and it is the machine at boot
 pub first_is_boot : (w : World) (cs : List Console) (q : Pids) (b : Places) → cs ≡ replicate w.consoles unused_console → q.last ≡ 1 → b.pids ≡ 1 ∷ [] → state_of w (inserted first_process []) cs q b 1 0 0 false ≡ boot w

@@ -1,13 +1,12 @@
 -- Consoles as a machine shows them, and who waits to read from one.
-use Rattle.std.specs.Prelude.{option_map, ◌≡◌, ◌+◌, ◌*◌, ◌==◌, ◌&&◌, ◌||◌, ◌⊎◌, ℕ, zero, suc, Bool, not, true, false, if◌then◌else◌, List, [], length, Option, Some, None, slice_get, slice_set, MatchOption}
+use Rattle.std.specs.Prelude.{◌≡◌, ◌+◌, ◌*◌, ◌==◌, ◌&&◌, ◌||◌, ◌⊎◌, ℕ, zero, suc, Bool, not, true, false, if◌then◌else◌, List, [], length, Option, Some, None, slice_get, slice_set, MatchOption}
 use Rattle.posix.specs.Processes.{Process, is_running}
 use Rattle.std.specs.Option.{option_map_or}
 use Rattle.posix.specs.Consoles.{Console, console_of, console_at, key_signal}
-use Rattle.posix.specs.States.{State, process, is_in, has_place, without}
+use Rattle.posix.specs.States.{State, process, is_in, has_place}
 use Rattle.posix.specs.Tables.{members_in}
 use Rattle.posix.specs.Settle.{is_fresh}
 use Rattle.posix.specs.Terminals.{is_reader, is_in_read}
-use Rattle.pidset.specs.Numbers.{PidSetView, with_number}
 use Rattle.proctable.specs.Records.{snapshot_of}
 use Rattle.proctable.specs.declared.snapshot.Snapshot.{Snapshot}
 use Rattle.life.specs.declared.consoles.Terminal.{Terminal}
@@ -28,9 +27,9 @@ abbrev pub IsTerminalIndex : ℕ → List Console → Option ℕ → Type 0
 IsTerminalIndex session cs None = console_of session cs ≡ None
 IsTerminalIndex session cs (Some k) = (c : Console) × (slice_get cs k ≡ Some c) × (console_of session cs ≡ Some c) × (c.session ≡ session)
 
--- each process that waits to read from the console with this index, and has no place in the order, is to be rechecked
+-- each process that waits to read from the terminal of this session, and has no place in the order, is to be rechecked
 abbrev pub AreReaders : State → ℕ → List ℕ → Type 0
-AreReaders s k to_recheck = (p : ℕ) (c : Console) (r : Process) → slice_get s.consoles k ≡ Some c → process s p ≡ Some r → is_reader c.session r ≡ true → has_place s p ≡ false → is_in p to_recheck ≡ true
+AreReaders s session to_recheck = (p : ℕ) (r : Process) → process s p ≡ Some r → is_reader session r ≡ true → has_place s p ≡ false → is_in p to_recheck ≡ true
 
 -- it is the terminal of the same session, with the same foreground process group
 abbrev pub IsSameTerminal : Console → Console → Type 0
@@ -40,7 +39,7 @@ IsSameTerminal c d = (d.session ≡ c.session) × (d.foreground ≡ c.foreground
 -- is to be rechecked, and its foreground process group has a member where none is unchecked.
 pub record CanBecome (m : MachineView) (k : ℕ) (c d : Console) : Type 0 where
   pub session : (d.session ≡ c.session) ⊎ ((d.session ≡ 0) ⊎ ((c.session ≡ 0) × (console_of d.session m.state.consoles ≡ None)))
-  pub readers : (IsSameTerminal c d × (d.hung_up ≡ c.hung_up) × (c.lines ≡ [] → d.lines ≡ [])) ⊎ AreReaders m.state k m.to_recheck
+  pub readers : (IsSameTerminal c d × (d.hung_up ≡ c.hung_up) × (c.lines ≡ [] → d.lines ≡ [])) ⊎ AreReaders m.state c.session m.to_recheck
   pub foreground : IsSameTerminal c d ⊎ ((is_unchecked m.foregrounds_unchecked d || is_fresh m.state.processes d) ≡ true)
 
 abbrev pub CanChange : {F T : Type 0} → Once F (MutBor Console × Unit {0}) (T × (MutBor Console × Unit {0})) → F → MachineView → ℕ → Type 0
@@ -57,25 +56,6 @@ reads_in (Some r) = if is_running r.life && is_in_read r.blocked then Some r.ses
 
 abbrev pub reads : State → ℕ → Option ℕ
 reads s p = if has_place s p then None else reads_in (process s p)
-
--- a console is the terminal of this session
-abbrev pub is_terminal_of : Option ℕ → Option Console → Bool
-is_terminal_of None o = false
-is_terminal_of (Some session) None = false
-is_terminal_of (Some session) (Some c) = session == c.session
-
--- p is in a set, or isn't
-abbrev pub marked : Bool → ℕ → PidSetView → PidSetView
-marked b p set = record set { pids = if b then with_number p set.pids else without p set.pids }
-
--- p is in the set of the console that is the terminal of this session, and in no other
-pub record IsMarked (session : Option ℕ) (p : ℕ) (cs : List Console) (old new : List PidSetView) : Type 0 where
-  pub sets : (k : ℕ) → slice_get new k ≡ option_map (marked (is_terminal_of session (slice_get cs k)) p) (slice_get old k)
-  pub many : length new ≡ length old
-
--- one set has become empty, where there is one in that place
-abbrev pub IsForgottenAt : ℕ → List PidSetView → List PidSetView → Type 0
-IsForgottenAt k old new = MatchOption (slice_get old k) (new ≡ old) (λ set. (now : PidSetView) × (new ≡ slice_set old k now) × (now.pids ≡ []) × (now.room ≡ set.room))
 
 -- ---- how many slots are read
 

@@ -38,11 +38,10 @@ slots_of_heir rs p = if list_any is_living_subreaper rs then slots_of_walk (fore
 
 -- ---- an end
 
--- After its terminal is hung up: 14, 19 for each child, one for each child of the heir, and those of the groups that become
--- orphaned.
+-- After its terminal is hung up: 13, 12 for each child, and those of the groups that become orphaned.
 abbrev pub slots_of_ending : State → ℕ → ℕ → ℕ → ℕ
 slots_of_ending s p heir status =
-    14 + 19 * length (children_in p s.processes) + length (children_in heir s.processes) + slots_of_orphans s (tell_of_all (leave_children_and_die s p heir status) heir (zombies_of p s.processes))
+    13 + 12 * length (children_in p s.processes) + slots_of_orphans s (tell_of_all (leave_children_and_die s p heir status) heir (zombies_of p s.processes))
 
 -- all: with one for the process, those of its terminal, and those up to its heir
 abbrev pub slots_of_end : MachineView → Process → ℕ → ℕ

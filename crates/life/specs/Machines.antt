@@ -1,12 +1,10 @@
 -- The parts of a machine as a state, and what holds of them.
-use Rattle.std.specs.Prelude.{◌≡◌, ◌≢◌, ℕ, ◌+◌, ◌<◌, ◌≤◌, Bool, true, false, List, [], length, slice_get, Option, Some, IsSome, IfSome}
+use Rattle.std.specs.Prelude.{◌≡◌, ◌≢◌, ℕ, ◌+◌, ◌<◌, ◌≤◌, Bool, true, false, List, [], length, slice_get, Option, Some, IsSome, IfSome, option_map}
 use Rattle.posix.specs.Processes.{Process}
 use Rattle.posix.specs.Tables.{lookup, children_in}
 use Rattle.posix.specs.States.{World, State, boot, process, has_place, is_in}
 use Rattle.posix.specs.Regular.{IsRegular}
-use Rattle.std.specs.Option.{option_map_or}
-use Rattle.std.specs.List.{AllByRecursion}
-use Rattle.posix.specs.Consoles.{Console}
+use Rattle.posix.specs.Consoles.{Console, console_at}
 use Rattle.posix.specs.Settle.{Covers}
 use Rattle.posix.specs.Terminals.{is_reader}
 use Rattle.life.specs.declared.consoles.Unchecked.{Unchecked}
@@ -15,7 +13,9 @@ use Rattle.pidalloc.specs.Rows.{Pids, IsPids, row, gone_from}
 use Rattle.pidalloc.specs.Tallies.{IsTallied}
 use Rattle.sched.specs.Places.{Places}
 use Rattle.pidset.specs.Numbers.{PidSetView, Rises}
-use Rattle.pidset.specs.Indexes.{HaveParents}
+use Rattle.pidset.specs.declared.index.Pair.{Pair}
+use Rattle.pidset.specs.Indexes.{HaveParents, IsKeyed, is_pair_in}
+use Rattle.pidset.specs.Lists.{ListsView}
 
 abbrev pub state_of : World → List Process → List Console → Pids → Places → ℕ → ℕ → ℕ → Bool → State
 state_of world processes consoles pids places births ticks dropped halted = record (boot world) {
@@ -31,14 +31,14 @@ state_of world processes consoles pids places births ticks dropped halted = reco
 
 -- The state of a machine, how many slots of its table have been read, who is to be rechecked, which
 -- process groups were noted as those that an end may orphan, whose foreground process group may have lost its
--- members, and who may wait to read from each console.
+-- members, and who may wait to read, under the session.
 pub record MachineView : Type 0 where
   pub state : State
   pub visits : ℕ
   pub to_recheck : List ℕ
   pub groups_at_risk : List ℕ
   pub foregrounds_unchecked : Unchecked
-  pub readers : List PidSetView
+  pub readers : ListsView
 
 -- all but the number of slots that have been read is as it was
 pub record AreSame (old new : MachineView) : Type 0 where
@@ -139,73 +139,37 @@ pub record IsSound (s : State) (pids : Pids) (places : Places) : Type 0 where
   pub counted : s.dropped + length s.processes ≤ s.births  -- each was born
   pub kept : IsKept s.world.pidmax s.processes pids places
 
--- the same set, with no less room
-pub record IsRoomier (old new : PidSetView) : Type 0 where
-  pub pids : new.pids ≡ old.pids
-  pub room : old.room ≤ new.room
-
--- so each of these
-pub record AreRoomier (old new : List PidSetView) : Type 0 where
-  pub sets : (k : ℕ) → IfSome (slice_get new k) (λ set. (was : PidSetView) × (slice_get old k ≡ Some was) × IsRoomier was set)
-  pub many : length new ≡ length old
-
 -- all but the number of slots that have been read is as it was, and there may be more room for those who wait to read
 pub record AreSameButRoom (old new : MachineView) : Type 0 where
   pub state : new.state ≡ old.state
   pub to_recheck : new.to_recheck ≡ old.to_recheck
   pub groups_at_risk : new.groups_at_risk ≡ old.groups_at_risk
   pub foregrounds_unchecked : new.foregrounds_unchecked ≡ old.foregrounds_unchecked
-  pub readers : AreRoomier old.readers new.readers
+  pub readers : new.readers.pairs ≡ old.readers.pairs
 
--- the processes that may wait to read from the console with this index
-abbrev pub readers_at : ℕ → List PidSetView → List ℕ
-readers_at k readers = option_map_or (λ set. set.pids) (slice_get readers k) []
-
--- one such set
-pub record IsReaders (pidmax : ℕ) (set : PidSetView) : Type 0 where
-  pub rising : Rises set.pids
-  pub within : (p : ℕ) → is_in p set.pids ≡ true → (1 ≤ p) × (p ≤ pidmax)
-
--- a set with room for so many
-abbrev pub HasRoomFor : ℕ → PidSetView → Type 0
-HasRoomFor n set = n ≤ set.room
-
--- p waits to read from the console with this index: it runs, is blocked in a read of it, and has no place
-pub record IsWaiting (s : State) (k p : ℕ) : Type 0 where
-  pub console : Console
+-- p, of this session, waits to read from its terminal: it runs, is blocked in a read, and has no place
+pub record IsWaiting (s : State) (session p : ℕ) : Type 0 where
   pub reader : Process
-  pub at : slice_get s.consoles k ≡ Some console
   pub found : process s p ≡ Some reader
-  pub reads : is_reader console.session reader ≡ true
+  pub reads : is_reader session reader ≡ true
   pub out : is_in p s.order ≡ false
 
--- Of the processes that aren't to be rechecked, a console knows just those that wait to read from it.
-pub record IsWatched (s : State) (to_recheck : List ℕ) (readers : List PidSetView) : Type 0 where
-  pub known : (k p : ℕ) (c : Console) (r : Process) → slice_get s.consoles k ≡ Some c → process s p ≡ Some r → is_reader c.session r ≡ true → is_in p s.order ≡ false → is_in p to_recheck ≡ false → is_in p (readers_at k readers) ≡ true
-  pub waits : (k p : ℕ) → is_in p (readers_at k readers) ≡ true → is_in p to_recheck ≡ false → IsWaiting s k p
-  pub each : AllByRecursion (IsReaders s.world.pidmax) readers
-  pub many : length readers ≡ s.world.consoles
+-- Of the processes that aren't to be rechecked, just those are known that wait to read, each under its session.
+pub record IsWatched (s : State) (to_recheck : List ℕ) (readers : ListsView) : Type 0 where
+  pub known : (session p : ℕ) (r : Process) → process s p ≡ Some r → is_reader session r ≡ true → is_in p s.order ≡ false → is_in p to_recheck ≡ false → is_pair_in session p readers.pairs ≡ true
+  pub waits : (session p : ℕ) → is_pair_in session p readers.pairs ≡ true → is_in p to_recheck ≡ false → IsWaiting s session p
 
 -- a machine's readers are watched
 abbrev pub AreWatched : MachineView → Type 0
 AreWatched m = IsWatched m.state m.to_recheck m.readers
 
--- nobody is known by any console
-abbrev pub AreUnread : List PidSetView → Type 0
-AreUnread sets = (k : ℕ) → readers_at k sets ≡ []
-
--- there is room for one more in each of these sets
-abbrev pub HaveRoom : List PidSetView → Type 0
-HaveRoom sets = (k : ℕ) (set : PidSetView) → slice_get sets k ≡ Some set → length set.pids < set.room
-
 -- Each process that has to be given a place is to be rechecked; each process to recheck is there, and there is room for
--- all processes and one more, and as much in each set of readers; and each process that waits to read is known.
-pub record IsListed (s : State) (to_recheck : PidSetView) (readers : List PidSetView) : Type 0 where
+-- all processes and one more; and each process that waits to read is known.
+pub record IsListed (s : State) (to_recheck : PidSetView) (readers : ListsView) : Type 0 where
   pub covers : Covers s to_recheck.pids
   pub rising : Rises to_recheck.pids
   pub there : (p : ℕ) → is_in p to_recheck.pids ≡ true → IsSome (process s p)
   pub room : length s.processes < to_recheck.room
-  pub ready : AllByRecursion (HasRoomFor to_recheck.room) readers
   pub watched : IsWatched s to_recheck.pids readers
 
 -- Groups are noted in rising order, and there is room for so many.
@@ -213,11 +177,21 @@ pub record IsNoted (count : ℕ) (groups_at_risk : PidSetView) : Type 0 where
   pub rising : Rises groups_at_risk.pids
   pub room : count ≤ groups_at_risk.room
 
--- what a machine keeps of its consoles beside them: who may wait to read from each, and whose foreground process
--- group may have lost its members
+-- The consoles stand under the session whose terminal each is, or under 0, by numbers that count from 1.
+pub record AreTerminals (cs : List Console) (terminals : List Pair) : Type 0 where
+  pub index : IsKeyed (λ n. option_map (λ c. c.session) (console_at n cs)) terminals
+  pub few : length cs ≤ 64
+
+-- what a machine keeps of its consoles beside them: whose terminal each is, who may wait to read, under the session, and
+-- whose foreground process group may have lost its members
 pub record Terminals : Type 0 where
-  pub readers : List PidSetView
+  pub readers : ListsView
   pub foregrounds_unchecked : Unchecked
+  pub terminals : List Pair
+
+-- the number of each of these, and that of its session, is below n
+abbrev pub AreWithin : ℕ → List Process → Type 0
+AreWithin n rs = (p : ℕ) (r : Process) → lookup p rs ≡ Some r → (p < n) × (r.session < n)
 
 -- what the type of a machine keeps
 pub record IsMachine (s : State) (pids : Pids) (places : Places) (to_recheck groups_at_risk : PidSetView) (terminals : Terminals) : Type 0 where
@@ -225,6 +199,8 @@ pub record IsMachine (s : State) (pids : Pids) (places : Places) (to_recheck gro
   pub listed : IsListed s to_recheck terminals.readers
   pub noted : IsNoted to_recheck.room groups_at_risk
   pub fresh : AreFreshBut terminals.foregrounds_unchecked s.processes s.consoles
+  pub indexed : AreTerminals s.consoles terminals.terminals
+  pub within : AreWithin terminals.readers.numbers s.processes  -- there is a list for each session, and memory for each process in it
 
 -- ---- one record that goes
 

@@ -1,44 +1,36 @@
 //! Births.
 
 ghost use Rattle.std.specs.Prelude.{◌≡◌, ◌+◌, ◌<◌, ◌≤◌, ◌^◌, length, Some, OnOk, OnErr};
-ghost use Rattle.std.specs.List.{AllByRecursion};
 ghost use Rattle.posix.specs.States.{next_pid as next_pid_of};
 ghost use Rattle.posix.specs.Births.{born};
-ghost use Rattle.posix.specs.Tables.{children_in};
 ghost use Rattle.posix.specs.Regular.{IsPlaced};
 ghost use Rattle.pidset.specs.Numbers.{with_number};
-ghost use Rattle.life.specs.Machines.{Costs, AreSameButRoom, AreRoomier, HasRoomFor, IfThere};
+ghost use Rattle.life.specs.Machines.{Costs, AreSameButRoom, IfThere};
 
-use crate::consoles::reserve_readers;
 use crate::machine::Machine;
 use pidset::PidSet;
 use posix::Pid;
 use proctable::ProcessTable;
 use std::alloc::AllocError;
 
-/// Makes room for so many numbers in each of these sets. All stay as they are, also at the error that there is no
-/// memory. Mostly there is room already, and none is looked at but the first.
+/// Makes room for so many numbers in both sets. They stay as they are, also at the error that there is no memory. Mostly
+/// there is room already, and the second isn't looked at.
 fn make_room(
     to_recheck: &mut PidSet,
     groups_at_risk: &mut PidSet,
-    readers: &mut Vec<PidSet>,
     count: usize,
 ) -> Result<(), AllocError>
     requires few { count < 2 ^ 32 }
     requires groups { to_recheck.old.room ≤ groups_at_risk.old.room }
-    requires readers { AllByRecursion (HasRoomFor to_recheck.old.room) readers.old.items }
     ensures ok { OnOk result (count ≤ to_recheck.new.room) }
     ensures grows { to_recheck.old.room ≤ to_recheck.new.room }
     ensures groups { to_recheck.new.room ≤ groups_at_risk.new.room }
-    ensures readers { AllByRecursion (HasRoomFor to_recheck.new.room) readers.new.items }
-    ensures same { AreRoomier readers.old.items readers.new.items }
     ensures to_recheck { to_recheck.new.pids ≡ to_recheck.old.pids }
     ensures groups_at_risk { groups_at_risk.new.pids ≡ groups_at_risk.old.pids }
 {
     if count <= to_recheck.room() {
         return Ok(());
     }
-    reserve_readers(readers, 2 * count)?;
     groups_at_risk.reserve(2 * count)?;
     to_recheck.reserve(2 * count)
 }
@@ -62,18 +54,14 @@ impl<K: ProcessTable> Machine<K> {
         ensures ok { OnOk result (IfThere parent self.old (λ me. self.new.state ≡ born self.old.state me child)) }
         ensures err { OnErr result (AreSameButRoom self.old self.new) }
         ensures to_recheck { OnOk result (self.new.to_recheck ≡ with_number child (with_number parent self.old.to_recheck)) }
-        ensures costs { Costs (7 + length (children_in parent self.old.state.processes)) self.old self.new }
+        ensures costs { Costs 3 self.old self.new }
     {
         self.table.reserve(child)?;
         self.pids.reserve()?;
         self.order.reserve(child)?;
+        self.readers.reserve(child)?;
         let count = self.table.len() + 2;
-        make_room(
-            &mut self.to_recheck,
-            &mut self.groups_at_risk,
-            &mut self.readers,
-            count,
-        )?;
+        make_room(&mut self.to_recheck, &mut self.groups_at_risk, count)?;
         let fields = self.table.newborn(parent, self.births + 1)?;
         self.pids.bear_all(child, fields.group, fields.session);
         self.table.insert(child, parent, fields);

@@ -65,8 +65,7 @@ impl<K: ProcessTable> Machine<K> {
         ensures pid { result.pid ≡ pid }
         ensures finds { Finds 1 self.old self.new (IfSome (process self.old.state pid) (λ me. result ≡ caller_of me)) }
     {
-        // One look at the record gives all of it.
-        self.table.change(pid, |fields| caller_in(pid, fields)).0
+        caller_in(pid, self.table.look(pid))
     }
 }
 

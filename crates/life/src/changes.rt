@@ -138,8 +138,7 @@ pub(crate) fn is_awaited<K: ProcessTable>(
     if order.has(parent) {
         return false;
     }
-    let (awaits, _) = table.change(parent, |fields| awaits(fields, child, seen));
-    awaits
+    awaits(table.look(parent), child, seen)
 }
 
 /// A process is to be rechecked where it can act by a change, and has no place.

@@ -2,7 +2,6 @@
 //! process group do (XBD 11.1).
 
 ghost use Rattle.std.specs.Prelude.{◌≡◌, ◌≢◌, ◌==◌, ◌+◌, ◌<◌, ◌≤◌, ◌^◌, ◌||◌, ℕ, IfOk, OnOk, IfSome, MatchOption, Some, None, [], count_by, length, false, true, if◌then◌else◌, option_map, map, replicate, slice_get, slice_set};
-ghost use Rattle.std.specs.List.{AllByRecursion};
 ghost use Rattle.std.specs.Option.{option_copied};
 ghost use Rattle.posix.specs.Processes.{Process};
 ghost use Rattle.posix.specs.States.{process, is_in, without};
@@ -13,18 +12,19 @@ ghost use Rattle.posix.specs.Settle.{wakes, refreshed, clear_foregrounds as clea
 ghost use Rattle.posix.specs.Step.{key as keying, hangup as hanging};
 ghost use Rattle.posix.specs.Regular.{AreGrouped, IsRegular};
 ghost use Rattle.posix.specs.Tables.{members_in, pids};
-ghost use Rattle.pidset.specs.Numbers.{numbers_above, with_number};
-ghost use Rattle.life.specs.Machines.{Costs, Finds, IsThere, IfThere, with_consoles, IfConsole, AreWatched, HaveRoom, HasRoomFor, AreRoomier, AreUnread, IsReaders, readers_at};
+ghost use Rattle.pidset.specs.Numbers.{with_number};
+ghost use Rattle.pidset.specs.Indexes.{IsMoved, IsNextPair, is_pair_in};
+ghost use Rattle.life.specs.Machines.{AreTerminals, Costs, Finds, IsThere, IfThere, with_consoles, IfConsole, AreWatched};
 ghost use Rattle.life.specs.Rechecks.{NeedNoChild, WaitForNoChild};
 ghost use Rattle.proctable.specs.Records.{snapshot_of};
 ghost use Rattle.life.specs.Foregrounds.{after_loss as after_loss_of, is_unchecked as is_unchecked_by, refreshed_where};
-ghost use Rattle.life.specs.Consoles.{terminal_of, hangs_up as hangs_up_with, reads as reads_from, reads_in as reads_in_session, is_terminal_of as is_terminal, marked, IsMarked, IsTerminalIndex, IsForgottenAt, AreReaders, CanChange, HasChanged, foreground_members, slots_of_key, slots_of_hangup};
+ghost use Rattle.life.specs.Consoles.{terminal_of, hangs_up as hangs_up_with, reads as reads_from, reads_in as reads_in_session, IsTerminalIndex, AreReaders, CanChange, HasChanged, foreground_members, slots_of_key, slots_of_hangup};
 ghost use Rattle.tty.specs.Lines.{Takes};
 
 use crate::machine::Machine;
 use crate::rechecks::take_off;
 use jobs::IndexedTable;
-use pidset::PidSet;
+use pidset::Index;
 use posix::{Blocked, Life, Pid, Sig};
 use proctable::{ProcessTable, Snapshot};
 use std::alloc::{AllocError, Global};
@@ -95,84 +95,28 @@ pub(crate) fn unused(alloc: Global, count: u8) -> Result<Vec<Console>, AllocErro
     Ok(consoles)
 }
 
-/// For each of so many consoles nobody who waits to read from it, with room for two processes; an error where the host
-/// has no memory for it.
-pub(crate) fn no_readers(alloc: Global, count: u8) -> Result<Vec<PidSet>, AllocError>
-    ensures each { (pidmax : ℕ) → IfOk result (λ sets. AllByRecursion (IsReaders pidmax) sets.items) }
-    ensures ready { IfOk result (λ sets. AllByRecursion (HasRoomFor 2) sets.items) }
-    ensures many { IfOk result (λ sets. length sets.items ≡ count) }
-    ensures none { IfOk result (λ sets. AreUnread sets.items) }
+/// The number of the console with an index: they count from 1.
+fn number_of(console_index: usize) -> Pid
+    requires { console_index < 64 }
+    ensures { result ≡ console_index + 1 }
 {
-    let mut sets = Vec::with_capacity(alloc, usize::from(count))?;
-    for _ in 0..count {
-        let mut readers = PidSet::new(alloc);
-        readers.reserve(2)?;
-        sets.push(readers)?;
-    }
-    Ok(sets)
-}
-
-/// Makes room for so many who wait to read from each console. They stay, also at the error that there is no memory.
-pub(crate) fn reserve_readers(readers: &mut Vec<PidSet>, count: usize) -> Result<(), AllocError>
-    requires { count < 2 ^ 63 }
-    ensures ok { OnOk result (AllByRecursion (HasRoomFor count) readers.new.items) }
-    ensures same { AreRoomier readers.old.items readers.new.items }
-{
-    for console_index in 0..readers.len() {
-        readers[console_index].reserve(count)?;
-    }
-    Ok(())
-}
-
-/// The index of the console that is a session's terminal.
-fn terminal_index(consoles: &[Console], session: Pid) -> Option<usize>
-    ensures { IsTerminalIndex session consoles.now result }
-{
-    for console_index in 0..consoles.len() {
-        if consoles[console_index].session() == session {
-            return Some(console_index);
-        }
-    }
-    None
-}
-
-/// A process is in a set, or isn't.
-fn mark(set: &mut PidSet, pid: Pid, waits: bool)
-    requires { length set.old.pids < set.old.room }
-    ensures { set.new ≡ marked waits pid set.old }
-{
-    if waits {
-        set.insert(pid);
-    } else {
-        set.remove(pid);
+    match Pid::new(console_index as u32 + 1) {
+        Some(number) => number,
+        None => unreachable!(),
     }
 }
 
-/// Whether a console is the terminal of this session.
-fn is_terminal_of(session: &Option<Pid>, console: &Console) -> bool
-    ensures { result ≡ is_terminal session.now (Some console.now) }
+/// So many consoles, each nobody's terminal; an error where the host has no memory for them.
+pub(crate) fn nobodys(alloc: Global, count: u8) -> Result<Index, AllocError>
+    requires { count ≤ 64 }
+    ensures { IfOk result (λ t. AreTerminals (replicate count unused_console) t.pairs) }
 {
-    match session {
-        Some(session) => *session == console.session(),
-        None => false,
+    let mut terminals = Index::new(alloc);
+    terminals.reserve(usize::from(count))?;
+    for console_index in 0..usize::from(count) {
+        terminals.insert(0, number_of(console_index));
     }
-}
-
-/// A process is among the readers of the terminal of this session, and among those of no other.
-pub(crate) fn mark_reader(
-    readers: &mut Vec<PidSet>,
-    consoles: &[Console],
-    session: Option<Pid>,
-    pid: Pid,
-)
-    requires many { length readers.old.items ≡ length consoles.now }
-    requires room { HaveRoom readers.old.items }
-    ensures { IsMarked session pid consoles.now readers.old.items readers.new.items }
-{
-    for console_index in 0..consoles.len() {
-        let waits = is_terminal_of(&session, &consoles[console_index]);
-        mark(&mut readers[console_index], pid, waits);
-    }
+    Ok(terminals)
 }
 
 /// The session from whose terminal a process with this snapshot waits to read, if it has no place.
@@ -191,15 +135,6 @@ fn hangs_up(snapshot: &Snapshot) -> bool
     ensures { result ≡ hangs_up_with snapshot.now }
 {
     snapshot.pid != Pid::INIT && snapshot.session == snapshot.pid
-}
-
-/// Nobody is known any more to wait to read from the console with this index, if there is one.
-fn clear_readers(readers: &mut Vec<PidSet>, console_index: usize)
-    ensures { IsForgottenAt console_index readers.old.items readers.new.items }
-{
-    if let Some(set) = readers.get_mut(console_index) {
-        set.clear();
-    }
 }
 
 /// A console has no foreground process group any more, where that has no member in its session.
@@ -258,11 +193,21 @@ fn refresh_all<K: ProcessTable>(
 impl<K: ProcessTable> Machine<K> {
     // ---- what there is
 
+    /// The index of the console that is a session's terminal. No console is looked at.
+    fn terminal_index(&self, session: Pid) -> Option<usize>
+        ensures { IsTerminalIndex session self.now.state.consoles result }
+    {
+        match self.terminals.next(u64::from(session.number()), Pid::NONE) {
+            Some(number) => Some(number.number() as usize - 1),
+            None => None,
+        }
+    }
+
     /// The controlling terminal of a session; none where it has none.
     pub fn terminal(&self, session: Pid) -> Option<Terminal>
         ensures value { result ≡ option_map terminal_of (console_of session self.now.state.consoles) }
     {
-        let console_index = terminal_index(&self.consoles, session)?;
+        let console_index = self.terminal_index(session)?;
         let console = &self.consoles[console_index];
         Some(Terminal {
             foreground: console.foreground(),
@@ -302,62 +247,53 @@ impl<K: ProcessTable> Machine<K> {
 
     // ---- who waits to read
 
-    /// A process that needn't be given a place has been rechecked, and isn't to be rechecked any more. Where it waits to
-    /// read from the terminal of its session, which this is then, it is known there from now on, and nowhere else.
+    /// A process that is there and needn't be given a place has been rechecked, and isn't to be rechecked any more. Where
+    /// it waits to read from the terminal of its session, which this is then, it is known there from now on, and nowhere
+    /// else.
     pub fn finish_recheck(&mut self, pid: Pid, session: Option<Pid>)
+        requires there { IsThere pid self.old }
         requires waits { IfThere pid self.old (λ r. wakes self.old.state r ≡ false) }
         requires session { session ≡ reads_from self.old.state pid }
         ensures rest { self.new ≡ record (self.old) { to_recheck = without pid self.old.to_recheck; readers = self.new.readers } }
         ensures regular { IsRegular self.old.state }
     {
-        mark_reader(&mut self.readers, &self.consoles, session, pid);
+        self.readers.put(pid, session);
         take_off(&mut self.to_recheck, pid);
     }
 
-    /// Who is known by the console with this index is to be rechecked.
-    fn recheck_reader(&mut self, console_index: usize, pid: Pid)
-        requires { is_in pid (readers_at console_index self.old.readers) ≡ true }
-        ensures { self.new ≡ record (self.old) { to_recheck = with_number pid self.old.to_recheck } }
+    /// Who is known to wait to read from a session's terminal is to be rechecked, and isn't known any more.
+    fn recheck_reader(&mut self, session: Pid, pid: Pid)
+        requires { is_pair_in session pid self.old.readers.pairs ≡ true }
+        ensures rest { self.new ≡ record (self.old) { to_recheck = with_number pid self.old.to_recheck; readers = self.new.readers } }
+        ensures forgotten { IsMoved pid None self.old.readers.pairs self.new.readers.pairs }
     {
         self.to_recheck.insert(pid);
+        self.readers.put(pid, None);
     }
 
-    /// Whoever waits to read from the console with this index is to be rechecked, and isn't known by it any more.
-    fn recheck_readers(&mut self, console_index: usize)
+    /// Whoever waits to read from a session's terminal is to be rechecked, and isn't known any more.
+    fn recheck_readers(&mut self, session: Pid)
         ensures rest { self.new ≡ record (self.old) { to_recheck = self.new.to_recheck; readers = self.new.readers } }
-        ensures to_recheck { AreReaders self.new.state console_index self.new.to_recheck }
-        ensures those { (p : ℕ) → is_in p self.new.to_recheck ≡ true → (is_in p self.old.to_recheck || is_in p (readers_at console_index self.old.readers)) ≡ true }
-        ensures readers { readers_at console_index self.new.readers ≡ [] }
+        ensures to_recheck { AreReaders self.new.state session self.new.to_recheck }
+        ensures those { (p : ℕ) → is_in p self.new.to_recheck ≡ true → (is_in p self.old.to_recheck || is_pair_in session p self.old.readers.pairs) ≡ true }
         ensures watched { AreWatched self.old }
         ensures regular { IsRegular self.old.state }
     {
-        let mut next = self.next_reader(console_index, Pid::NONE);
+        let mut next = self.next_reader(session, Pid::NONE);
         while let Some(pid) = next {
-            self.recheck_reader(console_index, pid);
-            next = self.next_reader(console_index, pid);
+            self.recheck_reader(session, pid);
+            next = self.next_reader(session, pid);
         }
-        self.forget_readers(console_index);
     }
 
-    /// Who may wait to read from the console with this index, with the least number above another.
-    fn next_reader(&self, console_index: usize, after: Pid) -> Option<Pid>
-        ensures is { result ≡ slice_get (numbers_above after (readers_at console_index self.now.readers)) 0 }
+    /// Who may wait to read from a session's terminal, with the least number above another.
+    fn next_reader(&self, session: Pid, after: Pid) -> Option<Pid>
+        ensures is { IsNextPair session after self.now.readers.pairs result }
         ensures watched { AreWatched self.now }
         ensures regular { IsRegular self.now.state }
     {
-        match self.readers.get(console_index) {
-            Some(readers) => readers.next_above(after),
-            None => None,
-        }
-    }
-
-    /// Nobody is known any more to wait to read from the console with this index; all who do are to be rechecked.
-    fn forget_readers(&mut self, console_index: usize)
-        requires { AreReaders self.old.state console_index self.old.to_recheck }
-        ensures rest { self.new ≡ record (self.old) { readers = self.new.readers } }
-        ensures readers { readers_at console_index self.new.readers ≡ [] }
-    {
-        clear_readers(&mut self.readers, console_index);
+        let _ = &self.table;
+        self.readers.next(session, after)
     }
 
     /// Changes the console with this index by a closure, and gives the closure's result; none, and nothing changes,
@@ -373,7 +309,13 @@ impl<K: ProcessTable> Machine<K> {
         ensures state { HasChanged F.FnOnce change self.old.state self.new.state console_index result }
         ensures regular { IsRegular self.old.state }
     {
-        Some(change(self.consoles.get_mut(console_index)?))
+        let console = self.consoles.get_mut(console_index)?;
+        let before = u64::from(console.session().number());
+        let result = change(console);
+        let after = u64::from(console.session().number());
+        self.terminals
+            .replace(number_of(console_index), Some(before), Some(after));
+        Some(result)
     }
 
     // ---- whose terminal it is
@@ -385,9 +327,9 @@ impl<K: ProcessTable> Machine<K> {
         requires none { console_of session self.old.state.consoles ≡ None }
         ensures state { IfConsole console_index self.old (λ c. self.new.state ≡ with_consoles self.old.state (slice_set self.old.state.consoles console_index (acquired session group c))) }
         ensures costs { Costs 0 self.old self.new }
-        ensures those { (p : ℕ) → is_in p self.new.to_recheck ≡ true → (is_in p self.old.to_recheck || is_in p (readers_at console_index self.old.readers)) ≡ true }
+        ensures to_recheck { self.new.to_recheck ≡ self.old.to_recheck }
     {
-        self.recheck_readers(console_index);
+        // Nobody waits to read from it: each read of its session was refused till now.
         self.foregrounds_unchecked = Unchecked::All;
         self.change_console(console_index, |console| console.acquire(session, group));
     }
@@ -397,10 +339,11 @@ impl<K: ProcessTable> Machine<K> {
         requires { session ≢ 0 }
         ensures state { self.new.state ≡ with_consoles self.old.state (changed_console session (with_foreground group) self.old.state.consoles) }
         ensures costs { Costs 0 self.old self.new }
-        ensures those { (k p : ℕ) (c : ConsoleValue) → slice_get self.old.state.consoles k ≡ Some c → c.session ≡ session → is_in p self.new.to_recheck ≡ true → (is_in p self.old.to_recheck || is_in p (readers_at k self.old.readers)) ≡ true }
+        ensures those { (p : ℕ) → is_in p self.new.to_recheck ≡ true → (is_in p self.old.to_recheck || is_pair_in session p self.old.readers.pairs) ≡ true }
     {
-        if let Some(console_index) = terminal_index(&self.consoles, session) {
-            self.recheck_readers(console_index);
+        let _ = &self.table;
+        if let Some(console_index) = self.terminal_index(session) {
+            self.recheck_readers(session);
             self.foregrounds_unchecked = Unchecked::All;
             self.change_console(console_index, |console| console.set_foreground(group));
         }
@@ -412,7 +355,7 @@ impl<K: ProcessTable> Machine<K> {
         ensures rest { self.new ≡ record (self.old) { state = self.new.state } }
         ensures state { self.new.state ≡ with_consoles self.old.state (changed_console session (with_tostop tostop) self.old.state.consoles) }
     {
-        if let Some(console_index) = terminal_index(&self.consoles, session) {
+        if let Some(console_index) = self.terminal_index(session) {
             self.change_console(console_index, |console| console.set_tostop(tostop));
         }
     }
@@ -426,25 +369,25 @@ impl<K: ProcessTable> Machine<K> {
         ensures rest { self.new ≡ record (self.old) { state = self.new.state } }
         ensures state { self.new.state ≡ with_consoles self.old.state (changed_console session (line_taken (length out.old)) self.old.state.consoles) }
     {
-        let console_index = terminal_index(&self.consoles, session)?;
+        let console_index = self.terminal_index(session)?;
         self.consoles[console_index].take(out)
     }
 
     // ---- keys, hangups, foregrounds
 
-    /// Where a byte ends a line, whoever waits to read from the console with this index is to be rechecked, and isn't
-    /// known by it any more.
-    fn recheck_at_line_end(&mut self, console_index: usize, byte: u8)
+    /// Where a byte ends a line, whoever waits to read from a session's terminal is to be rechecked, and isn't known any
+    /// more.
+    fn recheck_at_line_end(&mut self, session: Pid, byte: u8)
         ensures rest { self.new ≡ record (self.old) { to_recheck = self.new.to_recheck; readers = self.new.readers } }
-        ensures to_recheck { (byte == 10 || byte == 4) ≡ true → AreReaders self.new.state console_index self.new.to_recheck }
-        ensures those { (p : ℕ) → is_in p self.new.to_recheck ≡ true → (is_in p self.old.to_recheck || is_in p (readers_at console_index self.old.readers)) ≡ true }
+        ensures to_recheck { (byte == 10 || byte == 4) ≡ true → AreReaders self.new.state session self.new.to_recheck }
+        ensures those { (p : ℕ) → is_in p self.new.to_recheck ≡ true → (is_in p self.old.to_recheck || is_pair_in session p self.old.readers.pairs) ≡ true }
         ensures quiet { (byte == 10 || byte == 4) ≡ false → self.new.to_recheck ≡ self.old.to_recheck }
         ensures watched { AreWatched self.old }
         ensures regular { IsRegular self.old.state }
     {
         let _ = &self.table;
         if ends_line(byte) {
-            self.recheck_readers(console_index);
+            self.recheck_readers(session);
         }
     }
 
@@ -458,7 +401,9 @@ impl<K: ProcessTable> Machine<K> {
         ensures readers { self.old.to_recheck ≡ [] → NoWakeIsLost self.old.state → IfConsole console_index self.old (λ c. NeedNoChild self.new.state.processes self.new.to_recheck × (length self.new.to_recheck ≤ length (members_in c.foreground self.old.state.processes))) }
         ensures costs { Costs 0 self.old self.new }
     {
-        self.recheck_at_line_end(console_index, byte);
+        let _ = &self.table;
+        let session = self.session_at(console_index)?;
+        self.recheck_at_line_end(session, byte);
         let _ = &self.table;
         self.change_console(console_index, |console| console.key(byte))
     }
@@ -500,7 +445,9 @@ impl<K: ProcessTable> Machine<K> {
         ensures readers { self.old.to_recheck ≡ [] → NoWakeIsLost self.old.state → IfConsole console_index self.old (λ c. WaitForNoChild self.new.state.processes self.new.to_recheck × (length self.new.to_recheck ≤ length (members_in c.foreground self.old.state.processes))) }
         ensures costs { Costs 0 self.old self.new }
     {
-        self.recheck_readers(console_index);
+        let _ = &self.table;
+        let session = self.session_at(console_index)?;
+        self.recheck_readers(session);
         let _ = &self.table;
         self.change_console(console_index, |console| console.hang_up())
             .flatten()
@@ -536,7 +483,7 @@ impl<K: ProcessTable> Machine<K> {
         requires { IsThere pid self.old }
         ensures state { IfThere pid self.old (λ me. self.new.state ≡ hanging_up self.old.state me) }
         ensures costs { IfThere pid self.old (λ me. Costs (1 + slots_of_hangup me self.old) self.old self.new) }
-        ensures those { (me : Process) (k p : ℕ) (c : ConsoleValue) → process self.old.state pid ≡ Some me → slice_get self.old.state.consoles k ≡ Some c → c.session ≡ me.session → is_in p self.new.to_recheck ≡ true → ((is_in p self.old.to_recheck || is_in p (readers_at k self.old.readers)) || is_in p (pids (members_in c.foreground self.old.state.processes))) ≡ true }
+        ensures those { (me : Process) (p : ℕ) (c : ConsoleValue) → process self.old.state pid ≡ Some me → console_of me.session self.old.state.consoles ≡ Some c → is_in p self.new.to_recheck ≡ true → ((is_in p self.old.to_recheck || is_pair_in me.session p self.old.readers.pairs) || is_in p (pids (members_in c.foreground self.old.state.processes))) ≡ true }
     {
         let Some(snapshot) = self.snapshot(pid) else {
             return;
@@ -544,21 +491,22 @@ impl<K: ProcessTable> Machine<K> {
         if !hangs_up(&snapshot) {
             return;
         }
-        let Some(console_index) = terminal_index(&self.consoles, snapshot.session) else {
+        let Some(console_index) = self.terminal_index(snapshot.session) else {
             return;
         };
         let foreground = self.consoles[console_index].foreground();
-        self.release(console_index);
+        self.release(snapshot.session, console_index);
         self.signal_group(foreground, Sig::HUP);
     }
 
-    /// The console with this index is nobody's terminal any more; what was typed stays.
-    fn release(&mut self, console_index: usize)
+    /// The console with this index, a session's terminal, is nobody's any more; what was typed stays.
+    fn release(&mut self, session: Pid, console_index: usize)
+        requires { IfConsole console_index self.old (λ c. c.session ≡ session) }
         ensures state { IfConsole console_index self.old (λ c. self.new.state ≡ with_consoles self.old.state (slice_set self.old.state.consoles console_index (released c))) }
         ensures costs { Costs 0 self.old self.new }
-        ensures those { (p : ℕ) → is_in p self.new.to_recheck ≡ true → (is_in p self.old.to_recheck || is_in p (readers_at console_index self.old.readers)) ≡ true }
+        ensures those { (p : ℕ) → is_in p self.new.to_recheck ≡ true → (is_in p self.old.to_recheck || is_pair_in session p self.old.readers.pairs) ≡ true }
     {
-        self.recheck_readers(console_index);
+        self.recheck_readers(session);
         self.change_console(console_index, |console| console.release());
     }
 

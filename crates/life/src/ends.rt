@@ -55,7 +55,7 @@ impl<K: ProcessTable> Machine<K> {
         ensures is { IfThere pid self.old (λ me. result ≡ me.parent) }
         ensures parent { IfThere pid self.old (λ me. IsThere me.parent self.new) }
         ensures zombie { (it : Process) × (process self.new.state pid ≡ Some it) × (is_zombie it.life ≡ true) }
-        ensures costs { Costs (6 + 10 * length (children_in pid self.old.state.processes) + length (children_in heir self.old.state.processes)) self.old self.new }
+        ensures costs { Costs (5 + 3 * length (children_in pid self.old.state.processes)) self.old self.new }
     {
         self.to_recheck.insert(pid);
         let Change { parent, after, .. } = self
@@ -83,7 +83,7 @@ impl<K: ProcessTable> Machine<K> {
         ensures is { IfThere pid self.old (λ me. result ≡ me.parent) }
         ensures parent { IfThere pid self.old (λ me. IsThere me.parent self.new) }
         ensures zombie { (it : Process) × (process self.new.state pid ≡ Some it) × (is_zombie it.life ≡ true) }
-        ensures costs { Costs (7 + 18 * length (children_in pid self.old.state.processes) + length (children_in heir self.old.state.processes)) self.old self.new }
+        ensures costs { Costs (6 + 11 * length (children_in pid self.old.state.processes)) self.old self.new }
     {
         self.tell_heir(pid, heir);
         self.become_zombie(pid, heir, status)
@@ -148,7 +148,7 @@ impl<K: ProcessTable> Machine<K> {
         requires heir { pid ≢ 1 → CanInherit self.old.state.processes pid heir }
         ensures state { IfThere pid self.old (λ me. self.new.state ≡ (end_with_heir self.old.state me heir status).state) }
         ensures to_recheck { pid ≡ 1 → self.new.to_recheck ≡ with_number 1 self.old.to_recheck }
-        ensures visits { self.new.visits ≤ self.old.visits + 14 + 19 * length (children_in pid self.old.state.processes) + length (children_in heir self.old.state.processes) + slots_of_orphans self.old.state (tell_of_all (departing self.old.state pid heir status) heir (zombies_of pid self.old.state.processes)) }
+        ensures visits { self.new.visits ≤ self.old.visits + 13 + 12 * length (children_in pid self.old.state.processes) + slots_of_orphans self.old.state (tell_of_all (departing self.old.state pid heir status) heir (zombies_of pid self.old.state.processes)) }
         ensures no_fewer { self.old.visits ≤ self.new.visits }
     {
         if pid == Pid::INIT {

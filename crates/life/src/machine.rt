@@ -1,10 +1,8 @@
 //! The machine: all that the state of a world consists of.
 
-ghost use Rattle.std.specs.Prelude.{◌≡◌, ◌≢◌, ◌+◌, ◌<◌, ◌≤◌, ◌^◌, ◌++◌, ◌∷◌, [], ⊤, ℕ, IfOk, IfSome, length, option_map, replicate, false, true, if◌then◌else◌};
-ghost use Rattle.std.specs.List.{AllByRecursion};
+ghost use Rattle.std.specs.Prelude.{◌≡◌, ◌≢◌, ◌+◌, ◌<◌, ◌≤◌, ◌^◌, ◌++◌, ◌∷◌, [], ⊤, ℕ, IfOk, IfSome, OnOk, length, option_map, replicate, false, true, if◌then◌else◌};
 ghost use Rattle.posix.specs.Consoles.{unused_console};
 ghost use Rattle.pidalloc.specs.Rows.{IsPids, born_in, unborne_table};
-ghost use Rattle.life.specs.Machines.{IsReaders, HasRoomFor, AreUnread};
 ghost use mathlib.Core.Option.{none};
 ghost use Rattle.std.specs.Borrow.{sem, Lends, follows_so};
 ghost use Rattle.posix.specs.Processes.{first_process};
@@ -15,17 +13,17 @@ ghost use Rattle.posix.specs.Step.{code_of, set_cpu};
 ghost use Rattle.proctable.specs.Records.{snapshot_of, own_of, own_row};
 ghost use Rattle.life.specs.contracts.machine.Machine.{the_row as machine_row};
 ghost use Rattle.life.specs.Loans.{lent, looked};
-ghost use Rattle.life.specs.Machines.{Finds, FindsAndCounts, Runs, IsThere, IfThere};
+ghost use Rattle.life.specs.Machines.{AreTerminals, Finds, FindsAndCounts, Runs, IsThere, IfThere};
 ghost use Rattle.life.specs.NotedBursts.{most_notes, exec_with_notes};
 ghost use Rattle.pidset.specs.Numbers.{with_number};
 ghost use Rattle.sched.specs.Places.{next_behind};
 
-use crate::consoles::{Unchecked, no_readers, unused};
+use crate::consoles::{Unchecked, nobodys, unused};
 use crate::noted_bursts::{Notes, run_with_notes};
 use crate::rechecks::recheck_later;
 use jobs::IndexedTable;
 use pidalloc::PidTable;
-use pidset::PidSet;
+use pidset::{Index, PidSet};
 use posix::{Pid, Sig, Trap};
 use proctable::{GrantedPools, OwnPart, ProcessTable, Record, Snapshot};
 use sched::Order;
@@ -47,8 +45,11 @@ pub struct Machine<K: ProcessTable> {
     /// While a process ends: the process groups that it and its children kept from being orphaned.
     pub(crate) groups_at_risk: PidSet,
     pub(crate) consoles: Vec<Console>,
-    /// The processes that wait to read from each console. The set is exact but for the processes to recheck.
-    pub(crate) readers: Vec<PidSet>,
+    /// The consoles, by numbers from 1 on, each under the session whose terminal it is; nobody's under number 0.
+    pub(crate) terminals: Index,
+    /// The processes that wait to read, each in the list of its session. The lists are exact but for the processes to
+    /// recheck.
+    pub(crate) readers: pidset::Lists,
     /// Whose foreground process group may have lost its members: a record went, one changed its process group or
     /// session, or a foreground was set.
     pub(crate) foregrounds_unchecked: Unchecked,
@@ -65,9 +66,9 @@ impl<K: ProcessTable> Model for Machine<K> {
 
     ghost Value = { MachineView };
 
-    ghost view = { λ m. record { state = state_of m.world (m.table.processes) m.consoles.items m.pids m.order m.births m.ticks m.dropped m.halted; visits = m.table.visits; to_recheck = m.to_recheck.pids; groups_at_risk = m.groups_at_risk.pids; foregrounds_unchecked = m.foregrounds_unchecked; readers = m.readers.items } };
+    ghost view = { λ m. record { state = state_of m.world (m.table.processes) m.consoles.items m.pids m.order m.births m.ticks m.dropped m.halted; visits = m.table.visits; to_recheck = m.to_recheck.pids; groups_at_risk = m.groups_at_risk.pids; foregrounds_unchecked = m.foregrounds_unchecked; readers = m.readers } };
 
-    ghost invariant = { λ m. IsMachine (state_of m.world (m.table.processes) m.consoles.items m.pids m.order m.births m.ticks m.dropped m.halted) m.pids m.order m.to_recheck m.groups_at_risk (record { readers = m.readers.items; foregrounds_unchecked = m.foregrounds_unchecked }) };
+    ghost invariant = { λ m. IsMachine (state_of m.world (m.table.processes) m.consoles.items m.pids m.order m.births m.ticks m.dropped m.halted) m.pids m.order m.to_recheck m.groups_at_risk (record { readers = m.readers; foregrounds_unchecked = m.foregrounds_unchecked; terminals = m.terminals.pairs }) };
 }
 
 /// The lists that a machine keeps beside its table: the numbers borne, the order of turns, the processes to recheck,
@@ -115,22 +116,28 @@ impl Lists {
 #[derive(Drop)]
 struct Terminals {
     consoles: Vec<Console>,
-    readers: Vec<PidSet>,
+    terminals: Index,
+    readers: pidset::Lists,
 }
 
 impl Terminals {
     /// `count` consoles that no session has, from which nobody waits to read; an error where the host has no memory for
     /// them.
     fn unused(alloc: Global, count: u8) -> Result<Terminals, AllocError>
+        requires { count ≤ 64 }
         ensures consoles { IfOk result (λ t. t.consoles.items ≡ replicate count unused_console) }
-        ensures each { (pidmax : ℕ) → IfOk result (λ t. AllByRecursion (IsReaders pidmax) t.readers.items) }
-        ensures ready { IfOk result (λ t. AllByRecursion (HasRoomFor 2) t.readers.items) }
-        ensures many { IfOk result (λ t. length t.readers.items ≡ count) }
-        ensures none { IfOk result (λ t. AreUnread t.readers.items) }
+        ensures terminals { IfOk result (λ t. AreTerminals (replicate count unused_console) t.terminals.pairs) }
+        ensures nobody { IfOk result (λ t. t.readers.pairs ≡ []) }
+        ensures room { IfOk result (λ t. 1 < t.readers.numbers) }
     {
+        let consoles = unused(alloc, count)?;
+        let terminals = nobodys(alloc, count)?;
+        let mut readers = pidset::Lists::new(alloc);
+        readers.reserve(Pid::INIT)?;
         Ok(Terminals {
-            consoles: unused(alloc, count)?,
-            readers: no_readers(alloc, count)?,
+            consoles,
+            terminals,
+            readers,
         })
     }
 }
@@ -146,15 +153,25 @@ fn room_for(alloc: Global, capacity: usize) -> Result<PidSet, AllocError>
     Ok(set)
 }
 
-/// A table of process 1 alone; an error where the host has no memory for it.
+/// Puts process 1 into an empty table. An error where the host has no memory for it.
 #[tactic(auto, using(jobs::proofs::NumberLemmas::nobody_there), unfolding(posix::specs::Tables::children_in))]
+fn put_first<K: ProcessTable>(table: &mut IndexedTable<K>, alloc: Global) -> Result<(), AllocError>
+    requires { table.old.processes ≡ [] }
+    ensures processes { OnOk result (table.new.processes ≡ first_process ∷ []) }
+    ensures visits { OnOk result (table.new.visits ≤ table.old.visits + 6) }
+{
+    table.reserve(Pid::INIT)?;
+    table.insert(Pid::INIT, Pid::NONE, Record::first(alloc)?);
+    Ok(())
+}
+
+/// A table of process 1 alone; an error where the host has no memory for it.
 fn first_table<K: ProcessTable>(alloc: Global) -> Result<IndexedTable<K>, AllocError>
     ensures processes { IfOk result (λ t. t.processes ≡ first_process ∷ []) }
     ensures visits { IfOk result (λ t. t.visits ≤ 6) }
 {
     let mut table = IndexedTable::empty(alloc);
-    table.reserve(Pid::INIT)?;
-    table.insert(Pid::INIT, Pid::NONE, Record::first(alloc)?);
+    put_first(&mut table, alloc)?;
     Ok(table)
 }
 
@@ -181,6 +198,7 @@ impl<K: ProcessTable> Machine<K> {
             to_recheck: lists.to_recheck,
             groups_at_risk: lists.groups_at_risk,
             consoles: terminals.consoles,
+            terminals: terminals.terminals,
             readers: terminals.readers,
             foregrounds_unchecked: Unchecked::Nothing,
             granted_pools: GrantedPools::new(alloc),
@@ -351,7 +369,7 @@ impl<K: ProcessTable> Machine<K> {
         ensures value { IfSome (process self.old.state pid) (λ me. result.now ≡ own_of me) }
         ensures regular { IsRegular self.old.state }
     {
-        self.table.look(pid)
+        &self.table.look(pid).own
     }
 
     // ---- places

@@ -18,7 +18,7 @@ ghost use Rattle.proctable.specs.Records.{process_of};
 ghost use Rattle.life.specs.Foregrounds.{after_loss as after_loss_of};
 
 use crate::caller::{Caller, caller_in};
-use crate::consoles::{after_loss, mark_reader};
+use crate::consoles::after_loss;
 use crate::machine::Machine;
 use crate::rechecks::forget;
 use bitflags::Flags;
@@ -289,7 +289,7 @@ impl<K: ProcessTable> Machine<K> {
         ensures born { self.new.state.dropped + length self.new.state.processes < self.new.state.births }
     {
         let snapshot = discard(&mut self.table, &mut self.pids, pid);
-        mark_reader(&mut self.readers, &self.consoles, None, pid);
+        self.readers.put(pid, None);
         forget(&mut self.to_recheck, pid, snapshot.parent);
         self.foregrounds_unchecked = after_loss(&self.foregrounds_unchecked, snapshot.group);
     }

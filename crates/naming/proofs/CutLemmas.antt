@@ -24,9 +24,6 @@ by_test p xs false e =
 pub first_or_end : (p : ℕ → Bool) (xs : List ℕ) → unwrap_or (position p xs) (length xs) ≡ position_or_len p xs
 first_or_end p xs = by_test p xs (nat_lt (position_or_len p xs) (length xs)) refl
 
-pub first_within : (p : ℕ → Bool) (xs : List ℕ) → position_or_len p xs ≤ length xs
-first_within p xs = prefix_len-le-length (λ x. not (p x)) xs
-
 -- ---- words
 
 first_passes : (text : List ℕ) (n : ℕ) → position_or_len is_separator (from_word text) ≡ n → 0 < length (from_word text) → 0 < n

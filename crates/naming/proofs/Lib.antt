@@ -1,4 +1,3 @@
 pub mod LineLemmas
 pub mod CutLemmas
 pub mod TextLemmas
-pub mod ServingLemmas

@@ -35,9 +35,6 @@ range_one_line xs n k h = All-take (λ b. b ≢ 10) n (drop k xs) (All-drop (λ 
 pub two_one_line : (a b : ℕ) → a ≢ 10 → b ≢ 10 → IsOneLine (a ∷ b ∷ [])
 two_one_line a b h k = All-cons (λ b. b ≢ 10) a (b ∷ []) h (All-cons (λ b. b ≢ 10) b [] k (All-nil (λ b. b ≢ 10)))
 
-pub pushed_one_line : (xs : List ℕ) (b : ℕ) → IsOneLine xs → b ≢ 10 → IsOneLine (xs ++ b ∷ [])
-pushed_one_line xs b h k = All-push (λ b. b ≢ 10) xs b h k
-
 pub from_word_one_line : (text : List ℕ) → IsOneLine text → IsOneLine (from_word text)
 from_word_one_line text h = All-drop (λ b. b ≢ 10) (position_or_len (λ b. not (is_separator b)) text) text h
 
@@ -57,83 +54,3 @@ stands_weaker (Err e) A T B C weaker h = tt
 -- what was told so far, and more, and more again
 pub grows_then : (a b c : List ℕ) → Grows a b → Grows b c → Grows a c
 grows_then a b c (xs, g) (ys, h) = (xs ++ ys, h ∙ ap (λ (l : List ℕ). l ++ ys) g ∙ append_assoc a xs ys)
-
-pub grows_not : (a b : List ℕ) → b ≡ a → Grows a b
-grows_not a b e = ([], e ∙ sym (append-nil a))
-
--- ---- what stands for a line
-
--- a line without names stays
-pub plain_stays : (line told told_then : List ℕ) → IsOneLine line → (more : List ℕ) × (told_then ≡ told ++ more) × (sort_of line ≢ Typed → more ≡ []) → StandsFor line line told told_then
-plain_stays line told told_then one (more, g, quiet) = (
-  more,
-  g,
-  record {
-    given = one;
-    one_line = one;
-    other = λ e. (refl, quiet (λ k. let clash : Other ≡ Typed = sym e ∙ k in cc));
-    plain = λ e. refl;
-    quiet = λ e k. quiet k;
-    refused = λ k. inr refl;
-  },
-)
-
--- so does one that is for nothing
-pub other_stays : (line told told_then : List ℕ) → IsOneLine line → told_then ≡ told → StandsFor line line told told_then
-other_stays line told told_then one same = (
-  [],
-  same ∙ sym (append-nil told),
-  record {
-    given = one;
-    one_line = one;
-    other = λ e. (refl, refl);
-    plain = λ e. refl;
-    quiet = λ e k. refl;
-    refused = λ k. inl refl;
-  },
-)
-
--- and one that is refused, or in which no names stand
-pub refused_stays : (line told told_then : List ℕ) → is_plain line ≡ false → sort_of line ≢ Other → IsOneLine line → Grows told told_then → StandsFor line line told told_then
-refused_stays line told told_then some is_for one (more, g) = (
-  more,
-  g,
-  record {
-    given = one;
-    one_line = one;
-    other = λ e. absurd (is_for e);
-    plain = λ e. refl;
-    quiet = λ e k. let clash : true ≡ false = sym e ∙ some in cc;
-    refused = λ k. inr refl;
-  },
-)
-
--- numbers stand for names
-pub names_replaced : (line named told told_then : List ℕ) → is_plain line ≡ false → sort_of line ≢ Other → IsOneLine line → IsOneLine named → told_then ≡ told → StandsFor line named told told_then
-names_replaced line named told told_then some is_for one still same = (
-  [],
-  same ∙ sym (append-nil told),
-  record {
-    given = one;
-    one_line = still;
-    other = λ e. absurd (is_for e);
-    plain = λ e. let clash : true ≡ false = sym e ∙ some in cc;
-    quiet = λ e k. refl;
-    refused = λ k. inl refl;
-  },
-)
-
--- bytes stand for keys
-pub keys_replaced : (line named told told_then : List ℕ) → is_plain line ≡ false → sort_of line ≡ Key → IsOneLine line → IsOneLine named → Grows told told_then → StandsFor line named told told_then
-keys_replaced line named told told_then some is_key one still (more, g) = (
-  more,
-  g,
-  record {
-    given = one;
-    one_line = still;
-    other = λ e. let clash : Key ≡ Other = sym is_key ∙ e in cc;
-    plain = λ e. let clash : true ≡ false = sym e ∙ some in cc;
-    quiet = λ e k. let clash : true ≡ false = sym e ∙ some in cc;
-    refused = λ k. absurd (k is_key);
-  },
-)

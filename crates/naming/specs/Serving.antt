@@ -1,8 +1,8 @@
 -- What the program does with its words, and what its status means.
-use Rattle.std.specs.Prelude.{◌≡◌, ◌≢◌, ◌⊎◌, ℕ, List, [], ◌∷◌, codes, map, None, Option, Result, Ok, Err, IfSome, IsSomeAnd}
+use Rattle.std.specs.Prelude.{◌≡◌, ◌≢◌, ℕ, List, [], ◌∷◌, codes, map, None, Option, Result, Ok, Err, IfSome, IsSomeAnd}
 use Rattle.std.specs.Borrow.{Bor}
 use Rattle.host.specs.declared.words.WordsFault.{WordsFault}
-use Rattle.inputs.specs.Failures.{status_of}
+use Rattle.inputs.specs.Failures.{MeansOf, status_of}
 use Rattle.inputs.specs.Reads.{Contents, Text}
 use Rattle.inputs.specs.Words.{file_in_words}
 use Rattle.inputs.specs.declared.failure.FileFailure.{FileFailure}
@@ -52,12 +52,8 @@ Ends contents asked old new before after (Err (failure.CannotRead name)) = new �
 Ends contents asked old new before after (Err failure.Memory) = new ≡ old
 Ends contents asked old new before after (Err failure.Write) = OfNamed contents asked (λ named faults. BreaksOff before after named)
 
--- What a status means, with what is asked for, if something is, the files, and the output from the call to the return.
-pub record Means {S : Type 0} (contents : Contents) (asked : Option Text) (old new : S) (before after : Seen) (status : ℕ) : Type 0 where
-  -- nothing is told, and all that stands for the text was put
-  pub done : status ≡ 0 → OfNamed contents asked (λ named told. (told ≡ []) × TakesAll before after named)
-  -- a name is refused, which is told, and all that stands for the text was put
-  pub refused : status ≡ 1 → OfNamed contents asked (λ named told. (told ≢ []) × TakesAll before after named)
-  pub other_words : status ≡ 2 → (asked ≡ None) × (new ≡ old)
-  -- nothing was put, or a beginning of what stands for the text
-  pub cut_short : status ≡ 3 → (new ≡ old) ⊎ OfNamed contents asked (λ named told. BreaksOff before after named)
+-- What a status means, with what is asked for, if something is, the files, and the output from the call to the return: 0 that nothing is told, 1 that
+-- a name is refused, which is told, and that all that stands for the text was put; 3 that nothing was put, or a beginning of that.
+abbrev pub Means : {S : Type 0} → Contents → Option Text → S → S → Seen → Seen → ℕ → Type 0
+Means contents asked old new before after status = MeansOf (OfNamed contents asked (λ named told. (told ≡ []) × TakesAll before after named))
+    (OfNamed contents asked (λ named told. (told ≢ []) × TakesAll before after named)) (OfNamed contents asked (λ named told. BreaksOff before after named)) asked old new status

@@ -1,13 +1,11 @@
 //! What is wrong with a name.
 
-ghost use Rattle.std.specs.Prelude.{◌≡◌, [], OnOk};
+ghost use Rattle.std.specs.Prelude.{OnOk};
 ghost use Rattle.naming.specs.Lines.{Grows};
 
+use crate::message::Message;
 use crate::nearest::meant;
-use arrayvec::ArrayString;
-use std::alloc::{AllocError, Global};
-use std::fmt::Write;
-use std::marker::Model;
+use std::alloc::AllocError;
 
 /// What is wrong with a name, a key or a text.
 #[derive(Clone, Copy)]
@@ -43,112 +41,61 @@ pub enum Fault<'a> {
 }
 
 impl Fault<'_> {
-    /// Adds its text.
-    fn push_to(self, alloc: Global, text: &mut Vec<u8>) -> Result<(), AllocError>
-        ensures { OnOk result (Grows text.old.items text.new.items) }
+    /// Adds a line with it, for a line of a text.
+    pub fn tell(self, line: u64, told: &mut Message) -> Result<(), AllocError>
+        ensures { OnOk result (Grows told.old told.new) }
+    {
+        told.say_number("jobk: line ", line)?;
+        told.say(": ")?;
+        self.say(told)?;
+        told.say("\n")
+    }
+
+    /// Adds its words.
+    fn say(self, told: &mut Message) -> Result<(), AllocError>
+        ensures { OnOk result (Grows told.old told.new) }
     {
         match self {
-            Fault::Missing => text.extend_from_slice(b"a name is missing beside `|`"),
-            Fault::Unknown(name) => push_unknown(alloc, text, name),
-            Fault::NoName(name, more) => push_about(text, b"no name is ", name, more),
-            Fault::NoSignal(name) => push_about(text, b"", name, NO_SIGNAL),
-            Fault::TwoKinds(first, name) => {
-                push_about(text, b"", first, b" and ")?;
-                push_about(text, b"", name, b" are of two kinds")
+            Fault::Missing => told.say("a name is missing beside `|`"),
+            Fault::Unknown(name) => say_unknown(told, name),
+            Fault::NoName(name, more) => {
+                told.say_with("no name is ", name)?;
+                told.quote(more)
             }
-            Fault::Alone(name) => push_about(text, b"", name, ALONE),
-            Fault::OpenSet => text.extend_from_slice(b"a set that begins with { ends with }"),
-            Fault::NoKey(key) => push_about(text, b"no key is ", key, KEYS),
-            Fault::NoText => text.extend_from_slice(b"a line is written: type 1 \"fg\\n\""),
-            Fault::OpenText => text.extend_from_slice(b"a text ends with \""),
-            Fault::NoEscape(letter) => push_about(text, b"no letter is \\", letter, ESCAPES),
-            Fault::EmptyText => text.extend_from_slice(b"a text has at least one letter"),
-            Fault::GluedText => text.extend_from_slice(b"a text ends with \" and a blank"),
-            Fault::LongText => text.extend_from_slice(LONG_TEXT),
+            Fault::NoSignal(name) => told.say_around("", name, NO_SIGNAL),
+            Fault::TwoKinds(first, name) => {
+                told.say_around("", first, " and ")?;
+                told.say_around("", name, " are of two kinds")
+            }
+            Fault::Alone(name) => told.say_around("", name, ALONE),
+            Fault::OpenSet => told.say("a set that begins with { ends with }"),
+            Fault::NoKey(key) => told.say_around("no key is ", key, KEYS),
+            Fault::NoText => told.say("a line is written: type 1 \"fg\\n\""),
+            Fault::OpenText => told.say("a text ends with \""),
+            Fault::NoEscape(letter) => told.say_around("no letter is \\", letter, ESCAPES),
+            Fault::EmptyText => told.say("a text has at least one letter"),
+            Fault::GluedText => told.say("a text ends with \" and a blank"),
+            Fault::LongText => told.say(LONG_TEXT),
         }
     }
 }
 
-const NO_SIGNAL: &[u8] = b" is no signal; a set has signals alone";
+const NO_SIGNAL: &str = " is no signal; a set has signals alone";
 
-const ALONE: &[u8] = b" is joined with another name; only signals, options and flags are";
+const ALONE: &str = " is joined with another name; only signals, options and flags are";
 
-const KEYS: &[u8] = b"; ^A to ^Z are, ^@ ^[ ^\\ ^] ^^ ^_ and ^?";
+const KEYS: &str = "; ^A to ^Z are, ^@ ^[ ^\\ ^] ^^ ^_ and ^?";
 
-const ESCAPES: &[u8] = b"; \\n \\t \\r \\\\ \\\" and \\x1B are";
+const ESCAPES: &str = "; \\n \\t \\r \\\\ \\\" and \\x1B are";
 
-const LONG_TEXT: &[u8] =
-    b"this text makes a line of more than 200 bytes, three for each letter; divide it";
-
-/// Adds a sentence about a name.
-fn push_about(
-    text: &mut Vec<u8>,
-    before: &[u8],
-    name: &[u8],
-    behind: &[u8],
-) -> Result<(), AllocError>
-    ensures { OnOk result (Grows text.old.items text.new.items) }
-{
-    text.extend_from_slice(before)?;
-    text.extend_from_slice(name)?;
-    text.extend_from_slice(behind)
-}
+const LONG_TEXT: &str =
+    "this text makes a line of more than 200 bytes, three for each letter; divide it";
 
 /// Adds that no number has a name, and which is meant.
-fn push_unknown(alloc: Global, text: &mut Vec<u8>, name: &[u8]) -> Result<(), AllocError>
-    ensures { OnOk result (Grows text.old.items text.new.items) }
+fn say_unknown(told: &mut Message, name: &[u8]) -> Result<(), AllocError>
+    ensures { OnOk result (Grows told.old told.new) }
 {
-    push_about(text, b"no name is ", name, b"")?;
-    match meant(alloc, name)? {
-        Some(meant) => push_about(text, b"; did you mean ", meant, b"?"),
-        None => Ok(()),
-    }
-}
-
-/// What is told of a text, a line for each fault.
-#[derive(Drop)]
-pub struct Told {
-    alloc: Global,
-    text: Vec<u8>,
-}
-
-impl Model for Told {
-    ghost use Rattle.std.specs.Prelude.{List, ℕ};
-
-    ghost Value = { List ℕ };
-
-    ghost view = { λ t. t.text.items };
-
-    ghost invariant = { λ _. Unit {0} };
-}
-
-impl Told {
-    /// Nothing.
-    pub fn new(alloc: Global) -> Told
-        ensures { result ≡ [] }
-    {
-        Told {
-            alloc,
-            text: Vec::new(alloc),
-        }
-    }
-
-    /// Its bytes.
-    pub fn as_bytes(&self) -> &[u8]
-        ensures { result.now ≡ self.now }
-    {
-        self.text.as_slice()
-    }
-
-    /// Tells a fault of a line.
-    pub fn tell(&mut self, line: u64, fault: Fault<'_>) -> Result<(), AllocError>
-        ensures { OnOk result (Grows self.old self.new) }
-    {
-        let mut begin = ArrayString::<40>::new();
-        let _ = write!(begin, "jobk: line {line}: ");
-        self.text.extend_from_slice(begin.as_str().as_bytes())?;
-        fault.push_to(self.alloc, &mut self.text)?;
-        self.text.push(b'\n')?;
-        Ok(())
-    }
+    told.say_with("no name is ", name)?;
+    let meant = meant(told.alloc(), name)?;
+    told.say_meant("; did you mean ", meant)
 }

@@ -5,8 +5,9 @@ ghost use Rattle.std.specs.Fmt.{digit_glyph};
 ghost use Rattle.naming.specs.Keys.{control as control_of, two_digits};
 ghost use Rattle.naming.specs.Lines.{Grows, IsOneLine};
 
-use crate::fault::{Fault, Told};
+use crate::fault::Fault;
 use crate::line::{next_word, split_comment};
+use crate::message::Message;
 use std::alloc::{AllocError, Global};
 
 /// The byte of a key that is pressed with Ctrl, as `^C`.
@@ -50,7 +51,7 @@ fn push_word(
     number: u64,
     place: u64,
     word: &[u8],
-    told: &mut Told,
+    told: &mut Message,
 ) -> Result<(), AllocError>
     ensures text { IsOneLine text.old.items → IsOneLine word.now → OnOk result (IsOneLine text.new.items) }
     ensures told { OnOk result (Grows told.old told.new) }
@@ -61,7 +62,7 @@ fn push_word(
     match control(word) {
         Some(byte) => push_byte(text, byte),
         None => {
-            told.tell(number, Fault::NoKey(word))?;
+            Fault::NoKey(word).tell(number, told)?;
             text.extend_from_slice(word)
         }
     }
@@ -72,7 +73,7 @@ pub fn key_line(
     alloc: Global,
     number: u64,
     line: &[u8],
-    told: &mut Told,
+    told: &mut Message,
 ) -> Result<Vec<u8>, AllocError>
     ensures text { IsOneLine line.now → IfOk result (λ v. IsOneLine v.items) }
     ensures told { OnOk result (Grows told.old told.new) }

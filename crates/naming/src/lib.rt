@@ -4,6 +4,7 @@
 mod fault;
 mod key_line;
 mod line;
+mod message;
 mod nearest;
 mod number;
 mod serving;
@@ -11,9 +12,9 @@ mod set_line;
 mod texts;
 mod type_line;
 
-pub use fault::Told;
 pub use key_line::push_byte;
-pub use line::{next_word, skip_separators, split_comment};
+pub use line::{MAX_LINE_LEN, next_word, skip_separators, split_comment};
+pub use message::{Message, digits_of};
 pub use nearest::{Nearest, distance, meant};
 pub use serving::serve;
 pub use texts::{Named, name_text};

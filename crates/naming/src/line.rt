@@ -7,6 +7,9 @@ ghost use Rattle.naming.specs.Lines.{IsOneLine, begins_name as begins_name_of, b
 
 use std::alloc::{AllocError, Global};
 
+/// The most bytes of a line.
+pub const MAX_LINE_LEN: usize = 200;
+
 /// What a line is for: its first word tells.
 #[derive(Clone, Copy, Debug, PartialEq, Eq)]
 pub enum Sort {

@@ -45,24 +45,24 @@ fn given_number(kind: Kind, number: i64) -> i64 {
 
 /// What a name stands for.
 #[derive(Clone, Copy)]
-pub struct Known {
+pub struct Meaning {
     kind: Kind,
     number: i64,
 }
 
 /// What a name stands for; none where no number has it.
-fn known_as(word: &[u8]) -> Option<Known> {
+fn known_as(word: &[u8]) -> Option<Meaning> {
     for (kind, name, number) in &NAMES {
         if name.as_bytes() == word {
             let number = given_number(*kind, *number);
-            return Some(Known {
+            return Some(Meaning {
                 kind: *kind,
                 number,
             });
         }
     }
     let number = realtime(word)?;
-    Some(Known {
+    Some(Meaning {
         kind: Kind::Signal,
         number,
     })
@@ -79,7 +79,7 @@ fn signal_of(number: i64) -> SigSet {
 /// What some names of one kind come to.
 #[derive(Clone, Copy)]
 struct Sum {
-    first: Option<Known>,
+    first: Option<Meaning>,
     is_one: bool,
     signals: SigSet,
     bits: i64,
@@ -95,7 +95,7 @@ impl Sum {
     };
 
     /// Adds a name, unless it is of another kind. Whether it is of the same.
-    fn add(&mut self, known: Known) -> bool {
+    fn add(&mut self, known: Meaning) -> bool {
         let first = self.first;
         match first {
             Some(first) if first.kind != known.kind => return false,

@@ -4,17 +4,19 @@ ghost use Rattle.std.specs.Prelude.{◌≡◌, ◌≤◌, Err, map};
 ghost use Rattle.host.specs.declared.words.WordsFault.{WordsFault};
 ghost use Rattle.naming.specs.Serving.{Ends, EndsText, Means, answer_of, asked_by, text_in_words};
 
-use crate::fault::Told;
+use crate::message::Message;
 use crate::texts::{Named, name_text};
 use host::{ReadFiles, WordsFault};
 use inputs::{FileFailure, named_file, read_file};
-use sink::{Sink, SinkFault, put_all};
+use sink::{Sink, put_all};
 use std::alloc::Global;
 
-const USAGE: &[u8] = b"usage: jobk names TEXT\n";
-
 /// Puts a text with numbers for its names. What is wrong with names.
-fn serve_text<'a, O: Sink>(alloc: Global, text: &[u8], out: &mut O) -> Result<Told, FileFailure<'a>>
+fn serve_text<'a, O: Sink>(
+    alloc: Global,
+    text: &[u8],
+    out: &mut O,
+) -> Result<Message, FileFailure<'a>>
     ensures { EndsText text.now out.old out.new (O.seen out.old) (O.seen out.new) result }
 {
     let Named { text, told } = name_text(alloc, text)?;
@@ -28,7 +30,7 @@ fn serve_words<'a, F: ReadFiles, O: Sink>(
     words: &'a [&'a str],
     files: &F,
     out: &mut O,
-) -> Result<Told, FileFailure<'a>>
+) -> Result<Message, FileFailure<'a>>
     ensures { Ends (F.contents files.now) (text_in_words (map (λ w. w.now) words.entry.now)) out.old out.new (O.seen out.old) (O.seen out.new) result }
 {
     let name = named_file(alloc, "names", "text", words)?;
@@ -36,22 +38,8 @@ fn serve_words<'a, F: ReadFiles, O: Sink>(
     serve_text(alloc, text.as_slice(), out)
 }
 
-/// Tells a failure, as far as the error output takes it. It takes no memory.
-fn tell<E: Sink>(failure: FileFailure<'_>, err: &mut E) -> Result<(), SinkFault> {
-    match failure {
-        FileFailure::Usage => put_all(err, USAGE),
-        FileFailure::CannotRead(name) => {
-            put_all(err, b"jobk: cannot read ")?;
-            put_all(err, name.as_bytes())?;
-            put_all(err, b"\n")
-        }
-        FileFailure::Memory => put_all(err, b"jobk: out of memory\n"),
-        FileFailure::Write => put_all(err, b"jobk: cannot write\n"),
-    }
-}
-
 /// The status of the program. What is wrong with names is told, and so is a failure.
-fn ended<E: Sink>(done: Result<Told, FileFailure<'_>>, err: &mut E) -> u8
+fn ended<E: Sink>(done: Result<Message, FileFailure<'_>>, err: &mut E) -> u8
     ensures status { result ≡ answer_of done.entry }
     ensures silent { result ≡ 0 → err.new ≡ err.old }
 {
@@ -63,10 +51,7 @@ fn ended<E: Sink>(done: Result<Told, FileFailure<'_>>, err: &mut E) -> u8
             let _ = put_all(err, told.as_bytes());
             1
         }
-        Err(failure) => {
-            let _ = tell(failure, err);
-            failure.status()
-        }
+        Err(failure) => failure.end(b"usage: jobk names TEXT\n", err),
     }
 }
 

@@ -5,8 +5,9 @@ ghost use Rattle.std.specs.Fmt.{signed_decimal};
 ghost use Rattle.std.specs.String.{string_bytes};
 ghost use Rattle.naming.specs.Lines.{Grows, IsOneLine};
 
-use crate::fault::{Fault, Told};
+use crate::fault::Fault;
 use crate::line::{is_separator, joined, next_word, skip_separators, split_comment, word_len};
+use crate::message::Message;
 use crate::number::{Form, number_of};
 use std::alloc::{AllocError, Global};
 
@@ -108,7 +109,7 @@ impl Around<'_> {
         form: Form,
         operand: &[u8],
         len: usize,
-        told: &mut Told,
+        told: &mut Message,
     ) -> Result<Option<Vec<u8>>, AllocError>
         requires { len ≤ length operand.now }
         ensures { IfOk result (λ o. MatchOption o (Grows told.old told.new) (λ v. (told.new ≡ told.old) × (IsOneLine self.entry.before.now → IsOneLine self.entry.comment.now → IsOneLine operand.now → IsOneLine v.items))) }
@@ -117,7 +118,7 @@ impl Around<'_> {
         match number_before(form, names, behind) {
             Ok(number) => Ok(Some(self.with_number(alloc, number, behind)?)),
             Err(fault) => {
-                told.tell(line, fault)?;
+                fault.tell(line, told)?;
                 Ok(None)
             }
         }
@@ -130,7 +131,7 @@ pub fn set_line(
     alloc: Global,
     number: u64,
     line: &[u8],
-    told: &mut Told,
+    told: &mut Message,
 ) -> Result<Option<Vec<u8>>, AllocError>
     ensures { IfOk result (λ o. MatchOption o (Grows told.old told.new) (λ v. (told.new ≡ told.old) × (IsOneLine line.now → IsOneLine v.items))) }
 {
@@ -153,14 +154,14 @@ fn set_in_braces(
     number: u64,
     around: Around<'_>,
     operand: &[u8],
-    told: &mut Told,
+    told: &mut Message,
 ) -> Result<Option<Vec<u8>>, AllocError>
     ensures { IfOk result (λ o. MatchOption o (Grows told.old told.new) (λ v. (told.new ≡ told.old) × (IsOneLine around.entry.before.now → IsOneLine around.entry.comment.now → IsOneLine operand.now → IsOneLine v.items))) }
 {
     match operand.iter().position(|b| *b == b'}') {
         Some(end) => around.with_names(alloc, number, Form::Set, operand, end + 1, told),
         None => {
-            told.tell(number, Fault::OpenSet)?;
+            Fault::OpenSet.tell(number, told)?;
             Ok(None)
         }
     }
@@ -172,7 +173,7 @@ fn set_of_names(
     number: u64,
     around: Around<'_>,
     operand: &[u8],
-    told: &mut Told,
+    told: &mut Message,
 ) -> Result<Option<Vec<u8>>, AllocError>
     ensures { IfOk result (λ o. MatchOption o (Grows told.old told.new) (λ v. (told.new ≡ told.old) × (IsOneLine around.entry.before.now → IsOneLine around.entry.comment.now → IsOneLine operand.now → IsOneLine v.items))) }
 {

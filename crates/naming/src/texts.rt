@@ -4,9 +4,10 @@ ghost use Rattle.std.specs.Prelude.{◌≡◌, ◌≢◌, ◌++◌, ◌∷◌, �
 ghost use Rattle.naming.specs.Lines.{IsOneLine};
 ghost use Rattle.naming.specs.Texts.{AddsLine, IsNamed, StandsFor};
 
-use crate::fault::{Fault, Told};
+use crate::fault::Fault;
 use crate::key_line::key_line;
 use crate::line::{Sort, is_plain, sort_of};
+use crate::message::Message;
 use crate::set_line::set_line;
 use crate::type_line::type_line;
 use std::alloc::{AllocError, Global};
@@ -16,15 +17,15 @@ use std::alloc::{AllocError, Global};
 pub struct Named {
     pub text: Vec<u8>,
     /// A line for each fault; nothing where no name is refused.
-    pub told: Told,
+    pub told: Message,
 }
 
 /// Tells what is wrong with a line without names: one that is to have a text has none.
-fn tell_plain(number: u64, sort: Sort, told: &mut Told) -> Result<(), AllocError>
+fn tell_plain(number: u64, sort: Sort, told: &mut Message) -> Result<(), AllocError>
     ensures { OnOk result ((more : List ℕ) × (told.new ≡ told.old ++ more) × (sort ≢ Sort.Typed → more ≡ [])) }
 {
     match sort {
-        Sort::Typed => told.tell(number, Fault::NoText),
+        Sort::Typed => Fault::NoText.tell(number, told),
         Sort::Set | Sort::Key | Sort::Other => Ok(()),
     }
 }
@@ -34,7 +35,7 @@ fn named_line(
     alloc: Global,
     number: u64,
     line: &[u8],
-    told: &mut Told,
+    told: &mut Message,
 ) -> Result<Option<Vec<u8>>, AllocError>
     requires { IsOneLine line.now }
     ensures { IfOk result (λ o. MatchOption o (StandsFor line.now line.now told.old told.new) (λ v. StandsFor line.now v.items told.old told.new)) }
@@ -58,7 +59,7 @@ fn push_line(
     number: u64,
     line: &[u8],
     text: &mut Vec<u8>,
-    told: &mut Told,
+    told: &mut Message,
 ) -> Result<(), AllocError>
     requires { IsOneLine line.now }
     ensures { OnOk result (AddsLine line.now text.old.items text.new.items told.old told.new) }
@@ -83,7 +84,7 @@ pub fn name_text(alloc: Global, text: &[u8]) -> Result<Named, AllocError>
     ensures { IfOk result (λ n. IsNamed text.now n.text.items n.told) }
 {
     let mut named = Vec::new(alloc);
-    let mut told = Told::new(alloc);
+    let mut told = Message::new(alloc);
     let mut rest = text;
     let mut number: u64 = 1;
     while let Some((line, more)) = first_line(rest) {

@@ -4,13 +4,11 @@ ghost use Rattle.std.specs.Prelude.{◌≡◌, ◌<◌, ◌≤◌, IfOk, IfSome,
 ghost use Rattle.naming.specs.Letters.{IsOneLineLetter, IsShorter};
 ghost use Rattle.naming.specs.Lines.{Grows, IsOneLine};
 
-use crate::fault::{Fault, Told};
+use crate::fault::Fault;
 use crate::key_line::push_byte;
-use crate::line::{is_separator, joined, next_word, skip_separators};
+use crate::line::{MAX_LINE_LEN, is_separator, joined, next_word, skip_separators};
+use crate::message::Message;
 use std::alloc::{AllocError, Global};
-
-/// The most bytes of a line that is made.
-const MAX_LINE_LEN: usize = 200;
 
 /// The next letter of a text.
 enum Letter<'a> {
@@ -177,14 +175,14 @@ pub fn type_line(
     alloc: Global,
     number: u64,
     line: &[u8],
-    told: &mut Told,
+    told: &mut Message,
 ) -> Result<Option<Vec<u8>>, AllocError>
     ensures { IfOk result (λ o. MatchOption o (Grows told.old told.new) (λ v. (told.new ≡ told.old) × (IsOneLine line.now → IsOneLine v.items))) }
 {
     match typed(alloc, line)? {
         Ok(key_line) => Ok(Some(key_line)),
         Err(fault) => {
-            told.tell(number, fault)?;
+            fault.tell(number, told)?;
             Ok(None)
         }
     }

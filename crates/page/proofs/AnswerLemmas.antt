@@ -8,15 +8,12 @@ use Rattle.kernel.specs.Headline.{CutsShort}
 use Rattle.sink.specs.Sinks.{Seen}
 use Rattle.host.specs.declared.words.WordsFault.{WordsFault}
 use Rattle.host.specs.declared.words.WordsFault.TheVariants.{NotText, Memory}
+use Rattle.inputs.proofs.MeaningLemmas.{means_along as means_of_along}
 use Rattle.inputs.specs.Reads.{AreInFiles, Contents, Text}
 use Rattle.running.specs.Serving.{AskFor, AskForAudit, IsAccepted, IsFaulty, IsRefused, IsTraced, Means, OfTexts, OfTrace, Words}
 use Rattle.running.specs.Words.{Asked, AsksAudit, AsksRun, request_of_words}
 use Rattle.exploring.specs.Serving.{Means as MeansOfExploring}
 use Rattle.exploring.specs.Words.{Asked as AskedOfExploring}
-use Rattle.explaining.specs.Serving.{Means as MeansOfExplaining}
-use Rattle.naming.specs.Serving.{Means as MeansOfNaming}
-use Rattle.refusing.specs.Serving.{Means as MeansOfRefusing}
-use Rattle.refusing.specs.Words.{Asked as AskedOfRefusing}
 use Rattle.commands.specs.Serving.{Explains, Explores, Helps, Names, Purpose, Refuses, RunsOrAudits, Serves, ServesAs, Shows, TellsVersion, purpose_of}
 use Rattle.page.specs.Answers.{AreServed, BeginsTrace, IsAnswered, IsAudited, IsGiven, IsRun, IsTrace}
 use Rattle.page.specs.Files.{files_of}
@@ -43,42 +40,15 @@ exploring_along f contents asked old new before after status h = record {
   cut_short = λ e. elim (h.cut_short e) [ inl same ↦ inl (ap f same) | inr r ↦ inr r ];
 }
 
-explaining_along : {S T : Type 0} (f : S → T) (contents : Contents) (asked : Option Text) (old new : S) (before after : Seen) (status : ℕ)
-    → MeansOfExplaining contents asked old new before after status → MeansOfExplaining contents asked (f old) (f new) before after status
-explaining_along f contents asked old new before after status h = record {
-  done = h.done;
-  other_words = λ e. let r = h.other_words e in (r.0, ap f r.1);
-  cut_short = λ e. elim (h.cut_short e) [ inl same ↦ inl (ap f same) | inr r ↦ inr r ];
-  no_other = h.no_other;
-}
-
-naming_along : {S T : Type 0} (f : S → T) (contents : Contents) (asked : Option Text) (old new : S) (before after : Seen) (status : ℕ)
-    → MeansOfNaming contents asked old new before after status → MeansOfNaming contents asked (f old) (f new) before after status
-naming_along f contents asked old new before after status h = record {
-  done = h.done;
-  refused = h.refused;
-  other_words = λ e. let r = h.other_words e in (r.0, ap f r.1);
-  cut_short = λ e. elim (h.cut_short e) [ inl same ↦ inl (ap f same) | inr r ↦ inr r ];
-}
-
-refusing_along : {S T : Type 0} (f : S → T) (contents : Contents) (asked : Option AskedOfRefusing) (old new : S) (before after : Seen) (status : ℕ)
-    → MeansOfRefusing contents asked old new before after status → MeansOfRefusing contents asked (f old) (f new) before after status
-refusing_along f contents asked old new before after status h = record {
-  done = λ e. let r = h.done e in (r.0, ap f r.1);
-  refused = h.refused;
-  other_words = λ e. let r = h.other_words e in (r.0, ap f r.1);
-  cut_short = λ e. elim (h.cut_short e) [ inl same ↦ inl (ap f same) | inr r ↦ inr r ];
-}
-
 as_along : {S T : Type 0} (f : S → T) (contents : Contents) (words : Words) (old new : S) (before after : Seen) (status : ℕ) (purpose : Purpose)
     → ServesAs contents words old new before after status purpose → ServesAs contents words (f old) (f new) before after status purpose
 as_along f contents words old new before after status Helps h = h
 as_along f contents words old new before after status TellsVersion h = h
 as_along f contents words old new before after status (Explores more) h = (exploring_along f contents _ old new before after status h.0, h.1)
 as_along f contents words old new before after status (Shows more) h = h
-as_along f contents words old new before after status (Explains more) h = (explaining_along f contents _ old new before after status h.0, h.1)
-as_along f contents words old new before after status (Names more) h = (naming_along f contents _ old new before after status h.0, h.1)
-as_along f contents words old new before after status (Refuses more) h = (refusing_along f contents _ old new before after status h.0, h.1)
+as_along f contents words old new before after status (Explains more) h = (means_of_along f _ _ _ _ _ old new status (λ d. d) h.0, h.1)
+as_along f contents words old new before after status (Names more) h = (means_of_along f _ _ _ _ _ old new status (λ d. d) h.0, h.1)
+as_along f contents words old new before after status (Refuses more) h = (means_of_along f _ _ _ _ _ old new status (λ d. (d.0, ap f d.1)) h.0, h.1)
 as_along f contents words old new before after status RunsOrAudits h = (means_along f contents words old new before after status h.0, h.1)
 
 serves_along : {S T : Type 0} (f : S → T) (contents : Contents) (words : Words) (old new : S) (before after : Seen) (status : ℕ)

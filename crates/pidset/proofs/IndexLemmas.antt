@@ -18,7 +18,7 @@ use Rattle.posix.proofs.PassingLemmas.{filter_at_most}
 use Rattle.posix.proofs.WalkLemmas.{Passes, all_looked, first_passes, none_passes_before, both_pass}
 use Rattle.pidset.specs.declared.index.Pair.{Pair}
 use Rattle.pidset.specs.Numbers.{Rises}
-use Rattle.pidset.specs.Indexes.{ArePairs, IndexView, IsNextPair, IsAt, IsMoved, IsKeyed, IsIndex, CanReplace, IsReplaced, IsRekeyed, IsIndexed, is_key, key_of, is_pair_in}
+use Rattle.pidset.specs.Indexes.{ArePairsRekeyed, ArePairs, IndexView, IsNextPair, IsAt, IsMoved, IsKeyed, IsIndex, CanReplace, IsReplaced, IsRekeyed, IsIndexed, is_key, key_of, is_pair_in}
 use Rattle.pidset.proofs.NumberLemmas.{AllAbove, in_above}
 use Rattle.pidset.proofs.PairLemmas.{in_order, rises_in_order, key_in_order, length_in_order}
 
@@ -215,16 +215,15 @@ abbrev pub rekeyed : ℕ → ℕ → Option ℕ → Option ℕ
 rekeyed from to None = None
 rekeyed from to (Some k) = cond (k == from) (Some to) (Some k)
 
-pub indexed_rekeyed : (key : Process → Option ℕ) (from to : ℕ) → from ≢ to → (rs : List Process) (old new : IndexView) → IsIndexed key rs old → IsRekeyed from to old new → IsIndexed (λ r. rekeyed from to (key r)) rs new
-indexed_rekeyed key from to ne rs old new h is = record {
-  index = λ q k. is.pairs k q ∙ rw (h.index q k, h.index q from) (told k (key_of key q rs)) ∙ ap (is_key k) (elim (lookup q rs) as (λ o. rekeyed from to (option_and_then key o) ≡ option_and_then (λ r. rekeyed from to (key r)) o) [ None ↦ refl | Some r ↦ refl ]);
-  once = is.once;
-  room = let room = h.room in let e = is.room in omega (arith, room, e);
-}
+pub index_rekeyed : (key : Process → Option ℕ) (from to : ℕ) → from ≢ to → (rs : List Process) (old new : List Pair) → IsIndex key rs old → ArePairsRekeyed from to old new → IsIndex (λ r. rekeyed from to (key r)) rs new
+index_rekeyed key from to ne rs old new h is q k = is k q ∙ rw (h q k, h q from) (told k (key_of key q rs)) ∙ ap (is_key k) (elim (lookup q rs) as (λ o. rekeyed from to (option_and_then key o) ≡ option_and_then (λ r. rekeyed from to (key r)) o) [ None ↦ refl | Some r ↦ refl ])
   where
     told : (k : ℕ) (o : Option ℕ) → (not (k == from) && (is_key k o || k == to && is_key from o)) ≡ is_key k (rekeyed from to o)
     told k None = grind arith
     told k (Some n) = grind (arith, eqb-true, eq-eqb, ne_eqb, ne)
+
+pub indexed_rekeyed : (key : Process → Option ℕ) (from to : ℕ) → from ≢ to → (rs : List Process) (old new : IndexView) → IsIndexed key rs old → IsRekeyed from to old new → IsIndexed (λ r. rekeyed from to (key r)) rs new
+indexed_rekeyed key from to ne rs old new h is = record { index = index_rekeyed key from to ne rs old.pairs new.pairs h.index is.pairs; once = is.once; room = let room = h.room in let e = is.room in omega (arith, room, e) }
 
 -- and where none does that, the index is as it was
 pub rekeyed_none : (from to : ℕ) (set : IndexView) → ArePairs set.pairs → ((p : ℕ) → is_pair_in from p set.pairs ≡ false) → IsRekeyed from to set set

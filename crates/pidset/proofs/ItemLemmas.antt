@@ -1,5 +1,5 @@
 -- Facts on items in rising order of their numbers.
-use Rattle.std.proofs.Common.{◌≡◌, ◌≢◌, ℕ, zero, suc, ◌+◌, ◌-◌, ◌<◌, ◌≤◌, Bool, true, false, cond, not, refl, ap, sym, ◌∙◌, arith, subst, List, [], ◌∷◌, length, map, filter, find, drop, insert, remove, slice_get, get_or, Option, Some, None, Result, Ok, Err, IfOk, IfErr, ◌==◌, nat_lt}
+use Rattle.std.proofs.Common.{◌≡◌, ◌≢◌, ℕ, zero, suc, ◌+◌, ◌-◌, ◌<◌, ◌≤◌, Bool, true, false, cond, not, refl, ap, sym, ◌∙◌, arith, subst, List, [], ◌∷◌, length, map, filter, find, drop, insert, remove, slice_get, slice_set, get_or, Option, Some, None, Result, Ok, Err, IfOk, IfErr, ◌==◌, nat_lt}
 use Rattle.std.specs.List.Sorted.{IsSearchInRange, IsBinarySearchResult, IsNonDecreasingBy}
 use Rattle.std.specs.Option.{IfSome, option_map}
 use Rattle.std.specs.Ordering.{nat_cmp, ordering_index}
@@ -48,7 +48,7 @@ others_all f [] n e = refl
 others_all f (x ∷ xs) n e = grind (arith, others_all f xs n)
 
 -- who has another number is found among the others as among all
-find_other : {X : Type 0} (f : X → ℕ) (xs : List X) (p q : ℕ) → q ≢ p → find (λ x. f x == q) (filter (λ x. not (f x == p)) xs) ≡ find (λ x. f x == q) xs
+pub find_other : {X : Type 0} (f : X → ℕ) (xs : List X) (p q : ℕ) → q ≢ p → find (λ x. f x == q) (filter (λ x. not (f x == p)) xs) ≡ find (λ x. f x == q) xs
 find_other f [] p q ne = refl
 find_other f (x ∷ xs) p q ne = elim (f x == p) as (λ b. (f x == p) ≡ b → find (λ x. f x == q) (cond (not b) (x ∷ filter (λ x. not (f x == p)) xs) (filter (λ x. not (f x == p)) xs)) ≡ find (λ x. f x == q) (x ∷ xs)) [
   | true ↦ λ t. rw (ne_eqb (f x) q (λ e. ne (sym e ∙ eqb-true _ _ t))) (find_other f xs p q ne)
@@ -56,7 +56,7 @@ find_other f (x ∷ xs) p q ne = elim (f x == p) as (λ b. (f x == p) ≡ b → 
 ] refl
 
 -- and who has the number is not
-find_gone : {X : Type 0} (f : X → ℕ) (xs : List X) (p : ℕ) → find (λ x. f x == p) (filter (λ x. not (f x == p)) xs) ≡ None
+pub find_gone : {X : Type 0} (f : X → ℕ) (xs : List X) (p : ℕ) → find (λ x. f x == p) (filter (λ x. not (f x == p)) xs) ≡ None
 find_gone f [] p = refl
 find_gone f (x ∷ xs) p = elim (f x == p) as (λ b. (f x == p) ≡ b → find (λ x. f x == p) (cond (not b) (x ∷ filter (λ x. not (f x == p)) xs) (filter (λ x. not (f x == p)) xs)) ≡ None) [
   | true ↦ λ t. find_gone f xs p
@@ -91,6 +91,24 @@ insert_point f [] zero new g = refl
 insert_point f [] (suc i) new g = let l = g.in_range in absurd (omega arith)
 insert_point f (x ∷ xs) zero new g = let l : nat_lt (f new) (f x) ≡ true = grind (arith, nat_tests, g.after) in rw l refl
 insert_point f (x ∷ xs) (suc i) new g = grind (arith, nat_tests, g.before 0 (omega arith), insert_point f xs i new (later (f x) (map f xs) (f new) i g))
+
+-- it is found there, and all others are found as before
+pub find_inserted : {X : Type 0} (f : X → ℕ) (xs : List X) (new : X) → find (λ x. f x == f new) xs ≡ None → (q : ℕ) → find (λ x. f x == q) (inserted_in_order f new xs) ≡ cond (f new == q) (Some new) (find (λ x. f x == q) xs)
+unfolding inserted_in_order
+find_inserted f [] new e q = refl
+find_inserted f (x ∷ xs) new e q = grind (arith, find_inserted f xs new, eqb-true, eq-eqb)
+
+-- another item in the place of one with the same number is found in its stead
+pub find_set : {X : Type 0} (f : X → ℕ) (xs : List X) (i : ℕ) (new : X) → Rises (map f xs) → IsNumberAt (map f xs) (f new) i → (q : ℕ) → find (λ x. f x == q) (slice_set xs i new) ≡ cond (f new == q) (Some new) (find (λ x. f x == q) xs)
+unfolding Rises
+find_set f [] i new up e q = absurd (cc)
+find_set f (x ∷ xs) zero new up e q = let same : f x ≡ f new = cc in rw same (elim (f new == q) as (λ b. cond b (Some new) (find (λ x. f x == q) xs) ≡ cond b (Some new) (cond b (Some x) (find (λ x. f x == q) xs))) [ true ↦ refl | false ↦ refl ])
+find_set f (x ∷ xs) (suc i) new up e q = grind (arith, find_set f xs i new up.1 e q, above_get (f x) (map f xs) up.0 i (f new) e, eqb-true)
+
+pub numbers_set : {X : Type 0} (f : X → ℕ) (xs : List X) (i : ℕ) (new : X) → IsNumberAt (map f xs) (f new) i → map f (slice_set xs i new) ≡ map f xs
+numbers_set f [] i new e = refl
+numbers_set f (x ∷ xs) zero new e = let same : f x ≡ f new = cc in ap (λ n. n ∷ map f xs) (sym same)
+numbers_set f (x ∷ xs) (suc i) new e = ap (λ ns. f x ∷ ns) (numbers_set f xs i new e)
 
 -- ---- the items above a number
 

@@ -8,3 +8,4 @@ pub mod WalkLemmas
 mod NodeLemmas
 mod LinkLemmas
 mod ListLemmas
+pub mod PageLemmas

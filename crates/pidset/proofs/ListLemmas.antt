@@ -6,7 +6,7 @@ use Rattle.std.proofs.lemmas.Bool.Decides.{nat_tests}
 use Rattle.std.proofs.lemmas.List.{get_or_past, take_all}
 use Rattle.pidset.specs.declared.index.Pair.{Pair}
 use Rattle.pidset.specs.declared.lists.Node.{Node}
-use Rattle.pidset.specs.Indexes.{IsAt, IsNextPair, IsMoved, is_pair_in}
+use Rattle.pidset.specs.Indexes.{ArePairsRekeyed, IsAt, IsNextPair, IsMoved, is_pair_in}
 use Rattle.pidset.specs.Lists.{node_of, list_of, pairs_from, AreLinked, IsFrom}
 use Rattle.pidset.proofs.NodeLemmas.{nowhere}
 use Rattle.pidset.proofs.LinkLemmas.{first_outside, kept}
@@ -44,6 +44,9 @@ next_outside ns k n pairs is l out = record { there = λ p e. grind arith; least
 
 pub moved : (old new : List Node) (p l n : ℕ) (key : Option ℕ) (was is : List Pair) → was ≡ pairs_from 0 old → is ≡ pairs_from 0 new → l ≡ unwrap_or key 0 → IfSome key (λ k. (1 ≤ k) × (k < n)) → ((i : ℕ) → list_of new i ≡ cond (i == p) l (list_of old i)) → IsMoved p key was is
 moved old new p l n key was is e f to some list k q = grind (arith, nat_tests, in_pairs new k q, in_pairs old k q, list q)
+
+pub rekeyed : (old new : List Node) (from to : ℕ) (was is : List Pair) → was ≡ pairs_from 0 old → is ≡ pairs_from 0 new → from ≢ to → 1 ≤ from → 1 ≤ to → ((i : ℕ) → list_of new i ≡ cond (list_of old i == from) to (list_of old i)) → ArePairsRekeyed from to was is
+rekeyed old new from to was is e f apart hf ht list k p = grind (arith, nat_tests, in_pairs new k p, in_pairs old k p, in_pairs old from p, list p)
 
 -- a process stands in its list alone, or in none
 pub at_list : (ns : List Node) (p : ℕ) (key : Option ℕ) (pairs : List Pair) → pairs ≡ pairs_from 0 ns → list_of ns p ≡ unwrap_or key 0 → IfSome key (λ k. 1 ≤ k) → IsAt p key pairs

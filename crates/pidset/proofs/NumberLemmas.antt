@@ -226,6 +226,12 @@ unfolding Rises
 few_above n m [] l up a b = omega (arith, l)
 few_above n m (x ∷ xs) l up a b = let rest = few_above x m xs b.0 up.1 up.0 b.1 in omega (arith, a.0, rest)
 
+-- rising numbers up to m, and 0
+pub few_up_to : (m : ℕ) (ns : List ℕ) → Rises ns → AllByRecursion (λ q. q ≤ m) ns → (k : ℕ) → length ns ≡ k → k ≤ m + 1
+unfolding Rises
+few_up_to m [] up a k e = omega (arith, e)
+few_up_to m (x ∷ xs) up a k e = let rest = few_above x m xs a.0 up.1 up.0 a.1 in omega (arith, e, rest)
+
 -- rising numbers from 1 to m are no more than m
 pub few : (m : ℕ) (ns : List ℕ) → Rises ns → ((q : ℕ) → is_in q ns ≡ true → (1 ≤ q) × (q ≤ m)) → length ns ≤ m
 few m ns up h =

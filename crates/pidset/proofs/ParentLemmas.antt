@@ -1,9 +1,9 @@
 -- What keeps the parent there of each process that has one.
-use Rattle.std.proofs.Common.{◌≡◌, ◌≢◌, ℕ, true, false, cond, ap, sym, ◌∙◌, subst, List, map, Some, None, ◌==◌, inl, inr}
+use Rattle.std.proofs.Common.{◌≡◌, ◌≢◌, ℕ, true, false, cond, ap, sym, ◌∙◌, subst, List, [], ◌∷◌, map, Some, None, ◌==◌, arith, inl, inr}
 use Rattle.std.specs.Option.{IsSome}
-use Rattle.std.proofs.lemmas.Bool.{cases_eq}
+use Rattle.std.proofs.lemmas.Bool.{cases_eq, eqb-false}
 use Rattle.posix.specs.Processes.{Process}
-use Rattle.posix.specs.Tables.{lookup, inserted, removed, reparented, adopted}
+use Rattle.posix.specs.Tables.{lookup, children_in, inserted, removed, reparented, adopted}
 use Rattle.posix.proofs.TableLemmas.{pid_reparented}
 use Rattle.posix.proofs.MapLemmas.{lookup_back, some_map}
 use Rattle.posix.proofs.RegularLemmas.{lookup_inserted, lookup_new, lookup_kept, lookup_left, some_inserted}
@@ -25,6 +25,12 @@ parents_adopted has p heir rs there h = λ q r must e.
       | true ↦ λ k. some_map (reparented p heir) (pid_reparented p heir) heir rs there
       | false ↦ λ k. some_map (reparented p heir) (pid_reparented p heir) b.what.parent rs (h q b.what k b.found)
     ] (subst (has q) b.is must))
+
+-- nobody who is there is a child of who has none
+pub no_child : (p : ℕ) (rs : List Process) → children_in p rs ≡ [] → (q : ℕ) (r : Process) → lookup q rs ≡ Some r → r.parent ≢ p
+unfolding children_in lookup
+no_child p [] e q r l = absurd (cc)
+no_child p (x ∷ xs) e q r l = grind (arith, no_child p xs, eqb-false)
 
 -- and where one goes that has no child
 pub parents_removed : (has : ℕ → Process → Type 0) (c : ℕ) (rs : List Process) → ((q : ℕ) (r : Process) → lookup q rs ≡ Some r → r.parent ≢ c) → HaveParents has rs → HaveParents has (removed c rs)

@@ -71,8 +71,12 @@ pub record IsReplaced (p : ℕ) (key : Option ℕ) (old new : IndexView) : Type 
   pub room : new.room ≡ old.room
 
 -- all that stood under one key stand under another
+abbrev pub ArePairsRekeyed : ℕ → ℕ → List Pair → List Pair → Type 0
+ArePairsRekeyed from to old new = (k p : ℕ) → is_pair_in k p new ≡ (not (k == from) && (is_pair_in k p old || k == to && is_pair_in from p old))
+
+-- and the index stays one
 pub record IsRekeyed (from to : ℕ) (old new : IndexView) : Type 0 where
-  pub pairs : (k p : ℕ) → is_pair_in k p new.pairs ≡ (not (k == from) && (is_pair_in k p old.pairs || k == to && is_pair_in from p old.pairs))
+  pub pairs : ArePairsRekeyed from to old.pairs new.pairs
   pub once : ArePairs new.pairs
   pub room : new.room ≡ old.room
 

@@ -1,3 +1,4 @@
 pub mod Numbers
 pub mod Indexes
 pub mod Lists
+pub mod Pages

@@ -33,9 +33,13 @@ before_of ns k b = if b == 0 then (node_of ns k).last else (node_of ns b).before
 abbrev pub Stands : List Node → ℕ → ℕ → Type 0
 Stands ns k a = (a ≡ 0) ⊎ (list_of ns a ≡ k)
 
--- m is the least number in the list k above a; 0 for none
+-- m is a number in the list k above a; 0 for none
+abbrev pub IsAbove : List Node → ℕ → ℕ → ℕ → Type 0
+IsAbove ns k a m = (m ≡ 0) ⊎ ((a < m) × (list_of ns m ≡ k))
+
+-- it is the least; 0 where there is none
 pub record IsLeast (ns : List Node) (k a m : ℕ) : Type 0 where
-  pub there : (m ≡ 0) ⊎ ((a < m) × (list_of ns m ≡ k))
+  pub there : IsAbove ns k a m
   pub least : (q : ℕ) → list_of ns q ≡ k → a < q → (1 ≤ m) × (m ≤ q)
 
 -- what holds of the nodes: in each list the links lead from each to the next greater one, and back

@@ -26,11 +26,6 @@ abbrev pub index_behind : Result ℕ ℕ → ℕ
 index_behind (Ok i) = i + 1
 index_behind (Err i) = i
 
--- where to look first the next time: where an item was found among n, but not at the last one, which is found at once
-abbrev pub next_guess : ℕ → ℕ → Result ℕ ℕ → ℕ
-next_guess n guess (Ok i) = if nat_lt (i + 1) n then i else guess
-next_guess n guess (Err i) = guess
-
 -- an item put in, in rising order of the numbers
 unfoldable pub inserted_in_order : {X : Type 0} → (X → ℕ) → X → List X → List X
 inserted_in_order number new [] = new ∷ []

@@ -4,10 +4,13 @@
 pub mod index;
 pub mod lists;
 pub mod numbered;
+mod page;
+pub mod pages;
 pub mod pid_set;
 
 pub use index::Index;
 pub use lists::Lists;
 pub use numbered::Numbered;
+pub use pages::Pages;
 pub use pid_set::PidSet;
 pub use posix::Pid;

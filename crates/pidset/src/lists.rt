@@ -1,9 +1,9 @@
 //! Processes in lists with numbers, such as the members of process groups: nodes that are linked both ways, and found
 //! by the number.
 
-ghost use Rattle.std.specs.Prelude.{◌≡◌, ◌<◌, ◌≤◌, ℕ, [], IfSome, OnOk, length, vec_len};
-ghost use Rattle.pidset.specs.Indexes.{IsNextPair, IsMoved, IsAt};
-ghost use Rattle.pidset.specs.Lists.{AreLinked, IsListed, IsPlaceFor, IsFrom, list_of, behind_of, before_of, with_list, with_behind, with_before, joined};
+ghost use Rattle.std.specs.Prelude.{◌≡◌, ◌≢◌, ◌<◌, ◌≤◌, ◌==◌, ℕ, [], IfSome, OnOk, cond, length, vec_len};
+ghost use Rattle.pidset.specs.Indexes.{ArePairsRekeyed, IsNextPair, IsMoved, IsAt};
+ghost use Rattle.pidset.specs.Lists.{AreLinked, IsAbove, IsListed, IsPlaceFor, IsFrom, list_of, behind_of, before_of, with_list, with_behind, with_before, joined};
 
 use posix::Pid;
 use std::alloc::{AllocError, Global};
@@ -120,8 +120,20 @@ impl Lists {
         }
         take_out(&mut self.nodes, pid);
         if new != Pid::NONE {
-            put_in(&mut self.nodes, new, pid);
+            put_in(&mut self.nodes, new, pid, Pid::NONE);
         }
+    }
+
+    /// All that stand in one list stand in another from now on. The time is that of walking both lists once.
+    #[inline]
+    pub fn rekey(&mut self, from: Pid, to: Pid)
+        requires apart { from ≢ to }
+        requires from { (1 ≤ from) × (from < self.old.numbers) }
+        requires to { (1 ≤ to) × (to < self.old.numbers) }
+        ensures pairs { ArePairsRekeyed from to self.old.pairs self.new.pairs }
+        ensures numbers { self.new.numbers ≡ self.old.numbers }
+    {
+        move_all(&mut self.nodes, from, to);
     }
 }
 
@@ -231,16 +243,19 @@ fn next_near(nodes: &[Node], list: Pid, after: Pid) -> Pid
     }
 }
 
-/// Who stands right before the place of a process that goes into a list.
-fn place_for(nodes: &[Node], list: Pid, pid: Pid) -> Pid
+/// Who stands right before the place of a process that goes into a list. It is looked for from `above` back to the
+/// first: from one there with a greater number, or from number 0 behind the last.
+#[tactic(auto, using(crate::proofs::LinkLemmas::inside))]
+fn place_for(nodes: &[Node], list: Pid, pid: Pid, above: Pid) -> Pid
     requires linked { AreLinked nodes.now }
     requires list { (1 ≤ list) × (list < length nodes.now) }
     requires pid { (1 ≤ pid) × (pid < length nodes.now) }
     requires apart { list_of nodes.now pid ≡ 0 }
+    requires above { IsAbove nodes.now list pid above }
     ensures { IsPlaceFor nodes.now list pid result (behind_of nodes.now list result) }
 {
-    // Mostly it has the greatest number.
-    let mut at = before(nodes, list, Pid::NONE);
+    // Mostly it comes right before `above`.
+    let mut at = before(nodes, list, above);
     while pid < at {
         at = before(nodes, list, at);
     }
@@ -278,19 +293,42 @@ fn take_out(nodes: &mut Vec<Node>, pid: Pid)
     set_list(nodes, pid, Pid::NONE);
 }
 
-/// Puts a process that stands in no list into one.
+/// Puts a process that stands in no list into one, in which `above` has a greater number or is number 0.
 #[inline]
 #[tactic(auto, using(crate::proofs::LinkLemmas::behind_inside))]
-fn put_in(nodes: &mut Vec<Node>, list: Pid, pid: Pid)
+fn put_in(nodes: &mut Vec<Node>, list: Pid, pid: Pid, above: Pid)
     requires linked { AreLinked nodes.old.items }
     requires list { (1 ≤ list) × (list < vec_len nodes.old) }
     requires pid { (1 ≤ pid) × (pid < vec_len nodes.old) }
     requires apart { list_of nodes.old.items pid ≡ 0 }
+    requires above { IsAbove nodes.old.items list pid above }
     ensures { IsListed nodes.old.items nodes.new.items pid list }
 {
-    let before = place_for(nodes, list, pid);
+    let before = place_for(nodes, list, pid, above);
     let behind = behind(nodes, list, before);
     join(nodes, list, before, pid);
     join(nodes, list, pid, behind);
     set_list(nodes, pid, list);
+}
+
+/// Puts all that stand in one list into another.
+#[tactic(auto, using(crate::proofs::LinkLemmas::inside))]
+fn move_all(nodes: &mut Vec<Node>, from: Pid, to: Pid)
+    requires linked { AreLinked nodes.old.items }
+    requires apart { from ≢ to }
+    requires from { (1 ≤ from) × (from < vec_len nodes.old) }
+    requires to { (1 ≤ to) × (to < vec_len nodes.old) }
+    ensures list { (i : ℕ) → list_of nodes.new.items i ≡ cond (list_of nodes.old.items i == from) to (list_of nodes.old.items i) }
+    ensures linked { AreLinked nodes.new.items }
+    ensures len { vec_len nodes.new ≡ vec_len nodes.old }
+{
+    // The place of each is before that of the one moved last, whose number is greater.
+    let mut above = Pid::NONE;
+    let mut next = before(nodes, from, Pid::NONE);
+    while next != Pid::NONE {
+        take_out(nodes, next);
+        put_in(nodes, to, next, above);
+        above = next;
+        next = before(nodes, from, Pid::NONE);
+    }
 }

@@ -2,7 +2,7 @@
 
 ghost use Rattle.std.specs.Prelude.{◌≡◌, ◌+◌, ◌<◌, ◌≤◌, ◌==◌, ℕ, false, None, IsSome, not, nat_lt, map, filter, find, insert, length, slice_get, vec_len, vec_capacity, IfOk, IfErr, OnSome};
 ghost use Rattle.std.specs.Option.{option_copied, option_map_or};
-ghost use Rattle.pidset.specs.Numbers.{Rises, IsNumberAt, IsInsertionPoint, index_behind, next_guess, inserted_in_order};
+ghost use Rattle.pidset.specs.Numbers.{Rises, IsNumberAt, IsInsertionPoint, index_behind, inserted_in_order};
 
 use posix::Pid;
 
@@ -25,6 +25,14 @@ impl Numbered for Pid {
     }
 }
 
+impl Numbered for u32 {
+    ghost number = { λ n. n };
+
+    fn number(&self) -> u128 {
+        u128::from(*self)
+    }
+}
+
 /// Where the item with the number of `key` stands, or where it would go.
 pub fn search<T: Numbered, K: Numbered>(items: &[T], key: &K) -> Result<usize, usize>
     requires { Rises (map T.number items.now) }
@@ -35,46 +43,20 @@ pub fn search<T: Numbered, K: Numbered>(items: &[T], key: &K) -> Result<usize, u
     let Some(last) = items.last() else {
         return Err(0);
     };
-    // Most numbers that go in are above all others, and most that are looked for are the last one.
+    // Most numbers that go in are above all others.
     let greatest = last.number();
     if greatest < number {
         return Err(items.len());
     }
-    if greatest == number {
-        return Ok(items.len() - 1);
-    }
-    items.binary_search_by_key(&number, |item| item.number())
-}
-
-/// [`search`] for an item that often stands at `guess` or behind it, as in a walk, or where the item before was the
-/// same. Any guess will do. Where the item is there, and isn't the last one, the guess becomes its place.
-pub fn search_near<T: Numbered, K: Numbered>(
-    items: &[T],
-    guess: &mut usize,
-    key: &K,
-) -> Result<usize, usize>
-    requires { Rises (map T.number items.now) }
-    ensures found { IfOk result (IsNumberAt (map T.number items.now) (K.number key.now)) }
-    ensures absent { IfErr result (IsInsertionPoint (map T.number items.now) (K.number key.now)) }
-    ensures guess { guess.new ≡ next_guess (length items.now) guess.old result }
-{
-    let number = key.number();
-    let last = *guess;
-    if stands_at(items, last, number) {
-        return Ok(last);
-    }
-    let next = last.saturating_add(1);
-    let found = if stands_at(items, next, number) {
-        Ok(next)
-    } else {
-        search(items, key)
-    };
-    if let Ok(at) = found {
-        if at + 1 < items.len() {
-            *guess = at;
+    // Where one that is looked for is there, mostly all between it and the last one are.
+    let behind = greatest - number;
+    if behind < items.len() as u128 {
+        let at = items.len() - 1 - behind as usize;
+        if stands_at(items, at, number) {
+            return Ok(at);
         }
     }
-    found
+    items.binary_search_by_key(&number, |item| item.number())
 }
 
 /// Whether an item stands at an index, and has this number.
@@ -127,18 +109,6 @@ pub fn next_above<'a, T: Numbered, K: Numbered>(items: &'a [T], key: &K) -> Opti
     ensures { option_copied result ≡ slice_get (filter (λ item. nat_lt (K.number key.now) (T.number item)) items.now) 0 }
 {
     behind(items, search(items, key))
-}
-
-/// [`next_above`], where `key` often stands at `guess`, as for [`search_near`].
-pub fn next_above_near<'a, T: Numbered, K: Numbered>(
-    items: &'a [T],
-    guess: &mut usize,
-    key: &K,
-) -> Option<&'a T>
-    requires { Rises (map T.number items.now) }
-    ensures { option_copied result ≡ slice_get (filter (λ item. nat_lt (K.number key.now) (T.number item)) items.now) 0 }
-{
-    behind(items, search_near(items, guess, key))
 }
 
 /// Puts in an item whose number isn't there, where there is room.

@@ -1,5 +1,6 @@
 -- An event raises the counts of births and of ticks by one at most.
 use Rattle.std.proofs.Common.{◌≡◌, ◌+◌, ◌≤◌, ℕ, Bool, true, false, cond, refl, arith, Option, Some, None}
+use Rattle.std.proofs.lemmas.Bool.{cond_both}
 use Rattle.posix.specs.declared.event.Event.{Event}
 use Rattle.posix.specs.declared.event.Event.TheVariants.{Step, Tick, Key, Hangup}
 use Rattle.posix.specs.Processes.{Process}
@@ -8,7 +9,7 @@ use Rattle.posix.specs.Consoles.{Console, console_at}
 use Rattle.posix.specs.Outcomes.{Outcome, silent}
 use Rattle.posix.specs.Settle.{give_places, clear_foregrounds, settle}
 use Rattle.posix.specs.Alarms.{pass_time}
-use Rattle.posix.specs.Step.{step, tick, rotate, key_on, key, hangup_on, hangup, happens, next}
+use Rattle.posix.specs.Step.{step, tick, rotate, key_on, key, hangup_on, hangup, happens, settled, next}
 use Rattle.posix.proofs.ActLemmas.{acted}
 
 -- births and ticks are at most one more than before
@@ -61,3 +62,8 @@ counts_next granted s event = elim s.halted as (λ b. Counts s (cond {A = Outcom
 pub next_halted : (granted : Bool) (s : State) (event : Event) → s.halted ≡ true → next granted s event ≡ silent s
 unfolding next
 next_halted granted s event e = rw e refl
+
+-- What holds where the machine has halted, and of what is settled where it hasn't, holds of any event.
+pub by_next : (M : Outcome → Type 0) (granted : Bool) (s : State) (event : Event) → (s.halted ≡ true → M (silent s)) → (s.halted ≡ false → M (settled (happens granted s event))) → M (next granted s event)
+unfolding next
+by_next M granted s event halted awake = cond_both s.halted _ _ M halted awake

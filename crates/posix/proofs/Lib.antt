@@ -19,6 +19,9 @@ pub mod HeirLemmas
 pub mod PrintingLemmas
 pub mod DecimalLemmas
 pub mod RealtimeLemmas
+pub mod AttemptLemmas
+pub mod SignalLemmas
+pub mod DeliveryLemmas
 pub mod ActLemmas
 pub mod PassingLemmas
 pub mod CountLemmas

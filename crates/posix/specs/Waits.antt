@@ -134,11 +134,6 @@ report_among options (r ∷ rs) = report_found options (find (reports options) (
 unfoldable pub report : List Process → ℕ → ℕ → Target → ℕ → Report
 report rs caller group target options = report_among options (filter (is_named group target) (children_in caller rs))
 
-abbrev pub is_news : News → Bool
-is_news news.Nothing = false
-is_news (news.StoppedBy s) = true
-is_news news.Continued = true
-
 -- the children of p that have something to report to a wait with these options
 unfoldable pub wanted_in : ℕ → ℕ → List Process → List Process
 wanted_in options p rs = filter (reports options) (children_in p rs)

@@ -1,9 +1,3 @@
 pub mod RecordLemmas
 pub mod ScanLemmas
-pub mod CellLemmas
-pub mod KidLemmas
-pub mod JoinLemmas
-pub mod LinkLemmas
-pub mod NeighbourLemmas
-pub mod AdoptLemmas
-pub mod MergeLemmas
+pub mod SlabLemmas

@@ -1,14 +1,12 @@
 -- Slots in rising order.
-use Rattle.std.proofs.Common.{◌≡◌, ℕ, ◌+◌, true, false, cond, refl, ap, sym, ◌∙◌, subst, List, [], ◌∷◌, ◌++◌, filter, find, length, take, drop, Some, nat_lt, ◌==◌, slice_get, slice_set, get_or}
+use Rattle.std.proofs.Common.{◌≡◌, ℕ, cond, refl, ap, sym, ◌∙◌, subst, List, [], ◌∷◌, Some, nat_lt, slice_get, slice_set, get_or}
 use Rattle.std.specs.Option.{option_map}
 use Rattle.std.proofs.lemmas.Option.{slice_get-map}
 use Rattle.posix.specs.Processes.{Process}
-use Rattle.posix.specs.Tables.{IsRising, lookup, is_child, children_in, first_pid, above, parent_of, next_sibling, inserted, pids}
+use Rattle.posix.specs.Tables.{IsRising, lookup, first_pid, parent_of, inserted, pids}
 use Rattle.posix.proofs.TableLemmas.{lookup_at, changed_at}
-use Rattle.posix.proofs.WalkLemmas.{filters_commute}
 use Rattle.pidset.specs.Numbers.{IsNumberAt, inserted_in_order}
-use Rattle.pidset.proofs.IndexLemmas.{rises_pids}
-use Rattle.pidset.proofs.ItemLemmas.{above_at, read_at as item_read}
+use Rattle.pidset.proofs.ItemLemmas.{read_at as item_read}
 use Rattle.proctable.specs.declared.records.Record.{Record}
 use Rattle.proctable.specs.Records.{process_of, give_record, with_record}
 use Rattle.proctable.proofs.RecordLemmas.{record_rises}
@@ -42,22 +40,6 @@ read_at rs up p i r a e =
     let here : r.pid ≡ p = cc in
     record { at = at; here = here; looked = lookup_at rs up p i r at here }
 
--- ---- children
-
--- the first process that is found to be a child is the first child
-pub first_is : (p : ℕ) (rs : List Process) → option_map (λ (r : Process). r.pid) (find (is_child p) rs) ≡ first_pid (children_in p rs)
-unfolding children_in
-first_is p [] = refl
-first_is p (x ∷ xs) =
-    elim (x.parent == p) as (λ b. option_map (λ (r : Process). r.pid) (cond b (Some x) (find (is_child p) xs)) ≡ first_pid (cond b (x ∷ filter (is_child p) xs) (filter (is_child p) xs))) [ true ↦ refl | false ↦ first_is p xs ]
-
--- the first after a process that has the same parent is its next sibling
-pub sibling_is : (rs : List Process) → IsRising rs → (p i : ℕ) (r : Process) → IsNumberAt (pids rs) p i → r ≡ get_or rs i r → first_pid (children_in r.parent (drop (i + 1) rs)) ≡ next_sibling p rs
-unfolding next_sibling children_in
-sibling_is rs up p i r a is =
-    let q : parent_of p rs ≡ r.parent = rw (read_at rs up p i r a is).looked refl in
-    rw (above_at (λ (r : Process). r.pid) rs (rises_pids rs up) p i a) (ap first_pid (filters_commute (is_child r.parent) (λ r. nat_lt p r.pid) rs) ∙ ap (λ n. first_pid (above p (filter (is_child n) rs))) (sym q))
-
 -- ---- another record at an index
 
 -- another record put at the index is another record of the process
@@ -73,13 +55,3 @@ pub value_is : (rs : List Process) (p i : ℕ) (r : Process) (b : Record) → Re
 value_is rs p i r b a e =
     let q : parent_of p rs ≡ r.parent = rw a.looked refl in
     a.looked ∙ ap Some (e ∙ ap (λ n. process_of n r.parent b) a.here ∙ ap (λ q. process_of p q b) (sym q))
-
--- ---- what a slice of a vector leaves in it
-
--- as many records as there were take the place of all
-pub in_place : (xs ys : List Process) (n : ℕ) → n ≡ length xs → length ys ≡ length xs → take n (ys ++ drop (length ys) xs) ≡ ys
-in_place xs ys n e l = subst (λ m. take m (ys ++ drop (length ys) xs) ≡ ys) (l ∙ sym e) (taken ys _)
-  where
-    taken : (ys zs : List Process) → take (length ys) (ys ++ zs) ≡ ys
-    taken [] zs = refl
-    taken (y ∷ ys) zs = ap (λ l. y ∷ l) (taken ys zs)

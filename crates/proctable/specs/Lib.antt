@@ -1,6 +1,3 @@
 pub mod Records
-pub mod ScanTable
-pub mod NodeSlots
-pub mod Nodes
-pub mod Cells
-pub mod Joined
+pub mod Slots
+pub mod Tables

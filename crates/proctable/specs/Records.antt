@@ -56,6 +56,10 @@ process_of p q b = record first_process {
 unfoldable pub queued : Bool → PendingSignal → Process → Process
 queued pool signal r = if pool && not (has_full_queue r) then signalled signal r else r
 
+-- the process with another parent
+abbrev pub with_parent : ℕ → Process → Process
+with_parent q r = record r { parent = q }
+
 -- the process with another record
 unfoldable pub give_record : Record → Process → Process
 give_record b r = process_of r.pid r.parent b

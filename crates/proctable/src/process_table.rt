@@ -1,11 +1,11 @@
 //! What a table of processes has to do.
 
-ghost use Rattle.std.specs.Prelude.{◌≡◌, ◌+◌, ◌*◌, ◌^◌, ◌<◌, ◌≤◌, ◌⊎◌, ℕ, [], List, None, Some, IsSome, IfSome, OnOk, option_map, length};
+ghost use Rattle.std.specs.Prelude.{◌≡◌, ◌+◌, ◌^◌, ◌<◌, ◌≤◌, ℕ, [], List, None, Some, IsSome, IfSome, OnOk, option_map, length};
 ghost use Rattle.std.specs.Borrow.{sem, Lends};
 ghost use Rattle.posix.specs.Processes.{Process};
-ghost use Rattle.posix.specs.Tables.{IsRising, lookup, inserted, removed, children_in, first_pid, next_above, next_sibling, parent_of, adopted};
+ghost use Rattle.posix.specs.Tables.{IsRising, lookup, changed, inserted, removed, next_above, parent_of};
 ghost use Rattle.proctable.specs.declared.records.Record.{Record};
-ghost use Rattle.proctable.specs.Records.{process_of, snapshot_of, with_record, record_row};
+ghost use Rattle.proctable.specs.Records.{process_of, snapshot_of, with_parent, with_record, record_row};
 
 use crate::records::Record;
 use crate::snapshot::Snapshot;
@@ -63,16 +63,14 @@ pub trait ProcessTable: Drop {
         ensures contents { contents self.new ≡ contents self.old }
         ensures visits { visits self.new ≡ visits self.old };
 
-    /// Puts in a process that isn't there, where there is room for one. Its parent is there, or number 0.
-    /// The others are unchanged.
+    /// Puts in a process that isn't there, where there is room for one. The others are unchanged.
     fn insert(&mut self, pid: Pid, parent: Pid, fields: Record)
         requires room { 0 < room self.old }
         requires fresh { lookup pid (contents self.old) ≡ None }
-        requires parent { (parent ≡ 0) ⊎ IsSome (lookup parent (contents self.old)) }
         ensures rising { IsRising (contents self.old) }
         ensures contents { contents self.new ≡ inserted (process_of pid parent fields) (contents self.old) }
         ensures room { room self.old ≤ room self.new + 1 }
-        ensures visits { visits self.new ≤ visits self.old + 5 + length (children_in parent (contents self.old)) }
+        ensures visits { visits self.new ≤ visits self.old + 1 }
         ensures no_fewer { visits self.old ≤ visits self.new };
 
     /// The small fields of a process; none where it isn't there.
@@ -94,6 +92,15 @@ pub trait ProcessTable: Drop {
         ensures rising { IsRising (contents self.old) }
         ensures value { lookup pid (contents self.old) ≡ Some (process_of pid (parent_of pid (contents self.old)) result.now) };
 
+    /// Gives a process that is there another parent. The other processes and the room are unchanged.
+    fn set_parent(&mut self, pid: Pid, parent: Pid)
+        requires { IsSome (lookup pid (contents self.old)) }
+        ensures rising { IsRising (contents self.old) }
+        ensures contents { contents self.new ≡ changed pid (with_parent parent) (contents self.old) }
+        ensures room { room self.new ≡ room self.old }
+        ensures visits { visits self.new ≤ visits self.old + 1 }
+        ensures no_fewer { visits self.old ≤ visits self.new };
+
     /// The memory of a process that was taken out, for one that is born, if the table has kept some. The
     /// processes and the room are unchanged.
     fn spare(&mut self) -> Option<Spare>
@@ -101,33 +108,11 @@ pub trait ProcessTable: Drop {
         ensures room { room self.new ≡ room self.old }
         ensures visits { visits self.new ≡ visits self.old };
 
-    /// Takes out a process without children; nothing changes where it isn't there.
+    /// Takes out a process; nothing changes where it isn't there.
     fn remove(&mut self, pid: Pid)
-        requires { children_in pid (contents self.old) ≡ [] }
         ensures rising { IsRising (contents self.old) }
         ensures contents { contents self.new ≡ removed pid (contents self.old) }
         ensures room { room self.old ≤ room self.new }
-        ensures visits { visits self.new ≤ visits self.old + 4 }
-        ensures no_fewer { visits self.old ≤ visits self.new };
-
-    /// The child of a process that is there with the least number; none where it has no child.
-    fn first_child(&mut self, pid: Pid) -> Option<Pid>
-        requires { IsSome (lookup pid (contents self.old)) }
-        ensures value { result ≡ first_pid (children_in pid (contents self.old)) }
-        ensures rising { IsRising (contents self.old) }
-        ensures contents { contents self.new ≡ contents self.old }
-        ensures room { room self.new ≡ room self.old }
-        ensures visits { visits self.new ≤ visits self.old + 1 }
-        ensures no_fewer { visits self.old ≤ visits self.new };
-
-    /// Of the children of the same parent, the one with the least number above that of a process that is
-    /// there; none where there is no such child.
-    fn next_sibling(&mut self, pid: Pid) -> Option<Pid>
-        requires { IsSome (lookup pid (contents self.old)) }
-        ensures value { result ≡ next_sibling pid (contents self.old) }
-        ensures rising { IsRising (contents self.old) }
-        ensures contents { contents self.new ≡ contents self.old }
-        ensures room { room self.new ≡ room self.old }
         ensures visits { visits self.new ≤ visits self.old + 1 }
         ensures no_fewer { visits self.old ≤ visits self.new };
 
@@ -138,15 +123,6 @@ pub trait ProcessTable: Drop {
         ensures contents { contents self.new ≡ contents self.old }
         ensures room { room self.new ≡ room self.old }
         ensures visits { visits self.new ≤ visits self.old + 1 }
-        ensures no_fewer { visits self.old ≤ visits self.new };
-
-    /// Gives the children of one process to another, which is there.
-    fn adopt(&mut self, from: Pid, to: Pid)
-        requires { IsSome (lookup to (contents self.old)) }
-        ensures rising { IsRising (contents self.old) }
-        ensures contents { contents self.new ≡ adopted from to (contents self.old) }
-        ensures room { room self.new ≡ room self.old }
-        ensures visits { visits self.new ≤ visits self.old + 1 + 8 * length (children_in from (contents self.old)) + length (children_in to (contents self.old)) }
         ensures no_fewer { visits self.old ≤ visits self.new };
 
     /// How many slots have been read, up to the greatest u128; 0 in a table that doesn't count them.

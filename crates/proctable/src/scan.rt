@@ -1,9 +1,8 @@
 //! A table that scans: the processes stand in a vector, in rising order of their numbers.
 
-ghost use Rattle.std.specs.Prelude.{◌≡◌, map, refl, option_map, find, IsSome};
+ghost use Rattle.std.specs.Prelude.{refl};
 ghost use Rattle.std.proofs.Common.{arith};
-ghost use Rattle.posix.specs.Tables.{IsRising, lookup, is_child, next_sibling, reparented};
-ghost use Rattle.proctable.specs.ScanTable.{scan_with_record};
+ghost use Rattle.proctable.specs.Tables.{scan_with_record};
 
 use crate::process_table::ProcessTable;
 use crate::records::Record;
@@ -17,8 +16,7 @@ use signal::GrantedPools;
 use std::alloc::{AllocError, Global};
 use std::marker::Model;
 
-/// A table that scans. A process is found by a binary search, the children of one by looking at each
-/// process; slots that are read aren't counted.
+/// A table that scans: a process is found by a binary search, and slots that are read aren't counted.
 #[derive(Drop)]
 pub struct ScanTable {
     slots: Vec<Slot>,
@@ -29,7 +27,7 @@ pub struct ScanTable {
 impl Model for ScanTable {
     ghost use Rattle.std.specs.Prelude.{◌-◌, vec_len, vec_capacity};
     ghost use Rattle.posix.specs.Tables.{IsRising};
-    ghost use Rattle.proctable.specs.ScanTable.{ScanView};
+    ghost use Rattle.proctable.specs.Tables.{ScanView};
 
     ghost Value = { ScanView };
 
@@ -96,6 +94,12 @@ impl ProcessTable for ScanTable {
         slot.record_mut()
     }
 
+    fn set_parent(&mut self, pid: Pid, parent: Pid) {
+        let at = found(&self.slots, &pid);
+        let slot = &mut self.slots[at];
+        slot.set_parent(parent);
+    }
+
     fn spare(&mut self) -> Option<Spare> {
         self.spares.take()
     }
@@ -105,14 +109,6 @@ impl ProcessTable for ScanTable {
         self.spares.keep(slot.map(|slot| slot.into_spare()));
     }
 
-    fn first_child(&mut self, pid: Pid) -> Option<Pid> {
-        first_child_in(&self.slots, pid)
-    }
-
-    fn next_sibling(&mut self, pid: Pid) -> Option<Pid> {
-        next_child_in(&self.slots, pid)
-    }
-
     fn next_after(&mut self, pid: Pid) -> Option<Pid> {
         let Some(slot) = next_above(&self.slots, &pid) else {
             return None;
@@ -120,40 +116,7 @@ impl ProcessTable for ScanTable {
         Some(slot.pid())
     }
 
-    fn adopt(&mut self, from: Pid, to: Pid) {
-        adopt_all(&mut self.slots, from, to);
-    }
-
     fn visits(&self) -> u128 {
         0
-    }
-}
-
-/// The first child of a process.
-fn first_child_in(slots: &[Slot], parent: Pid) -> Option<Pid>
-    ensures { result ≡ option_map (λ s. s.pid) (find (is_child parent) slots.now) }
-{
-    slots
-        .iter()
-        .find(|slot| slot.parent() == parent)
-        .map(|slot| slot.pid())
-}
-
-/// The next of the children of its parent.
-fn next_child_in(slots: &[Slot], pid: Pid) -> Option<Pid>
-    requires rising { IsRising slots.now }
-    requires there { IsSome (lookup pid slots.now) }
-    ensures { result ≡ next_sibling pid slots.now }
-{
-    let at = found(slots, &pid);
-    first_child_in(&slots[at + 1..], slots[at].parent())
-}
-
-/// Gives the children of one process to another.
-fn adopt_all(slots: &mut [Slot], from: Pid, to: Pid)
-    ensures { slots.new ≡ map (reparented from to) slots.old }
-{
-    for slot in slots.iter_mut() {
-        slot.reparent(from, to);
     }
 }

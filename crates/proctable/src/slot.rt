@@ -1,9 +1,8 @@
-//! A slot of the table that scans.
+//! What stands in a slot of a table: a process.
 
 ghost use Rattle.std.specs.Prelude.{◌≡◌};
 ghost use Rattle.std.specs.Borrow.{sem, Lends};
-ghost use Rattle.posix.specs.Tables.{reparented};
-ghost use Rattle.proctable.specs.Records.{snapshot_of, process_of, give_record, record_row};
+ghost use Rattle.proctable.specs.Records.{snapshot_of, process_of, with_parent, give_record, record_row};
 ghost use Rattle.proctable.specs.contracts.slot.Slot.{the_row as slot_row};
 
 use crate::records::Record;
@@ -13,12 +12,12 @@ use pidset::Numbered;
 use posix::Pid;
 use std::marker::Model;
 
-/// A process with its number and its parent's.
+/// A process with its number and its parent's. What a step reads of it stands first, in few lines of a cache.
 #[derive(Drop)]
 pub struct Slot {
+    fields: Record,
     pid: Pid,
     parent: Pid,
-    fields: Record,
 }
 
 impl Model for Slot {
@@ -53,22 +52,15 @@ impl Slot {
         ensures { result ≡ process_of pid parent fields }
     {
         Slot {
+            fields,
             pid,
             parent,
-            fields,
         }
     }
 
     /// The memory of a process that was taken out.
     pub fn into_spare(self) -> Spare {
         self.fields.own.into_spare()
-    }
-
-    /// Its parent's number.
-    pub fn parent(&self) -> Pid
-        ensures { result ≡ self.now.parent }
-    {
-        self.parent
     }
 
     /// Its small fields.
@@ -78,13 +70,11 @@ impl Slot {
         self.fields.snapshot(self.pid, self.parent)
     }
 
-    /// If it is a child of `from`, it becomes one of `to`.
-    pub fn reparent(&mut self, from: Pid, to: Pid)
-        ensures { self.new ≡ reparented from to self.old }
+    /// It has another parent from now on.
+    pub fn set_parent(&mut self, parent: Pid)
+        ensures { self.new ≡ with_parent parent self.old }
     {
-        if self.parent == from {
-            self.parent = to;
-        }
+        self.parent = parent;
     }
 
     /// All of it but the numbers.

@@ -1,8 +1,8 @@
 -- What the program does with its words, and what its status means.
-use Rattle.std.specs.Prelude.{◌≡◌, ◌⊎◌, ℕ, Bool, true, false, List, map, Option, None, Some, Result, Ok, Err, IsSomeAnd}
+use Rattle.std.specs.Prelude.{◌≡◌, ℕ, Bool, true, false, List, map, Option, None, Some, Result, Ok, Err, IsSomeAnd}
 use Rattle.std.specs.Borrow.{Bor}
 use Rattle.host.specs.declared.words.WordsFault.{WordsFault}
-use Rattle.inputs.specs.Failures.{status_of}
+use Rattle.inputs.specs.Failures.{MeansOf, status_of}
 use Rattle.inputs.specs.Reads.{Contents, Text}
 use Rattle.inputs.specs.declared.failure.FileFailure.{FileFailure}
 use Rattle.inputs.specs.declared.failure.FileFailure.TheVariants as failure
@@ -45,12 +45,8 @@ Ends contents asked old new before after (Err (failure.CannotRead name)) = new �
 Ends contents asked old new before after (Err failure.Memory) = new ≡ old
 Ends contents asked old new before after (Err failure.Write) = IsSomeAnd asked (OfRefusal contents (BreaksOff before after))
 
--- What a status means, with what is asked for, if something is, the files, and the output from the call to the return.
-pub record Means {S : Type 0} (contents : Contents) (asked : Option Asked) (old new : S) (before after : Seen) (status : ℕ) : Type 0 where
-  -- neither text is refused, and nothing is put
-  pub done : status ≡ 0 → IsSomeAnd asked (IsAccepted contents) × (new ≡ old)
-  -- one is, and all that is told of it was put
-  pub refused : status ≡ 1 → IsSomeAnd asked (OfRefusal contents (TakesAll before after))
-  pub other_words : status ≡ 2 → (asked ≡ None) × (new ≡ old)
-  -- nothing was put, or a beginning of what is told
-  pub cut_short : status ≡ 3 → (new ≡ old) ⊎ IsSomeAnd asked (OfRefusal contents (BreaksOff before after))
+-- What a status means, with what is asked for, if something is, the files, and the output from the call to the return: 0 that neither text is refused,
+-- and nothing put; 1 that one is, and all that is told of it was put; 3 that nothing was put, or a beginning of that.
+abbrev pub Means : {S : Type 0} → Contents → Option Asked → S → S → Seen → Seen → ℕ → Type 0
+Means contents asked old new before after status = MeansOf (IsSomeAnd asked (IsAccepted contents) × (new ≡ old))
+    (IsSomeAnd asked (OfRefusal contents (TakesAll before after))) (IsSomeAnd asked (OfRefusal contents (BreaksOff before after))) asked old new status

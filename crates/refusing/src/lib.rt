@@ -4,7 +4,6 @@
 
 mod marks;
 mod printing;
-mod prose;
 mod request;
 mod serving;
 mod sight;

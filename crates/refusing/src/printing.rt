@@ -7,9 +7,9 @@ ghost use Rattle.refusing.specs.Sections.{section_line};
 ghost use Rattle.refusing.specs.Printing.{behind_marks, file_line, first_lines, mark_line, note_line, place_line, printed as printed_of, sentence_line, text_line};
 
 use crate::marks::{write_blanks, write_marks, write_shown};
-use crate::prose::digits_of;
 use crate::sight::Sight;
 use crate::telling::{Section, Shown, Told};
+use naming::digits_of;
 use std::alloc::{AllocError, Global};
 
 /// Adds the line with the name of the file.

@@ -9,7 +9,7 @@ use crate::request::requested;
 use crate::texts::{Input, told_of};
 use host::{ReadFiles, WordsFault};
 use inputs::FileFailure;
-use sink::{Sink, SinkFault, put_all};
+use sink::{Sink, put_all};
 use std::alloc::Global;
 
 const USAGE: &[u8] = b"usage: jobk refusal WORLD EVENTS [--as NAME]\n";
@@ -39,20 +39,6 @@ fn serve_words<'a, F: ReadFiles, O: Sink>(
     }
 }
 
-/// Tells a failure, as far as the error output takes it. It takes no memory.
-fn tell<E: Sink>(failure: FileFailure<'_>, err: &mut E) -> Result<(), SinkFault> {
-    match failure {
-        FileFailure::Usage => put_all(err, USAGE),
-        FileFailure::CannotRead(name) => {
-            put_all(err, b"jobk: cannot read ")?;
-            put_all(err, name.as_bytes())?;
-            put_all(err, b"\n")
-        }
-        FileFailure::Memory => put_all(err, b"jobk: out of memory\n"),
-        FileFailure::Write => put_all(err, b"jobk: cannot write\n"),
-    }
-}
-
 /// The status of the program. A failure is told.
 fn ended<E: Sink>(done: Result<bool, FileFailure<'_>>, err: &mut E) -> u8
     ensures { result ≡ answer_of done.entry }
@@ -60,10 +46,7 @@ fn ended<E: Sink>(done: Result<bool, FileFailure<'_>>, err: &mut E) -> u8
     match done {
         Ok(false) => 0,
         Ok(true) => 1,
-        Err(failure) => {
-            let _ = tell(failure, err);
-            failure.status()
-        }
+        Err(failure) => failure.end(USAGE, err),
     }
 }
 

@@ -5,13 +5,13 @@ ghost use Rattle.refusing.specs.Sections.{section_line};
 ghost use Rattle.refusing.specs.Sights.{IsSight};
 ghost use Rattle.refusing.specs.Telling.{EndsEarly, IsLineShown, IsNumber, IsShownOf};
 
-use crate::prose::Prose;
 use crate::sight::{Sight, without_return, words_at};
 use crate::why::{Seen, put_why};
 use judging::{
     Fault, Line, Mistake, Note, Refusal, World, has_one_line, is_listed, last_with_words, line_at,
     lower, mistake_of, next_line, no_text, refusal_of,
 };
+use naming::Message;
 use std::alloc::{AllocError, Global};
 use text::{Reason, TextFault};
 
@@ -77,32 +77,9 @@ impl Section {
     }
 }
 
-/// Adds what is told of another line.
-fn put_note(prose: &mut Prose, note: Note<'_>) -> Result<(), AllocError> {
-    match note {
-        Note::Right {
-            line,
-            name,
-            defined,
-        } => {
-            prose.say_number("line ", line)?;
-            prose.say_with(" is right: it names ", name)?;
-            if let Some(defined) = defined {
-                prose.say_number(", and line ", defined)?;
-                prose.say(" defines that")?;
-            }
-            prose.say(", but below a refused line nothing counts as defined")
-        }
-        Note::RefusedToo(line) => {
-            prose.say_number("line ", line)?;
-            prose.say(" is refused, too")
-        }
-    }
-}
-
 /// What is wrong with the names of a line, the first of it.
 fn told_of<'a>(alloc: Global, told: &'a [u8], line: u64) -> Result<Option<&'a [u8]>, AllocError> {
-    let mut begin = Prose::new(alloc);
+    let mut begin = Message::new(alloc);
     begin.say_number("jobk: line ", line)?;
     begin.say(": ")?;
     let mut rest = told;
@@ -139,8 +116,8 @@ pub enum Shown<'a> {
 #[derive(Drop)]
 pub struct Told<'a> {
     pub shown: Shown<'a>,
-    pub why: Prose,
-    pub note: Prose,
+    pub why: Message,
+    pub note: Message,
     pub section: Section,
 }
 
@@ -148,12 +125,12 @@ pub struct Told<'a> {
 fn told_of_file<'a>(alloc: Global, what: &str, section: Section) -> Result<Told<'a>, AllocError>
     ensures { IfOk result (λ told. told.shown ≡ Shown.FirstLine) }
 {
-    let mut why = Prose::new(alloc);
+    let mut why = Message::new(alloc);
     why.say(what)?;
     Ok(Told {
         shown: Shown::FirstLine,
         why,
-        note: Prose::new(alloc),
+        note: Message::new(alloc),
         section,
     })
 }
@@ -194,8 +171,8 @@ fn why_of(
     seen: &Seen<'_, '_>,
     number: u64,
     refusal: &Refusal<'_>,
-) -> Result<Prose, AllocError> {
-    let mut why = Prose::new(alloc);
+) -> Result<Message, AllocError> {
+    let mut why = Message::new(alloc);
     if may_be_name(Line::new(seen.line), refusal.place) && refusal.reason != Reason::NameUnknown {
         if let Some(told) = told_of(alloc, refused.told, number)? {
             why.quote(told)?;
@@ -240,7 +217,7 @@ pub fn told_of_events<'a>(
     Ok(Told {
         shown: shown_line(refused.given, number, line, &refusal),
         why: why_of(alloc, refused, &seen, number, &refusal)?,
-        note: Prose::new(alloc),
+        note: Message::new(alloc),
         section: Section::Events,
     })
 }
@@ -302,12 +279,31 @@ fn shown_of<'a>(
 }
 
 /// What is told of another line.
-fn note_of(alloc: Global, note: Option<Note<'_>>) -> Result<Prose, AllocError> {
-    let mut prose = Prose::new(alloc);
-    if let Some(note) = note {
-        put_note(&mut prose, note)?;
+fn note_of(alloc: Global, note: Option<Note<'_>>) -> Result<Message, AllocError> {
+    let mut told = Message::new(alloc);
+    match note {
+        Some(
+            Note::Right {
+                line,
+                name,
+                defined,
+            },
+        ) => {
+            told.say_number("line ", line)?;
+            told.say_with(" is right: it names ", name)?;
+            if let Some(defined) = defined {
+                told.say_number(", and line ", defined)?;
+                told.say(" defines that")?;
+            }
+            told.say(", but below a refused line nothing counts as defined")?;
+        }
+        Some(Note::RefusedToo(line)) => {
+            told.say_number("line ", line)?;
+            told.say(" is refused, too")?;
+        }
+        None => {}
     }
-    Ok(prose)
+    Ok(told)
 }
 
 /// What is told of a line of a world.

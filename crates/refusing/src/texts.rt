@@ -60,30 +60,22 @@ fn own_fault(fault: TextFault) -> Result<TextFault, AllocError>
     }
 }
 
-/// What is told of a world that has a fault, in a file with this name.
-fn told_of_first(
+/// What is told of a text that has a fault, in a file with this name: of events for a world of so many consoles, or else of
+/// a world.
+fn told_of_text(
     alloc: Global,
     name: &str,
-    world: &Input,
+    text: &Input,
+    consoles: Option<u8>,
     fault: TextFault,
 ) -> Result<Vec<u8>, AllocError>
-    ensures { IfOk result (λ out. IsTold name.now world.now.given.items fault out.items) }
+    ensures { IfOk result (λ out. IsTold name.now text.now.given.items fault out.items) }
 {
-    let told = told_of_world(alloc, &world.refused(fault))?;
-    printed(alloc, name, &told)
-}
-
-/// What is told of events that have a fault, in a file with this name, for a world of so many consoles.
-fn told_of_second(
-    alloc: Global,
-    name: &str,
-    events: &Input,
-    consoles: u8,
-    fault: TextFault,
-) -> Result<Vec<u8>, AllocError>
-    ensures { IfOk result (λ out. IsTold name.now events.now.given.items fault out.items) }
-{
-    let told = told_of_events(alloc, &events.refused(fault), consoles)?;
+    let refused = text.refused(fault);
+    let told = match consoles {
+        Some(consoles) => told_of_events(alloc, &refused, consoles)?,
+        None => told_of_world(alloc, &refused)?,
+    };
     printed(alloc, name, &told)
 }
 
@@ -103,7 +95,7 @@ fn told_for(
         Ok(_) => Ok(None),
         Err(fault) => {
             let fault = own_fault(fault)?;
-            let out = told_of_second(alloc, names.1, events, known.consoles(), fault)?;
+            let out = told_of_text(alloc, names.1, events, Some(known.consoles()), fault)?;
             Ok(Some(out))
         }
     }
@@ -123,7 +115,7 @@ pub fn told_of(
         Ok(known) => told_for(alloc, names, world, &known, events),
         Err(fault) => {
             let fault = own_fault(fault)?;
-            let out = told_of_first(alloc, names.0, world, fault)?;
+            let out = told_of_text(alloc, names.0, world, None, fault)?;
             Ok(Some(out))
         }
     }

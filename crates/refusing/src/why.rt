@@ -1,15 +1,15 @@
 //! Why a word is refused, and what it may be.
 
-use crate::prose::Prose;
 use crate::why_events::{put_many_consoles, put_no_byte, put_no_console, put_no_event};
 use crate::why_instructions::{
     put_no_call, put_no_instruction, put_no_register, put_no_value, put_too_many,
 };
 use crate::why_words::{
     behind_mark, put_marked_number, put_no_header, put_no_name, put_no_number, put_no_option,
-    put_no_program, put_wide_value,
+    put_no_program, put_range, put_wide_value,
 };
-use judging::{Definition, Fault, Line, NameUse, Named, Number, Refusal, World};
+use judging::{Definition, Fault, Line, NameUse, Named, Number, Refusal, World, oddity};
+use naming::Message;
 use std::alloc::AllocError;
 
 /// A line that is refused, and what is known around it.
@@ -25,96 +25,88 @@ pub struct Seen<'a, 'w> {
 }
 
 /// Adds that a number is missing.
-fn put_missing(prose: &mut Prose, number: Number) -> Result<(), AllocError> {
-    match number {
-        Number::KeyConsole(_) => prose.say("the console is missing, and a byte: key 1 0A"),
-        Number::HangupConsole(_) => prose.say("the console is missing: hangup 1"),
-        Number::Id => {
-            prose.say("an id is missing, ")?;
-            prose.say_range(number.range())
-        }
-        Number::Pidmax | Number::Consoles | Number::Count => {
-            prose.say("a number is missing, ")?;
-            prose.say_range(number.range())
-        }
-    }
+fn put_missing(why: &mut Message, number: Number) -> Result<(), AllocError> {
+    let words = match number {
+        Number::KeyConsole(_) => "the console is missing, and a byte: key 1 0A",
+        Number::HangupConsole(_) => "the console is missing: hangup 1",
+        Number::Id => "an id is missing, ",
+        Number::Pidmax | Number::Consoles | Number::Count => "a number is missing, ",
+    };
+    put_range(why, words, number)
 }
 
 /// Adds which numbers may stand at the place of this one.
 fn put_out_of_range(
-    prose: &mut Prose,
+    why: &mut Message,
     line: Line<'_>,
-    place: usize,
+    word: &[u8],
     number: Number,
 ) -> Result<(), AllocError> {
     match number {
         Number::KeyConsole(consoles) | Number::HangupConsole(consoles) => {
-            put_no_console(prose, line, consoles)
+            put_no_console(why, line, consoles)
         }
-        Number::Id => {
-            prose.say("an id is ")?;
-            prose.say_range(number.range())
-        }
+        Number::Id => put_range(why, "an id is ", number),
         Number::Pidmax | Number::Consoles => {
-            prose.say_around("", line.first(), " is ")?;
-            prose.say_range(number.range())
+            why.quote(line.first())?;
+            put_range(why, " is ", number)
         }
         Number::Count => {
-            prose.say_around("", line.first(), " has ")?;
-            prose.say_range(number.range())?;
-            if line.word(place).iter().all(|b| matches!(b, b'0' | b'-')) {
+            why.quote(line.first())?;
+            put_range(why, " has ", number)?;
+            if word.iter().all(|b| matches!(b, b'0' | b'-')) {
                 return Ok(());
             }
-            prose.say("; write several lines for more")
+            why.say("; write several lines for more")
         }
     }
 }
 
 /// Adds that a name is defined twice.
-fn put_twice(prose: &mut Prose, named: Named, line: u64) -> Result<(), AllocError> {
-    prose.say_number("line ", line)?;
+fn put_twice(why: &mut Message, named: Named, line: u64) -> Result<(), AllocError> {
+    why.say_number("line ", line)?;
     match named {
-        Named::Label => prose.say(" has this label; choose another"),
-        Named::Program => prose.say(" has a program of this name; choose another"),
+        Named::Label => why.say(" has this label; choose another"),
+        Named::Program => why.say(" has a program of this name; choose another"),
     }
 }
 
 /// Adds a program, and the line in which it begins.
-fn put_program(prose: &mut Prose, before: &str, program: Definition<'_>) -> Result<(), AllocError> {
-    prose.say_around(before, program.name, ", of line ")?;
-    prose.say_number("", program.line)?;
-    prose.say(", whose end is missing")
+fn put_program(why: &mut Message, before: &str, program: Definition<'_>) -> Result<(), AllocError> {
+    why.say_around(before, program.name, ", of line ")?;
+    why.say_number("", program.line)?;
+    why.say(", whose end is missing")
 }
 
 /// Adds that a line has too many bytes.
-fn put_long_line(prose: &mut Prose, line: &[u8]) -> Result<(), AllocError> {
-    prose.say_number("this line has ", line.len() as u64)?;
-    prose.say(" bytes; a line has at most 200, its comment too")
+fn put_long_line(why: &mut Message, line: &[u8]) -> Result<(), AllocError> {
+    why.say_number("this line has ", line.len() as u64)?;
+    why.say(" bytes; a line has at most 200, its comment too")
 }
 
 /// Adds that a value is missing.
-fn put_no_value_at_all(prose: &mut Prose, given: &[u8]) -> Result<(), AllocError> {
-    prose.say("a number is missing")?;
+fn put_no_value_at_all(why: &mut Message, given: &[u8]) -> Result<(), AllocError> {
+    why.say("a number is missing")?;
     if given.contains(&b'#') {
-        prose.say("; from # on the line is a comment")?;
+        why.say("; from # on the line is a comment")?;
     }
     Ok(())
 }
 
 /// Adds that nothing names a name that is defined, where another one is used.
-fn put_unused(prose: &mut Prose, is: Definition<'_>, used: NameUse<'_>) -> Result<(), AllocError> {
-    prose.say_with("nothing names ", is.name)?;
-    prose.say_number("; line ", used.line)?;
-    prose.say_with(" names ", used.name)
+fn put_unused(why: &mut Message, is: Definition<'_>, used: NameUse<'_>) -> Result<(), AllocError> {
+    why.say_with("nothing names ", is.name)?;
+    why.say_number("; line ", used.line)?;
+    why.say_with(" names ", used.name)
 }
 
 /// Adds which programs of others have a label.
-fn put_elsewhere(prose: &mut Prose, world: &World<'_>, name: &[u8]) -> Result<bool, AllocError> {
+fn put_elsewhere(why: &mut Message, world: &World<'_>, name: &[u8]) -> Result<bool, AllocError> {
     let mut is_there = false;
     for label in &world.labels {
         if label.is.name == name {
-            prose.say_number("; that of line ", label.is.line)?;
-            prose.say(" is of another program")?;
+            why.say_number("; that of line ", label.is.line)?;
+            why.say(" is of another program")?;
             is_there = true;
         }
     }
@@ -122,7 +114,7 @@ fn put_elsewhere(prose: &mut Prose, world: &World<'_>, name: &[u8]) -> Result<bo
 }
 
 /// Adds the names of all programs.
-fn put_programs(prose: &mut Prose, world: &World<'_>) -> Result<(), AllocError> {
+fn put_programs(why: &mut Message, world: &World<'_>) -> Result<(), AllocError> {
     let count = world.programs.len();
     for (place, program) in world.programs.iter().enumerate() {
         let before = if place == 0 {
@@ -132,14 +124,14 @@ fn put_programs(prose: &mut Prose, world: &World<'_>) -> Result<(), AllocError> 
         } else {
             ", "
         };
-        prose.say_with(before, program.name)?;
+        why.say_with(before, program.name)?;
     }
     Ok(())
 }
 
 /// Adds that nothing defines a name, and which one is meant.
 fn put_unknown(
-    prose: &mut Prose,
+    why: &mut Message,
     world: &World<'_>,
     used: NameUse<'_>,
     near: Option<Definition<'_>>,
@@ -150,77 +142,102 @@ fn put_unknown(
                 Some(program) => program.name,
                 None => &[],
             };
-            prose.say_around("program ", program, " has no label ")?;
+            why.say_around("program ", program, " has no label ")?;
         }
-        Named::Program => prose.say("no program has the name ")?,
+        Named::Program => why.say("no program has the name ")?,
     }
-    prose.quote(used.name)?;
+    why.quote(used.name)?;
     if let Some(near) = near {
-        prose.say_around("; did you mean ", near.name, ", of line ")?;
-        prose.say_number("", near.line)?;
-        return prose.say("?");
+        why.say_around("; did you mean ", near.name, ", of line ")?;
+        why.say_number("", near.line)?;
+        return why.say("?");
     }
     match used.named {
-        Named::Label if put_elsewhere(prose, world, used.name)? => Ok(()),
-        Named::Label => prose.say_around("; a line ", used.name, ": is one"),
-        Named::Program => put_programs(prose, world),
+        Named::Label if put_elsewhere(why, world, used.name)? => Ok(()),
+        Named::Label => why.say_around("; a line ", used.name, ": is one"),
+        Named::Program => put_programs(why, world),
+    }
+}
+
+/// What is told of a fault, where it is the same whatever the words are.
+fn words_of(fault: Fault<'_>) -> Option<&'static str> {
+    match fault {
+        Fault::EndNotAlone => Some("end stands alone on its line"),
+        Fault::LabelNotAlone => Some("a label stands alone on its line"),
+        Fault::ManyPrograms => Some("a world has at most 32 programs"),
+        Fault::ManyInstructions => Some("a program has at most 1,000 instructions; use a loop"),
+        Fault::ManyEvents => Some("a list has at most 1,000,000,000,000 events"),
+        Fault::HeaderEnds => Some(HEADER_ENDS),
+        Fault::NoPrograms => Some(NO_PROGRAMS),
+        _ => None,
+    }
+}
+
+const HEADER_ENDS: &str =
+    "the text ends here; a world begins with pidmax N, consoles N and a program";
+
+const NO_PROGRAMS: &str =
+    "behind the header at least one program follows: program NAME, its lines, end";
+
+/// Adds why a word is refused that is none of those which may stand at its place.
+fn put_other(
+    why: &mut Message,
+    seen: &Seen<'_, '_>,
+    refusal: &Refusal<'_>,
+) -> Result<(), AllocError> {
+    let line = Line::new(seen.line);
+    let word = line.word(refusal.place);
+    if let Some(what) = oddity(word) {
+        return why.say(what);
+    }
+    match refusal.fault {
+        Fault::NoNumber(number) => put_no_number(why, word, number),
+        Fault::NoHeader(number) => put_no_header(why, line, number),
+        Fault::TooMany => put_too_many(why, line, refusal.place),
+        Fault::NoProgram(behind) => put_no_program(why, word, behind),
+        Fault::NoName(named) => put_no_name(why, word, named),
+        Fault::NoOption => put_no_option(why, word),
+        Fault::NoInstruction => put_no_instruction(why, line),
+        Fault::NoCall => put_no_call(why, word),
+        Fault::NoRegister => put_no_register(why, line, word),
+        Fault::BadValue(program) => put_no_value(why, seen.text, line, program),
+        Fault::NoEvent => put_no_event(why, word),
+        Fault::NoByte => put_no_byte(why, word),
+        Fault::ManyConsoles => put_many_consoles(why, line, word),
+        _ => Ok(()),
     }
 }
 
 /// Adds why a word is refused; nothing where that isn't known.
 pub fn put_why(
-    prose: &mut Prose,
+    why: &mut Message,
     seen: &Seen<'_, '_>,
     refusal: &Refusal<'_>,
 ) -> Result<(), AllocError> {
+    if let Some(words) = words_of(refusal.fault) {
+        return why.say(words);
+    }
     let line = Line::new(seen.line);
-    let place = refusal.place;
-    let word = line.word(place);
+    let word = line.word(refusal.place);
     match refusal.fault {
         Fault::Unsaid => Ok(()),
-        Fault::LongLine => put_long_line(prose, seen.line),
-        Fault::Missing(number) => put_missing(prose, number),
-        Fault::NoNumber(number) => put_no_number(prose, word, number),
-        Fault::OutOfRange(number) => put_out_of_range(prose, line, place, number),
-        Fault::NoHeader(number) => put_no_header(prose, line, number),
-        Fault::TooMany => put_too_many(prose, line, place),
-        Fault::NoProgram(behind) => put_no_program(prose, word, behind),
-        Fault::Within(program) => put_program(prose, "this is within program ", program),
-        Fault::EndNotAlone => prose.say("end stands alone on its line"),
-        Fault::LabelNotAlone => prose.say("a label stands alone on its line"),
-        Fault::ManyPrograms => prose.say("a world has at most 32 programs"),
-        Fault::ManyInstructions => prose.say(
-            "a program has at most 1,000 instructions; use a loop",
-        ),
-        Fault::NoName(named) => put_no_name(prose, word, named),
-        Fault::NoMarkedName(named) => put_no_name(prose, behind_mark(word), named),
-        Fault::Twice(named, line) => put_twice(prose, named, line),
-        Fault::NoOption => put_no_option(prose, word),
-        Fault::NoInstruction => put_no_instruction(prose, line),
-        Fault::NoCall => put_no_call(prose, word),
-        Fault::NoRegister => put_no_register(prose, line, word),
-        Fault::NoValue => put_no_value_at_all(prose, seen.given),
-        Fault::BadValue(program) => put_no_value(prose, seen.text, line, program),
-        Fault::MarkedNumber => put_marked_number(prose, word),
-        Fault::WideValue => put_wide_value(prose, word),
-        Fault::NoEvent => put_no_event(prose, word),
-        Fault::ByteMissing => prose.say_around("a byte is missing: key ", line.word(1), " 0A"),
-        Fault::NoByte => put_no_byte(prose, word),
-        Fault::ManyConsoles => put_many_consoles(prose, line, word),
-        Fault::ManyEvents => prose.say("a list has at most 1,000,000,000,000 events"),
-        Fault::HeaderEnds => prose.say(
-            "the text ends here; a world begins with pidmax N, consoles N and a program",
-        ),
-        Fault::ProgramEnds(program) => put_program(prose, "the text ends within program ", program),
-        Fault::NoPrograms => prose.say(
-            "behind the header at least one program follows: program NAME, its lines, end",
-        ),
-        Fault::Told(why) => prose.quote(why),
-        Fault::LabelWritten(name) => prose.say_around("a label is written ", name, ":"),
-        Fault::Unused(is, used) => put_unused(prose, is, used),
+        Fault::LongLine => put_long_line(why, seen.line),
+        Fault::Missing(number) => put_missing(why, number),
+        Fault::OutOfRange(number) => put_out_of_range(why, line, word, number),
+        Fault::Within(program) => put_program(why, "this is within program ", program),
+        Fault::NoMarkedName(named) => put_no_name(why, behind_mark(word), named),
+        Fault::Twice(named, line) => put_twice(why, named, line),
+        Fault::NoValue => put_no_value_at_all(why, seen.given),
+        Fault::MarkedNumber => put_marked_number(why, word),
+        Fault::WideValue => put_wide_value(why, word),
+        Fault::ByteMissing => why.say_around("a byte is missing: key ", line.word(1), " 0A"),
+        Fault::ProgramEnds(program) => put_program(why, "the text ends within program ", program),
+        Fault::LabelWritten(name) => why.say_around("a label is written ", name, ":"),
+        Fault::Unused(is, used) => put_unused(why, is, used),
         Fault::Unknown(used, near) => match seen.world {
-            Some(world) => put_unknown(prose, world, used, near),
+            Some(world) => put_unknown(why, world, used, near),
             None => Ok(()),
         },
+        _ => put_other(why, seen, refusal),
     }
 }

@@ -10,6 +10,7 @@ use crate::words::{Request, requested};
 use arrayvec::ArrayString;
 use audit::{AuditFault, TraceFault, audit_text};
 use host::{FileFault, ReadFiles, WordsFault};
+use inputs::tell_unread;
 use kernel::{RunError, Sink, SinkFault, put_all, run};
 use std::alloc::Global;
 use std::fmt::Write;
@@ -185,11 +186,7 @@ fn serve_words<'a, F: ReadFiles, O: Sink>(
 fn tell<E: Sink>(failure: Failure<'_>, err: &mut E) -> Result<(), SinkFault> {
     match failure {
         Failure::Usage => put_all(err, USAGE),
-        Failure::CannotRead(name) => {
-            put_all(err, b"jobk: cannot read ")?;
-            put_all(err, name.as_bytes())?;
-            put_all(err, b"\n")
-        }
+        Failure::CannotRead(name) => tell_unread(name, err),
         Failure::Run(why) => tell_run_error(why, err),
         Failure::Faulty => Ok(()),
     }

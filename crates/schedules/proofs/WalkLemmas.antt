@@ -151,17 +151,6 @@ ends upto ticks done s (y ∷ rest) e n =
 pub walked_on : (all done late : List Places) (s new : Places) → all ≡ done ++ s ∷ late → Comes true new late → (rest : List Places) × (all ≡ (done ++ s ∷ []) ++ new ∷ rest)
 walked_on all done late s new e c = (c.0, e ∙ ap (λ xs. done ++ s ∷ xs) c.1 ∙ sym (append_assoc done (s ∷ []) (new ∷ c.0)))
 
--- the last one is done with
-pub walked_out : (all done late : List Places) (s new : Places) → all ≡ done ++ s ∷ late → Comes false new late → all ≡ done ++ s ∷ []
-walked_out all done late s new e c = e ∙ ap (λ xs. done ++ s ∷ xs) c
-
--- as long as not so many are done with there is a next one
-pub has_next : (all done late : List Places) (s new : Places) (result : Bool) → all ≡ done ++ s ∷ late → Comes result new late → length done + 1 < length all → result ≡ true
-has_next all done late s new true e c l = refl
-has_next all done late s new false e c l =
-    let whole = ap length (walked_out all done late s new e c) in
-    absurd (omega (arith, whole, length-append done (s ∷ []), l))
-
 -- the first schedule has no ticks
 pub begins : (upto k : ℕ) → (rest : List Places) × (family upto k ≡ [] ∷ rest)
 unfolding family
@@ -190,10 +179,6 @@ gone_among upto ticks false old new g a = rw g.1 a
 pub gone_within : (upto ticks : ℕ) (result : Bool) (old new : Places) → Goes result upto ticks old new → length old ≤ ticks → length new ≤ ticks
 gone_within upto ticks true old new g l = g.1
 gone_within upto ticks false old new g l = rw g.1 l
-
-pub gone_stays : (upto ticks : ℕ) (result : Bool) (old new : Places) → Goes result upto ticks old new → result ≡ false → new ≡ old
-gone_stays upto ticks true old new g e = grind (arith, e)
-gone_stays upto ticks false old new g e = g.1
 
 -- ---- where a walk goes it finds schedules
 

@@ -11,7 +11,7 @@ use crate::stepping::{Ask, StepFault, Steps, put_text};
 use crate::words::{Request, process_of, requested};
 use arrayvec::ArrayString;
 use host::{ReadFiles, WordsFault};
-use inputs::{InputFault, Inputs, NoRequest, number, read_inputs};
+use inputs::{InputFault, Inputs, NoRequest, number, read_inputs, tell_unread};
 use kernel::{Sink, SinkFault, put_all};
 use posix::Pid;
 use std::alloc::{AllocError, Global};
@@ -276,9 +276,7 @@ fn serve_request<'a, F: ReadFiles, O: Sink, A: Ask>(
 /// Tells a failure, as far as the error output takes it. It takes no memory.
 fn tell<E: Sink>(failure: Failure<'_>, err: &mut E) -> Result<(), SinkFault> {
     if let Failure::Input(InputFault::CannotRead(name)) = failure {
-        put_all(err, b"jobk: cannot read ")?;
-        put_all(err, name.as_bytes())?;
-        return put_all(err, b"\n");
+        return tell_unread(name, err);
     }
     let mut text = ArrayString::<256>::new();
     let _ = writeln!(text, "{failure}");

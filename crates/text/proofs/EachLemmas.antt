@@ -39,13 +39,6 @@ each-next f xs i x y front whole below is gives so =
     let split : drop i xs ≡ x ∷ drop (i + 1) xs = grind (arith, drop-cons xs i x) in
     so ∙ (ap (λ l. each f l >>= λ rest. Ok (front ++ rest)) split ∙ (ap (λ r. (r >>= λ b. (each f (drop (i + 1) xs) >>= λ ys. Ok (b ∷ ys))) >>= λ rest. Ok (front ++ rest)) gives ∙ after-first y front (each f (drop (i + 1) xs))))
 
--- A loop that has come to `i`, where the next element gives an error, gives it.
-pub each-fails : {A B E : Type 0} (f : A → Result B E) (xs : List A) (i : ℕ) (x : A) (e : E) (front : List B) (whole : Result (List B) E) →
-    i < length xs → x ≡ get_or xs i x → f x ≡ Err e → whole ≡ (each f (drop i xs) >>= λ rest. Ok (front ++ rest)) → whole ≡ Err e
-each-fails f xs i x e front whole below is gives so =
-    let split : drop i xs ≡ x ∷ drop (i + 1) xs = grind (arith, drop-cons xs i x) in
-    so ∙ (ap (λ l. each f l >>= λ rest. Ok (front ++ rest)) split ∙ ap (λ r. (r >>= λ b. (each f (drop (i + 1) xs) >>= λ ys. Ok (b ∷ ys))) >>= λ rest. Ok (front ++ rest)) gives)
-
 -- A loop that has come to the end gives what it has.
 pub each-ends : {A B E : Type 0} (f : A → Result B E) (xs : List A) (i : ℕ) (front : List B) (whole : Result (List B) E) →
     length xs ≤ i → whole ≡ (each f (drop i xs) >>= λ rest. Ok (front ++ rest)) → whole ≡ Ok front

@@ -12,10 +12,6 @@ use Rattle.traceline.specs.Words.{word, behind}
 abbrev place : List ℕ → ℕ
 place text = position_or_len (λ b. b == 32) text
 
-place_within : (text : List ℕ) → place text ≤ length text
-place_within [] = omega arith
-place_within (b ∷ bs) = let k = place_within bs in grind (arith, nat_tests, k)
-
 -- as many bytes as there are
 take_long : (n : ℕ) (bs : List ℕ) → length bs ≤ n → take n bs ≡ bs
 take_long n bs h = grind (arith, common_steps, h)

@@ -1,4 +1,4 @@
-use Rattle.std.proofs.Common.{◌<◌, ◌++◌, List, ℕ, ap, ◌∙◌, arith, refl}
+use Rattle.std.proofs.Common.{◌<◌, ◌++◌, List, ℕ, ap, ◌∙◌, arith}
 use Rattle.std.specs.Prelude.{codes}
 use Rattle.std.specs.String.{string_bytes}
 use Rattle.eventtext.proofs.AddLemmas.{hangup_added, counted_line}

@@ -1,4 +1,4 @@
-use Rattle.std.proofs.Common.{◌≡◌, ℕ, replicate, subst, arith}
+use Rattle.std.proofs.Common.{◌≡◌, replicate, subst, arith}
 use Rattle.std.specs.String.{string_bytes}
 use Rattle.posix.specs.declared.event.Event.TheVariants.{Hangup}
 use Rattle.eventtext.specs.EventLines.{AddsLines}

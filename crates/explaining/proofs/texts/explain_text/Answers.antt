@@ -1,4 +1,4 @@
-use Rattle.explaining.specs.declared.texts.ExplainFault.TheVariants.{Memory, Write}
+use Rattle.inputs.specs.declared.failure.FileFailure.TheVariants.{Memory, Write}
 use Rattle.explaining.proofs.ExplanationLemmas.{explains_by, told_all, told_in_part, told_more, told_no_more, untold}
 use Rattle.explaining.proofs.texts.explain_text.Goals as goal
 
@@ -20,11 +20,11 @@ returns-in_err-explain_line g c =
     (told_no_more g.O.Sink.seen _ c.loop-line.out c.explain_line.new.out c.args.trace.now c.loop-line.rest.now c.in-Some.line.now c.in-Some.more.now c.loop-line.waiting.items stopped.0 why
     c.loop-line.invariant c.in-Some.ensures.cut stopped.1 stopped.2)
 
-pub returns-in_err-put_rest : goal.returns-in_err-put_rest
-returns-in_err-put_rest g c =
-    explains_by c.from_residual-in_err-put_rest.result Write _ _ c.args.trace.now c.from_residual-in_err-put_rest.ensures.1
-    (told_in_part _ _ _ c.args.trace.now c.loop-line.rest.now c.loop-line.waiting.items c.loop-line.invariant c.in_default.ensures.cut (rw c.as_slice.ensures.value at c.in_err-put_rest.ensures.err))
+pub returns-in_err-put_both : goal.returns-in_err-put_both
+returns-in_err-put_both g c =
+    explains_by c.from_residual-in_err-put_both.result Write _ _ c.args.trace.now c.from_residual-in_err-put_both.ensures.1
+    (told_in_part _ _ _ c.args.trace.now c.loop-line.rest.now c.loop-line.waiting.items c.loop-line.invariant c.in_default.ensures.cut (rw c.as_slice.ensures.value at c.in_err-put_both.ensures.err))
 
 pub returns : goal.returns
 returns g c =
-    told_all _ _ _ c.args.trace.now c.loop-line.rest.now c.loop-line.waiting.items c.loop-line.invariant c.in_default.ensures.cut (rw c.as_slice.ensures.value at c.in_ok-put_rest.ensures.ok)
+    told_all _ _ _ c.args.trace.now c.loop-line.rest.now c.loop-line.waiting.items c.loop-line.invariant c.in_default.ensures.cut (rw c.as_slice.ensures.value at c.in_ok-put_both.ensures.ok)

@@ -1,4 +1,4 @@
-use Rattle.std.proofs.Common.{◌≡◌, ℕ, Bool, ◌&&◌, true, arith, sym, ap, ◌∙◌, rules, refl, Option, nat_eq}
+use Rattle.std.proofs.Common.{◌≡◌, true, arith, sym, ◌∙◌, rules, nat_eq}
 use Rattle.std.proofs.lemmas.Bool.{and_parts, eqb-true}
 use Rattle.posix.specs.declared.process.Life.{Life}
 use Rattle.posix.specs.declared.process.News.{News}

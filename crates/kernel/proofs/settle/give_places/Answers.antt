@@ -1,7 +1,8 @@
 use Rattle.std.proofs.Common.{◌≡◌, ◌∙◌, ◌<◌, ap, sym, subst, arith, length, false, List, Some, ℕ}
 use Rattle.posix.specs.States.{State, process, without}
 use Rattle.posix.specs.Settle.{give_places, wakes}
-use Rattle.posix.specs.Tables.{IsNext}
+use Rattle.posix.specs.Tables.{IsNext, lookup}
+use Rattle.posix.specs.Processes.{Process}
 use Rattle.posix.specs.Regular.{IsRegular}
 use Rattle.posix.proofs.SettleLemmas.{asking_begins, asking_ends}
 use Rattle.pidset.proofs.WalkLemmas.{none_left}
@@ -12,6 +13,12 @@ use Rattle.life.proofs.SoundLemmas.{there}
 use Rattle.calls.specs.Counts.{neighbour, slots_of_rechecking, slots_of_rechecks}
 use Rattle.calls.proofs.CountLemmas.{rechecks_first}
 use Rattle.kernel.proofs.settle.give_places.Goals as goal
+
+pub finish_recheck-requires-clause-there : goal.finish_recheck-requires-clause-there
+finish_recheck-requires-clause-there g c =
+    let s = c.loop-pid.machine.state in
+    let pid = c.in-Some.pid in
+    subst (λ (rs : List Process). IsSome (lookup pid rs)) (sym (ap (λ (t : State). t.processes) c.wake-session.ensures.state ∙ same_processes s pid)) (subst (λ o. IfSome o (λ p. IsSome (process s p))) c.in-Some.is c.first_to_recheck.ensures.next.there)
 
 pub finish_recheck-requires-clause-waits : goal.finish_recheck-requires-clause-waits
 finish_recheck-requires-clause-waits g c = λ r e.

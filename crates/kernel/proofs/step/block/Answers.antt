@@ -1,4 +1,7 @@
-use Rattle.std.proofs.Common.{None, arith, ◌≡◌, ◌∙◌, ap, sym, subst, false, Some}
+use Rattle.std.proofs.Common.{None, arith, ◌≡◌, ◌∙◌, ap, refl, sym, subst, false, Some}
+use Rattle.std.specs.Option.{IsSome}
+use Rattle.posix.specs.Step.{enter}
+use Rattle.posix.proofs.ReportLemmas.{some_changed}
 use Rattle.posix.specs.Processes.{Process}
 use Rattle.posix.specs.States.{State, process, without}
 use Rattle.life.specs.Consoles.{reads}
@@ -7,6 +10,12 @@ use Rattle.posix.specs.Settle.{wakes}
 use Rattle.kernel.proofs.BlockLemmas.{blocked_rests, blocked_unread, nobody_left}
 use Rattle.life.specs.Machines.{MachineView}
 use Rattle.kernel.proofs.step.block.Goals as goal
+
+pub finish_recheck-requires-clause-there : goal.finish_recheck-requires-clause-there
+unfolding enter
+finish_recheck-requires-clause-there g c =
+    let it = c.requires.acting.placed in
+    subst (λ (t : State). IsSome (process t c.args.pid)) (sym c.enter_call.ensures.state) (some_changed c.args.pid c.args.pid (enter c.args.blocked) (λ r. refl) _ (rw it.found refl))
 
 pub finish_recheck-requires-clause-waits : goal.finish_recheck-requires-clause-waits
 finish_recheck-requires-clause-waits g c =

@@ -1,4 +1,5 @@
-use Rattle.std.proofs.Common.{◌≡◌, ◌∙◌, ap, sym, subst, arith, false, cond, None, Some}
+use Rattle.std.proofs.Common.{◌≡◌, ◌∙◌, ap, sym, subst, arith, refl, false, cond, None, Some}
+use Rattle.std.specs.Option.{IsSome}
 use Rattle.posix.specs.Processes.{Process}
 use Rattle.posix.specs.States.{State, process, lose_place, without}
 use Rattle.posix.specs.Settle.{wakes}
@@ -9,6 +10,11 @@ use Rattle.life.proofs.ViewLemmas.{state_is}
 use Rattle.calls.proofs.BriefLemmas.{brief_alone}
 use Rattle.kernel.proofs.BlockLemmas.{waits_rest, waits_unread, nobody_left}
 use Rattle.kernel.proofs.step.wait_on.Goals as goal
+
+pub finish_recheck-requires-clause-there : goal.finish_recheck-requires-clause-there
+finish_recheck-requires-clause-there g c =
+    let it = c.requires.acting.placed in
+    subst (λ (t : State). IsSome (process t c.args.pid)) (sym (state_is c.lose_place.ensures.is)) (rw it.found refl)
 
 pub finish_recheck-requires-clause-waits : goal.finish_recheck-requires-clause-waits
 finish_recheck-requires-clause-waits g c =

@@ -10,13 +10,6 @@ pub returns-then-greatest-number-clause-absent : goal.returns-then-greatest-numb
 returns-then-greatest-number-clause-absent g c =
     point_end g.T.Numbered.number c.args.items.now c.requires (g.K.Numbered.number c.args.key.now) c.in-Some.last.now (sym c.last.ensures.value ∙ ap option_copied c.in-Some.is) (grind (arith, nat_tests, c.number-number.ensures, c.number-greatest.ensures, c.if-greatest-number.true))
 
-pub returns-then-greatest-number-2-clause-found : goal.returns-then-greatest-number-2-clause-found
-returns-then-greatest-number-2-clause-found g c =
-    let f = g.T.Numbered.number in
-    let it = c.in-Some.last.now in
-    let same : f it ≡ g.K.Numbered.number c.args.key.now = grind (arith, nat_tests, c.number-number.ensures, c.number-greatest.ensures, c.if-greatest-number-2.true) in
-    subst (λ n. IsNumberAt (map f c.args.items.now) n (length c.args.items.now - 1)) same (last_number f c.args.items.now it (sym c.last.ensures.value ∙ ap option_copied c.in-Some.is))
-
 pub returns-clause-found : goal.returns-clause-found
 returns-clause-found g c =
     let facts = c.binary_search_by_key.ensures in

@@ -7,6 +7,8 @@ use Rattle.proctable.specs.Records.{give_record}
 use Rattle.jobs.specs.Indexes.{keeps_group_and_session}
 use Rattle.jobs.specs.IndexedTables.{StaysPut}
 use Rattle.jobs.proofs.KeptLemmas.{record_found, none_record, elsewhere_record, kept_moved, kept_unseen, ready_run}
+use Rattle.proctable.proofs.RecordLemmas.{record_rises}
+use Rattle.jobs.proofs.ChildLemmas.{kin_record}
 use Rattle.jobs.proofs.ReadLemmas.{processes_of}
 use Rattle.jobs.proofs.indexed_table.IndexedTable.change_seen.Goals as goal
 
@@ -32,6 +34,12 @@ update_anchors-requires-clause-none g c = let r = c.change_in-seen.ensures.run i
 pub update_anchors-requires-clause-within : goal.update_anchors-requires-clause-within
 update_anchors-requires-clause-within g c = rw c.reindex_change.ensures.anchors (ready_run c.change_in-seen.ensures.run.0 (processes_of c.self.view_is) c.requires.grouped c.self.invariant).2
 
+pub update_anchors-requires-clause-kin : goal.update_anchors-requires-clause-kin
+update_anchors-requires-clause-kin g c =
+    let r = c.change_in-seen.ensures.run.0 in
+    let k = c.self.invariant in
+    rw (r.is, c.reindex_change.ensures.children) (record { rising = record_rises _ k.rising c.args.pid r.after; index = kin_record _ c.args.pid r.after _ k.children.index })
+
 pub returns-then-is_unseen-clause-after : goal.returns-then-is_unseen-clause-after
 returns-then-is_unseen-clause-after g c = let r = c.change_in-seen.ensures.run in rw (r.0.is, record_found _ c.args.pid r.0.before r.0.after r.0.found, r.2) refl
 
@@ -50,7 +58,7 @@ invariant_of-self-2 g c =
     let parent = c.change_in-seen.ensures.parent in
     let index = (rw (r.0.is, c.reindex_change.ensures.anchors) at c.update_anchors.ensures.index) rs (elsewhere_record rs c.args.pid r.0.after) (rw (r.0.found, r.1) refl) (sym parent) c.self.invariant.anchors.index in
     kept_moved _ rs _ c.args.pid r.0.before r.0.after c.self.inside.indexes c.reindex_change.new.self c.update_anchors.new.anchors r.0.found (c.update_anchors.ensures.contents ∙ r.0.is) (rw (parent, r.2) at c.reindex_change.ensures.moved)
-    (ready_run r.0 (processes_of c.self.view_is) c.requires.grouped c.self.invariant).1 index (rw c.reindex_change.ensures.anchors at c.update_anchors.ensures.numbers) c.self.invariant
+    (ready_run r.0 (processes_of c.self.view_is) c.requires.grouped c.self.invariant).1 index (rw c.reindex_change.ensures.anchors at c.update_anchors.ensures.numbers) c.reindex_change.ensures.children c.self.invariant
 
 pub returns-clause-costs : goal.returns-clause-costs
 unfolding give_record

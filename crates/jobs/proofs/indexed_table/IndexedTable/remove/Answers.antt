@@ -15,6 +15,12 @@ put-requires-clause-pid g c =
     let wide = c.self.invariant.anchors.wide in
     rw c.reindex.ensures.anchors (number.0, omega (arith, number.1, wide))
 
+pub put-requires-2-clause-pid : goal.put-requires-2-clause-pid
+put-requires-2-clause-pid g c =
+    let number = (can_leave (sym c.in-Some.is ∙ c.get.ensures.value) c.self.invariant).1 in
+    let wide = c.self.invariant.children.wide in
+    rw c.reindex.ensures.children (number.0, omega (arith, number.1, wide))
+
 pub returns-in_default-clause-processes : goal.returns-in_default-clause-processes
 returns-in_default-clause-processes g c = grind (arith, leave_rules)
 
@@ -23,4 +29,4 @@ overflow_sub-self g c = grind (arith, leave_rules)
 
 pub invariant_of-self-2 : goal.invariant_of-self-2
 invariant_of-self-2 g c =
-    kept_removed c.self.inside.count _ _ c.args.pid c.in-Some.snapshot c.self.inside.indexes c.reindex.new.self c.put.new.self (sym c.in-Some.is ∙ c.get.ensures.value) (rw (← c.self.view_is) at c.requires) (c.remove.ensures.contents ∙ ap (removed c.args.pid) c.get.ensures.contents) c.reindex.ensures.moved (rw c.reindex.ensures.anchors at c.put.ensures.moved) (rw c.reindex.ensures.anchors at c.put.ensures.numbers) c.self.invariant
+    kept_removed c.self.inside.count _ _ c.args.pid c.in-Some.snapshot c.self.inside.indexes c.reindex.new.self c.put.new.self c.put-2.new.self (sym c.in-Some.is ∙ c.get.ensures.value) (rw (← c.self.view_is) at c.requires) (c.remove.ensures.contents ∙ ap (removed c.args.pid) c.get.ensures.contents) c.reindex.ensures.moved (rw c.reindex.ensures.anchors at c.put.ensures.moved) (rw c.reindex.ensures.anchors at c.put.ensures.numbers) (rw c.reindex.ensures.children at c.put-2.ensures.moved) (rw c.reindex.ensures.children at c.put-2.ensures.numbers) c.self.invariant

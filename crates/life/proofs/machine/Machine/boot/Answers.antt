@@ -6,8 +6,9 @@ use Rattle.posix.specs.Settle.{AreFresh}
 use Rattle.posix.proofs.FreshLemmas.{first_fresh}
 use Rattle.posix.specs.States.{boot, is_in}
 use Rattle.pidalloc.specs.Rows.{born_in, unborne_table}
+use Rattle.life.specs.Machines.{AreTerminals}
 use Rattle.life.proofs.RecheckLemmas.{listed_first}
-use Rattle.life.proofs.SoundLemmas.{sound_first, first_is_boot}
+use Rattle.life.proofs.SoundLemmas.{sound_first, first_is_boot, within_first}
 use Rattle.pidset.specs.Numbers.{Rises}
 use Rattle.life.proofs.machine.Machine.boot.Goals as goal
 
@@ -25,9 +26,11 @@ invariant_of-result g c =
     rw (c.in_ok-table.ensures.processes ∙ first_alone)
     (record {
       sound = sound_first _ _ _ _ unused (omega (arith, c.pidmax-pidmax.ensures.range.0, c.pidmax-pidmax.ensures.value)) bore most c.in_ok-lists.ensures.kept c.in_ok-lists.ensures.order c.in_ok-lists.ensures.places;
-      listed = listed_first _ _ _ (first_is_boot _ _ c.in_ok-lists.lists.pids c.in_ok-lists.lists.order unused c.in_ok-lists.ensures.last c.in_ok-lists.ensures.order) c.in_ok-lists.ensures.nobody c.in_ok-lists.ensures.rechecks (c.in_ok-terminals.ensures.each _) c.in_ok-terminals.ensures.ready (c.in_ok-terminals.ensures.many ∙ c.consoles.ensures.value) c.in_ok-terminals.ensures.none;
+      listed = listed_first _ _ _ (first_is_boot _ _ c.in_ok-lists.lists.pids c.in_ok-lists.lists.order unused c.in_ok-lists.ensures.last c.in_ok-lists.ensures.order) c.in_ok-lists.ensures.nobody c.in_ok-lists.ensures.rechecks c.in_ok-terminals.ensures.nobody;
       fresh = subst AreFresh (sym (first_is_boot c.in_ok-world.world _ c.in_ok-lists.lists.pids c.in_ok-lists.lists.order unused c.in_ok-lists.ensures.last c.in_ok-lists.ensures.order)) (first_fresh c.in_ok-world.world);
       noted = record { rising = rw c.in_ok-lists.ensures.no_group tt; room = omega (arith, c.in_ok-lists.ensures.rechecks, c.in_ok-lists.ensures.groups) };
+      indexed = subst (λ cs. AreTerminals cs c.in_ok-terminals.terminals.terminals.pairs) (sym c.in_ok-terminals.ensures.consoles) c.in_ok-terminals.ensures.terminals;
+      within = within_first c.in_ok-terminals.ensures.room;
     })
 
 pub returns-clause-state : goal.returns-clause-state

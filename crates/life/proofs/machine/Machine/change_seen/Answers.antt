@@ -42,7 +42,8 @@ invariant_of-self g c =
     let after = seen_is _ _ _ c.change_seen-parent.ensures.after (ap (lookup c.args.pid) run.is ∙ record_found _ c.args.pid run.before run.after run.found) in
     let moved = rw (before, after) at c.move_numbers.ensures.pids in
     let mark = rw (before, after) at c.move_numbers.ensures.foregrounds_unchecked in
-    machine_shown _ _ c.move_numbers.new.pids _ _ c.recheck_with_parent.new.to_recheck c.args.pid c.change_seen-parent.result.parent run.before run.after _ c.move_numbers.new.foregrounds_unchecked run.found run.is (stays c.self.invariant.sound.regular _ _ _ run.found run.ran) c.change_seen-parent.ensures.parent
+    let session = subst (λ (s : State). StaysInSession g.F.FnOnce c.args.change s.processes c.args.pid) (sym (state_is c.self.view_is)) c.requires.session in
+    machine_shown _ _ c.move_numbers.new.pids _ _ c.recheck_with_parent.new.to_recheck c.args.pid c.change_seen-parent.result.parent run.before run.after _ c.move_numbers.new.foregrounds_unchecked run.found run.is (stays c.self.invariant.sound.regular _ _ _ run.found run.ran) (session _ _ _ run.found run.ran) c.change_seen-parent.ensures.parent
     moved mark (sym c.move_numbers.ensures.last) c.self.invariant (pids_of c.recheck_with_parent.ensures) (room_of c.recheck_with_parent.ensures)
 
 pub returns-clause-there : goal.returns-clause-there

@@ -7,6 +7,7 @@ use Rattle.posix.proofs.FreshLemmas.{cleared_none, fresh_cleared}
 use Rattle.posix.proofs.ConsoleLemmas.{regular_cleared}
 use Rattle.life.proofs.ForegroundLemmas.{refreshed_enough}
 use Rattle.life.proofs.RecheckLemmas.{listed_cleared}
+use Rattle.life.proofs.TerminalLemmas.{terminals_cleared}
 use Rattle.life.proofs.ViewLemmas.{state_is}
 use Rattle.life.proofs.machine.Machine.clear_foregrounds.Goals as goal
 
@@ -23,6 +24,8 @@ invariant_of-self g c =
       listed = listed_cleared _ _ i.sound.regular i.listed;
       noted = i.noted;
       fresh = fresh_cleared (state_of m.world m.table.processes m.consoles.items m.pids m.order m.births m.ticks m.dropped m.halted);
+      indexed = terminals_cleared _ _ _ i.indexed;
+      within = i.within;
     })
 
 pub returns-clause-state : goal.returns-clause-state

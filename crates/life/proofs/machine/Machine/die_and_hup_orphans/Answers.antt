@@ -37,5 +37,5 @@ returns g c =
       no_fewer = le_trans c.note_groups_at_risk.ensures.notes.no_fewer (le_trans c.leave_children_and_die-parent.ensures.costs.no_fewer (subst (λ n. n ≤ c.hup_and_cont_all.new.self.visits) c.keep_orphans_with_stopped.ensures.visits c.hup_and_cont_all.ensures.no_fewer));
       visits =
           let slots : slots_of_hups now.groups_at_risk now.state.processes ≡ slots_of_orphans s gone = search rules in
-          omega (arith, slots, many p, many c.args.heir, c.note_groups_at_risk.ensures.notes.visits, c.leave_children_and_die-parent.ensures.costs.visits, c.keep_orphans_with_stopped.ensures.visits, c.hup_and_cont_all.ensures.visits);
+          omega (arith, slots, many p, c.note_groups_at_risk.ensures.notes.visits, c.leave_children_and_die-parent.ensures.costs.visits, c.keep_orphans_with_stopped.ensures.visits, c.hup_and_cont_all.ensures.visits);
     }

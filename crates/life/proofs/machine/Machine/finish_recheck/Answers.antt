@@ -1,16 +1,22 @@
-use Rattle.std.proofs.Common.{◌≡◌, sym, ap, subst, ◌∙◌, Some}
+use Rattle.std.proofs.Common.{◌≡◌, ◌<◌, ◌≤◌, sym, ap, subst, ◌∙◌, Some}
+use Rattle.std.specs.Option.{IfSome}
 use Rattle.posix.specs.States.{State, process}
 use Rattle.posix.specs.Settle.{wakes}
 use Rattle.life.specs.Consoles.{reads}
 use Rattle.life.proofs.RecheckLemmas.{listed_rechecked, pids_of, room_of}
-use Rattle.life.proofs.ReaderLemmas.{readers_room, watched_rechecked}
-use Rattle.life.proofs.PlaceLemmas.{ready_marked}
-use Rattle.life.specs.Machines.{IsNoted}
+use Rattle.life.proofs.ReaderLemmas.{readable, session_readable, watched_rechecked}
+use Rattle.life.proofs.SoundLemmas.{here_in}
+use Rattle.life.specs.Machines.{AreWithin, IsNoted}
 use Rattle.life.proofs.ViewLemmas.{state_is}
 use Rattle.life.proofs.machine.Machine.finish_recheck.Goals as goal
 
-pub mark_reader-requires-clause-room : goal.mark_reader-requires-clause-room
-mark_reader-requires-clause-room g c = λ k set at. readers_room _ _ k set c.self.invariant.sound.regular c.self.invariant.listed at
+pub put-requires-clause-pid : goal.put-requires-clause-pid
+put-requires-clause-pid g c = readable _ c.args.pid c.self.invariant.sound.regular c.self.invariant.within (here_in c.args.pid (state_is c.self.view_is) c.requires.there)
+
+pub put-requires-clause-list : goal.put-requires-clause-list
+put-requires-clause-list g c =
+    let session = c.requires.session ∙ ap (λ (s : State). reads s c.args.pid) (sym (state_is c.self.view_is)) in
+    subst (λ o. IfSome o (λ n. (1 ≤ n) × (n < c.self.inside.readers.numbers))) (sym session) (session_readable _ c.args.pid c.self.invariant.sound.regular c.self.invariant.within)
 
 pub invariant_of-self : goal.invariant_of-self
 invariant_of-self g c =
@@ -19,8 +25,10 @@ invariant_of-self g c =
     let session = c.requires.session ∙ ap (λ (s : State). reads s c.args.pid) (sym same) in
     record {
       sound = i.sound;
-      listed = listed_rechecked _ c.args.pid _ _ _ i.listed (λ r e. ap (λ (s : State). wakes s r) same ∙ c.requires.waits r (subst (λ (s : State). process s c.args.pid ≡ Some r) same e)) (pids_of c.take_off.ensures) (room_of c.take_off.ensures) (ready_marked _ c.args.pid _ _ _ _ c.mark_reader.ensures i.listed.ready)
-          (watched_rechecked _ c.args.pid _ _ _ _ i.sound.regular i.listed.watched (pids_of c.take_off.ensures) session c.deref.ensures.value c.mark_reader.ensures);
+      listed = listed_rechecked _ c.args.pid _ _ _ i.listed (λ r e. ap (λ (s : State). wakes s r) same ∙ c.requires.waits r (subst (λ (s : State). process s c.args.pid ≡ Some r) same e)) (pids_of c.take_off.ensures) (room_of c.take_off.ensures)
+          (watched_rechecked _ c.args.pid _ _ _ i.listed.watched (pids_of c.take_off.ensures) session c.put.ensures.moved);
       noted = subst (λ n. IsNoted n c.self.inside.groups_at_risk) (sym (room_of c.take_off.ensures)) i.noted;
       fresh = i.fresh;
+      indexed = i.indexed;
+      within = subst (λ n. AreWithin n c.self.inside.table.processes) (sym c.put.ensures.numbers) i.within;
     }

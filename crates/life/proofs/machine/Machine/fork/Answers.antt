@@ -6,12 +6,12 @@ use Rattle.posix.specs.Births.{child_of}
 use Rattle.pidalloc.specs.Rows.{is_free_in}
 use Rattle.pidset.specs.Numbers.{with_number}
 use Rattle.jobs.proofs.ReadLemmas.{processes_of}
-use Rattle.life.specs.Machines.{MachineView, AreRoomier, IsNoted}
+use Rattle.life.specs.Machines.{MachineView, IsNoted}
 use Rattle.life.specs.Rechecks.{with_numbers}
 use Rattle.life.proofs.FunnelLemmas.{borne_of}
 use Rattle.life.proofs.RecheckLemmas.{room_after, listed_born}
 use Rattle.life.proofs.RoomLemmas.{machine_roomier, state_roomier, can_bear_all}
-use Rattle.life.proofs.SoundLemmas.{is_there, found_in, next_is_new, room_to_bear, sound_born}
+use Rattle.life.proofs.SoundLemmas.{is_there, found_in, next_is_new, room_to_bear, sound_born, within_inserted}
 use Rattle.proctable.specs.Records.{process_of}
 use Rattle.life.proofs.ForegroundLemmas.{fresh_still}
 use Rattle.life.proofs.ViewLemmas.{state_is}
@@ -24,7 +24,7 @@ invariant_of-self-in_err-make_room g c =
     machine_roomier c.self.invariant
     (state_roomier m.world m.table.processes c.reserve.new.self.processes m.consoles.items m.pids c.reserve-2.new.self m.order c.reserve-3.new.self m.births m.ticks m.dropped m.halted (processes_of c.in_ok-reserve.ensures.rest) c.in_ok-reserve-2.ensures.rest c.in_ok-reserve-3.ensures.pids)
     c.in_ok-reserve-2.ensures.rest c.in_ok-reserve-3.ensures.grows
-    c.make_room.ensures.to_recheck c.make_room.ensures.grows c.make_room.ensures.groups_at_risk c.make_room.ensures.groups c.make_room.ensures.same c.make_room.ensures.readers
+    c.make_room.ensures.to_recheck c.make_room.ensures.grows c.make_room.ensures.groups_at_risk c.make_room.ensures.groups c.in_ok-reserve-4.ensures.pairs c.in_ok-reserve-4.ensures.grows
 
 pub returns-in_err-make_room-clause-err : goal.returns-in_err-make_room-clause-err
 returns-in_err-make_room-clause-err g c =
@@ -33,7 +33,7 @@ returns-in_err-make_room-clause-err g c =
     let to_recheck = c.make_room.ensures.to_recheck ∙ ap (λ (m : MachineView). m.to_recheck) c.self.view_is in
     let groups_at_risk = c.make_room.ensures.groups_at_risk ∙ ap (λ (m : MachineView). m.groups_at_risk) c.self.view_is in
     let foregrounds_unchecked = ap (λ (m : MachineView). m.foregrounds_unchecked) c.self.view_is in
-    let readers = subst (λ (m : MachineView). AreRoomier m.readers c.make_room.new.readers.items) c.self.view_is c.make_room.ensures.same in
+    let readers = c.in_ok-reserve-4.ensures.pairs ∙ ap (λ (m : MachineView). m.readers.pairs) c.self.view_is in
     search rules
 
 pub invariant_of-self-in_err-fields : goal.invariant_of-self-in_err-fields
@@ -42,7 +42,7 @@ invariant_of-self-in_err-fields g c =
     machine_roomier c.self.invariant
     (state_roomier m.world m.table.processes c.newborn.new.self.processes m.consoles.items m.pids c.reserve-2.new.self m.order c.reserve-3.new.self m.births m.ticks m.dropped m.halted (c.newborn.ensures.looks.processes ∙ processes_of c.in_ok-reserve.ensures.rest) c.in_ok-reserve-2.ensures.rest c.in_ok-reserve-3.ensures.pids)
     c.in_ok-reserve-2.ensures.rest c.in_ok-reserve-3.ensures.grows
-    c.make_room.ensures.to_recheck c.make_room.ensures.grows c.make_room.ensures.groups_at_risk c.make_room.ensures.groups c.make_room.ensures.same c.make_room.ensures.readers
+    c.make_room.ensures.to_recheck c.make_room.ensures.grows c.make_room.ensures.groups_at_risk c.make_room.ensures.groups c.in_ok-reserve-4.ensures.pairs c.in_ok-reserve-4.ensures.grows
 
 pub returns-in_err-fields-clause-err : goal.returns-in_err-fields-clause-err
 returns-in_err-fields-clause-err g c =
@@ -51,7 +51,7 @@ returns-in_err-fields-clause-err g c =
     let to_recheck = c.make_room.ensures.to_recheck ∙ ap (λ (m : MachineView). m.to_recheck) c.self.view_is in
     let groups_at_risk = c.make_room.ensures.groups_at_risk ∙ ap (λ (m : MachineView). m.groups_at_risk) c.self.view_is in
     let foregrounds_unchecked = ap (λ (m : MachineView). m.foregrounds_unchecked) c.self.view_is in
-    let readers = subst (λ (m : MachineView). AreRoomier m.readers c.make_room.new.readers.items) c.self.view_is c.make_room.ensures.same in
+    let readers = c.in_ok-reserve-4.ensures.pairs ∙ ap (λ (m : MachineView). m.readers.pairs) c.self.view_is in
     search rules
 
 pub bear_all-requires : goal.bear_all-requires
@@ -84,7 +84,7 @@ insert-requires-clause-number g c = λ none. absurd (omega (arith, none, (next_i
 pub insert-requires-3 : goal.insert-requires-3
 unfolding with_numbers
 insert-requires-3 g c =
-    let roomy = machine_roomier {now = c.reserve-2.new.self} {order = c.reserve-3.new.self} {m = c.make_room.new.to_recheck} {after = c.make_room.new.groups_at_risk} {sets = c.make_room.new.readers.items} c.self.invariant refl c.in_ok-reserve-2.ensures.rest c.in_ok-reserve-3.ensures.grows c.make_room.ensures.to_recheck c.make_room.ensures.grows c.make_room.ensures.groups_at_risk c.make_room.ensures.groups c.make_room.ensures.same c.make_room.ensures.readers in
+    let roomy = machine_roomier {now = c.reserve-2.new.self} {order = c.reserve-3.new.self} {m = c.make_room.new.to_recheck} {after = c.make_room.new.groups_at_risk} {sets = c.reserve-4.new.self} c.self.invariant refl c.in_ok-reserve-2.ensures.rest c.in_ok-reserve-3.ensures.grows c.make_room.ensures.to_recheck c.make_room.ensures.grows c.make_room.ensures.groups_at_risk c.make_room.ensures.groups c.in_ok-reserve-4.ensures.pairs c.in_ok-reserve-4.ensures.grows in
     record { room = λ out. room_after _ _ c.insert-2.new.self (c.args.parent ∷ []) roomy.sound.regular roomy.listed (is_there _ c.requires.parent.what (found_in _ _ (state_is c.self.view_is) c.args.parent c.requires.parent.what c.requires.parent.found), tt) c.insert-2.ensures.pids c.insert-2.ensures.room }
 
 pub invariant_of-self-2 : goal.invariant_of-self-2
@@ -97,7 +97,7 @@ invariant_of-self-2 g c =
     let child = c.in_ok-fields.ensures.child me.what still c.args.child in
     let groups = c.in_ok-fields.ensures.groups me.what still in
     let same = state_roomier m.world m.table.processes m.table.processes m.consoles.items m.pids c.reserve-2.new.self m.order c.reserve-3.new.self m.births m.ticks m.dropped m.halted refl c.in_ok-reserve-2.ensures.rest c.in_ok-reserve-3.ensures.pids in
-    let roomy = machine_roomier c.self.invariant same c.in_ok-reserve-2.ensures.rest c.in_ok-reserve-3.ensures.grows c.make_room.ensures.to_recheck c.make_room.ensures.grows c.make_room.ensures.groups_at_risk c.make_room.ensures.groups c.make_room.ensures.same c.make_room.ensures.readers in
+    let roomy = machine_roomier c.self.invariant same c.in_ok-reserve-2.ensures.rest c.in_ok-reserve-3.ensures.grows c.make_room.ensures.to_recheck c.make_room.ensures.grows c.make_room.ensures.groups_at_risk c.make_room.ensures.groups c.in_ok-reserve-4.ensures.pairs c.in_ok-reserve-4.ensures.grows in
     let new = next_is_new _ _ _ _ c.args.child (same ∙ state_is c.self.view_is) roomy.sound c.requires.child in
     let sound = sound_born _ _ _ _ _ _ _ _ _ _ _ me.what roomy.sound new found me.living groups.0 groups.1 (ap (λ (r : Process). r.life) child) (ap (λ (r : Process). r.alarm) child) c.bear_all.ensures.value c.bear_all.ensures.pidmax c.bear_all.ensures.kept c.in_ok-reserve-3.ensures.enough in
     let count = c.len-count.ensures.value ∙ ap (λ (rs : List Process). length rs) (processes_of c.in_ok-reserve.ensures.rest) in
@@ -105,4 +105,4 @@ invariant_of-self-2 g c =
     let listed = listed_born _ _ _ _ _ _ roomy.listed fits new.fresh (is_there _ me.what found) (c.insert-3.ensures.pids ∙ ap (with_number c.args.child) c.insert-2.ensures.pids) (c.insert-3.ensures.room ∙ c.insert-2.ensures.room) in
     let noted = subst (λ n. IsNoted n c.make_room.new.groups_at_risk) (sym (c.insert-3.ensures.room ∙ c.insert-2.ensures.room)) roomy.noted in
     rw (c.insert.ensures.processes, c.in_ok-fields.ensures.looks.processes, processes_of c.in_ok-reserve.ensures.rest)
-    (record { sound = sound; listed = listed; noted = noted; fresh = fresh_still _ _ _ _ (λ ds h. fresh_inserted (process_of c.args.child c.args.parent c.in_ok-fields.fields) _ ds h) roomy.fresh })
+    (record { sound = sound; listed = listed; noted = noted; fresh = fresh_still _ _ _ _ (λ ds h. fresh_inserted (process_of c.args.child c.args.parent c.in_ok-fields.fields) _ ds h) roomy.fresh; indexed = roomy.indexed; within = within_inserted (process_of c.args.child c.args.parent c.in_ok-fields.fields) _ new.fresh (c.in_ok-reserve-4.ensures.numbers, subst (λ n. n < c.reserve-4.new.self.numbers) (sym groups.1) (roomy.within c.args.parent me.what found).1) roomy.within })

@@ -18,4 +18,6 @@ invariant_of-self g c =
           (refl, refl, λ q u e. in_last q c.args.pid _ ∙ ap (λ b. b || c.args.pid == q) (still_out c.args.pid q _ e) ∙ ne_eqb c.args.pid q (λ same. both_ways _ e (subst (λ n. is_in n c.self.inside.order.pids ≡ true) same h))) refl (λ q e. e) (λ q there e. absurd (in_none q e));
       noted = c.self.invariant.noted;
       fresh = c.self.invariant.fresh;
+      indexed = c.self.invariant.indexed;
+      within = c.self.invariant.within;
     }

@@ -22,6 +22,8 @@ invariant_of-self g c =
       listed = listed_with _ _ _ _ (c.args.pid ∷ []) (c.args.pid ∷ []) c.self.invariant.listed (touches_lost _ c.args.pid) (refl, refl, λ q u e. still_out c.args.pid q _ e) c.self.invariant.listed.room (λ q e. e) (here, tt) (λ q there e. inl e) c.insert.ensures.pids c.insert.ensures.room;
       noted = subst (λ n. IsNoted n c.self.inside.groups_at_risk) (sym c.insert.ensures.room) c.self.invariant.noted;
       fresh = c.self.invariant.fresh;
+      indexed = c.self.invariant.indexed;
+      within = c.self.invariant.within;
     }
 
 pub returns-else-has-clause-is : goal.returns-else-has-clause-is

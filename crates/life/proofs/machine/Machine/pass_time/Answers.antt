@@ -17,4 +17,6 @@ invariant_of-self g c =
       listed = listed_same _ _ _ [] i.listed (touches_none _ _ refl refl refl) (refl, refl, λ q u e. e) refl (λ q e. e) (λ q there e. absurd (in_none q e));
       noted = i.noted;
       fresh = i.fresh;
+      indexed = i.indexed;
+      within = i.within;
     }

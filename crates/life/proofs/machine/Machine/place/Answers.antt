@@ -36,4 +36,6 @@ invariant_of-self g c =
           (λ q there e. inl (subst (λ n. is_in n c.self.inside.to_recheck.pids ≡ true) (sym (in_one q c.args.pid e)) (ap (λ (m : MachineView). is_in c.args.pid m.to_recheck) c.self.view_is ∙ c.requires.to_recheck)));
       noted = c.self.invariant.noted;
       fresh = c.self.invariant.fresh;
+      indexed = c.self.invariant.indexed;
+      within = c.self.invariant.within;
     }

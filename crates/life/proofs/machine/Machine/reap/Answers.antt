@@ -5,14 +5,14 @@ use Rattle.posix.proofs.TableLemmas.{length_removed}
 use Rattle.posix.specs.Tables.{lookup, removed}
 use Rattle.proctable.specs.Records.{snapshot_of}
 use Rattle.proctable.specs.declared.snapshot.Snapshot.{Snapshot}
-use Rattle.life.specs.Machines.{IsNoted}
+use Rattle.life.specs.Machines.{AreWithin, IsNoted}
 use Rattle.life.specs.Foregrounds.{AreFreshBut, after_loss}
 use Rattle.life.specs.Rechecks.{without_gone}
 use Rattle.life.proofs.ForegroundLemmas.{fresh_removed}
 use Rattle.life.proofs.SoundLemmas.{found_in}
-use Rattle.life.proofs.PartLemmas.{can_go, sound_gone}
+use Rattle.life.proofs.PartLemmas.{can_go, sound_gone, within_removed}
 use Rattle.life.proofs.RecheckLemmas.{has_room, listed_removed, pids_of, room_of}
-use Rattle.life.proofs.ReaderLemmas.{readers_room, listed_zombie, none_marked}
+use Rattle.life.proofs.ReaderLemmas.{readable, listed_zombie, none_marked}
 use Rattle.life.proofs.ViewLemmas.{state_is}
 use Rattle.life.proofs.machine.Machine.reap.Goals as goal
 
@@ -24,8 +24,8 @@ discard-snapshot-requires g c =
 pub forget-requires : goal.forget-requires
 forget-requires g c = has_room _ _ c.self.invariant.sound.regular c.self.invariant.listed
 
-pub mark_reader-requires-clause-room : goal.mark_reader-requires-clause-room
-mark_reader-requires-clause-room g c = λ k set at. readers_room _ _ k set c.self.invariant.sound.regular c.self.invariant.listed at
+pub put-requires-clause-pid : goal.put-requires-clause-pid
+put-requires-clause-pid g c = readable _ c.args.pid c.self.invariant.sound.regular c.self.invariant.within (let it = c.requires.zombie in rw (found_in _ _ (state_is c.self.view_is) c.args.pid it.0 it.1) refl)
 
 pub invariant_of-self : goal.invariant_of-self
 invariant_of-self g c =
@@ -38,10 +38,12 @@ invariant_of-self g c =
     let group : c.discard-snapshot.result.group ≡ it.0.group = rw fields refl in
     rw c.discard-snapshot.ensures.processes (record {
       sound = sound_gone _ _ _ _ c.args.pid _ _ it.0 c.self.invariant.sound found it.2 c.requires.other gone (omega arith);
-      listed = listed_removed _ c.args.pid _ _ it.0 _ _ c.self.invariant.sound.regular (listed_zombie _ c.args.pid it.0 _ _ c.self.invariant.sound.regular c.self.invariant.listed found it.2 c.deref.ensures.value c.mark_reader.ensures) found up
-          (pids_of c.forget.ensures ∙ ap (λ n. without_gone c.args.pid n c.self.inside.to_recheck.pids) parent) (room_of c.forget.ensures) (λ k. none_marked k c.args.pid _ _ _ c.mark_reader.ensures);
+      listed = listed_removed _ c.args.pid _ _ it.0 _ _ c.self.invariant.sound.regular (listed_zombie _ c.args.pid it.0 _ c.self.invariant.listed found it.2 c.put.ensures.moved) found up
+          (pids_of c.forget.ensures ∙ ap (λ n. without_gone c.args.pid n c.self.inside.to_recheck.pids) parent) (room_of c.forget.ensures) (none_marked c.args.pid _ _ c.put.ensures.moved);
       noted = subst (λ n. IsNoted n c.self.inside.groups_at_risk) (sym (room_of c.forget.ensures)) c.self.invariant.noted;
       fresh = subst (λ u. AreFreshBut u (removed c.args.pid c.self.inside.table.processes) c.self.inside.consoles.items) (sym (c.after_loss-self-inside.ensures ∙ ap (λ g. after_loss g c.self.inside.foregrounds_unchecked) group)) (fresh_removed _ c.args.pid it.0 _ _ c.self.invariant.sound.regular.rising found c.self.invariant.fresh);
+      indexed = c.self.invariant.indexed;
+      within = subst (λ n. AreWithin n (removed c.args.pid c.self.inside.table.processes)) (sym c.put.ensures.numbers) (within_removed c.args.pid _ c.self.invariant.within);
     })
 
 pub returns : goal.returns

@@ -1,7 +1,8 @@
-use Rattle.std.proofs.Common.{◌≡◌, ◌∙◌, ap, sym, subst, refl, inl, inr, rules}
-use Rattle.posix.specs.Consoles.{changed_console, with_foreground}
+use Rattle.std.proofs.Common.{◌≡◌, ◌∙◌, ap, sym, subst, refl, inl, inr, rules, slice_get, Some}
+use Rattle.std.proofs.lemmas.Option.{same_Some}
+use Rattle.posix.specs.Consoles.{Console, changed_console, with_foreground}
 use Rattle.posix.specs.States.{State}
-use Rattle.life.specs.Consoles.{AreReaders}
+use Rattle.life.specs.Consoles.{AreReaders, IsTerminalIndex}
 use Rattle.life.specs.Machines.{MachineView}
 use Rattle.life.proofs.ConsoleLemmas.{terminal_changed, none_changed}
 use Rattle.life.proofs.ViewLemmas.{state_is}
@@ -11,15 +12,17 @@ pub change_console-requires-clause-can : goal.change_console-requires-clause-can
 unfolding with_foreground
 change_console-requires-clause-can g c = λ it d r at did.
     let is : d ≡ with_foreground c.args.group it = search rules in
-    let theirs = subst (λ (m : MachineView). AreReaders m.state c.in-Some.console_index m.to_recheck) (sym c.self-in-Some.view_is) c.recheck_readers.ensures.to_recheck in
+    let here = ap (λ (s : State). slice_get s.consoles c.in-Some.console_index) (state_is c.self-in-Some.view_is ∙ state_is c.recheck_readers.ensures.rest) ∙ c.in-Some.ensures.1 in
+    let own = ap (λ (x : Console). x.session) (same_Some _ _ (sym at ∙ here)) ∙ c.in-Some.ensures.3 in
+    let theirs = subst (λ (m : MachineView). AreReaders m.state it.session m.to_recheck) (sym c.self-in-Some.view_is) (subst (λ n. AreReaders c.recheck_readers.new.self.state n c.recheck_readers.new.self.to_recheck) (sym own) c.recheck_readers.ensures.to_recheck) in
     rw is (record { session = inl refl; readers = inr theirs; foreground = inr refl })
 
 pub returns-in-Some-clause-state : goal.returns-in-Some-clause-state
 returns-in-Some-clause-state g c =
     let same = state_is c.self-in-Some.view_is ∙ state_is c.recheck_readers.ensures.rest in
-    let all = c.deref.ensures.value ∙ ap (λ (s : State). s.consoles) (state_is c.self.view_is ∙ sym same) in
-    terminal_changed _ _ _ _ c.args.session (with_foreground c.args.group) c.change_console.ensures.regular c.requires all c.in-Some.ensures c.change_console.ensures.state (λ it d r did. search rules)
+    let it = subst (λ (s : State). IsTerminalIndex c.args.session s.consoles (Some c.in-Some.console_index)) (sym same) c.in-Some.ensures in
+    terminal_changed _ _ _ _ c.args.session (with_foreground c.args.group) c.change_console.ensures.regular c.requires it c.change_console.ensures.state (λ it d r did. search rules)
     ∙ ap (λ (s : State). record s { consoles = changed_console c.args.session (with_foreground c.args.group) s.consoles }) same
 
 pub returns-in_default-clause-state : goal.returns-in_default-clause-state
-returns-in_default-clause-state g c = none_changed c.args.session (with_foreground c.args.group) (state_is c.self.view_is) c.deref.ensures.value c.in_default.ensures
+returns-in_default-clause-state g c = none_changed _ c.args.session (with_foreground c.args.group) c.in_default.ensures

@@ -1,0 +1,32 @@
+-- What a status means.
+use Rattle.std.proofs.Common.{◌≡◌, ◌⊎◌, ℕ, None, Option, ap, arith, inl, inr}
+use Rattle.inputs.specs.Failures.{MeansOf}
+
+-- that of a text which wasn't put, or not all of it
+pub means_cut_short : {A S : Type 0} (Done Refused IsBegun : Type 0) (asked : Option A) (old new : S) (status : ℕ) → status ≡ 3 → (new ≡ old) ⊎ IsBegun → MeansOf Done Refused IsBegun asked old new status
+means_cut_short Done Refused IsBegun asked old new status is h =
+    record { done = λ e. absurd (omega (arith, e, is)); refused = λ e. absurd (omega (arith, e, is)); other_words = λ e. absurd (omega (arith, e, is)); cut_short = λ e. h }
+
+-- and of a text that is put
+pub means_done : {A S : Type 0} (Done Refused IsBegun : Type 0) (asked : Option A) (old new : S) → Done → MeansOf Done Refused IsBegun asked old new 0
+means_done Done Refused IsBegun asked old new h =
+    record { done = λ e. h; refused = λ e. absurd (omega (arith, e)); other_words = λ e. absurd (omega (arith, e)); cut_short = λ e. absurd (omega (arith, e)) }
+
+pub means_refused : {A S : Type 0} (Done Refused IsBegun : Type 0) (asked : Option A) (old new : S) → Refused → MeansOf Done Refused IsBegun asked old new 1
+means_refused Done Refused IsBegun asked old new h =
+    record { done = λ e. absurd (omega (arith, e)); refused = λ e. h; other_words = λ e. absurd (omega (arith, e)); cut_short = λ e. absurd (omega (arith, e)) }
+
+-- and of words that ask for nothing
+pub means_other_words : {A S : Type 0} (Done Refused IsBegun : Type 0) (asked : Option A) (old new : S) → (asked ≡ None) × (new ≡ old) → MeansOf Done Refused IsBegun asked old new 2
+means_other_words Done Refused IsBegun asked old new h =
+    record { done = λ e. absurd (omega (arith, e)); refused = λ e. absurd (omega (arith, e)); other_words = λ e. h; cut_short = λ e. absurd (omega (arith, e)) }
+
+-- A sink is known by what is read of it.
+pub means_along : {A S T : Type 0} (f : S → T) (Done Then Refused IsBegun : Type 0) (asked : Option A) (old new : S) (status : ℕ) → (Done → Then)
+    → MeansOf Done Refused IsBegun asked old new status → MeansOf Then Refused IsBegun asked (f old) (f new) status
+means_along f Done Then Refused IsBegun asked old new status done h = record {
+  done = λ e. done (h.done e);
+  refused = h.refused;
+  other_words = λ e. let r = h.other_words e in (r.0, ap f r.1);
+  cut_short = λ e. elim (h.cut_short e) [ inl same ↦ inl (ap f same) | inr r ↦ inr r ];
+}

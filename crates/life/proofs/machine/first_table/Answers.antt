@@ -1,8 +1,0 @@
-use Rattle.std.proofs.Common.{refl}
-use Rattle.posix.specs.Tables.{inserted}
-use Rattle.jobs.proofs.ReadLemmas.{processes_of}
-use Rattle.life.proofs.machine.first_table.Goals as goal
-
-pub returns-clause-processes : goal.returns-clause-processes
-unfolding inserted
-returns-clause-processes g c = rw (c.insert.ensures.processes, processes_of c.in_ok-reserve.ensures.rest, c.empty-table.ensures.processes, c.in_ok-first.ensures) refl

@@ -1,0 +1,14 @@
+use Rattle.std.proofs.Common.{◌≡◌, ◌+◌, ◌-◌, ◌<◌, ◌≤◌, ℕ, None, length}
+use Rattle.pidset.specs.Pages.{value_at}
+use Rattle.pidset.proofs.page.Page.next_above.Given as goal
+
+-- none so far that is above has a value
+abbrev pub invariant-loop-at : goal.invariant-loop-at
+invariant-loop-at g l = record {
+  high : l.at ≤ 256;
+  above : l.fn.after < l.first + l.at;
+  none : (i : ℕ) → i < l.at → l.fn.after < l.first + i → value_at l.self.values.items i ≡ None;
+}
+
+abbrev pub decreases-loop-at : goal.decreases-loop-at
+decreases-loop-at g l = length l.self.values.items - l.at
