@@ -10,7 +10,7 @@ use Rattle.laws.specs.Keeping.{Kept, Phase, kept_of, kept_after, last_number, ph
 use Rattle.laws.proofs.KeptLemmas.{kept_more, last_where_more}
 use Rattle.laws.proofs.TestLemmas.{tests_are_laws}
 use Rattle.laws.proofs.LawfulLemmas.{laws_more, laws_at}
-use Rattle.traceline.proofs.EntryLemmas.{says_one}
+use Rattle.trace.proofs.EntryLemmas.{says_one}
 use Rattle.audit.proofs.PassLemmas.{tested_other}
 use Rattle.audit.specs.Knowing.{AuditView, kept_at, AllSay, AreLawful, Knows, Heard, StaysWith, IsRead, IsAnswer, IsNewBirth}
 use Rattle.audit.specs.Faults.{number_of}

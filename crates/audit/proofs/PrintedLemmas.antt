@@ -21,7 +21,7 @@ use Rattle.posix.specs.declared.entry.Entry.TheVariants.{Noted, Called, Moved, R
 use Rattle.laws.specs.TraceLines.{is_number, is_result, moves_bytes, asks_memory, is_entry, is_line}
 use Rattle.posix.specs.Ranges.{is_i64}
 use Rattle.posix.specs.Statuses.{is_end_word}
-use Rattle.traceline.specs.Lines.{is_one_line}
+use Rattle.trace.specs.Lines.{is_one_line}
 
 -- ---- words
 

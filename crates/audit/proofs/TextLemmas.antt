@@ -12,7 +12,7 @@ use Rattle.laws.proofs.LawfulLemmas.{laws_first}
 use Rattle.audit.specs.declared.fault.AuditFault.{AuditFault}
 use Rattle.audit.specs.declared.fault.AuditFault.TheVariants.{NoLine}
 use Rattle.audit.specs.Knowing.{AuditView, AllSay, AreLawful, Knows, IsAnswer}
-use Rattle.traceline.specs.Lines.{is_one_line, IsCut}
+use Rattle.trace.specs.Lines.{is_one_line, IsCut}
 use Rattle.audit.specs.Texts.{IsLawful, IsLawfulBefore, IsFirstFault}
 use Rattle.audit.proofs.PrintedLemmas.{text_of, text_one}
 

@@ -8,7 +8,7 @@ use Rattle.laws.specs.Lives.{Laws}
 use Rattle.audit.specs.declared.fault.AuditFault.{AuditFault}
 use Rattle.audit.specs.declared.fault.AuditFault.TheVariants.{NoLine}
 use Rattle.audit.specs.declared.texts.TraceFault.{TraceFault}
-use Rattle.traceline.specs.Lines.{IsCut, is_one_line}
+use Rattle.trace.specs.Lines.{IsCut, is_one_line}
 use Rattle.audit.specs.Knowing.{IsAnswer}
 
 -- A text is the print of lines, each of one of the forms, of which the laws of a trace hold.

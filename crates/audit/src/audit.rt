@@ -17,7 +17,7 @@ use posix::Entry;
 use std::alloc::{AllocError, Global};
 use std::hash::RandomState;
 use std::marker::Model;
-use traceline::read_line;
+use trace::read_line;
 
 /// An auditor: what it heard of a trace, line by line.
 #[derive(Drop)]

@@ -16,7 +16,7 @@ use crate::fault::AuditFault;
 use std::alloc::Global;
 use std::hash::RandomState;
 use thiserror::Error;
-use traceline::next_line;
+use trace::next_line;
 
 /// The first faulty line of a trace.
 #[derive(Clone, Copy, Debug, PartialEq, Eq, Error)]

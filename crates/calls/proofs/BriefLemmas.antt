@@ -27,13 +27,13 @@ use Rattle.life.specs.Machines.{MachineView, AreSame, Looks, with_processes}
 use Rattle.life.specs.Queues.{is_sent, sent_as, rechecking_as}
 use Rattle.life.proofs.SendLemmas.{targets_nobody, rechecked_nobody}
 use Rattle.life.specs.Rechecks.{AreTaking, NeedNoChild, is_one, rechecking_signalled, slots_of_send, slots_of_survey_of_one, without_gone}
-use Rattle.life.specs.Foregrounds.{after_loss}
+use Rattle.life.specs.Foregrounds.{also_in}
 use Rattle.posix.proofs.OrderLemmas.{distinct_pids}
 use Rattle.life.proofs.TakingLemmas.{taking_all}
 use Rattle.calls.specs.Outcomes.{CostsAtMost, IsQuiet, CostsWithRechecks, AreFew, is_cont, slots_of_kill, slots_of_continued, slots_before, meant_in}
 use Rattle.calls.proofs.ChosenLemmas.{changed_there}
 use Rattle.calls.proofs.KillLemmas.{number_is}
-use Rattle.life.specs.declared.consoles.Unchecked.TheVariants.{Nothing, Group}
+use Rattle.life.specs.declared.consoles.Unchecked.TheVariants.{Nothing, In}
 use Rattle.calls.specs.Counts.{slots_of_rechecks, slots_of_checking}
 use Rattle.calls.proofs.CountLemmas.{rechecks_none, rechecks_brief, rechecks_taking}
 
@@ -104,13 +104,13 @@ gone_alone child p = elim (p == child) as (λ b. ((q : ℕ) → is_in q (cond (n
     one false e = e
 
 -- a zombie was collected, and then reported
-pub brief_reaped : (p child : ℕ) (results : List (ℕ × ℤ)) (old mid new : MachineView) (me it : Process) → 1 ≤ it.group → IsQuiet p old → mid.state ≡ record (old.state) { processes = removed child old.state.processes } → mid.to_recheck ≡ without_gone child p old.to_recheck
-    → mid.foregrounds_unchecked ≡ after_loss it.group old.foregrounds_unchecked → mid.visits ≤ old.visits + 5 → process mid.state p ≡ Some me → new.state ≡ finish mid.state p results → (has_place mid.state p ≡ true → CostsAtMost 1 mid new) → CostsWithRechecks 9 old new
+pub brief_reaped : (p child : ℕ) (results : List (ℕ × ℤ)) (old mid new : MachineView) (me it : Process) → 1 ≤ it.session → IsQuiet p old → mid.state ≡ record (old.state) { processes = removed child old.state.processes } → mid.to_recheck ≡ without_gone child p old.to_recheck
+    → mid.foregrounds_unchecked ≡ also_in it.session old.foregrounds_unchecked → mid.visits ≤ old.visits + 5 → process mid.state p ≡ Some me → new.state ≡ finish mid.state p results → (has_place mid.state p ≡ true → CostsAtMost 1 mid new) → CostsWithRechecks 9 old new
 brief_reaped p child results old mid new me it least h gone list lost read here is costs =
     let c = costs (ap (λ (s : State). has_place s p) gone ∙ h.place) in
     let ns : new.to_recheck ≡ without_gone child p [] = c.to_recheck ∙ list ∙ ap (without_gone child p) h.none in
     let alone = gone_alone child p in
-    let lost : new.foregrounds_unchecked ≡ Group it.group = c.foregrounds_unchecked ∙ lost ∙ ap (after_loss it.group) h.checked in
+    let lost : new.foregrounds_unchecked ≡ In it.session = c.foregrounds_unchecked ∙ lost ∙ ap (also_in it.session) h.checked in
     let brief : NeedNoChild new.state.processes new.to_recheck = rw (is, ns) (brief_finished results p me mid.state.processes (without_gone child p []) here alone.0) in
     let few : length new.to_recheck ≤ 1 = rw ns alone.1 in
     record {

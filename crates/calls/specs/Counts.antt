@@ -9,7 +9,7 @@ use Rattle.posix.specs.Tables.{lookup}
 use Rattle.posix.specs.Choice.{chosen}
 use Rattle.posix.specs.Waits.{asked_by}
 use Rattle.life.specs.declared.consoles.Unchecked.{Unchecked}
-use Rattle.life.specs.declared.consoles.Unchecked.TheVariants.{Nothing, Group, All}
+use Rattle.life.specs.declared.consoles.Unchecked.TheVariants.{Nothing, In, All}
 use Rattle.life.specs.Waits.{is_reported, slots_of_wait}
 
 -- whether a wait of p, in this process group, that asks this reports this other process, if it gets to that
@@ -57,8 +57,8 @@ unfoldable pub slots_of_rechecks : List Process → Option ℕ → List ℕ → 
 slots_of_rechecks rs last [] = 0
 slots_of_rechecks rs last (p ∷ ps) = slots_of_rechecking rs (neighbour last (p ∷ ps)) (lookup p rs) + slots_of_rechecks rs (Some p) ps
 
--- to check the foreground process groups that are unchecked, where all had members before
+-- to check the foreground process groups that are unchecked, of sessions with one terminal at most
 abbrev pub slots_of_checking : Unchecked → ℕ
 slots_of_checking Nothing = 0
-slots_of_checking (Group g) = 1
-slots_of_checking All = 8
+slots_of_checking (In session) = 1
+slots_of_checking All = 64

@@ -15,7 +15,7 @@ use Rattle.posix.specs.Targets.{process_in, target_in}
 use Rattle.posix.specs.Tables.{children_in, lookup}
 use Rattle.posix.specs.Sends.{signal_or_none}
 use Rattle.life.specs.declared.consoles.Unchecked.{Unchecked}
-use Rattle.life.specs.declared.consoles.Unchecked.TheVariants.{Nothing, Group, All}
+use Rattle.life.specs.declared.consoles.Unchecked.TheVariants.{Nothing, In, All}
 use Rattle.life.specs.Rechecks.{is_in_wait, is_one, slots_of_survey_of_one}
 use Rattle.calls.specs.Counts.{slots_of_rechecks, slots_of_checking}
 use Rattle.posix.specs.declared.process.Handler.{Handler}
@@ -48,14 +48,14 @@ pub record IsQuiet (p : ℕ) (m : MachineView) : Type 0 where
   pub checked : m.foregrounds_unchecked ≡ Nothing
   pub place : has_place m.state p ≡ true
 
--- no foreground process group is unchecked, or that of one number
+-- no foreground process group is unchecked, or that of one session's terminal
 abbrev pub AreFew : Unchecked → Type 0
 AreFew Nothing = ⊤
-AreFew (Group g) = g ≢ 0
+AreFew (In session) = session ≢ 0
 AreFew All = ⊥
 
 -- At most so many slots were read, with those that rechecking reads and a look at the foreground process groups that are
--- unchecked, which are those of one number at most.
+-- unchecked, which is one session's at most.
 pub record CostsWithRechecks (most : ℕ) (old new : MachineView) : Type 0 where
   pub reads : new.visits + slots_of_rechecks new.state.processes None new.to_recheck + slots_of_checking new.foregrounds_unchecked ≤ old.visits + most
   pub unchecked : AreFew new.foregrounds_unchecked

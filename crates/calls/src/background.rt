@@ -18,7 +18,7 @@ use posix::{Handler, Pid, Sig};
 use proctable::ProcessTable;
 
 /// Whether a process may use its terminal.
-#[derive(Clone, Copy, Debug, PartialEq, Eq)]
+#[derive(Clone, Copy)]
 pub enum Access {
     /// It may.
     Allowed,

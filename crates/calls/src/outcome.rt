@@ -3,7 +3,7 @@
 use posix::Blocked;
 
 /// What an attempt of a call by a process comes to.
-#[derive(Clone, Copy, Debug, PartialEq, Eq)]
+#[derive(Clone, Copy)]
 pub enum Attempt {
     /// The call is done, and has added what it shows.
     Done,

@@ -6,7 +6,7 @@ ghost use Rattle.commands.specs.Serving.{Serves, first_or_empty as first_or_empt
 use crate::help::{HELP, VERSION};
 use explaining::serve as serve_explain;
 use exploring::{Progress, serve as serve_explore};
-use host::{ReadFiles, WordsFault};
+use inputs::{ReadFiles, WordsFault};
 use kernel::Sink;
 use naming::serve as serve_names;
 use refusing::serve as serve_refusal;

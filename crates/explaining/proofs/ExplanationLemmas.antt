@@ -7,7 +7,7 @@ use Rattle.std.proofs.lemmas.Bool.{cases_Bool, eqb-true}
 use Rattle.std.specs.Io.KnownBytes.{Appends}
 use Rattle.sink.specs.Sinks.{BreaksOff, Gathers, Seen, TakesAll}
 use Rattle.sink.proofs.SinkLemmas.{break_on, gathers_break, gathers_then}
-use Rattle.traceline.specs.Lines.{IsCut, is_one_line}
+use Rattle.trace.specs.Lines.{IsCut, is_one_line}
 use Rattle.explaining.specs.Explanations.{AreOneLine, Explains, IsBegun, IsExplained, OfExplained, Stops, Told, told_line}
 use Rattle.inputs.specs.declared.failure.FileFailure.{FileFailure}
 use Rattle.inputs.specs.declared.failure.FileFailure.TheVariants.{Usage, CannotRead, Memory, Write}

@@ -3,7 +3,7 @@ use Rattle.std.specs.Prelude.{◌≡◌, ℕ, ◌==◌, true, List, [], ◌∷�
 use Rattle.std.specs.List.{AllByRecursion}
 use Rattle.std.specs.Io.KnownBytes.{Appends}
 use Rattle.sink.specs.Sinks.{BreaksOff, Seen, TakesAll}
-use Rattle.traceline.specs.Lines.{is_one_line}
+use Rattle.trace.specs.Lines.{is_one_line}
 use Rattle.inputs.specs.declared.failure.FileFailure.{FileFailure}
 use Rattle.inputs.specs.declared.failure.FileFailure.TheVariants.{Usage, CannotRead, Memory, Write}
 

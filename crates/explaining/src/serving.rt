@@ -1,12 +1,11 @@
 //! What the program does: its text and its statuses.
 
 ghost use Rattle.std.specs.Prelude.{◌≡◌, ◌≤◌, Err, Some, map};
-ghost use Rattle.host.specs.declared.words.WordsFault.{WordsFault};
+ghost use Rattle.inputs.specs.declared.command_line.WordsFault.{WordsFault};
 ghost use Rattle.explaining.specs.Serving.{Means, answer_of, asked_by, trace_in_words};
 
 use crate::texts::explain_text;
-use host::{ReadFiles, WordsFault};
-use inputs::{FileFailure, named_file, read_file};
+use inputs::{FileFailure, ReadFiles, WordsFault, named_file, read_file};
 use sink::Sink;
 use std::alloc::Global;
 

@@ -7,7 +7,7 @@ use Rattle.std.specs.Prelude.{◌^◌, ◌==◌, if◌then◌else◌, OnOk, Resu
 use Rattle.posix.specs.declared.event.Event.{Event}
 use Rattle.schedules.specs.Families.{Places}
 use Rattle.schedules.specs.Schedules.{scheduled}
-use Rattle.eventtext.specs.EventLines.{AddsText}
+use Rattle.schedules.specs.EventLines.{AddsText}
 use Rattle.std.proofs.lemmas.List.{take_more}
 use Rattle.exploring.specs.Books.{BookView}
 use Rattle.exploring.specs.declared.ending.Endings.{Endings}

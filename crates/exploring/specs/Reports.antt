@@ -4,7 +4,7 @@ use Rattle.std.specs.List.{All, concat}
 use Rattle.posix.specs.declared.event.Event.{Event}
 use Rattle.schedules.specs.Families.{IsSchedule, Places}
 use Rattle.schedules.specs.Schedules.{scheduled}
-use Rattle.eventtext.specs.EventLines.{StandsFor}
+use Rattle.schedules.specs.EventLines.{StandsFor}
 use Rattle.exploring.specs.declared.ending.Endings.{Endings}
 use Rattle.exploring.specs.Books.{BookView}
 use Rattle.exploring.specs.Tallies.{TallyView}

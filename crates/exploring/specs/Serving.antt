@@ -5,7 +5,7 @@ use Rattle.std.specs.List.{list_any}
 use Rattle.posix.specs.declared.event.Event.{Event}
 use Rattle.posix.specs.States.{World}
 use Rattle.schedules.specs.Families.{family}
-use Rattle.host.specs.declared.words.WordsFault.{WordsFault}
+use Rattle.inputs.specs.declared.command_line.WordsFault.{WordsFault}
 use Rattle.sink.specs.Sinks.{BreaksOff, Seen, TakesAll}
 use Rattle.inputs.specs.Reads.{AreRead, AreRefused, Contents, Text}
 use Rattle.inputs.specs.Statuses.{status_of as status_of_input}

@@ -6,7 +6,7 @@ ghost use Rattle.exploring.specs.Endings.{no_endings, with_ending};
 use crate::tally::Tally;
 
 /// How it stands with a machine when the list of events ends.
-#[derive(Clone, Copy, Debug, PartialEq, Eq)]
+#[derive(Clone, Copy)]
 pub enum Ending {
     /// It has halted.
     Halted,

@@ -1,7 +1,7 @@
 //! What the program does: its texts and its statuses.
 
 ghost use Rattle.std.specs.Prelude.{◌≡◌, ◌+◌, ◌≤◌, false, true, length, Err, MatchResult, None, OnOk, Some, map, option_map};
-ghost use Rattle.host.specs.declared.words.WordsFault.{WordsFault};
+ghost use Rattle.inputs.specs.declared.command_line.WordsFault.{WordsFault};
 ghost use Rattle.text.specs.EventTexts.{most_events};
 ghost use Rattle.schedules.specs.Families.{family};
 ghost use Rattle.exploring.specs.Serving.{Means, answer_of, asked_by, is_found as has_found, all_halt as have_halted, is_told as told_by, status_of};
@@ -11,8 +11,7 @@ use crate::report::{plural, report};
 use crate::words::{Parts, Request, parts_of, requested};
 use crate::{Book, Family, Progress, explore};
 use arrayvec::ArrayString;
-use host::{ReadFiles, WordsFault};
-use inputs::{InputFault, NoRequest, number, read_inputs, tell_unread};
+use inputs::{InputFault, NoRequest, ReadFiles, WordsFault, number, read_inputs, tell_unread};
 use kernel::{Sink, SinkFault, put_all};
 use schedules::family_size;
 use std::alloc::{AllocError, Global};

@@ -10,7 +10,7 @@ use inputs::{NoRequest, command, is_used, named_files, value_of};
 use std::alloc::{AllocError, Global};
 
 /// What the next word is.
-#[derive(Clone, Copy, Debug, PartialEq, Eq)]
+#[derive(Clone, Copy, PartialEq, Eq)]
 enum Next {
     /// An option, its value, or the name of a file.
     Any,

@@ -1,5 +1,5 @@
 -- What a status means.
-use Rattle.std.proofs.Common.{◌≡◌, ◌⊎◌, ℕ, None, Option, ap, arith, inl, inr}
+use Rattle.std.proofs.Common.{◌≡◌, ◌⊎◌, ℕ, Option, ap, arith, inl, inr}
 use Rattle.inputs.specs.Failures.{MeansOf}
 
 -- that of a text which wasn't put, or not all of it
@@ -11,15 +11,6 @@ means_cut_short Done Refused IsBegun asked old new status is h =
 pub means_done : {A S : Type 0} (Done Refused IsBegun : Type 0) (asked : Option A) (old new : S) → Done → MeansOf Done Refused IsBegun asked old new 0
 means_done Done Refused IsBegun asked old new h =
     record { done = λ e. h; refused = λ e. absurd (omega (arith, e)); other_words = λ e. absurd (omega (arith, e)); cut_short = λ e. absurd (omega (arith, e)) }
-
-pub means_refused : {A S : Type 0} (Done Refused IsBegun : Type 0) (asked : Option A) (old new : S) → Refused → MeansOf Done Refused IsBegun asked old new 1
-means_refused Done Refused IsBegun asked old new h =
-    record { done = λ e. absurd (omega (arith, e)); refused = λ e. h; other_words = λ e. absurd (omega (arith, e)); cut_short = λ e. absurd (omega (arith, e)) }
-
--- and of words that ask for nothing
-pub means_other_words : {A S : Type 0} (Done Refused IsBegun : Type 0) (asked : Option A) (old new : S) → (asked ≡ None) × (new ≡ old) → MeansOf Done Refused IsBegun asked old new 2
-means_other_words Done Refused IsBegun asked old new h =
-    record { done = λ e. absurd (omega (arith, e)); refused = λ e. absurd (omega (arith, e)); other_words = λ e. h; cut_short = λ e. absurd (omega (arith, e)) }
 
 -- A sink is known by what is read of it.
 pub means_along : {A S T : Type 0} (f : S → T) (Done Then Refused IsBegun : Type 0) (asked : Option A) (old new : S) (status : ℕ) → (Done → Then)

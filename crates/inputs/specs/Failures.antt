@@ -1,8 +1,8 @@
 -- The failures of programs that are given one file, what is told of them, and their statuses.
 use Rattle.std.specs.Prelude.{◌≡◌, ◌⊎◌, ℕ, List, [], ◌∷◌, ◌++◌, codes, None, Option}
 use Rattle.std.specs.Borrow.{Bor}
-use Rattle.host.specs.declared.files.FileFault.{FileFault}
-use Rattle.host.specs.declared.files.FileFault.TheVariants as file
+use Rattle.inputs.specs.declared.files.FileFault.{FileFault}
+use Rattle.inputs.specs.declared.files.FileFault.TheVariants as file
 use Rattle.sink.specs.Sinks.{BreaksOff, Seen, TakesAll}
 use Rattle.inputs.specs.Reads.{Text}
 use Rattle.inputs.specs.declared.failure.FileFailure.{FileFailure}

@@ -8,8 +8,8 @@ use Rattle.text.specs.declared.fault.Reason.TheVariants.{UnknownWord, BadNumber,
 use Rattle.text.specs.declared.fault.TextFault.{TextFault}
 use Rattle.text.specs.EventTexts.{event_text}
 use Rattle.text.specs.WorldTexts.{world_text}
-use Rattle.host.specs.declared.files.FileFault.{FileFault}
-use Rattle.host.specs.declared.files.FileFault.TheVariants as file
+use Rattle.inputs.specs.declared.files.FileFault.{FileFault}
+use Rattle.inputs.specs.declared.files.FileFault.TheVariants as file
 use Rattle.inputs.specs.declared.Inputs.{Inputs}
 use Rattle.inputs.specs.declared.InputFault.{InputFault}
 use Rattle.inputs.specs.declared.InputFault.TheVariants as fault

@@ -1,17 +1,17 @@
 //! Why a program that is given one file fails.
 
 ghost use Rattle.std.specs.Prelude.{◌≡◌, ◌++◌, IfErr, IfOk, IfSome, OnErr, OnOk};
-ghost use Rattle.host.specs.declared.files.FileFault.{FileFault};
+ghost use Rattle.inputs.specs.declared.files.FileFault.{FileFault};
 ghost use Rattle.sink.specs.Sinks.{BreaksOff, TakesAll};
 ghost use Rattle.inputs.specs.Failures.{Tells, failure_of_file, message_of, message_unread, status_of};
 
 use crate::words::NoRequest;
-use host::{FileFault, ReadFiles};
+use crate::{FileFault, ReadFiles};
 use sink::{Sink, SinkFault, put_all};
 use std::alloc::AllocError;
 
 /// Why a program that is given one file fails.
-#[derive(Clone, Copy, Debug, PartialEq, Eq)]
+#[derive(Clone, Copy)]
 pub enum FileFailure<'a> {
     /// The words ask for no file.
     Usage,

@@ -1,19 +1,23 @@
-//! What the programs beside `jobk` are given: words, a world and its events, by the names of their files, and numbers.
+//! What the commands are given: words of the command line, files of the host, a world and its events by the names of
+//! their files, and numbers.
 #![tactic(auto)]
 
+pub mod command_line;
 mod failure;
+pub mod files;
 mod words;
 
 ghost use Rattle.std.specs.Prelude.{◌≡◌, ◌≤◌, Ok, IfOk, IfErr, IfSome, MatchResult, length};
-ghost use Rattle.host.specs.declared.files.FileFault.{FileFault};
+ghost use Rattle.inputs.specs.declared.files.FileFault.{FileFault};
 ghost use Rattle.text.specs.WorldTexts.{world_text as world_of_text};
 ghost use Rattle.text.specs.EventTexts.{event_text, most_events};
 ghost use Rattle.inputs.specs.Statuses.{status_of};
 ghost use Rattle.inputs.specs.Reads.{Reads, RefusesEvents, RefusesWorld, fault_of_file, unless_memory};
 ghost use Rattle.inputs.specs.Numbers.{number_of};
 
+pub use command_line::{WordsFault, as_texts, read_words};
 pub use failure::{FileFailure, put_both, read_file, tell_unread};
-use host::{FileFault, ReadFiles};
+pub use files::{FileFault, HostFiles, ReadFiles};
 use std::alloc::Global;
 use text::{EventList, Reason, TextFault, World, read_events, read_world};
 use thiserror::Error;
@@ -29,7 +33,7 @@ pub struct Inputs {
 }
 
 /// Why a world and its events aren't read.
-#[derive(Clone, Copy, Debug, PartialEq, Eq, Error)]
+#[derive(Clone, Copy, Debug, Error)]
 pub enum InputFault<'a> {
     /// There is no file with this name, or the device failed.
     #[error("cannot read {0}")]

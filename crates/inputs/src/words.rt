@@ -4,13 +4,13 @@ ghost use Rattle.std.specs.Prelude.{◌≡◌, ◌≢◌, IfErr, IfOk, MatchResu
 ghost use Rattle.clap.specs.Words.{app_of, first_of, found_of, kind_of, rows_of, rule_of};
 ghost use Rattle.inputs.specs.Words.{command_of, command_with_file, file_in_words, file_rule, files_in, is_used as is_used_in, option_rule};
 
+use crate::WordsFault;
 use clap::error::ErrorKind;
 use clap::{Arg, ArgAction, ArgMatches, Command, Error};
-use host::WordsFault;
 use std::alloc::{AllocError, Global};
 
 /// Why the words ask for nothing.
-#[derive(Clone, Copy, Debug, PartialEq, Eq)]
+#[derive(Clone, Copy)]
 pub enum NoRequest {
     /// Any other words, those that ask for help included.
     Usage,

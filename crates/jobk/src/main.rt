@@ -5,7 +5,7 @@
 mod person;
 
 use commands::serve;
-use host::{HostFiles, WordsFault, as_texts, read_words};
+use inputs::{HostFiles, WordsFault, as_texts, read_words};
 use kernel::WriteSink;
 use person::Person;
 use std::hash::RandomState;

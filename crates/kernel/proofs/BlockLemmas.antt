@@ -1,5 +1,5 @@
 -- Who has just found that it has to wait for a child, and is blocked in that wait, can't act.
-use Rattle.std.proofs.Common.{◌≡◌, ◌≢◌, ℕ, Bool, true, false, cond, ◌&&◌, ◌||◌, refl, ap, sym, ◌∙◌, Some, None, Option, is_some, List, []}
+use Rattle.std.proofs.Common.{◌≡◌, ◌≢◌, ℕ, true, false, cond, ◌&&◌, refl, ap, sym, ◌∙◌, Some, None, Option, is_some, List, []}
 use Rattle.std.proofs.Math.Bool.{and-false}
 use Rattle.posix.specs.declared.process.Blocked.{Blocked}
 use Rattle.posix.specs.declared.process.Blocked.TheVariants as blocked

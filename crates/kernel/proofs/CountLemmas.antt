@@ -1,19 +1,14 @@
 -- How many slots settling reads.
-use Rattle.std.proofs.Common.{◌≡◌, ◌≢◌, ℕ, ◌+◌, ◌*◌, ◌≤◌, suc, true, false, cond, subst, ◌&&◌, ◌||◌, refl, ap, sym, ◌∙◌, arith, List, [], ◌∷◌, length, count_by, Some, None, Option, option_map, filter, slice_get, ◌==◌, is_some}
+use Rattle.std.proofs.Common.{◌≡◌, ◌≢◌, ℕ, ◌+◌, ◌*◌, ◌≤◌, suc, true, false, cond, subst, ◌||◌, refl, ap, sym, ◌∙◌, arith, List, [], ◌∷◌, length, count_by, Some, None, Option, option_map, filter, slice_get, ◌==◌, is_some}
 use Rattle.std.specs.Option.{IfSome}
-use Rattle.std.proofs.lemmas.Bool.{eqb-true, ne_eqb, and_parts}
+use Rattle.std.proofs.lemmas.Bool.{eqb-true, ne_eqb}
 use Rattle.std.proofs.lemmas.List.Sums.{length-filter}
 use Rattle.posix.specs.Processes.{Process}
-use Rattle.posix.specs.Tables.{lookup, IsRising}
 use Rattle.posix.specs.States.{State, current_process}
 use Rattle.posix.specs.Consoles.{Console}
-use Rattle.std.specs.List.{AllByRecursion, list_any}
-use Rattle.posix.specs.GroupCalls.{is_group_of}
-use Rattle.posix.specs.Settle.{is_fresh, AreFresh}
-use Rattle.posix.proofs.WalkLemmas.{some_looked}
 use Rattle.posix.specs.Regular.{IsRegular}
 use Rattle.life.specs.declared.consoles.Unchecked.{Unchecked}
-use Rattle.life.specs.declared.consoles.Unchecked.TheVariants.{Nothing, Group, All}
+use Rattle.life.specs.declared.consoles.Unchecked.TheVariants.{Nothing, In, All}
 use Rattle.life.specs.Foregrounds.{is_unchecked}
 use Rattle.life.specs.Machines.{MachineView}
 use Rattle.life.specs.Rechecks.{NeedNoChild}
@@ -48,57 +43,38 @@ pub none_unchecked : (cs : List Console) → count_by (is_unchecked Nothing) cs 
 none_unchecked [] = refl
 none_unchecked (c ∷ cs) = none_unchecked cs
 
--- a member of the process group g in a console's session
-record HasMember (g : ℕ) (rs : List Process) (c : Console) : Type 0 where
-  what : Process
-  found : lookup what.pid rs ≡ Some what
-  session : what.session ≡ c.session
-  group : what.group ≡ g
-
--- there is one where it is the console's foreground process group
-fresh_member : (g : ℕ) (rs : List Process) (c : Console) → IsRising rs → g ≢ 0 → (c.foreground == g) ≡ true → is_fresh rs c ≡ true → HasMember g rs c
-unfolding is_group_of
-fresh_member g rs c up some here fresh =
-    let same = eqb-true c.foreground g here in
-    let group : list_any (λ r. r.session == c.session && r.group == c.foreground) rs ≡ true = sym (ap (λ b. b || list_any (λ r. r.session == c.session && r.group == c.foreground) rs) (ne_eqb c.foreground 0 (λ none. some (sym same ∙ none)))) ∙ fresh in
-    let it = some_looked (λ r. r.session == c.session && r.group == c.foreground) rs up group in
-    let both = and_parts (it.0.session == c.session) (it.0.group == c.foreground) it.2 in
-    record { what = it.0; found = it.1; session = eqb-true _ _ both.0; group = eqb-true _ _ both.1 ∙ same }
-
 -- a session has one console
 abbrev AreApart : List Console → Type 0
 AreApart cs = (i j : ℕ) (c d : Console) → slice_get cs i ≡ Some c → slice_get cs j ≡ Some d → c.session ≢ 0 → c.session ≡ d.session → i ≡ j
 
--- So no other console has the foreground process group g, as all members are in one session.
-none_others : (g : ℕ) (s : State) (c : Console) → IsRegular s → g ≢ 0 → HasMember g s.processes c → (ds : List Console) → ((j : ℕ) (d : Console) → slice_get ds j ≡ Some d → c.session ≡ d.session → c.session ≢ 0 → ⊥) → AllByRecursion (λ c. is_fresh s.processes c ≡ true) ds
-    → length (filter (is_unchecked (Group g)) ds) ≡ 0
-none_others g s c i some m [] none fresh = refl
-none_others g s c i some m (d ∷ ds) none fresh = elim (d.foreground == g) as (λ b. (d.foreground == g) ≡ b → length (cond b (d ∷ filter (is_unchecked (Group g)) ds) (filter (is_unchecked (Group g)) ds)) ≡ 0) [
-  | true ↦ λ here.
-      let n = fresh_member g s.processes d i.rising some here fresh.0 in
-      let session = i.grouped.one m.what.pid n.what.pid m.what n.what m.found n.found (m.group ∙ sym n.group) in
-      let least = (i.bounded m.what.pid m.what m.found).session_least in
-      absurd (none 0 d refl (sym m.session ∙ session ∙ n.session) (λ zero. let was = m.session in omega (arith, least, zero, was)))
-  | false ↦ λ e. none_others g s c i some m ds (λ j d at. none (suc j) d at) fresh.1
+-- and no second one
+one_terminal : (session : ℕ) (cs : List Console) → session ≢ 0 → AreApart cs → length (filter (λ c. c.session == session) cs) ≤ 1
+one_terminal session [] some apart = omega arith
+one_terminal session (c ∷ cs) some apart = elim (c.session == session) as (λ b. (c.session == session) ≡ b → length (cond b (c ∷ filter (λ c. c.session == session) cs) (filter (λ c. c.session == session) cs)) ≤ 1) [
+  | true ↦ λ e.
+      let own = eqb-true c.session session e in
+      let none = others cs (λ j d at same. let no = apart 0 (suc j) c d refl at (λ zero. some (sym own ∙ zero)) (own ∙ sym same) in omega (arith, no)) in
+      omega (arith, none)
+  | false ↦ λ e. one_terminal session cs some (λ i j c d a b k e. let both = apart (suc i) (suc j) c d a b k e in omega (arith, both))
 ] refl
-
-one_group : (g : ℕ) (s : State) (cs : List Console) → IsRegular s → g ≢ 0 → AreApart cs → AllByRecursion (λ c. is_fresh s.processes c ≡ true) cs → length (filter (is_unchecked (Group g)) cs) ≤ 1
-one_group g s [] i some apart fresh = omega arith
-one_group g s (c ∷ cs) i some apart fresh = elim (c.foreground == g) as (λ b. (c.foreground == g) ≡ b → length (cond b (c ∷ filter (is_unchecked (Group g)) cs) (filter (is_unchecked (Group g)) cs)) ≤ 1) [
-  | true ↦ λ here. let none = none_others g s c i some (fresh_member g s.processes c i.rising some here fresh.0) cs (λ j d at same k. let no = apart 0 (suc j) c d refl at k same in omega (arith, no)) fresh.1 in omega (arith, none)
-  | false ↦ λ e. one_group g s cs i some (λ i j c d a b k e. let both = apart (suc i) (suc j) c d a b k e in omega (arith, both)) fresh.1
-] refl
+  where
+    others : (ds : List Console) → ((j : ℕ) (d : Console) → slice_get ds j ≡ Some d → d.session ≢ session) → length (filter (λ c. c.session == session) ds) ≡ 0
+    others [] none = refl
+    others (d ∷ ds) none = rw (ne_eqb d.session session (none 0 d refl)) (others ds (λ j d at. none (suc j) d at))
 
 -- no more consoles are unchecked
-few_unchecked : (s : State) → IsRegular s → AreFresh s → (u : Unchecked) → AreFew u → count_by (is_unchecked u) s.consoles ≤ slots_of_checking u
-few_unchecked s i fresh Nothing few = let none = none_unchecked s.consoles in omega (arith, none)
-few_unchecked s i fresh (Group g) few = let one = one_group g s s.consoles i few i.consoles.apart fresh in let same = length-filter (is_unchecked (Group g)) s.consoles in omega (arith, one, same)
-few_unchecked s i fresh All few = absurd few
+few_unchecked : (s : State) → IsRegular s → (u : Unchecked) → AreFew u → count_by (is_unchecked u) s.consoles ≤ slots_of_checking u
+few_unchecked s i Nothing few = let none = none_unchecked s.consoles in omega (arith, none)
+few_unchecked s i (In session) few =
+    let one = subst (λ b. length (filter (λ c. b || c.session == session) s.consoles) ≤ 1) (sym (ne_eqb session 0 few)) (one_terminal session s.consoles few i.consoles.apart) in
+    let same = length-filter (is_unchecked (In session)) s.consoles in
+    omega (arith, one, same)
+few_unchecked s i All few = absurd few
 
 -- what settling reads after what is brief
 pub settling_brief : (most : ℕ) (old new : MachineView) → IsAtRest old → CostsWithRechecks most old new → ReadsAtMost most old new
 settling_brief most old new rest h =
-    let few = few_unchecked old.state rest.regular rest.settled.fresh new.foregrounds_unchecked h.unchecked in
+    let few = few_unchecked old.state rest.regular new.foregrounds_unchecked h.unchecked in
     let consoles = ap (count_by (is_unchecked new.foregrounds_unchecked)) h.consoles in
     let read = h.reads in
     omega (arith, few, consoles, read)

@@ -268,7 +268,7 @@ fn happen<K: ProcessTable>(machine: &mut Machine<K>, event: Event, entries: &mut
 }
 
 /// What instructions that were run one after another came to.
-#[derive(Clone, Copy, Debug, PartialEq, Eq)]
+#[derive(Clone, Copy)]
 pub struct BurstEnd {
     /// The number of the last step.
     pub last: u64,

@@ -8,7 +8,7 @@ use crate::kernel_on::KernelOn;
 use proctable::ProcessTable;
 
 /// A run in numbers, counted from its events, its trace and the last state of the machine.
-#[derive(Clone, Copy, Debug, PartialEq, Eq)]
+#[derive(Clone, Copy, PartialEq, Eq)]
 pub struct Summary {
     /// The events, those after a halt included.
     pub events: u64,

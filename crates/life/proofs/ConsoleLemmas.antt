@@ -160,7 +160,7 @@ pub machine_became : {pids : Pids} {places : Places} {groups_at_risk : PidSetVie
     → IsMachine (put m.state k d) pids places to_recheck groups_at_risk (record { readers = m.readers; foregrounds_unchecked = m.foregrounds_unchecked; terminals = now })
 machine_became m to_recheck k c d list at h i moved = machine_put _ _ _ _ _ _ _ _ _ _ k d i
     (⊎_elim (λ quiet. put_unread _ _ k c d i.sound.regular i.listed at quiet.0.0 quiet.0.1 quiet.1 quiet.2) (λ those. rechecked (subst (AreReaders m.state c.session) (sym list) those)) h.readers)
-    (⊎_elim (λ same. fresh_alike _ _ _ k c d at same.0 same.1 i.fresh) (fresh_put _ _ _ k d i.fresh) h.foreground)
+    (⊎_elim (λ same. fresh_alike m.foregrounds_unchecked m.state.processes _ k c d at same.0 same.1 i.fresh) (fresh_put m.foregrounds_unchecked m.state.processes _ k d i.fresh) h.foreground)
     (terminals_put _ k c d _ _ at moved i.indexed)
   where
     rechecked : AreReaders m.state c.session to_recheck.pids → CanPut m.state to_recheck.pids k d

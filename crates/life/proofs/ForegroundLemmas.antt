@@ -1,23 +1,24 @@
 -- Foreground process groups that have a member in their console's session, but for those that are unchecked.
-use Rattle.std.proofs.Common.{◌≡◌, ◌≢◌, ℕ, zero, suc, Bool, true, false, cond, ◌||◌, refl, ap, sym, ◌∙◌, arith, List, [], ◌∷◌, map, ◌==◌, Some, slice_get, slice_set}
+use Rattle.std.proofs.Common.{◌≡◌, ◌≢◌, ℕ, zero, suc, ◌≤◌, Bool, true, false, cond, ◌||◌, refl, ap, sym, ◌∙◌, arith, subst, List, [], ◌∷◌, length, count_by, filter, map, ◌==◌, Some, None, slice_get, slice_set}
 use Rattle.std.specs.List.{AllByRecursion}
-use Rattle.std.proofs.lemmas.Bool.{eqb-true, eq-eqb, both_ways}
+use Rattle.std.proofs.lemmas.Bool.{eqb-true, eqb-false, eq-eqb, ne_eqb, or_right}
+use Rattle.std.proofs.lemmas.List.{map-id}
+use Rattle.std.proofs.lemmas.List.Sums.{length-filter}
+use Rattle.std.proofs.lemmas.Option.{same_Some}
 use Rattle.posix.specs.Processes.{Process}
-use Rattle.posix.specs.Tables.{IsRising, lookup, removed}
-use Rattle.posix.specs.Consoles.{Console}
+use Rattle.posix.specs.Tables.{IsRising, lookup, removed, changed, adopted}
+use Rattle.posix.specs.Ends.{made_zombie}
+use Rattle.posix.specs.Consoles.{Console, changed_at, changed_console, console_of}
+use Rattle.posix.specs.Regular.{AreConsoles}
 use Rattle.posix.specs.GroupCalls.{is_group_of}
 use Rattle.posix.specs.Settle.{is_fresh, refreshed}
 use Rattle.posix.proofs.TableLemmas.{pid_looked}
-use Rattle.posix.proofs.FreshLemmas.{AllFresh}
+use Rattle.posix.proofs.ConsoleLemmas.{changed_at_place, changed_none, none_of}
+use Rattle.posix.proofs.FreshLemmas.{AllFresh, fresh_changed}
 use Rattle.posix.proofs.WalkLemmas.{all_looked}
 use Rattle.life.specs.declared.consoles.Unchecked.{Unchecked}
-use Rattle.life.specs.declared.consoles.Unchecked.TheVariants.{Nothing, Group, All}
-use Rattle.life.specs.Foregrounds.{is_unchecked, after_loss, AreFreshBut, refreshed_where}
-
--- all may be unchecked
-pub fresh_all : (cs : List Console) → AllByRecursion (λ c. true ≡ true) cs
-fresh_all [] = tt
-fresh_all (c ∷ cs) = (refl, fresh_all cs)
+use Rattle.life.specs.declared.consoles.Unchecked.TheVariants.{Nothing, In, All}
+use Rattle.life.specs.Foregrounds.{is_unchecked, also_in, AreFreshBut}
 
 -- each that is checked then was checked, and has a member where it had one
 fresh_by : (u v : Unchecked) (rs ts : List Process) → ((c : Console) → is_unchecked v c ≡ false → is_unchecked u c ≡ false) → ((c : Console) → is_unchecked v c ≡ false → is_fresh rs c ≡ true → is_fresh ts c ≡ true)
@@ -33,36 +34,66 @@ fresh_by u v rs ts fewer still (c ∷ cs) h = (one (is_unchecked v c) (is_unchec
 pub fresh_still : (u : Unchecked) (rs ts : List Process) (cs : List Console) → ((ds : List Console) → AllFresh rs ds → AllFresh ts ds) → AreFreshBut u rs cs → AreFreshBut u ts cs
 fresh_still u rs ts cs still h = fresh_by u u rs ts (λ c e. e) (λ c e fresh. (still (c ∷ []) (fresh, tt)).0) cs h
 
--- ---- the record of a member goes
+-- where each group has a member in the sessions in which it had one
+fresh_same : (u : Unchecked) (rs ts : List Process) (cs : List Console) → ((session group : ℕ) → is_group_of session group ts ≡ is_group_of session group rs) → AreFreshBut u rs cs → AreFreshBut u ts cs
+fresh_same u rs ts cs same h = fresh_by u u rs ts (λ c e. e) (λ c e fresh. ap (λ b. c.foreground == 0 || b) (same c.session c.foreground) ∙ fresh) cs h
 
--- another process group keeps its members
-group_left : (p g : ℕ) (rs : List Process) → AllByRecursion (λ r. r.pid ≡ p → r.group ≡ g) rs → (session group : ℕ) → g ≢ group → is_group_of session group rs ≡ true → is_group_of session group (removed p rs) ≡ true
-unfolding is_group_of removed
-group_left p g [] all session group other e = absurd (cc)
-group_left p g (r ∷ rs) all session group other e = grind (arith, e, all.0, eqb-true r.pid p, eqb-true r.group group, group_left p g rs all.1 session group other)
-
-pub fresh_removed : (u : Unchecked) (p : ℕ) (it : Process) (rs : List Process) (cs : List Console) → IsRising rs → lookup p rs ≡ Some it → AreFreshBut u rs cs → AreFreshBut (after_loss it.group u) (removed p rs) cs
-fresh_removed u p it rs cs up found h = fresh_by u (after_loss it.group u) rs (removed p rs) (fewer u) (λ c e. still c (apart u c e)) cs h
+-- so at an end, as a zombie is a member, and an heir's children are
+pub fresh_departed : (u : Unchecked) (p heir w : ℕ) (rs : List Process) (cs : List Console) → AreFreshBut u rs cs → AreFreshBut u (adopted p heir (changed p (made_zombie w) rs)) cs
+unfolding made_zombie is_group_of adopted
+fresh_departed u p heir w rs cs h = fresh_same u dead (adopted p heir dead) cs (λ session group. kept session group dead) (fresh_still u rs dead cs (λ ds all. fresh_changed p (made_zombie w) (λ r. refl) (λ r. refl) rs ds all) h)
   where
-    fewer : (u : Unchecked) (c : Console) → is_unchecked (after_loss it.group u) c ≡ false → is_unchecked u c ≡ false
+    dead : List Process
+    dead = changed p (made_zombie w) rs
+
+    kept : (session group : ℕ) (rs : List Process) → is_group_of session group (adopted p heir rs) ≡ is_group_of session group rs
+    kept session group [] = refl
+    kept session group (r ∷ rs) = grind (arith, kept session group rs)
+
+-- ---- a member leaves its session
+
+-- where the groups in all other sessions keep a member
+fresh_beside : (u : Unchecked) (session : ℕ) (rs ts : List Process) (cs : List Console) → ((other group : ℕ) → other ≢ session → is_group_of other group rs ≡ true → is_group_of other group ts ≡ true) → AreFreshBut u rs cs → AreFreshBut (also_in session u) ts cs
+fresh_beside u session rs ts cs still h = fresh_by u (also_in session u) rs ts (fewer u) (λ c e fresh. kept c (apart u c e) fresh) cs h
+  where
+    fewer : (u : Unchecked) (c : Console) → is_unchecked (also_in session u) c ≡ false → is_unchecked u c ≡ false
     fewer Nothing c e = refl
-    fewer (Group h) c e = among (h == it.group) refl e
+    fewer (In other) c e = among (other == session) refl e
       where
-        among : (b : Bool) → (h == it.group) ≡ b → is_unchecked (cond b (Group it.group) All) c ≡ false → (c.foreground == h) ≡ false
-        among true same e = ap (λ n. c.foreground == n) (eqb-true h it.group same) ∙ e
+        among : (b : Bool) → (other == session) ≡ b → is_unchecked (cond b (In session) All) c ≡ false → is_unchecked (In other) c ≡ false
+        among true same e = ap (λ n. is_unchecked (In n) c) (eqb-true other session same) ∙ e
         among false same e = absurd (cc)
     fewer All c e = e
 
-    apart : (u : Unchecked) (c : Console) → is_unchecked (after_loss it.group u) c ≡ false → (c.foreground == it.group) ≡ false
-    apart Nothing c e = e
-    apart (Group h) c e = grind (arith, e)
+    apart : (u : Unchecked) (c : Console) → is_unchecked (also_in session u) c ≡ false → (c.session == session) ≡ false
+    apart Nothing c e = grind (arith, e)
+    apart (In other) c e = grind (arith, e)
     apart All c e = absurd (cc)
 
-    all : AllByRecursion (λ r. r.pid ≡ p → r.group ≡ it.group) rs
-    all = all_looked (λ r. r.pid ≡ p → r.group ≡ it.group) rs up (λ q r e named. let both : Some r ≡ Some it = sym e ∙ ap (λ n. lookup n rs) (sym (pid_looked q rs r e) ∙ named) ∙ found in let is : r ≡ it = cc in ap (λ (r : Process). r.group) is)
+    kept : (c : Console) → (c.session == session) ≡ false → is_fresh rs c ≡ true → is_fresh ts c ≡ true
+    kept c other e = grind (arith, e, still c.session c.foreground (eqb-false c.session session other))
 
-    still : (c : Console) → (c.foreground == it.group) ≡ false → is_fresh rs c ≡ true → is_fresh (removed p rs) c ≡ true
-    still c other e = grind (arith, e, group_left p it.group rs all c.session c.foreground (λ same. both_ways _ other (eq-eqb c.foreground it.group (sym same))))
+-- each record with this number is of that session
+alone : (p : ℕ) (it : Process) (rs : List Process) → IsRising rs → lookup p rs ≡ Some it → AllByRecursion (λ r. r.pid ≡ p → r.session ≡ it.session) rs
+alone p it rs up found = all_looked (λ r. r.pid ≡ p → r.session ≡ it.session) rs up (λ q r e named. ap (λ (r : Process). r.session) (same_Some _ _ (sym e ∙ ap (λ n. lookup n rs) (sym (pid_looked q rs r e) ∙ named) ∙ found)))
+
+-- its record goes
+pub fresh_removed : (u : Unchecked) (p : ℕ) (it : Process) (rs : List Process) (cs : List Console) → IsRising rs → lookup p rs ≡ Some it → AreFreshBut u rs cs → AreFreshBut (also_in it.session u) (removed p rs) cs
+unfolding is_group_of removed
+fresh_removed u p it rs cs up found h = fresh_beside u it.session rs (removed p rs) cs (λ other group ne. left other group ne rs (alone p it rs up found)) h
+  where
+    left : (session group : ℕ) → session ≢ it.session → (rs : List Process) → AllByRecursion (λ r. r.pid ≡ p → r.session ≡ it.session) rs → is_group_of session group rs ≡ true → is_group_of session group (removed p rs) ≡ true
+    left session group other [] all e = absurd (cc)
+    left session group other (r ∷ rs) all e = grind (arith, e, all.0, eqb-true r.pid p, eqb-true r.session session, left session group other rs all.1)
+
+-- it changes in whatever way
+pub fresh_moved : (u : Unchecked) (p : ℕ) (it : Process) (f : Process → Process) (rs : List Process) (cs : List Console) → IsRising rs → lookup p rs ≡ Some it → AreFreshBut u rs cs → AreFreshBut (also_in it.session u) (changed p f rs) cs
+unfolding is_group_of changed
+fresh_moved u p it f rs cs up found h = fresh_beside u it.session rs (changed p f rs) cs (λ other group ne. left other group ne rs (alone p it rs up found)) h
+  where
+    left : (session group : ℕ) → session ≢ it.session → (rs : List Process) → AllByRecursion (λ r. r.pid ≡ p → r.session ≡ it.session) rs → is_group_of session group rs ≡ true → is_group_of session group (changed p f rs) ≡ true
+    left session group other [] all e = absurd (cc)
+    left session group other (r ∷ rs) all e = grind (arith, e, all.0, eqb-true r.pid p, eqb-true r.session session, left session group other rs all.1)
 
 -- ---- a console in the place of one
 
@@ -84,13 +115,57 @@ fresh_alike u rs cs k c d at owner foreground h = fresh_put u rs cs k d h (by u 
     by All = refl
     by u = rw (owner, foreground) refl
 
+-- ---- a foreground is set
+
+-- where one more is unchecked
+pub fresh_also : (session : ℕ) (u : Unchecked) (rs : List Process) (cs : List Console) → AreFreshBut u rs cs → AreFreshBut (also_in session u) rs cs
+fresh_also session u rs cs h = fresh_beside u session rs rs cs (λ other group ne e. e) h
+
+pub own_unchecked : (session : ℕ) (u : Unchecked) (c : Console) → c.session ≡ session → is_unchecked (also_in session u) c ≡ true
+own_unchecked session Nothing c own = or_right (session == 0) _ (eq-eqb c.session session own)
+own_unchecked session (In other) c own = elim (other == session) as (λ b. is_unchecked (cond b (In session) All) c ≡ true) [ true ↦ or_right (session == 0) _ (eq-eqb c.session session own) | false ↦ refl ]
+own_unchecked session All c own = refl
+
 -- ---- foregrounds are cleared
 
--- where the others are fresh, it is enough to refresh those that are unchecked
-pub refreshed_enough : (u : Unchecked) (rs : List Process) (cs : List Console) → AreFreshBut u rs cs → map (refreshed_where u rs) cs ≡ map (refreshed rs) cs
-refreshed_enough u rs [] h = refl
-refreshed_enough u rs (c ∷ cs) h = rw (refreshed_enough u rs cs h.1) (ap (λ d. d ∷ map (refreshed rs) cs) (one (is_unchecked u c) h.0))
+-- where the others are fresh, it is enough to refresh those of which that isn't known
+refreshed_enough : (test : Console → Bool) (rs : List Process) (cs : List Console) → AllByRecursion (λ c. (test c || is_fresh rs c) ≡ true) cs → map (λ c. cond (test c) (refreshed rs c) c) cs ≡ map (refreshed rs) cs
+refreshed_enough test rs [] h = refl
+refreshed_enough test rs (c ∷ cs) h = rw (refreshed_enough test rs cs h.1) (ap (λ d. d ∷ map (refreshed rs) cs) (one (test c) h.0))
   where
     one : (b : Bool) → (b || is_fresh rs c) ≡ true → cond b (refreshed rs c) c ≡ refreshed rs c
     one true e = refl
     one false e = rw e refl
+
+-- so nothing, where it is known of all
+pub refreshed_fresh : (rs : List Process) (cs : List Console) → AreFreshBut Nothing rs cs → cs ≡ map (refreshed rs) cs
+refreshed_fresh rs cs h = sym (map-id cs) ∙ refreshed_enough (λ c. false) rs cs h
+
+-- the terminal of one session, which is one console at most
+in_session : (session : ℕ) (rs : List Process) (cs : List Console) → session ≢ 0 → AreFreshBut (In session) rs cs → map (changed_at session (refreshed rs)) cs ≡ map (refreshed rs) cs
+in_session session rs cs some h = refreshed_enough (λ c. c.session == session) rs cs (subst (λ b. AllByRecursion (λ c. ((b || c.session == session) || is_fresh rs c) ≡ true) cs) (ne_eqb session 0 some) h)
+
+pub refreshed_one : {n : ℕ} (session k : ℕ) (c : Console) (rs : List Process) (cs : List Console) → session ≢ 0 → AreConsoles n cs → AreFreshBut (In session) rs cs → slice_get cs k ≡ Some c → c.session ≡ session → slice_set cs k (refreshed rs c) ≡ map (refreshed rs) cs
+unfolding changed_console
+refreshed_one {n = n} session k c rs cs some apart h found own = sym (changed_at_place n cs k session c (refreshed rs) apart found own some) ∙ in_session session rs cs some h
+
+pub refreshed_none : (session : ℕ) (rs : List Process) (cs : List Console) → session ≢ 0 → AreFreshBut (In session) rs cs → console_of session cs ≡ None → cs ≡ map (refreshed rs) cs
+refreshed_none session rs cs some h none = sym (changed_none session (refreshed rs) cs (none_of session cs none)) ∙ in_session session rs cs some h
+
+-- ---- how many are unchecked
+
+pub counts_own : (session k : ℕ) (c : Console) (cs : List Console) → slice_get cs k ≡ Some c → c.session ≡ session → 1 ≤ count_by (is_unchecked (In session)) cs
+counts_own session k c cs at own = rw (← length-filter) (some k cs at)
+  where
+    some : (k : ℕ) (cs : List Console) → slice_get cs k ≡ Some c → 1 ≤ length (filter (is_unchecked (In session)) cs)
+    some k [] at = absurd (cc)
+    some zero (d ∷ ds) at = rw (or_right (session == 0) _ (eq-eqb d.session session (ap (λ (c : Console). c.session) (same_Some _ _ at) ∙ own))) (omega arith)
+    some (suc k) (d ∷ ds) at = let more = some k ds at in elim (is_unchecked (In session) d) as (λ b. 1 ≤ length (cond b (d ∷ filter (is_unchecked (In session)) ds) (filter (is_unchecked (In session)) ds))) [ true ↦ omega arith | false ↦ more ]
+
+-- all, where no session is named
+pub counts_all : (u : Unchecked) (cs : List Console) → ((c : Console) → is_unchecked u c ≡ true) → count_by (is_unchecked u) cs ≡ length cs
+counts_all u cs all = sym (length-filter (is_unchecked u) cs) ∙ each cs
+  where
+    each : (cs : List Console) → length (filter (is_unchecked u) cs) ≡ length cs
+    each [] = refl
+    each (c ∷ cs) = rw all (ap suc (each cs))

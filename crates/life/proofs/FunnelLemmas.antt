@@ -45,9 +45,8 @@ use Rattle.jobs.proofs.KeptLemmas.{record_found, length_record}
 use Rattle.life.specs.Machines.{with_processes, IsKept, IsSound, IsListed, IsNoted, IsMachine, Terminals, MachineView, Costs, Changes, IfThere, IsOther, AreWithin}
 use Rattle.life.specs.Rechecks.{with_numbers, with_parent, rechecking, rechecking_by_signals, rechecking_effect, rechecking_generated, slots_of_signal, awaits, rechecking_told}
 use Rattle.life.specs.declared.consoles.Unchecked.{Unchecked}
-use Rattle.life.specs.declared.consoles.Unchecked.TheVariants.{All}
-use Rattle.life.specs.Foregrounds.{AreFreshBut}
-use Rattle.life.proofs.ForegroundLemmas.{fresh_all, fresh_still}
+use Rattle.life.specs.Foregrounds.{AreFreshBut, also_in}
+use Rattle.life.proofs.ForegroundLemmas.{fresh_moved, fresh_still}
 use Rattle.life.specs.Changes.{has_moved, CanMoveNumbers, StaysInSession, StaysRegular, lives}
 use Rattle.pidset.specs.Indexes.{HaveParents}
 use Rattle.pidset.proofs.ParentLemmas.{parents_map}
@@ -81,7 +80,7 @@ sound_changed s pids places p f k regular i = record {
 
 -- foregrounds have members as before
 fresh_on : (u : Unchecked) (s : State) (p : ℕ) (f : Process → Process) → KeepsNumbers f → AreFreshBut u s.processes s.consoles → AreFreshBut u (changed p f s.processes) s.consoles
-fresh_on u s p f k fresh = fresh_still _ s.processes _ s.consoles (λ ds h. fresh_changed p f k.group k.session s.processes ds h) fresh
+fresh_on u s p f k fresh = fresh_still u s.processes (changed p f s.processes) s.consoles (λ ds h. fresh_changed p f k.group k.session s.processes ds h) fresh
 
 -- and their numbers are below the same one
 within_on : {n : ℕ} (p : ℕ) (f : Process → Process) (rs : List Process) → KeepsNumbers f → AreWithin n rs → AreWithin n (changed p f rs)
@@ -90,7 +89,7 @@ within_on p f rs k h = within_map (at p f) rs (at_pid p f k.pid) (at_keeps (λ r
 
 pub machine_changed : {groups_at_risk : PidSetView} {terminals : Terminals} (s : State) (pids : Pids) (places : Places) (to_recheck after : PidSetView) (p : ℕ) (f : Process → Process) → KeepsNumbers f
     → IsRegular (change s p f) → IsMachine s pids places to_recheck groups_at_risk terminals → after.room ≡ to_recheck.room → IsListed (change s p f) after terminals.readers → IsMachine (change s p f) pids places after groups_at_risk terminals
-machine_changed {groups_at_risk = groups_at_risk} s pids places to_recheck after p f k regular i room listed = record { sound = sound_changed s pids places p f k regular i.sound; listed = listed; noted = subst (λ n. IsNoted n groups_at_risk) (sym room) i.noted; fresh = fresh_on _ s p f k i.fresh; indexed = i.indexed; within = within_on p f _ k i.within }
+machine_changed {groups_at_risk = groups_at_risk} {terminals = terminals} s pids places to_recheck after p f k regular i room listed = record { sound = sound_changed s pids places p f k regular i.sound; listed = listed; noted = subst (λ n. IsNoted n groups_at_risk) (sym room) i.noted; fresh = fresh_on terminals.foregrounds_unchecked s p f k i.fresh; indexed = i.indexed; within = within_on p f _ k i.within }
 
 -- a record with other signals, and another alarm
 signals_are : (rs : List Process) → IsRising rs → (p : ℕ) (b c : Record) → lookup p rs ≡ Some (process_of p (parent_of p rs) b) → c ≡ record b { alarm = c.alarm; own = record (b.own) { signals = c.own.signals } } → with_record rs p c ≡ changed p (with_signals c.own.signals c.alarm) rs
@@ -204,7 +203,7 @@ within_shown {n = n} p b c rs found session h q r e =
 
 pub machine_shown : {groups_at_risk : PidSetView} {terminals : Terminals} (s : State) (pids now : Pids) (places : Places) (to_recheck after : PidSetView) (p parent : ℕ) (b c : Record) (ts : List Process) (foregrounds_unchecked : Unchecked)
     → lookup p s.processes ≡ Some (process_of p (parent_of p s.processes) b) → ts ≡ with_record s.processes p c → IsRegular (record s { processes = with_record s.processes p c }) → (c.session ≡ b.session) ⊎ (c.session ≡ p) → parent ≡ parent_of p s.processes
-    → now ≡ record (cond (has_moved (record_seen b) (record_seen c)) (regrouped pids b.group b.session c.group c.session) pids) { ready = now.ready } → foregrounds_unchecked ≡ cond (has_moved (record_seen b) (record_seen c)) All terminals.foregrounds_unchecked → s.last_pid ≡ now.last
+    → now ≡ record (cond (has_moved (record_seen b) (record_seen c)) (regrouped pids b.group b.session c.group c.session) pids) { ready = now.ready } → foregrounds_unchecked ≡ cond (has_moved (record_seen b) (record_seen c)) (also_in b.session terminals.foregrounds_unchecked) terminals.foregrounds_unchecked → s.last_pid ≡ now.last
     → IsMachine s pids places to_recheck groups_at_risk terminals → after.pids ≡ with_parent parent s.order (with_number p to_recheck.pids) → after.room ≡ to_recheck.room
     → IsMachine (record s { processes = ts; last_pid = now.last }) now places after groups_at_risk (record terminals { foregrounds_unchecked = foregrounds_unchecked })
 unfolding give_record
@@ -226,9 +225,9 @@ machine_shown {groups_at_risk = groups_at_risk} {terminals = terminals} s pids n
           (λ q e. each (λ q. (q ≡ p) ⊎ (q ≡ parent_of p rs)) (p ∷ parent_of p rs ∷ []) (inl refl, (inr refl, tt)) q e)
           (subst (λ q. after.pids ≡ with_parent q s.order (with_number p to_recheck.pids)) its put) room;
       noted = subst (λ n. IsNoted n groups_at_risk) (sym room) i.noted;
-      fresh = subst (λ u. AreFreshBut u (with_record rs p c) s.consoles) (sym mark) (elim (has_moved (record_seen b) (record_seen c)) as (λ m. has_moved (record_seen b) (record_seen c) ≡ m → AreFreshBut (cond m All terminals.foregrounds_unchecked) (with_record rs p c) s.consoles) [
-        | true ↦ λ e. fresh_all s.consoles
-        | false ↦ λ e. fresh_still _ rs _ s.consoles (λ ds h. rw (numbers_as rs up p b c found e) (fresh_changed p (keep_numbers c) (λ r. refl) (λ r. refl) rs ds h)) i.fresh
+      fresh = subst (λ u. AreFreshBut u (with_record rs p c) s.consoles) (sym mark) (elim (has_moved (record_seen b) (record_seen c)) as (λ m. has_moved (record_seen b) (record_seen c) ≡ m → AreFreshBut (cond m (also_in b.session terminals.foregrounds_unchecked) terminals.foregrounds_unchecked) (with_record rs p c) s.consoles) [
+        | true ↦ λ e. fresh_moved terminals.foregrounds_unchecked p me f rs s.consoles up found i.fresh
+        | false ↦ λ e. fresh_still terminals.foregrounds_unchecked rs (with_record rs p c) s.consoles (λ ds h. rw (numbers_as rs up p b c found e) (fresh_changed p (keep_numbers c) (λ r. refl) (λ r. refl) rs ds h)) i.fresh
       ] refl);
       indexed = i.indexed;
       within = within_shown p b c rs found session i.within;
@@ -443,7 +442,7 @@ machine_told {groups_at_risk = groups_at_risk} {terminals = terminals} {s = s} {
       sound = sound_changed (change s p f) pids places me.parent g (keeps_notice signal) (regular_change me.parent g (change s p f) (keeps_noticed_of_change signal) regular) (sound_changed s pids places p f (keeps_lives l n) regular i.sound);
       listed = listed_told s pids places i.sound p w l n me k.found before after i.listed put room;
       noted = subst (λ n. IsNoted n groups_at_risk) (sym room) i.noted;
-      fresh = fresh_on _ (change s p f) me.parent g (keeps_notice signal) (fresh_on _ s p f (keeps_lives l n) i.fresh);
+      fresh = fresh_on terminals.foregrounds_unchecked (change s p f) me.parent g (keeps_notice signal) (fresh_on terminals.foregrounds_unchecked s p f (keeps_lives l n) i.fresh);
       indexed = i.indexed;
       within = within_on me.parent g _ (keeps_notice signal) (within_on p f _ (keeps_lives l n) i.within);
     })

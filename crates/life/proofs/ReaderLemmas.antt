@@ -1,9 +1,8 @@
 -- Who waits to read, and each console refreshed.
-use Rattle.std.proofs.Common.{count_by, ◌≡◌, ◌≢◌, ℕ, ◌+◌, ◌<◌, ◌≤◌, zero, suc, true, false, cond, refl, ap, sym, ◌∙◌, arith, subst, List, [], ◌∷◌, ◌++◌, length, take, Option, Some, None, ◌==◌, slice_get, slice_set, ◌&&◌, ◌||◌, Bool, map, drop, get_or, rules}
+use Rattle.std.proofs.Common.{◌≡◌, ◌≢◌, ℕ, ◌+◌, ◌<◌, ◌≤◌, zero, suc, true, false, cond, refl, ap, sym, ◌∙◌, arith, subst, List, [], ◌∷◌, ◌++◌, length, take, Option, Some, None, ◌==◌, slice_get, slice_set, ◌&&◌, ◌||◌, Bool, map, drop, get_or, rules}
 use Rattle.std.specs.Option.{IsSome, IfSome}
 use Rattle.std.proofs.lemmas.Bool.{eqb-true, eqb-false, eq-eqb, ne_eqb, or_left, both_ways, true_from_ne_false}
-use Rattle.std.proofs.lemmas.List.Sums.{count_by_more_no, count_by_more_yes}
-use Rattle.std.proofs.lemmas.Option.{get_or_from_slice_get, slice_get_read, same_Some}
+use Rattle.std.proofs.lemmas.Option.{slice_get_read, same_Some}
 use Rattle.posix.specs.declared.process.Life.{Life}
 use Rattle.posix.specs.declared.process.Life.TheVariants.{Running}
 use Rattle.posix.specs.Processes.{Process, is_running, is_zombie}
@@ -170,9 +169,3 @@ was_at f k x cs now so_far fits is = grind (arith, so_far, fits, is, not_refresh
 -- one more
 pub refreshed_step : (f : Console → Console) (k : ℕ) (x : Console) (cs now : List Console) → now ≡ refreshed_to f k cs → k < length cs → x ≡ get_or now k x → slice_set now k (f x) ≡ refreshed_to f (k + 1) cs
 refreshed_step f k x cs now so_far fits is = ap (λ (l : List Console). slice_set l k (f x)) so_far ∙ refreshed_next f k x cs (was_at f k x cs now so_far fits is)
-
--- so with how many there are of a kind
-pub counted_step : (t : Console → Bool) (f : Console → Console) (k : ℕ) (x : Console) (cs now : List Console) → now ≡ refreshed_to f k cs → k < length cs → x ≡ get_or now k x → count_by t (take (k + 1) cs) ≡ count_by t (take k cs) + cond (t x) 1 0
-counted_step t f k x cs now so_far fits is =
-    let same = get_or_from_slice_get cs k x x (was_at f k x cs now so_far fits is) in
-    grind (arith, same, count_by_more_yes t cs k x fits, count_by_more_no t cs k x fits)

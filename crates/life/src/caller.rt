@@ -10,12 +10,12 @@ ghost use Rattle.life.specs.Callers.{caller_of, process_like};
 ghost use Rattle.life.specs.Machines.{Finds, IsThere};
 
 use crate::machine::Machine;
-use creds::Creds;
 use posix::{Asked, Errno, Pid, Register, Span, Target, WaitCall};
 use proctable::{ProcessTable, Record};
+use signal::Creds;
 
 /// What a call that concerns others reads of the process that makes it.
-#[derive(Clone, Copy, Debug, PartialEq, Eq)]
+#[derive(Clone, Copy)]
 pub struct Caller {
     /// Its own number.
     pub pid: Pid,

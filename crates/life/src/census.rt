@@ -10,7 +10,7 @@ use posix::{Life, Pid};
 use proctable::ProcessTable;
 
 /// What is counted in a machine.
-#[derive(Clone, Copy, Debug, PartialEq, Eq)]
+#[derive(Clone, Copy)]
 pub struct Census {
     /// The processes that were born, process 1 included.
     pub births: u64,

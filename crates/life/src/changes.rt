@@ -12,10 +12,11 @@ ghost use Rattle.pidset.specs.Numbers.{with_number};
 ghost use Rattle.jobs.specs.Indexes.{seen_of};
 ghost use Rattle.jobs.specs.IndexedTables.{ChangesSignals, Costs as JobCosts, IsRun, StaysGrouped, StaysPut, takes_signal as taking_signal};
 ghost use Rattle.life.specs.Rechecks.{awaits as awaiting, rechecking, rechecking_told, rechecks_by_signals, rechecks_changed, with_parent};
+ghost use Rattle.life.specs.Foregrounds.{also_in as also_in_by};
 ghost use Rattle.life.specs.Changes.{StaysInSession, StaysRegular, CanMoveNumbers, has_moved, lives};
 ghost use Rattle.life.specs.Machines.{Costs, Changes, IsThere, IfThere, with_processes};
 
-use crate::consoles::Unchecked;
+use crate::consoles::{Unchecked, also_in};
 use crate::ends::child_signal;
 use crate::machine::Machine;
 use crate::rechecks::recheck_later;
@@ -163,8 +164,8 @@ fn recheck_with_parent(to_recheck: &mut PidSet, order: &Order, pid: Pid, parent:
     }
 }
 
-/// The numbers that a process bears as its process group's and its session's are others where it has moved. A
-/// foreground process group may have lost a member then.
+/// The numbers that a process bears as its process group's and its session's are others where it has moved. The
+/// foreground of the session that it was in may have lost a member then.
 fn move_numbers(
     pids: &mut PidTable,
     foregrounds_unchecked: &mut Unchecked,
@@ -174,10 +175,10 @@ fn move_numbers(
     requires { CanMoveNumbers pids.old before.now after.now }
     ensures pids { pids.new ≡ record (if has_moved before.now after.now then regrouped pids.old before.now.group before.now.session after.now.group after.now.session else pids.old) { ready = pids.new.ready } }
     ensures last { pids.new.last ≡ pids.old.last }
-    ensures foregrounds_unchecked { foregrounds_unchecked.new ≡ (if has_moved before.now after.now then Unchecked.All else foregrounds_unchecked.old) }
+    ensures foregrounds_unchecked { foregrounds_unchecked.new ≡ (if has_moved before.now after.now then also_in_by before.now.session foregrounds_unchecked.old else foregrounds_unchecked.old) }
 {
     if before.group != after.group || before.session != after.session {
         pids.regroup(before.group, before.session, after.group, after.session);
-        *foregrounds_unchecked = Unchecked::All;
+        *foregrounds_unchecked = also_in(foregrounds_unchecked, before.session);
     }
 }

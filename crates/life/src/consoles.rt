@@ -1,7 +1,7 @@
 //! Consoles: whose terminal each is, who waits to read from it, and what a key, a hangup and a lost foreground
 //! process group do (XBD 11.1).
 
-ghost use Rattle.std.specs.Prelude.{◌≡◌, ◌≢◌, ◌==◌, ◌+◌, ◌<◌, ◌≤◌, ◌^◌, ◌||◌, ℕ, IfOk, OnOk, IfSome, MatchOption, Some, None, [], count_by, length, false, true, if◌then◌else◌, option_map, map, replicate, slice_get, slice_set};
+ghost use Rattle.std.specs.Prelude.{◌≡◌, ◌≢◌, ◌==◌, ◌+◌, ◌<◌, ◌≤◌, ◌^◌, ◌||◌, ℕ, List, IfOk, OnOk, IfSome, MatchOption, Some, None, [], count_by, length, false, true, if◌then◌else◌, option_map, map, replicate, slice_get, slice_set};
 ghost use Rattle.std.specs.Option.{option_copied};
 ghost use Rattle.posix.specs.Processes.{Process};
 ghost use Rattle.posix.specs.States.{process, is_in, without};
@@ -10,14 +10,14 @@ ghost use Rattle.posix.specs.GroupCalls.{is_group_of};
 ghost use Rattle.posix.specs.Ends.{hang_up as hanging_up};
 ghost use Rattle.posix.specs.Settle.{wakes, refreshed, clear_foregrounds as clearing_foregrounds, NoWakeIsLost};
 ghost use Rattle.posix.specs.Step.{key as keying, hangup as hanging};
-ghost use Rattle.posix.specs.Regular.{AreGrouped, IsRegular};
+ghost use Rattle.posix.specs.Regular.{AreConsoles, AreGrouped, IsRegular};
 ghost use Rattle.posix.specs.Tables.{members_in, pids};
 ghost use Rattle.pidset.specs.Numbers.{with_number};
 ghost use Rattle.pidset.specs.Indexes.{IsMoved, IsNextPair, is_pair_in};
 ghost use Rattle.life.specs.Machines.{AreTerminals, Costs, Finds, IsThere, IfThere, with_consoles, IfConsole, AreWatched};
 ghost use Rattle.life.specs.Rechecks.{NeedNoChild, WaitForNoChild};
 ghost use Rattle.proctable.specs.Records.{snapshot_of};
-ghost use Rattle.life.specs.Foregrounds.{after_loss as after_loss_of, is_unchecked as is_unchecked_by, refreshed_where};
+ghost use Rattle.life.specs.Foregrounds.{also_in as also_in_by, is_unchecked as is_unchecked_by, AreFreshBut};
 ghost use Rattle.life.specs.Consoles.{terminal_of, hangs_up as hangs_up_with, reads as reads_from, reads_in as reads_in_session, IsTerminalIndex, AreReaders, CanChange, HasChanged, foreground_members, slots_of_key, slots_of_hangup};
 ghost use Rattle.tty.specs.Lines.{Takes};
 
@@ -31,7 +31,7 @@ use std::alloc::{AllocError, Global};
 use tty::{Console, KeyEffect, ends_line};
 
 /// The controlling terminal of a session, as its processes see it (XBD 11.1.3).
-#[derive(Clone, Copy, Debug, PartialEq, Eq)]
+#[derive(Clone, Copy)]
 pub struct Terminal {
     /// Its foreground process group; number 0 for none.
     pub foreground: Pid,
@@ -44,41 +44,30 @@ pub struct Terminal {
 }
 
 /// Whose foreground process group may have lost its members since the last time that foregrounds were cleared.
-#[derive(Clone, Copy, Debug, PartialEq, Eq)]
+#[derive(Clone, Copy)]
 pub enum Unchecked {
     /// No console's.
     Nothing,
-    /// That of a console whose foreground process group this is: a member's record has gone.
-    Group(Pid),
-    /// Any console's: a process has moved, or a foreground was set.
+    /// That of a session's terminal. Number 0 is no session's, and stands for any console.
+    In(Pid),
+    /// Any console's.
     All,
 }
 
-/// What is unchecked once the record of a member of a process group has gone.
-pub(crate) fn after_loss(unchecked: &Unchecked, group: Pid) -> Unchecked
-    ensures { result ≡ after_loss_of group unchecked.now }
+/// What is unchecked once the foreground of a session's terminal was set, or may have lost a member.
+pub(crate) fn also_in(unchecked: &Unchecked, session: Pid) -> Unchecked
+    ensures { result ≡ also_in_by session unchecked.now }
 {
     match unchecked {
-        Unchecked::Nothing => Unchecked::Group(group),
-        Unchecked::Group(other) => {
-            if *other == group {
-                Unchecked::Group(group)
+        Unchecked::Nothing => Unchecked::In(session),
+        Unchecked::In(other) => {
+            if *other == session {
+                Unchecked::In(session)
             } else {
                 Unchecked::All
             }
         }
         Unchecked::All => Unchecked::All,
-    }
-}
-
-/// Whether a console is among those that are unchecked.
-fn is_unchecked(unchecked: &Unchecked, console: &Console) -> bool
-    ensures { result ≡ is_unchecked_by unchecked.now console.now }
-{
-    match unchecked {
-        Unchecked::Nothing => false,
-        Unchecked::Group(group) => console.foreground() == *group,
-        Unchecked::All => true,
     }
 }
 
@@ -155,38 +144,54 @@ fn refresh<K: ProcessTable>(console: &mut Console, table: &mut IndexedTable<K>)
     }
 }
 
-/// Takes the foreground process group of a console that is unchecked away where the group has no member; one slot is
-/// read. A console that isn't unchecked stays as it is.
-fn refresh_unchecked<K: ProcessTable>(
-    console: &mut Console,
-    unchecked: &Unchecked,
-    table: &mut IndexedTable<K>,
-)
+/// Does that with each console.
+fn refresh_all<K: ProcessTable>(consoles: &mut Vec<Console>, table: &mut IndexedTable<K>)
     requires { AreGrouped table.old.processes }
-    ensures console { console.new ≡ refreshed_where unchecked.now table.old.processes console.old }
+    ensures consoles { consoles.new.items ≡ map (refreshed table.old.processes) consoles.old.items }
     ensures processes { table.new.processes ≡ table.old.processes }
-    ensures visits { table.new.visits ≤ table.old.visits + (if is_unchecked_by unchecked.now console.old then 1 else 0) }
+    ensures visits { table.new.visits ≤ table.old.visits + length consoles.old.items }
     ensures no_fewer { table.old.visits ≤ table.new.visits }
 {
-    if is_unchecked(unchecked, console) {
-        refresh(console, table);
+    for console_index in 0..consoles.len() {
+        refresh(&mut consoles[console_index], table);
     }
 }
 
-/// Does that with each console.
-fn refresh_all<K: ProcessTable>(
+/// The index of the console that is a session's terminal. No console is looked at.
+fn index_in(terminals: &Index, session: Pid) -> Option<usize>
+    ensures { (cs : List ConsoleValue) → AreTerminals cs terminals.now.pairs → IsTerminalIndex session cs result }
+{
+    match terminals.next(u64::from(session.number()), Pid::NONE) {
+        Some(number) => Some(number.number() as usize - 1),
+        None => None,
+    }
+}
+
+/// A console that is unchecked has no foreground process group any more, where that has no member in its session. Of one
+/// session the terminal alone is looked at.
+fn refresh_unchecked<K: ProcessTable>(
     consoles: &mut Vec<Console>,
+    terminals: &Index,
     unchecked: &Unchecked,
     table: &mut IndexedTable<K>,
 )
-    requires { AreGrouped table.old.processes }
-    ensures consoles { consoles.new.items ≡ map (refreshed_where unchecked.now table.old.processes) consoles.old.items }
+    requires grouped { AreGrouped table.old.processes }
+    requires apart { AreConsoles (length consoles.old.items) consoles.old.items }
+    requires terminals { AreTerminals consoles.old.items terminals.now.pairs }
+    requires fresh { AreFreshBut unchecked.now table.old.processes consoles.old.items }
+    ensures consoles { consoles.new.items ≡ map (refreshed table.old.processes) consoles.old.items }
     ensures processes { table.new.processes ≡ table.old.processes }
     ensures visits { table.new.visits ≤ table.old.visits + count_by (is_unchecked_by unchecked.now) consoles.old.items }
     ensures no_fewer { table.old.visits ≤ table.new.visits }
 {
-    for console_index in 0..consoles.len() {
-        refresh_unchecked(&mut consoles[console_index], unchecked, table);
+    match unchecked {
+        Unchecked::Nothing => {}
+        Unchecked::In(session) if *session != Pid::NONE => {
+            if let Some(console_index) = index_in(terminals, *session) {
+                refresh(&mut consoles[console_index], table);
+            }
+        }
+        _ => refresh_all(consoles, table),
     }
 }
 
@@ -197,10 +202,7 @@ impl<K: ProcessTable> Machine<K> {
     fn terminal_index(&self, session: Pid) -> Option<usize>
         ensures { IsTerminalIndex session self.now.state.consoles result }
     {
-        match self.terminals.next(u64::from(session.number()), Pid::NONE) {
-            Some(number) => Some(number.number() as usize - 1),
-            None => None,
-        }
+        index_in(&self.terminals, session)
     }
 
     /// The controlling terminal of a session; none where it has none.
@@ -330,7 +332,7 @@ impl<K: ProcessTable> Machine<K> {
         ensures to_recheck { self.new.to_recheck ≡ self.old.to_recheck }
     {
         // Nobody waits to read from it: each read of its session was refused till now.
-        self.foregrounds_unchecked = Unchecked::All;
+        self.foregrounds_unchecked = also_in(&self.foregrounds_unchecked, session);
         self.change_console(console_index, |console| console.acquire(session, group));
     }
 
@@ -344,7 +346,7 @@ impl<K: ProcessTable> Machine<K> {
         let _ = &self.table;
         if let Some(console_index) = self.terminal_index(session) {
             self.recheck_readers(session);
-            self.foregrounds_unchecked = Unchecked::All;
+            self.foregrounds_unchecked = also_in(&self.foregrounds_unchecked, session);
             self.change_console(console_index, |console| console.set_foreground(group));
         }
     }
@@ -519,11 +521,9 @@ impl<K: ProcessTable> Machine<K> {
         ensures visits { self.new.visits ≤ self.old.visits + count_by (is_unchecked_by self.old.foregrounds_unchecked) self.old.state.consoles }
         ensures no_fewer { self.old.visits ≤ self.new.visits }
     {
-        if let Unchecked::Nothing = self.foregrounds_unchecked {
-            return;
-        }
-        refresh_all(
+        refresh_unchecked(
             &mut self.consoles,
+            &self.terminals,
             &self.foregrounds_unchecked,
             &mut self.table,
         );

@@ -13,7 +13,6 @@ ghost use Rattle.life.specs.Rechecks.{rechecks_by_signals, without_gone};
 ghost use Rattle.life.specs.Machines.{Costs, Finds, Changes, Removes, IsThere, IfThere};
 
 use crate::changes::{is_awaited, recheck_where};
-use crate::consoles::Unchecked;
 use crate::machine::Machine;
 use bitflags::Flags;
 use jobs::Change;
@@ -68,7 +67,6 @@ impl<K: ProcessTable> Machine<K> {
         recheck_where(&mut self.to_recheck, &self.order, heir, told);
         self.table.adopt(pid, heir);
         self.order.drop_place(pid);
-        self.foregrounds_unchecked = Unchecked::All;
         parent
     }
 

@@ -8,7 +8,7 @@ use posix::Trap;
 use umach::{Cpu, Program};
 
 /// A note, with the number of the step that gave it.
-#[derive(Clone, Copy, Debug, Default, PartialEq, Eq)]
+#[derive(Clone, Copy, Default)]
 pub struct Note {
     /// The number of the step, which runs one instruction.
     pub step: u64,

@@ -15,7 +15,7 @@ use posix::{Pid, Sending, Sig, Target};
 use proctable::ProcessTable;
 
 /// What a real-time signal would meet at the processes that its sender means.
-#[derive(Clone, Copy, Debug, PartialEq, Eq)]
+#[derive(Clone, Copy)]
 pub(crate) struct Survey {
     /// Whom the signal finds.
     pub found: Sending,

@@ -15,10 +15,10 @@ ghost use Rattle.life.specs.Machines.{Finds, Changes, Removes, IsThere, IfThere,
 ghost use Rattle.jobs.specs.Indexes.{seen_of};
 ghost use Rattle.life.specs.Rechecks.{asked_in as asked_in_call, awaits as awaiting, without_gone};
 ghost use Rattle.proctable.specs.Records.{process_of};
-ghost use Rattle.life.specs.Foregrounds.{after_loss as after_loss_of};
+ghost use Rattle.life.specs.Foregrounds.{also_in as also_in_by};
 
 use crate::caller::{Caller, caller_in};
-use crate::consoles::after_loss;
+use crate::consoles::also_in;
 use crate::machine::Machine;
 use crate::rechecks::forget;
 use bitflags::Flags;
@@ -247,7 +247,7 @@ impl<K: ProcessTable> Machine<K> {
 
     /// What a wait has to report: of the children of a caller that is there which the target means, the one
     /// with the least number that has something to report (own; XSH waitpid). Nothing changes.
-    #[tactic(auto, using(crate::proofs::ChildLemmas::report_any, crate::proofs::ChildLemmas::report_in, posix::proofs::ReportingLemmas::report_own, posix::proofs::ReportingLemmas::report_none_meant))]
+    #[tactic(auto, using(posix::proofs::ReportingLemmas::report_none_meant))]
     pub fn wait_attempt(&mut self, me: &Caller, asked: Asked) -> Report
         requires { IsThere me.now.pid self.old }
         ensures { Finds (1 + slots_of_wait asked.target me.now.pid self.old.state.processes) self.old self.new (result ≡ report self.old.state.processes me.now.pid me.now.group asked.target asked.options.0) }
@@ -285,13 +285,13 @@ impl<K: ProcessTable> Machine<K> {
         requires other { pid ≢ 1 }
         requires zombie { (child : Process) × (process self.old.state pid ≡ Some child) × (is_zombie child.life ≡ true) }
         ensures changes { Removes 5 self.old self.new (with_processes self.old.state (removed pid self.old.state.processes)) (without_gone pid (parent_of pid self.old.state.processes) self.old.to_recheck) }
-        ensures foregrounds_unchecked { IfThere pid self.old (λ it. self.new.foregrounds_unchecked ≡ after_loss_of it.group self.old.foregrounds_unchecked) }
+        ensures foregrounds_unchecked { IfThere pid self.old (λ it. self.new.foregrounds_unchecked ≡ also_in_by it.session self.old.foregrounds_unchecked) }
         ensures born { self.new.state.dropped + length self.new.state.processes < self.new.state.births }
     {
         let snapshot = discard(&mut self.table, &mut self.pids, pid);
         self.readers.put(pid, None);
         forget(&mut self.to_recheck, pid, snapshot.parent);
-        self.foregrounds_unchecked = after_loss(&self.foregrounds_unchecked, snapshot.group);
+        self.foregrounds_unchecked = also_in(&self.foregrounds_unchecked, snapshot.session);
     }
 
     /// A wait has reported the news of a process that is there: they become none. Nobody can act by it who couldn't.

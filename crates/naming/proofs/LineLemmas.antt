@@ -1,13 +1,11 @@
 -- Lines without a line feed, and what stands for them.
-use Rattle.std.proofs.Common.{◌≡◌, ◌≢◌, ℕ, List, [], ◌∷◌, ◌++◌, Bor, length, not, take, drop, true, false, refl, ap, sym, subst, ◌∙◌, inl, inr, append_assoc, append-nil}
+use Rattle.std.proofs.Common.{◌≡◌, ◌≢◌, ℕ, List, [], ◌∷◌, ◌++◌, Bor, length, not, take, drop, refl, ap, subst, ◌∙◌, append_assoc}
 use Rattle.std.specs.Prelude.{All, Err, IfOk, MatchOption, None, Ok, Option, Result, Some}
 use Rattle.std.proofs.Math.Seq.{take-append_seam, drop-append_seam}
-use Rattle.std.proofs.lemmas.List.Elements.{All-append, All-cons, All-drop, All-nil, All-push, All-take}
+use Rattle.std.proofs.lemmas.List.Elements.{All-append, All-cons, All-drop, All-nil, All-take}
 use Rattle.std.specs.List.{position_or_len}
 use Rattle.text.specs.Words.{is_separator}
-use Rattle.naming.specs.Lines.{Grows, IsOneLine, from_word, is_plain, sort_of}
-use Rattle.naming.specs.Texts.{StandsFor}
-use Rattle.naming.specs.declared.line.Sort.TheVariants.{Key, Typed, Other}
+use Rattle.naming.specs.Lines.{Grows, IsOneLine, from_word}
 
 -- one line before another is one line
 pub both_one_line : (xs ys : List ℕ) → IsOneLine xs → IsOneLine ys → IsOneLine (xs ++ ys)

@@ -1,7 +1,7 @@
 -- What the program does with its words, and what its status means.
 use Rattle.std.specs.Prelude.{◌≡◌, ◌≢◌, ℕ, List, [], ◌∷◌, codes, map, None, Option, Result, Ok, Err, IfSome, IsSomeAnd}
 use Rattle.std.specs.Borrow.{Bor}
-use Rattle.host.specs.declared.words.WordsFault.{WordsFault}
+use Rattle.inputs.specs.declared.command_line.WordsFault.{WordsFault}
 use Rattle.inputs.specs.Failures.{MeansOf, status_of}
 use Rattle.inputs.specs.Reads.{Contents, Text}
 use Rattle.inputs.specs.Words.{file_in_words}

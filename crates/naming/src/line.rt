@@ -11,7 +11,7 @@ use std::alloc::{AllocError, Global};
 pub const MAX_LINE_LEN: usize = 200;
 
 /// What a line is for: its first word tells.
-#[derive(Clone, Copy, Debug, PartialEq, Eq)]
+#[derive(Clone, Copy)]
 pub enum Sort {
     Set,
     Key,

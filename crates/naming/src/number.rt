@@ -8,7 +8,7 @@ use posix::{Sig, SigSet};
 use wording::{Kind, NAMES, SIGRTMIN};
 
 /// How names stand together.
-#[derive(Clone, Copy, Debug, PartialEq, Eq)]
+#[derive(Clone, Copy, PartialEq, Eq)]
 pub enum Form {
     /// One name, or several with `|` between them.
     Joined,

@@ -1,13 +1,12 @@
 //! What the program does: a text with numbers for its names, and the statuses.
 
 ghost use Rattle.std.specs.Prelude.{◌≡◌, ◌≤◌, Err, map};
-ghost use Rattle.host.specs.declared.words.WordsFault.{WordsFault};
+ghost use Rattle.inputs.specs.declared.command_line.WordsFault.{WordsFault};
 ghost use Rattle.naming.specs.Serving.{Ends, EndsText, Means, answer_of, asked_by, text_in_words};
 
 use crate::message::Message;
 use crate::texts::{Named, name_text};
-use host::{ReadFiles, WordsFault};
-use inputs::{FileFailure, named_file, read_file};
+use inputs::{FileFailure, ReadFiles, WordsFault, named_file, read_file};
 use sink::{Sink, put_all};
 use std::alloc::Global;
 

@@ -6,8 +6,8 @@ use Rattle.std.proofs.Math.Seq.{take-append_seam}
 use Rattle.clap.proofs.OnLiterals.{clap_on_literals}
 use Rattle.kernel.specs.Headline.{CutsShort}
 use Rattle.sink.specs.Sinks.{Seen}
-use Rattle.host.specs.declared.words.WordsFault.{WordsFault}
-use Rattle.host.specs.declared.words.WordsFault.TheVariants.{NotText, Memory}
+use Rattle.inputs.specs.declared.command_line.WordsFault.{WordsFault}
+use Rattle.inputs.specs.declared.command_line.WordsFault.TheVariants.{NotText, Memory}
 use Rattle.inputs.proofs.MeaningLemmas.{means_along as means_of_along}
 use Rattle.inputs.specs.Reads.{AreInFiles, Contents, Text}
 use Rattle.running.specs.Serving.{AskFor, AskForAudit, IsAccepted, IsFaulty, IsRefused, IsTraced, Means, OfTexts, OfTrace, Words}

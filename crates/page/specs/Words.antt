@@ -1,7 +1,7 @@
 -- The words of a command line as one text, in which each of them is ended by a zero byte.
 use Rattle.std.specs.Prelude.{◌≡◌, ℕ, ◌==◌, Bool, true, false, List, [], ◌∷◌, ◌++◌, codes, flat_map, map, Option, None, Some, option_map, IfSome, MatchResult, IsUtf8}
 use Rattle.std.specs.List.{AllByRecursion}
-use Rattle.host.specs.declared.words.WordsFault.TheVariants.{NotText}
+use Rattle.inputs.specs.declared.command_line.WordsFault.TheVariants.{NotText}
 use Rattle.inputs.specs.Reads.{Text}
 use Rattle.running.specs.Serving.{Words}
 

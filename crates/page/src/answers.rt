@@ -8,7 +8,7 @@ use crate::files::TextFiles;
 use crate::nobody::Nobody;
 use crate::words::words_in;
 use commands::serve;
-use host::WordsFault;
+use inputs::WordsFault;
 use kernel::WriteSink;
 use std::alloc::Global;
 use std::hash::RandomState;

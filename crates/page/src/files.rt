@@ -3,7 +3,7 @@
 ghost use Rattle.std.specs.Prelude.{◌≡◌, IfOk, IfSome, MatchResult, None, Some, option_map};
 ghost use Rattle.page.specs.Files.{files_of};
 
-use host::{FileFault, ReadFiles};
+use inputs::{FileFault, ReadFiles};
 use std::alloc::Global;
 
 /// Three texts in memory, as the files `trace`, `world` and `events`.

@@ -3,7 +3,7 @@
 ghost use Rattle.std.specs.Prelude.{◌≡◌, ◌≢◌, ◌<◌, [], IfErr, IfOk, MatchResult, OnErr, Some, length, map};
 ghost use Rattle.page.specs.Words.{IsNoText, with_word, words_of};
 
-use host::WordsFault;
+use inputs::WordsFault;
 use memchr::memchr;
 use std::alloc::Global;
 

@@ -5,7 +5,7 @@ ghost use Rattle.pidalloc.specs.Rows.{is_free_row, count_of, one_more, one_less}
 
 /// What a number is borne as: by a process, as its own number, that of its process group or that of
 /// its session (XBD 3 Process ID, Process Group ID, Session).
-#[derive(Clone, Copy, Debug, PartialEq, Eq)]
+#[derive(Clone, Copy)]
 pub enum Role {
     Process,
     Group,
@@ -13,7 +13,7 @@ pub enum Role {
 }
 
 /// How many processes bear a number, as each of the three.
-#[derive(Clone, Copy, Debug, PartialEq, Eq)]
+#[derive(Clone, Copy)]
 pub struct Row {
     pub process: u32,
     pub group: u32,

@@ -1,15 +1,15 @@
 -- Facts on items in rising order of their numbers.
-use Rattle.std.proofs.Common.{◌≡◌, ◌≢◌, ℕ, zero, suc, ◌+◌, ◌-◌, ◌<◌, ◌≤◌, Bool, true, false, cond, not, refl, ap, sym, ◌∙◌, arith, subst, List, [], ◌∷◌, length, map, filter, find, drop, insert, remove, slice_get, slice_set, get_or, Option, Some, None, Result, Ok, Err, IfOk, IfErr, ◌==◌, nat_lt}
+use Rattle.std.proofs.Common.{◌≡◌, ◌≢◌, ℕ, zero, suc, ◌+◌, ◌-◌, ◌<◌, ◌≤◌, Bool, true, false, cond, not, refl, ap, sym, ◌∙◌, arith, subst, List, [], ◌∷◌, length, map, filter, find, drop, insert, remove, slice_get, slice_set, get_or, Some, None, Result, Ok, Err, IfOk, IfErr, ◌==◌, nat_lt}
 use Rattle.std.specs.List.Sorted.{IsSearchInRange, IsBinarySearchResult, IsNonDecreasingBy}
 use Rattle.std.specs.Option.{IfSome, option_map}
 use Rattle.std.specs.Ordering.{nat_cmp, ordering_index}
 use Rattle.std.proofs.lemmas.Cmp.{ranked}
 use Rattle.std.proofs.lemmas.List.{length-map, get_or-map}
 use Rattle.std.proofs.lemmas.Option.{slice_get-map, slice_get_within, slice_get_read}
-use Rattle.std.proofs.lemmas.Bool.{eqb-true, eqb-false, eq-eqb, ne_eqb}
+use Rattle.std.proofs.lemmas.Bool.{eqb-true, eq-eqb, ne_eqb}
 use Rattle.std.proofs.lemmas.Bool.Decides.{nat_tests}
 use Rattle.posix.specs.States.{is_in}
-use Rattle.pidset.specs.Numbers.{Rises, with_number, numbers_above, IsNumberAt, IsInsertionPoint, index_behind, inserted_in_order}
+use Rattle.pidset.specs.Numbers.{Rises, with_number, IsNumberAt, IsInsertionPoint, index_behind, inserted_in_order}
 use Rattle.pidset.proofs.NumberLemmas.{AllAbove, above_get, above_less, not_in_above, out_point, later, rising_or, point_last, rises_filter, rises_with}
 
 -- ---- at the index of a number
@@ -61,13 +61,6 @@ find_gone f [] p = refl
 find_gone f (x ∷ xs) p = elim (f x == p) as (λ b. (f x == p) ≡ b → find (λ x. f x == p) (cond (not b) (x ∷ filter (λ x. not (f x == p)) xs) (filter (λ x. not (f x == p)) xs)) ≡ None) [
   | true ↦ λ t. find_gone f xs p
   | false ↦ λ t. rw t (find_gone f xs p)
-] refl
-
--- so who is found among the others is found among all
-pub find_left : {X : Type 0} (f : X → ℕ) (xs : List X) (p q : ℕ) (x : X) → find (λ x. f x == q) (filter (λ x. not (f x == p)) xs) ≡ Some x → find (λ x. f x == q) xs ≡ Some x
-find_left f xs p q x e = elim (q == p) as (λ b. (q == p) ≡ b → find (λ x. f x == q) xs ≡ Some x) [
-  | true ↦ λ t. let no = sym (subst (λ n. find (λ x. f x == q) (filter (λ x. not (f x == n)) xs) ≡ None) (eqb-true _ _ t) (find_gone f xs q)) ∙ e in absurd (cc)
-  | false ↦ λ t. sym (find_other f xs p q (eqb-false _ _ t)) ∙ e
 ] refl
 
 -- the others are those at all other indexes
@@ -159,10 +152,6 @@ behind_place f xs up n (Err i) at point = first_left xs i ∙ ap (λ ys. slice_g
 pub numbers_passing : {X : Type 0} (f : X → ℕ) (t : ℕ → Bool) (xs : List X) → filter t (map f xs) ≡ map f (filter (λ x. t (f x)) xs)
 numbers_passing f t [] = refl
 numbers_passing f t (x ∷ xs) = grind (arith, numbers_passing f t xs)
-
--- so the first item above n has the first number above n
-pub first_number : {X : Type 0} (f : X → ℕ) (n : ℕ) (xs : List X) (o : Option X) → o ≡ slice_get (filter (λ x. nat_lt n (f x)) xs) 0 → option_map f o ≡ slice_get (numbers_above n (map f xs)) 0
-first_number f n xs o e = ap (option_map f) e ∙ sym (slice_get-map f (filter (λ x. nat_lt n (f x)) xs) 0) ∙ sym (ap (λ ns. slice_get ns 0) (numbers_passing f (nat_lt n) xs))
 
 -- their order stays
 pub rises_passing : {X : Type 0} (f : X → ℕ) (t : ℕ → Bool) (xs : List X) → Rises (map f xs) → Rises (map f (filter (λ x. t (f x)) xs))

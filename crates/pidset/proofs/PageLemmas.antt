@@ -1,5 +1,5 @@
 -- Pages of values.
-use Rattle.std.proofs.Common.{◌≡◌, ◌≢◌, ℕ, zero, suc, ◌+◌, ◌-◌, ◌*◌, ◌/◌, ◌%◌, ◌<◌, ◌≤◌, ◌==◌, nat_lt, Bool, true, false, cond, not, refl, ap, sym, ◌∙◌, subst, arith, List, [], ◌∷◌, ◌++◌, length, map, filter, find, count_by, insert, remove, get_or, slice_get, slice_set, Option, Some, None, option_map, is_some, inl, inr}
+use Rattle.std.proofs.Common.{◌≡◌, ◌≢◌, ℕ, zero, suc, ◌+◌, ◌*◌, ◌/◌, ◌%◌, ◌<◌, ◌≤◌, ◌==◌, nat_lt, true, false, cond, not, refl, ap, sym, ◌∙◌, subst, arith, List, [], ◌∷◌, ◌++◌, length, filter, find, count_by, insert, remove, get_or, slice_get, slice_set, Option, Some, None, option_map, is_some, inl, inr}
 use Rattle.std.specs.List.{AllByRecursion}
 use Rattle.std.specs.Option.{IsSome, IfSome, option_and_then, option_or}
 use Rattle.std.proofs.lemmas.Bool.{eqb-true, eqb-false, eq-eqb, ne_eqb, ltb-true, cases_eq, cases_order}
@@ -9,7 +9,7 @@ use Rattle.std.proofs.lemmas.List.Folds.{find-append}
 use Rattle.std.proofs.lemmas.List.Sums.{sum_by-cons}
 use Rattle.pidset.specs.declared.page.Page.{Page}
 use Rattle.pidset.specs.Numbers.{Rises, numbers_above, inserted_in_order, IsNumberAt, IsInsertionPoint}
-use Rattle.pidset.specs.Pages.{Entry, entry, entry_of, pids_of, value_at, entries_from, entries_in, entries_of, numbers_of, IsUsed, IsUnused, ArePages, page_of, value_in, value_of, IsChanged, first_above}
+use Rattle.pidset.specs.Pages.{Entry, entry, entry_of, pids_of, value_at, entries_from, entries_in, entries_of, numbers_of, IsPage, IsUsed, IsUnused, ArePages, page_of, value_in, value_of, IsChanged, AreChanged, first_above}
 use Rattle.pidset.proofs.NumberLemmas.{AllAbove, not_in_above, few_up_to}
 use Rattle.pidset.proofs.ItemLemmas.{find_none, find_at, find_point, read_at, find_set, numbers_set, insert_point, others_at, find_other, find_gone, find_inserted, rises_inserted, rises_passing}
 
@@ -201,20 +201,22 @@ module _ {T : Type 0} where
 
   -- ---- a value put in or taken out
 
-  pub entries_put : (old new : List (Page T)) (n : ℕ) (v : T) → ArePages old → ArePages new → entry_of n (entries_of old) ≡ None → IsChanged n (Some v) old new → entries_of new ≡ inserted_in_order (λ e. e.pid) (entry n v) (entries_of old)
-  entries_put old new n v s t none change =
+  pub entries_put : (old new : List (Page T)) (n : ℕ) (v : T) → ArePages old → entry_of n (entries_of old) ≡ None → AreChanged n (Some v) old new → entries_of new ≡ inserted_in_order (λ e. e.pid) (entry n v) (entries_of old)
+  entries_put old new n v s none change =
       let f : Entry T → ℕ = λ e. e.pid in
+      let t = change.pages in
       same_entries (entries_of new) _ (rises_pages new t.used t.rising) (rises_inserted f (entries_of old) (entry n v) (rises_pages old s.used s.rising) none) (λ q.
-      entry_pages new t.used t.rising q ∙ ap (option_map (entry q)) (change q) ∙ (elim (cases_eq n q) [
+      entry_pages new t.used t.rising q ∙ ap (option_map (entry q)) (change.changed q) ∙ (elim (cases_eq n q) [
         | inl e ↦ rw (eq-eqb n q e) (ap (λ m. Some (entry m v)) (sym e))
         | inr ne ↦ rw (ne_eqb n q ne) (sym (entry_pages old s.used s.rising q))
       ]) ∙ sym (find_inserted f (entries_of old) (entry n v) none q))
 
-  pub entries_taken : (old new : List (Page T)) (n : ℕ) → ArePages old → ArePages new → IsChanged n None old new → entries_of new ≡ filter (λ (e : Entry T). not (e.pid == n)) (entries_of old)
-  entries_taken old new n s t change =
+  pub entries_taken : (old new : List (Page T)) (n : ℕ) → ArePages old → AreChanged n None old new → entries_of new ≡ filter (λ (e : Entry T). not (e.pid == n)) (entries_of old)
+  entries_taken old new n s change =
       let f : Entry T → ℕ = λ e. e.pid in
+      let t = change.pages in
       same_entries (entries_of new) _ (rises_pages new t.used t.rising) (rises_passing f (λ m. not (m == n)) (entries_of old) (rises_pages old s.used s.rising)) (λ q.
-      entry_pages new t.used t.rising q ∙ ap (option_map (entry q)) (change q) ∙ (elim (cases_eq n q) [
+      entry_pages new t.used t.rising q ∙ ap (option_map (entry q)) (change.changed q) ∙ (elim (cases_eq n q) [
         | inl e ↦ rw (eq-eqb n q e) (sym (subst (λ m. find (λ (e : Entry T). e.pid == m) (filter (λ (e : Entry T). not (e.pid == n)) (entries_of old)) ≡ None) e (find_gone f (entries_of old) n)))
         | inr ne ↦ rw (ne_eqb n q ne) (sym (entry_pages old s.used s.rising q) ∙ sym (find_other f (entries_of old) n q (λ e. ne (sym e))))
       ]))
@@ -292,14 +294,15 @@ module _ {T : Type 0} where
   all_but k (x ∷ ps) a = (λ ne. a.0, all_but k ps a.1)
 
   -- a page with another value for n in the place of that of n
-  pub record IsSet (ps : List (Page T)) (n i : ℕ) (p new : Page T) (o : Option T) : Type 0 where
+  pub record IsSet (ps : List (Page T)) (n i k : ℕ) (p new : Page T) (o : Option T) : Type 0 where
+    pub was : value_at p.values.items k ≡ value_of n ps
     pub number : new.number ≡ n / 256
     pub found : page_of (n / 256) (slice_set ps i new) ≡ Some new
     pub rising : Rises (numbers_of (slice_set ps i new))
     pub changed : IsChanged n o ps (slice_set ps i new)
 
-  pub page_set : (ps : List (Page T)) (n i : ℕ) (p new : Page T) (o : Option T) → ArePages ps → IsNumberAt (numbers_of ps) (n / 256) i → p ≡ get_or ps i p → new.number ≡ p.number → new.values.items ≡ slice_set p.values.items (n % 256) o → IsSet ps n i p new o
-  page_set ps n i p new o s at is same values =
+  pub page_set : (ps : List (Page T)) (n i k : ℕ) (p new : Page T) (o : Option T) → ArePages ps → IsNumberAt (numbers_of ps) (n / 256) i → p ≡ get_or ps i p → k ≡ n % 256 → new.number ≡ p.number → new.values.items ≡ slice_set p.values.items k o → IsSet ps n i k p new o
+  page_set ps n i k p new o s at is place same values =
       let f : Page T → ℕ = λ p. p.number in
       let there = page_there ps (n / 256) i p s at is in
       let used = page_used (n / 256) ps p s.used there in
@@ -307,22 +310,20 @@ module _ {T : Type 0} where
       let here : IsNumberAt (numbers_of ps) (f new) i = subst (λ k. IsNumberAt (numbers_of ps) k i) (sym number) at in
       let pages = find_set f ps i new s.rising here in
       record {
+        was = ap (value_at p.values.items) place ∙ sym (ap (value_in n) there);
         number = number;
         found = pages (n / 256) ∙ ap (λ b. cond b (Some new) (page_of (n / 256) ps)) (eq-eqb new.number (n / 256) number);
         rising = subst Rises (sym (numbers_set f ps i new here)) s.rising;
-        changed = page_changed ps (slice_set ps i new) new n p.values.items o pages number (λ j. sym (ap (option_and_then (λ (p : Page T). value_at p.values.items j)) there)) used.0.page.size values;
+        changed = page_changed ps (slice_set ps i new) new n p.values.items o pages number (λ j. sym (ap (option_and_then (λ (p : Page T). value_at p.values.items j)) there)) used.0.page.size (values ∙ ap (λ k. slice_set p.values.items k o) place);
       }
 
-  pub pages_set : (ps : List (Page T)) (n i : ℕ) (p new : Page T) (o : Option T) → ArePages ps → IsSet ps n i p new o → IsUsed new → ArePages (slice_set ps i new)
-  pages_set ps n i p new o s h u = record { rising = h.rising; used = all_set IsUsed ps i new s.used u }
+  -- it stays where it has a value
+  pub page_stays : (ps : List (Page T)) (n i k : ℕ) (p new : Page T) (o : Option T) → ArePages ps → IsSet ps n i k p new o → IsUsed new → AreChanged n o ps (slice_set ps i new)
+  page_stays ps n i k p new o s h u = record { pages = record { rising = h.rising; used = all_set IsUsed ps i new s.used u }; changed = h.changed }
 
-  -- a page that has no values now is gone
-  pub record IsGone (ps last : List (Page T)) (n : ℕ) : Type 0 where
-    pub pages : ArePages last
-    pub changed : IsChanged n None ps last
-
-  pub page_gone_at : (ps : List (Page T)) (n i : ℕ) (p new : Page T) → ArePages ps → IsNumberAt (numbers_of ps) (n / 256) i → IsSet ps n i p new None → count_by is_some new.values.items ≡ 0 → IsGone ps (remove (slice_set ps i new) i) n
-  page_gone_at ps n i p new s at h none =
+  -- and goes where it has none
+  pub page_goes : (ps : List (Page T)) (n i k : ℕ) (p new : Page T) → ArePages ps → IsNumberAt (numbers_of ps) (n / 256) i → IsSet ps n i k p new None → IsUnused new → AreChanged n None ps (remove (slice_set ps i new) i)
+  page_goes ps n i k p new s at h free =
       let f : Page T → ℕ = λ p. p.number in
       let later = slice_set ps i new in
       let here : IsNumberAt (numbers_of ps) (f new) i = subst (λ k. IsNumberAt (numbers_of ps) k i) (sym h.number) at in
@@ -330,33 +331,30 @@ module _ {T : Type 0} where
       let is : filter (λ (r : Page T). not (r.number == new.number)) later ≡ remove later i = others_at f later h.rising new.number i still in
       record {
         pages = subst ArePages is (record { rising = rises_passing f (λ m. not (m == new.number)) later h.rising; used = all_left new.number later (all_set (λ r. r.number ≢ new.number → IsUsed r) ps i new (all_but new.number ps s.used) (λ ne. absurd (ne refl))) });
-        changed = page_gone n None ps later (remove later i) new (ap (λ k. page_of k later) h.number ∙ h.found) none (sym is) h.changed;
+        changed = page_gone n None ps later (remove later i) new (ap (λ k. page_of k later) h.number ∙ h.found) (sym free.page.count ∙ free.unused) (sym is) h.changed;
       }
 
   -- a page goes in where there was none
-  pub record IsLaid (ps last : List (Page T)) (n : ℕ) (v : T) : Type 0 where
-    pub pages : ArePages last
-    pub changed : IsChanged n (Some v) ps last
-
-  pub page_laid : (ps : List (Page T)) (n i : ℕ) (p : Page T) (vs : List (Option T)) (v : T) → ArePages ps → IsInsertionPoint (numbers_of ps) (n / 256) i → p.number ≡ n / 256 → IsUsed p → count_by is_some vs ≡ 0 → length vs ≡ 256 → p.values.items ≡ slice_set vs (n % 256) (Some v) → IsLaid ps (insert ps i p) n v
-  page_laid ps n i p vs v s point number u none size values =
+  pub page_laid : (ps : List (Page T)) (n i k : ℕ) (old new : Page T) (v : T) → ArePages ps → IsInsertionPoint (numbers_of ps) (n / 256) i → IsUnused old → IsUsed new → k ≡ n % 256 → new.number ≡ n / 256 → new.values.items ≡ slice_set old.values.items k (Some v) → AreChanged n (Some v) ps (insert ps i new)
+  page_laid ps n i k old new v s point free used place number values =
       let f : Page T → ℕ = λ p. p.number in
-      let here : IsInsertionPoint (numbers_of ps) (f p) i = subst (λ k. IsInsertionPoint (numbers_of ps) k i) (sym number) point in
-      let absent = find_point f ps s.rising (f p) i here in
-      let is = insert_point f ps i p here in
-      let was : (j : ℕ) → value_at vs j ≡ option_and_then (λ (p : Page T). value_at p.values.items j) (page_of (n / 256) ps) = λ j. no_value vs none j ∙ sym (ap (option_and_then (λ (p : Page T). value_at p.values.items j)) (ap (λ k. page_of k ps) (sym number) ∙ absent)) in
+      let vs = old.values.items in
+      let here : IsInsertionPoint (numbers_of ps) (f new) i = subst (λ k. IsInsertionPoint (numbers_of ps) k i) (sym number) point in
+      let absent = find_point f ps s.rising (f new) i here in
+      let is = insert_point f ps i new here in
+      let was : (j : ℕ) → value_at vs j ≡ option_and_then (λ (p : Page T). value_at p.values.items j) (page_of (n / 256) ps) = λ j. no_value vs (sym free.page.count ∙ free.unused) j ∙ sym (ap (option_and_then (λ (p : Page T). value_at p.values.items j)) (ap (λ k. page_of k ps) (sym number) ∙ absent)) in
       record {
-        pages = subst ArePages is (record { rising = rises_inserted f ps p s.rising absent; used = all_inserted ps p s.used u });
-        changed = subst (IsChanged n (Some v) ps) is (page_changed ps (inserted_in_order f p ps) p n vs (Some v) (find_inserted f ps p absent) number was size values);
+        pages = subst ArePages is (record { rising = rises_inserted f ps new s.rising absent; used = all_inserted ps new s.used used });
+        changed = subst (IsChanged n (Some v) ps) is (page_changed ps (inserted_in_order f new ps) new n vs (Some v) (find_inserted f ps new absent) number was free.page.size (values ∙ ap (λ k. slice_set vs k (Some v)) place));
       }
 
   -- the first page behind k
-  pub later_used : (k : ℕ) (ps : List (Page T)) (p : Page T) → AllByRecursion IsUsed ps → slice_get (filter (λ (r : Page T). nat_lt k r.number) ps) 0 ≡ Some p → IsUsed p × (k < p.number)
-  later_used k [] p u e = absurd (cc)
-  later_used k (x ∷ ps) p u e = elim (nat_lt k x.number) as (λ b. nat_lt k x.number ≡ b → slice_get (cond b (x ∷ filter (λ (r : Page T). nat_lt k r.number) ps) (filter (λ (r : Page T). nat_lt k r.number) ps)) 0 ≡ Some p → IsUsed p × (k < p.number)) [
-    | true ↦ λ t is. let same : x ≡ p = cc in subst (λ (p : Page T). IsUsed p × (k < p.number)) same (u.0, ltb-true _ _ t)
-    | false ↦ λ t is. later_used k ps p u.1 is
-  ] refl e
+  pub later_page : (k : ℕ) (ps : List (Page T)) → AllByRecursion IsUsed ps → IfSome (slice_get (filter (λ (r : Page T). nat_lt k r.number) ps) 0) (λ p. IsPage p × (k < p.number))
+  later_page k [] u = tt
+  later_page k (x ∷ ps) u = elim (nat_lt k x.number) as (λ b. nat_lt k x.number ≡ b → IfSome (slice_get (cond b (x ∷ filter (λ (r : Page T). nat_lt k r.number) ps) (filter (λ (r : Page T). nat_lt k r.number) ps)) 0) (λ p. IsPage p × (k < p.number))) [
+    | true ↦ λ t. (u.0.page, ltb-true _ _ t)
+    | false ↦ λ t. later_page k ps u.1
+  ] refl
 
   -- ---- how many there are
 

@@ -1,7 +1,7 @@
 -- Facts on children by their parents.
 use Rattle.std.proofs.Common.{◌≡◌, ◌≢◌, ℕ, ◌+◌, ◌-◌, ◌<◌, ◌≤◌, Bool, true, false, cond, not, ◌&&◌, ◌||◌, refl, ap, sym, ◌∙◌, arith, subst, List, [], ◌∷◌, length, map, filter, find, Option, Some, None, ◌==◌, nat_le, nat_lt, inl, inr, ⊎_elim, slice_get}
 use Rattle.std.specs.List.{AllByRecursion, list_any}
-use Rattle.std.specs.Option.{IfSome, IsSome, OnSome, option_map_or}
+use Rattle.std.specs.Option.{IfSome, IsSome, option_map_or}
 use Rattle.std.proofs.lemmas.Bool.{eqb-true, eqb-false, eq-eqb, ne_eqb, ltb-true, ltb-false, leb-true, leb-false, le-leb, lt-leb, both_ways, cases_eq, false_from_ne_true, not-true, and_from, and_left, and_parts, or_from, or_left, or_parts, or_right, or_cases}
 use Rattle.std.proofs.lemmas.Map.Views.{any-filter_same}
 use Rattle.std.proofs.Math.Bool.{and-false, or-false, or-true}
@@ -287,11 +287,6 @@ length_in_order (x ∷ xs) h once =
     ] refl in
     let l = length_with x.pid (in_order xs) new in
     omega (arith, l, rest)
-
--- what is said where there is one
-pub on_some : {X : Type 0} {P : Type 0} (o : Option X) → IsSome o → OnSome o P → P
-on_some None e h = absurd (cc)
-on_some (Some x) e h = h
 
 -- ---- the children of one parent that become those of another
 

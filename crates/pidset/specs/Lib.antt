@@ -1,4 +1,5 @@
 pub mod Numbers
+pub mod GapVecs
 pub mod Indexes
 pub mod Lists
 pub mod Pages

@@ -50,11 +50,13 @@ module _ {T : Type 0} where
   entries_of [] = []
   entries_of (p ∷ ps) = entries_in p ++ entries_of ps
 
-  -- a page has 256 places, and counts its values
+  -- a page has 256 places, and counts its values, of which none stands from its end on
   pub record IsPage (p : Page T) : Type 0 where
     pub size : length p.values.items ≡ 256
     pub count : p.used ≡ count_by is_some p.values.items
     pub number : p.number ≤ 8388607
+    pub end : p.end ≤ 256
+    pub none : (i : ℕ) → p.end ≤ i → value_at p.values.items i ≡ None
 
   pub record IsUsed (p : Page T) : Type 0 where
     pub page : IsPage p
@@ -85,6 +87,11 @@ module _ {T : Type 0} where
   -- n has another value, or none, and all others are as they were
   abbrev pub IsChanged : ℕ → Option T → List (Page T) → List (Page T) → Type 0
   IsChanged n o old new = (q : ℕ) → value_of q new ≡ if n == q then o else value_of q old
+
+  -- and they are pages
+  pub record AreChanged (n : ℕ) (o : Option T) (old new : List (Page T)) : Type 0 where
+    pub pages : ArePages new
+    pub changed : IsChanged n o old new
 
   -- the least number above another
   abbrev pub first_above : ℕ → List (Entry T) → Option ℕ

@@ -3,13 +3,14 @@
 ghost use Rattle.std.specs.Prelude.{◌≡◌, ◌≢◌, ◌+◌, ◌<◌, ◌≤◌, ◌^◌, ◌==◌, ◌&&◌, ◌||◌, ℕ, not, false, true, [], length, Option, OnOk};
 ghost use Rattle.pidset.specs.Indexes.{ArePairs, has_within as has_within_keys, IsNextPair, CanReplace, IsReplaced, IsRekeyed, is_pair_in, pair_number};
 
-use crate::numbered::{Numbered, insert_at, next_above, search, take_out};
+use crate::gap_vec::GapVec;
+use crate::numbered::{Numbered, next_above, search};
 use posix::Pid;
 use std::alloc::{AllocError, Global};
 use std::marker::Model;
 
 /// A process under a key.
-#[derive(Clone, Copy, Debug, PartialEq, Eq)]
+#[derive(Clone, Copy)]
 pub struct Pair {
     /// The key.
     pub key: u64,
@@ -34,20 +35,19 @@ fn keyed(key: u64, pid: Pid) -> Pair
 }
 
 /// Processes by keys, each pair of a key and a number once, by falling keys and then by rising numbers. So the
-/// least key stands last, where little is moved: of alarms that is the next one that is due. It takes memory
-/// in [`Index::reserve`] alone.
+/// least key stands last, where little is moved: of alarms that is the next one that is due. Where the first, of the
+/// greatest key, is taken out, nothing is moved. It takes memory in [`Index::reserve`] alone.
 #[derive(Drop)]
 pub struct Index {
-    pairs: Vec<Pair>,
+    pairs: GapVec<Pair>,
 }
 
 impl Model for Index {
-    ghost use Rattle.std.specs.Prelude.{vec_capacity};
     ghost use Rattle.pidset.specs.Indexes.{ArePairs, IndexView};
 
     ghost Value = { IndexView };
 
-    ghost view = { λ s. record { pairs = s.pairs.items; room = vec_capacity s.pairs } };
+    ghost view = { λ s. record { pairs = s.pairs.items; room = s.pairs.room } };
 
     ghost invariant = { λ s. ArePairs s.pairs.items };
 }
@@ -59,7 +59,7 @@ impl Index {
         ensures rising { ArePairs result.pairs }
     {
         Index {
-            pairs: Vec::new(alloc),
+            pairs: GapVec::new(alloc),
         }
     }
 
@@ -71,8 +71,7 @@ impl Index {
         ensures pairs { self.new.pairs ≡ self.old.pairs }
         ensures grows { self.old.room ≤ self.new.room }
     {
-        let additional = capacity.saturating_sub(self.pairs.len());
-        self.pairs.reserve(additional)
+        self.pairs.reserve(capacity)
     }
 
     /// The process under a key with the least number above `after`.
@@ -82,9 +81,9 @@ impl Index {
         ensures rising { ArePairs self.now.pairs }
     {
         // Mostly nobody stands in it.
-        self.pairs.first()?;
+        self.pairs.as_slice().first()?;
         let from = keyed(key, after);
-        match next_above(&self.pairs, &from) {
+        match next_above(self.pairs.as_slice(), &from) {
             Some(pair) if pair.key == key => Some(pair.pid),
             _ => None,
         }
@@ -95,7 +94,7 @@ impl Index {
     pub fn has_within(&self, low: u64, high: u64) -> bool
         ensures { result ≡ has_within_keys low high self.now.pairs }
     {
-        match next_above(&self.pairs, &keyed(high, Pid::NONE)) {
+        match next_above(self.pairs.as_slice(), &keyed(high, Pid::NONE)) {
             Some(pair) => low <= pair.key,
             None => false,
         }
@@ -110,8 +109,8 @@ impl Index {
         ensures rising { ArePairs self.new.pairs }
     {
         let pair = keyed(key, pid);
-        if let Err(at) = search(&self.pairs, &pair) {
-            insert_at(&mut self.pairs, at, pair);
+        if let Err(at) = search(self.pairs.as_slice(), &pair) {
+            self.pairs.insert(at, pair);
         }
     }
 
@@ -123,7 +122,7 @@ impl Index {
         ensures rising { ArePairs self.new.pairs }
     {
         let pair = keyed(key, pid);
-        let _pair = take_out(&mut self.pairs, &pair);
+        self.pairs.take_out(&pair);
     }
 
     /// A process that stood under one key, or under none, stands under another, or under none.
@@ -150,7 +149,7 @@ impl Index {
     pub fn is_empty(&self) -> bool
         ensures { result ≡ (length self.now.pairs == 0) }
     {
-        self.pairs.is_empty()
+        self.pairs.as_slice().is_empty()
     }
 
     /// The processes under one key come under another.

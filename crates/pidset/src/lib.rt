@@ -1,6 +1,7 @@
 //! Sets of process numbers, indexes of processes by keys, and items that have numbers.
 #![tactic(auto)]
 
+mod gap_vec;
 pub mod index;
 pub mod lists;
 pub mod numbered;

@@ -60,7 +60,8 @@ pub fn search<T: Numbered, K: Numbered>(items: &[T], key: &K) -> Result<usize, u
 }
 
 /// Whether an item stands at an index, and has this number.
-fn stands_at<T: Numbered>(items: &[T], at: usize, number: u128) -> bool
+#[inline]
+pub(crate) fn stands_at<T: Numbered>(items: &[T], at: usize, number: u128) -> bool
     ensures { result ≡ option_map_or (λ item. T.number item == number) (slice_get items.now at) false }
 {
     match items.get(at) {
@@ -93,7 +94,8 @@ pub fn item_of<'a, T: Numbered, K: Numbered>(items: &'a [T], key: &K) -> Option<
 }
 
 /// The item behind the place of another, or at the place where one would go.
-fn behind<T>(items: &[T], place: Result<usize, usize>) -> Option<&T>
+#[inline]
+pub(crate) fn behind<T>(items: &[T], place: Result<usize, usize>) -> Option<&T>
     requires { IfOk place (λ at. at < length items.now) }
     ensures { option_copied result ≡ slice_get items.now (index_behind place) }
 {

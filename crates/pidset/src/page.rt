@@ -14,6 +14,8 @@ pub(crate) struct Page<T: Copy> {
     number: u32,
     /// How many values there are.
     used: usize,
+    /// No place from here on has one.
+    end: usize,
     values: Vec<Option<T>>,
 }
 
@@ -34,15 +36,20 @@ impl<T: Copy> Page<T> {
         Ok(Page {
             number: 0,
             used: 0,
+            end: 0,
             values,
         })
     }
 
-    /// It is of other numbers.
+    /// A page of no values is of other numbers.
     pub fn renumber(&mut self, number: u32)
-        ensures { self.new ≡ record self.old { number = number } }
+        requires unused { IsUnused self.old }
+        requires number { number ≤ 8388607 }
+        ensures unused { IsUnused self.new }
+        ensures number { self.new.number ≡ number }
     {
         self.number = number;
+        self.end = 0;
     }
 
     /// Whether it has no values.
@@ -73,6 +80,7 @@ impl<T: Copy> Page<T> {
     {
         self.values[at] = Some(value);
         self.used += 1;
+        self.end = self.end.max(at + 1);
     }
 
     /// Takes out the value at a place, if there is one.
@@ -100,7 +108,7 @@ impl<T: Copy> Page<T> {
     {
         let first = self.number * 256;
         let mut at = place_behind(after, first);
-        while at < self.values.len() {
+        while at < self.end {
             if self.values[at].is_some() {
                 return Pid::new(first + at as u32);
             }

@@ -1,11 +1,11 @@
 //! Values by number, in pages.
 
-ghost use Rattle.std.specs.Prelude.{◌≡◌, ◌/◌, ◌%◌, ◌≤◌, ◌<◌, ◌==◌, nat_lt, true, not, Some, None, is_some, IfSome, [], OnOk, filter, length, option_map, slice_get, vec_len, vec_capacity};
-ghost use Rattle.std.specs.Option.{option_and_then};
+ghost use Rattle.std.specs.Prelude.{◌≡◌, ◌/◌, ◌%◌, ◌≤◌, ◌<◌, ◌==◌, nat_lt, true, not, Some, None, is_some, IfErr, IfOk, IfSome, [], OnOk, filter, length, option_map, slice_get, vec_len, vec_capacity};
+ghost use Rattle.std.specs.Option.{option_and_then, option_copied};
 ghost use Rattle.pidset.specs.Numbers.{Rises, IsNumberAt, IsInsertionPoint, inserted_in_order};
-ghost use Rattle.pidset.specs.Pages.{ArePages, IsUnused, IsChanged, entry, entry_of, pids_of, numbers_of, entries_in, page_of as page_at, value_of, first_above};
+ghost use Rattle.pidset.specs.Pages.{ArePages, IsPage, IsUnused, AreChanged, entry, entry_of, pids_of, numbers_of, entries_in, page_of as page_at, value_of, first_above};
 
-use crate::numbered::{insert_at, item_of, next_above, search, take_out};
+use crate::numbered::{behind, insert_at, search, stands_at};
 use crate::page::Page;
 use posix::Pid;
 use std::alloc::{AllocError, Global};
@@ -85,7 +85,7 @@ impl<T: Copy> Pages<T> {
 
     /// There are no more values than numbers. It reads nothing.
     #[inline(always)]
-    pub fn few(&self)
+    pub fn size_holds(&self)
         ensures { length self.now.entries ≤ 2147483648 }
     {
         let _ = &self.pages;
@@ -96,7 +96,7 @@ impl<T: Copy> Pages<T> {
     pub fn get(&self, pid: Pid) -> Option<T>
         ensures { result ≡ option_map (λ e. e.value) (entry_of pid self.now.entries) }
     {
-        match item_of(&self.pages, &page_of(pid)) {
+        match page(&self.pages, pid) {
             Some(page) => page.get(place_of(pid)),
             None => None,
         }
@@ -108,7 +108,7 @@ impl<T: Copy> Pages<T> {
         requires absent { entry_of pid self.old.entries ≡ None }
         ensures { self.new.entries ≡ inserted_in_order (λ e. e.pid) (entry pid value) self.old.entries }
     {
-        match search(&self.pages, &page_of(pid)) {
+        match index_of(&self.pages, pid) {
             Ok(at) => put_at(&mut self.pages, at, pid, value),
             Err(at) => {
                 if let Some(page) = self.spare.take() {
@@ -124,7 +124,7 @@ impl<T: Copy> Pages<T> {
         ensures entries { self.new.entries ≡ filter (λ e. not (e.pid == pid)) self.old.entries }
         ensures ready { self.old.ready ≡ true → self.new.ready ≡ true }
     {
-        match search(&self.pages, &page_of(pid)) {
+        match index_of(&self.pages, pid) {
             Ok(at) => take_at(&mut self.pages, &mut self.spare, at, pid),
             Err(_) => None,
         }
@@ -135,12 +135,51 @@ impl<T: Copy> Pages<T> {
         ensures value { result ≡ first_above after self.now.entries }
         ensures rising { Rises (pids_of self.now.entries) }
     {
-        let near = above_in_page(&self.pages, after);
+        let near = next_in(page(&self.pages, after), after);
         if near.is_some() {
             return near;
         }
-        first_behind_page(&self.pages, after)
+        next_in(page_behind(&self.pages, after), after)
     }
+}
+
+/// Where the page of a number stands, or where it would go.
+#[inline]
+fn index_of<T: Copy>(pages: &[Page<T>], pid: Pid) -> Result<usize, usize>
+    requires { Rises (numbers_of pages.now) }
+    ensures found { IfOk result (IsNumberAt (numbers_of pages.now) (pid / 256)) }
+    ensures absent { IfErr result (IsInsertionPoint (numbers_of pages.now) (pid / 256)) }
+{
+    // Mostly all pages from the first on are there.
+    let number = page_of(pid);
+    let at = number as usize;
+    if stands_at(pages, at, u128::from(number)) {
+        return Ok(at);
+    }
+    search(pages, &number)
+}
+
+/// The page of a number, if it is there.
+#[inline]
+fn page<T: Copy>(pages: &[Page<T>], pid: Pid) -> Option<&Page<T>>
+    requires { ArePages pages.now }
+    ensures is { option_copied result ≡ page_at (pid / 256) pages.now }
+    ensures page { IfSome (option_copied result) (λ p. IsPage p × (p.number ≡ pid / 256)) }
+{
+    match index_of(pages, pid) {
+        Ok(at) => Some(&pages[at]),
+        Err(_) => None,
+    }
+}
+
+/// The first page behind that of a number.
+#[inline]
+fn page_behind<T: Copy>(pages: &[Page<T>], pid: Pid) -> Option<&Page<T>>
+    requires { ArePages pages.now }
+    ensures is { option_copied result ≡ slice_get (filter (λ p. nat_lt (pid / 256) p.number) pages.now) 0 }
+    ensures page { IfSome (option_copied result) (λ p. IsPage p × (pid / 256 < p.number)) }
+{
+    behind(pages, index_of(pages, pid))
 }
 
 /// Puts in the value of a number that has none, in the page at an index.
@@ -148,8 +187,7 @@ fn put_at<T: Copy>(pages: &mut Vec<Page<T>>, at: usize, pid: Pid, value: T)
     requires pages { ArePages pages.old.items }
     requires at { IsNumberAt (numbers_of pages.old.items) (pid / 256) at }
     requires absent { value_of pid pages.old.items ≡ None }
-    ensures pages { ArePages pages.new.items }
-    ensures changed { IsChanged pid (Some value) pages.old.items pages.new.items }
+    ensures { AreChanged pid (Some value) pages.old.items pages.new.items }
 {
     pages[at].put(place_of(pid), value);
 }
@@ -160,8 +198,7 @@ fn lay<T: Copy>(pages: &mut Vec<Page<T>>, at: usize, page: Page<T>, pid: Pid, va
     requires at { IsInsertionPoint (numbers_of pages.old.items) (pid / 256) at }
     requires unused { IsUnused page }
     requires room { vec_len pages.old < vec_capacity pages.old }
-    ensures pages { ArePages pages.new.items }
-    ensures changed { IsChanged pid (Some value) pages.old.items pages.new.items }
+    ensures { AreChanged pid (Some value) pages.old.items pages.new.items }
 {
     let mut page = page;
     page.renumber(page_of(pid));
@@ -180,8 +217,7 @@ fn take_at<T: Copy>(
     requires spare { IfSome spare.old IsUnused }
     requires at { IsNumberAt (numbers_of pages.old.items) (pid / 256) at }
     ensures value { result ≡ value_of pid pages.old.items }
-    ensures pages { ArePages pages.new.items }
-    ensures changed { IsChanged pid None pages.old.items pages.new.items }
+    ensures changed { AreChanged pid None pages.old.items pages.new.items }
     ensures spare { IfSome spare.new IsUnused }
     ensures stays { is_some spare.old ≡ true → is_some spare.new ≡ true }
     ensures len { vec_len pages.new ≤ vec_len pages.old }
@@ -195,23 +231,13 @@ fn take_at<T: Copy>(
     value
 }
 
-/// The least number above another in the page of that one.
-fn above_in_page<T: Copy>(pages: &[Page<T>], after: Pid) -> Option<Pid>
-    requires { ArePages pages.now }
-    ensures { result ≡ option_and_then (λ p. first_above after (entries_in p)) (page_at (after / 256) pages.now) }
+/// The least number above another in a page, if there is one, that isn't before it.
+#[inline]
+fn next_in<T: Copy>(page: Option<&Page<T>>, after: Pid) -> Option<Pid>
+    requires { IfSome (option_copied page) (λ p. IsPage p × (after / 256 ≤ p.number)) }
+    ensures { result ≡ option_and_then (λ p. first_above after (entries_in p)) (option_copied page.entry) }
 {
-    match item_of(pages, &page_of(after)) {
-        Some(page) => page.next_above(after),
-        None => None,
-    }
-}
-
-/// The first number of the pages behind that of another.
-fn first_behind_page<T: Copy>(pages: &[Page<T>], after: Pid) -> Option<Pid>
-    requires { ArePages pages.now }
-    ensures { result ≡ option_and_then (λ p. first_above after (entries_in p)) (slice_get (filter (λ p. nat_lt (after / 256) p.number) pages.now) 0) }
-{
-    match next_above(pages, &page_of(after)) {
+    match page {
         Some(page) => page.next_above(after),
         None => None,
     }

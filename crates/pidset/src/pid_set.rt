@@ -4,24 +4,25 @@ ghost use Rattle.std.specs.Prelude.{◌≡◌, ◌+◌, ◌<◌, ◌≤◌, ◌^
 ghost use Rattle.posix.specs.States.{is_in, without};
 ghost use Rattle.pidset.specs.Numbers.{Rises, with_number, numbers_above, IsNumberAt, IsInsertionPoint};
 
-use crate::numbered::{insert_at, next_above, search, take_out};
+use crate::gap_vec::GapVec;
+use crate::numbered::{next_above, search};
 use posix::Pid;
 use std::alloc::{AllocError, Global};
 use std::marker::Model;
 
-/// A set of process numbers, in rising order. It takes memory in [`PidSet::reserve`] alone.
+/// A set of process numbers, in rising order. Where the least is taken out, nothing is moved; else those behind a
+/// number that is put in or taken out are. It takes memory in [`PidSet::reserve`] alone.
 #[derive(Drop)]
 pub struct PidSet {
-    pids: Vec<Pid>,
+    pids: GapVec<Pid>,
 }
 
 impl Model for PidSet {
-    ghost use Rattle.std.specs.Prelude.{vec_capacity};
     ghost use Rattle.pidset.specs.Numbers.{PidSetView, Rises};
 
     ghost Value = { PidSetView };
 
-    ghost view = { λ s. record { pids = s.pids.items; room = vec_capacity s.pids } };
+    ghost view = { λ s. record { pids = s.pids.items; room = s.pids.room } };
 
     ghost invariant = { λ s. Rises s.pids.items };
 }
@@ -32,7 +33,7 @@ impl PidSet {
         ensures { result ≡ record { pids = []; room = 0 } }
     {
         PidSet {
-            pids: Vec::new(alloc),
+            pids: GapVec::new(alloc),
         }
     }
 
@@ -44,15 +45,14 @@ impl PidSet {
         ensures pids { self.new.pids ≡ self.old.pids }
         ensures err { OnErr result (self.new ≡ self.old) }
     {
-        let additional = capacity.saturating_sub(self.pids.len());
-        self.pids.reserve_exact(additional)
+        self.pids.reserve_exact(capacity)
     }
 
     /// For how many numbers there is room, counting those that are there.
     pub fn room(&self) -> usize
         ensures { result ≡ self.now.room }
     {
-        self.pids.capacity()
+        self.pids.room()
     }
 
     /// How many numbers there are.
@@ -60,14 +60,14 @@ impl PidSet {
         ensures is { result ≡ length self.now.pids }
         ensures rising { Rises self.now.pids }
     {
-        self.pids.len()
+        self.pids.as_slice().len()
     }
 
     /// Whether there are none.
     pub fn is_empty(&self) -> bool
         ensures { result ≡ (length self.now.pids == 0) }
     {
-        self.pids.is_empty()
+        self.pids.as_slice().is_empty()
     }
 
     /// Where a number stands, or where it would go.
@@ -76,7 +76,7 @@ impl PidSet {
         ensures absent { IfErr result (IsInsertionPoint self.now.pids pid) }
         ensures rising { Rises self.now.pids }
     {
-        search(&self.pids, &pid)
+        search(self.pids.as_slice(), &pid)
     }
 
     /// Whether a number is there.
@@ -92,7 +92,7 @@ impl PidSet {
         ensures is { result ≡ slice_get self.now.pids 0 }
         ensures rising { Rises self.now.pids }
     {
-        self.pids.first().copied()
+        self.pids.as_slice().first().copied()
     }
 
     /// The least number above another.
@@ -100,7 +100,7 @@ impl PidSet {
         ensures is { result ≡ slice_get (numbers_above after self.now.pids) 0 }
         ensures rising { Rises self.now.pids }
     {
-        next_above(&self.pids, &after).copied()
+        next_above(self.pids.as_slice(), &after).copied()
     }
 
     /// Puts a number in, unless it is there.
@@ -110,7 +110,7 @@ impl PidSet {
         ensures room { self.new.room ≡ self.old.room }
     {
         if let Err(at) = self.search(pid) {
-            insert_at(&mut self.pids, at, pid);
+            self.pids.insert(at, pid);
         }
     }
 
@@ -119,7 +119,7 @@ impl PidSet {
         ensures pids { self.new.pids ≡ without pid self.old.pids }
         ensures room { self.new.room ≡ self.old.room }
     {
-        let _pid = take_out(&mut self.pids, &pid);
+        self.pids.take_out(&pid);
     }
 
     /// Takes all numbers out.

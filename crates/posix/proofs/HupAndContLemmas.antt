@@ -164,10 +164,6 @@ still_there p old new same r e =
     let b = back (lookup p new) lasting (lasting r) (lasting_lookup p old new same ∙ ap (option_map lasting) e) in
     lasting_one (lookup p new) b.what r b.found (sym b.is)
 
--- and who is there was there
-pub was_there : (p : ℕ) (old new : List Process) → map lasting new ≡ map lasting old → (r : Process) → lookup p new ≡ Some r → IsLasting (lookup p old) r
-was_there p old new same r e = still_there p new old (sym same) r e
-
 -- ---- a regular state
 
 -- a state stays regular where groups get HUP and CONT

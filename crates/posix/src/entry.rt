@@ -11,7 +11,7 @@ use crate::status::Status;
 use crate::waits::WaitCall;
 
 /// What one event shows in the trace, without the event's number (own).
-#[derive(Clone, Copy, Debug, Default, PartialEq, Eq)]
+#[derive(Clone, Copy, Default)]
 pub enum Entry {
     /// A process noted the value of a register.
     Noted {

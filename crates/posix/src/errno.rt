@@ -4,7 +4,7 @@ ghost use Rattle.std.specs.Prelude.{◌≡◌};
 ghost use Rattle.posix.specs.Errnos.{errno_number};
 
 /// Why a system call is refused: the error numbers of this kernel (errno(3), x86).
-#[derive(Clone, Copy, Debug, PartialEq, Eq)]
+#[derive(Clone, Copy)]
 pub enum Errno {
     EPERM,
     ENOENT,

@@ -3,7 +3,7 @@
 ghost use Rattle.posix.specs.Ranges.{IsEvent};
 
 /// One atomic step of the machine, from outside (own).
-#[derive(Clone, Copy, Debug, PartialEq, Eq)]
+#[derive(Clone, Copy, PartialEq, Eq)]
 pub enum Event {
     /// The current process does one thing.
     Step,

@@ -4,7 +4,7 @@ ghost use Rattle.std.specs.Prelude.{◌≡◌};
 ghost use Rattle.posix.specs.SignalCalls.{how_in};
 
 /// What becomes of a signal mask by a set of signals (XSH sigprocmask).
-#[derive(Clone, Copy, Debug, PartialEq, Eq)]
+#[derive(Clone, Copy)]
 pub enum How {
     /// SIG_BLOCK: the set is added to the mask.
     Block,

@@ -5,7 +5,7 @@ ghost use Rattle.std.specs.Prelude.{◌≡◌, ◌≤◌, ◌↔◌, IsSome, IfS
 use std::marker::Model;
 
 /// A user id: 0 to 2,147,483,647. A process with effective user id 0 is privileged.
-#[derive(Clone, Copy, Debug, PartialEq, Eq, PartialOrd, Ord)]
+#[derive(Clone, Copy, PartialEq, Eq)]
 pub struct Uid {
     number: u32,
 }
@@ -51,7 +51,7 @@ impl Uid {
 }
 
 /// A group id: 0 to 2,147,483,647.
-#[derive(Clone, Copy, Debug, PartialEq, Eq, PartialOrd, Ord)]
+#[derive(Clone, Copy, PartialEq, Eq)]
 pub struct Gid {
     number: u32,
 }
@@ -97,7 +97,7 @@ impl Gid {
 }
 
 /// The real, effective and saved ids of a process (credentials(7)).
-#[derive(Clone, Copy, Debug, PartialEq, Eq)]
+#[derive(Clone, Copy)]
 pub struct Ids<T> {
     pub real: T,
     pub effective: T,

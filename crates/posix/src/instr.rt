@@ -7,7 +7,7 @@ use crate::sig::Sig;
 use std::marker::Model;
 
 /// One of the eight registers r0 to r7.
-#[derive(Clone, Copy, Debug, PartialEq, Eq)]
+#[derive(Clone, Copy)]
 pub struct Register {
     number: u8,
 }
@@ -62,7 +62,7 @@ impl Register {
 }
 
 /// An operator on two words. Results wrap (own).
-#[derive(Clone, Copy, Debug, PartialEq, Eq)]
+#[derive(Clone, Copy)]
 pub enum Operator {
     Add,
     Sub,
@@ -77,7 +77,7 @@ pub enum Operator {
 }
 
 /// A test of one word (own).
-#[derive(Clone, Copy, Debug, PartialEq, Eq)]
+#[derive(Clone, Copy)]
 pub enum Condition {
     /// It is 0.
     Zero,
@@ -89,7 +89,7 @@ pub enum Condition {
 
 /// One instruction of the user machine (own). The code address of the instruction at place i of a
 /// program, from 0, is 16 + i.
-#[derive(Clone, Copy, Debug, PartialEq, Eq)]
+#[derive(Clone, Copy)]
 pub enum Instr {
     /// `set rA, V`: rA := V.
     Set(Register, i64),
@@ -112,7 +112,7 @@ pub enum Instr {
 }
 
 /// How the run of one instruction came out for the kernel (own).
-#[derive(Clone, Copy, Debug, PartialEq, Eq)]
+#[derive(Clone, Copy)]
 pub enum Trap {
     /// The instruction was run.
     Next,

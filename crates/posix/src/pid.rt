@@ -8,7 +8,7 @@ use std::marker::Model;
 ///
 /// Number 0 is no process: it is the parent of process 1 and the sender of the kernel's own signals,
 /// and stands for no session and no foreground process group.
-#[derive(Clone, Copy, Debug, PartialEq, Eq, PartialOrd, Ord)]
+#[derive(Clone, Copy, PartialEq, Eq, PartialOrd, Ord)]
 pub struct Pid {
     number: u32,
 }

@@ -12,7 +12,7 @@ use crate::status::Status;
 use crate::waits::WaitCall;
 
 /// What comes with a signal: a value and its sender, number 0 where the kernel sent it.
-#[derive(Clone, Copy, Debug, PartialEq, Eq)]
+#[derive(Clone, Copy)]
 pub struct Carried {
     pub value: i64,
     pub sender: Pid,
@@ -27,7 +27,7 @@ impl Carried {
 }
 
 /// A pending signal with what comes with it.
-#[derive(Clone, Copy, Debug, PartialEq, Eq)]
+#[derive(Clone, Copy)]
 pub struct PendingSignal {
     pub sig: Sig,
     pub carried: Carried,
@@ -35,7 +35,7 @@ pub struct PendingSignal {
 
 /// What a process does with a signal that is delivered: the default, nothing, or the code at an
 /// address (XSH 2.4.3 Signal Actions).
-#[derive(Clone, Copy, Debug, PartialEq, Eq)]
+#[derive(Clone, Copy)]
 pub enum Handler {
     /// The signal's default action (signal(7)).
     Default,
@@ -47,7 +47,7 @@ pub enum Handler {
 
 /// The action for one signal: its handler, the signals that the handler blocks besides, and flags
 /// (XSH sigaction).
-#[derive(Clone, Copy, Debug, PartialEq, Eq)]
+#[derive(Clone, Copy)]
 pub struct Action {
     pub handler: Handler,
     pub mask: SigSet,
@@ -55,7 +55,7 @@ pub struct Action {
 }
 
 /// What a handler gives back as it returns.
-#[derive(Clone, Copy, Debug, Default, PartialEq, Eq)]
+#[derive(Clone, Copy)]
 pub struct Frame {
     pub pc: i64,
     pub registers: [i64; 8],
@@ -63,7 +63,7 @@ pub struct Frame {
 }
 
 /// Whether a process runs, is stopped or has ended. Running and stopped processes are living.
-#[derive(Clone, Copy, Debug, PartialEq, Eq)]
+#[derive(Clone, Copy, PartialEq, Eq)]
 pub enum Life {
     /// It runs, or is blocked in a call.
     Running,
@@ -74,7 +74,7 @@ pub enum Life {
 }
 
 /// What happened to a process that no wait has reported yet.
-#[derive(Clone, Copy, Debug, PartialEq, Eq)]
+#[derive(Clone, Copy, PartialEq, Eq)]
 pub enum News {
     /// There is none.
     Nothing,
@@ -85,7 +85,7 @@ pub enum News {
 }
 
 /// The call that a process is blocked in; for sigsuspend with the signal mask before it.
-#[derive(Clone, Copy, Debug, PartialEq, Eq)]
+#[derive(Clone, Copy)]
 pub enum Blocked {
     Wait(WaitCall),
     Read,
@@ -108,7 +108,7 @@ impl Blocked {
 }
 
 /// What a signal that is generated does to its process at once, beside being pending (XSH 2.4.3).
-#[derive(Clone, Copy, Debug, PartialEq, Eq)]
+#[derive(Clone, Copy)]
 pub enum Effect {
     /// Nothing.
     Nothing,
@@ -117,7 +117,7 @@ pub enum Effect {
 }
 
 /// What becomes of a signal that is sent (XSH kill, XSH sigqueue).
-#[derive(Clone, Copy, Debug, PartialEq, Eq, PartialOrd, Ord)]
+#[derive(Clone, Copy, PartialEq, Eq, PartialOrd, Ord)]
 pub enum Sending {
     /// No process is meant.
     NobodyFound,
@@ -132,7 +132,7 @@ pub enum Sending {
 }
 
 /// What a wait has to report of the children that it names (XSH waitpid, XSH waitid).
-#[derive(Clone, Copy, Debug, PartialEq, Eq)]
+#[derive(Clone, Copy)]
 pub enum Report {
     /// No child is named.
     NoChild,

@@ -7,7 +7,7 @@ use std::marker::Model;
 
 /// A signal's number: 1 to 31 for the standard signals, 34 to 64 for the real-time signals
 /// (signal(7), x86). The numbers 32 and 33 are no signals (own).
-#[derive(Clone, Copy, Debug, PartialEq, Eq, PartialOrd, Ord)]
+#[derive(Clone, Copy, PartialEq, Eq)]
 pub struct Sig {
     number: u8,
 }
@@ -27,7 +27,7 @@ impl Model for Sig {
 
 /// What a signal does to a process whose action for it is the default (signal(7), "Standard
 /// signals").
-#[derive(Clone, Copy, Debug, PartialEq, Eq)]
+#[derive(Clone, Copy)]
 pub enum DefaultAction {
     Terminate,
     Ignore,

@@ -6,7 +6,7 @@ ghost use Rattle.posix.specs.Transfers.{span_in};
 use crate::errno::Errno;
 
 /// Words of a process, one after another.
-#[derive(Clone, Copy, Debug, PartialEq, Eq)]
+#[derive(Clone, Copy)]
 pub struct Span {
     /// The address of the first: 0 to 256.
     pub address: u16,

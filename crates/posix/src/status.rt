@@ -7,7 +7,7 @@ use crate::sig::Sig;
 use std::marker::Model;
 
 /// What a wait reports of a process, as the status word of waitpid(2): 0 to 65,535.
-#[derive(Clone, Copy, Debug, PartialEq, Eq)]
+#[derive(Clone, Copy, PartialEq, Eq)]
 pub struct Status {
     word: u16,
 }
@@ -78,8 +78,13 @@ impl Status {
     pub fn is_end(self) -> bool
         ensures { result ≡ is_end_word self }
     {
-        self.word % 256 == 0
-            || u8::try_from(self.word).is_ok_and(|number| Sig::new(number).is_some())
+        if self.word % 256 == 0 {
+            return true;
+        }
+        match u8::try_from(self.word) {
+            Ok(number) => Sig::new(number).is_some(),
+            Err(_) => false,
+        }
     }
 
     /// Whether it is that of a stop, by a signal that stops by default.

@@ -6,7 +6,7 @@ ghost use Rattle.posix.specs.Targets.{numbered_group, process_in, target_in, tar
 use crate::pid::Pid;
 
 /// Whom kill or a wait means by a number (XSH kill, XSH waitpid, XSH waitid).
-#[derive(Clone, Copy, Debug, PartialEq, Eq)]
+#[derive(Clone, Copy)]
 pub enum Target {
     /// The process with this number.
     Process(Pid),

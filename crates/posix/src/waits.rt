@@ -10,7 +10,7 @@ use crate::wait_options::{WaitOptions, WaitidOptions};
 use bitflags::Flags;
 
 /// A call that waits for a child.
-#[derive(Clone, Copy, Debug, PartialEq, Eq)]
+#[derive(Clone, Copy)]
 pub enum WaitCall {
     /// What it reports is collected (XSH waitpid).
     Waitpid,
@@ -19,7 +19,7 @@ pub enum WaitCall {
 }
 
 /// What a wait asks: of which children, and for what.
-#[derive(Clone, Copy, Debug, PartialEq, Eq)]
+#[derive(Clone, Copy)]
 pub struct Asked {
     pub target: Target,
     /// Those of waitid. A waitpid asks for ends, too.

@@ -13,9 +13,8 @@ ghost use Rattle.proctable.specs.Records.{own_of, give_own, forked};
 
 use crate::spare::Spare;
 use arena::new_arena;
-use creds::Creds;
 use posix::{Blocked, Gid, PendingSignal, Pid, Register, SigSet, Status, Uid, WaitCall};
-use signal::{FramesFull, NoFrame, Signals, leave_call, mask_before};
+use signal::{Creds, FramesFull, NoFrame, Signals, leave_call, mask_before};
 use std::alloc::{AllocError, Global};
 use umach::Cpu;
 

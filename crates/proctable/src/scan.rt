@@ -105,8 +105,9 @@ impl ProcessTable for ScanTable {
     }
 
     fn remove(&mut self, pid: Pid) {
-        let slot = take_out(&mut self.slots, &pid);
-        self.spares.keep(slot.map(|slot| slot.into_spare()));
+        if let Some(slot) = take_out(&mut self.slots, &pid) {
+            self.spares.keep(slot.into_spare());
+        }
     }
 
     fn next_after(&mut self, pid: Pid) -> Option<Pid> {

@@ -69,7 +69,7 @@ impl ProcessTable for SlabTable {
     }
 
     fn reserve(&mut self) -> Result<(), AllocError> {
-        self.index.few();
+        self.index.size_holds();
         self.spares.reserve(self.slots.len() + 1)?;
         self.index.reserve()?;
         self.slots.reserve()
@@ -90,7 +90,7 @@ impl ProcessTable for SlabTable {
 
     #[inline(always)]
     fn get(&mut self, pid: Pid) -> Option<Snapshot> {
-        self.index.few();
+        self.index.size_holds();
         match self.index.get(pid) {
             Some(slot) => Some(self.slots.snapshot(slot)),
             None => None,
@@ -121,7 +121,7 @@ impl ProcessTable for SlabTable {
     fn remove(&mut self, pid: Pid) {
         if let Some(slot) = self.index.remove(pid) {
             let gone = self.slots.remove(slot);
-            self.spares.keep(Some(gone.into_spare()));
+            self.spares.keep(gone.into_spare());
         }
     }
 

@@ -1,10 +1,10 @@
 //! The small fields of a process.
 
-use creds::Creds;
 use posix::{Blocked, Life, News, Pid, Sig};
+use signal::Creds;
 
 /// The fields of a process that a reader gets by value.
-#[derive(Clone, Copy, Debug, PartialEq, Eq)]
+#[derive(Clone, Copy)]
 pub struct Snapshot {
     /// Its own number.
     pub pid: Pid,

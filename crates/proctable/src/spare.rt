@@ -1,7 +1,6 @@
 //! What processes leave behind for those that are born.
 
-ghost use Rattle.std.specs.Prelude.{◌≡◌, ◌+◌, ◌-◌, ◌<◌, ◌≤◌, ◌++◌, [], OnOk, length, slice_get, take, vec_len, vec_capacity};
-ghost use Rattle.std.specs.Option.{option_to_list};
+ghost use Rattle.std.specs.Prelude.{◌≡◌, ◌+◌, ◌-◌, ◌<◌, ◌≤◌, ◌++◌, ◌∷◌, [], OnOk, length, slice_get, take, vec_len, vec_capacity};
 
 use signal::LazyTables;
 use std::alloc::{AllocError, Global};
@@ -40,15 +39,13 @@ impl Spares {
         self.kept.reserve(more)
     }
 
-    /// Keeps what a process leaves, if there is something, and room for it.
-    pub fn keep(&mut self, left: Option<Spare>)
-        ensures room { vec_len self.old.kept < vec_capacity self.old.kept → self.new.kept.items ≡ self.old.kept.items ++ option_to_list left }
+    /// Keeps what a process leaves, if there is room for it.
+    pub fn keep(&mut self, left: Spare)
+        ensures room { vec_len self.old.kept < vec_capacity self.old.kept → self.new.kept.items ≡ self.old.kept.items ++ left ∷ [] }
         ensures full { vec_capacity self.old.kept ≤ vec_len self.old.kept → self.new.kept.items ≡ self.old.kept.items }
     {
-        if let Some(spare) = left {
-            if self.kept.len() < self.kept.capacity() {
-                self.kept.push_reserved(spare);
-            }
+        if self.kept.len() < self.kept.capacity() {
+            self.kept.push_reserved(left);
         }
     }
 

@@ -1,5 +1,5 @@
 -- How it ends where a put fails.
-use Rattle.std.proofs.Common.{◌≡◌, Bool, List, ℕ, Option, Some, None, Bor, refl, Result, Ok, Err}
+use Rattle.std.proofs.Common.{◌≡◌, Bool, List, ℕ, Option, Some, Result, Ok, Err}
 use Rattle.std.specs.Prelude.{IsErrAnd}
 use Rattle.inputs.specs.Reads.{Contents, Text}
 use Rattle.inputs.specs.declared.failure.FileFailure.{FileFailure}

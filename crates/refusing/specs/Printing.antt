@@ -2,7 +2,6 @@
 use Rattle.std.specs.Prelude.{ℕ, ◌++◌, List, [], ◌∷◌, codes, decimal}
 use Rattle.refusing.specs.Sections.{section_line}
 use Rattle.refusing.specs.Marks.{blanks, marks, shown}
-use Rattle.refusing.specs.declared.sight.Sight.{Sight}
 use Rattle.refusing.specs.declared.telling.Shown.{Shown}
 use Rattle.refusing.specs.declared.telling.Shown.TheVariants.{File, FirstLine, Line}
 use Rattle.refusing.specs.declared.telling.Told.{Told}

@@ -1,7 +1,7 @@
 -- What the program does with its words, and what its status means.
-use Rattle.std.specs.Prelude.{◌≡◌, ℕ, Bool, true, false, List, map, Option, None, Some, Result, Ok, Err, IsSomeAnd}
+use Rattle.std.specs.Prelude.{◌≡◌, ℕ, Bool, true, false, List, map, Option, None, Result, Ok, Err, IsSomeAnd}
 use Rattle.std.specs.Borrow.{Bor}
-use Rattle.host.specs.declared.words.WordsFault.{WordsFault}
+use Rattle.inputs.specs.declared.command_line.WordsFault.{WordsFault}
 use Rattle.inputs.specs.Failures.{MeansOf, status_of}
 use Rattle.inputs.specs.Reads.{Contents, Text}
 use Rattle.inputs.specs.declared.failure.FileFailure.{FileFailure}

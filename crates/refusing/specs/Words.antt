@@ -1,5 +1,5 @@
 -- The words of the command line, and what they ask for.
-use Rattle.std.specs.Prelude.{List, [], ◌∷◌, codes, map, Option, None, Some, option_map}
+use Rattle.std.specs.Prelude.{List, [], ◌∷◌, codes, Option, None, Some, option_map}
 use Rattle.clap.specs.Words.{App, Row, Text, fault_of, first_of, matches_of}
 use Rattle.clap.specs.declared.builder.action.ArgAction.TheVariants.{Set}
 use Rattle.inputs.specs.Words.{command_of, files_in, unless_refused}

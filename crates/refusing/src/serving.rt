@@ -1,14 +1,13 @@
 //! What the program does: what is told of a text that is refused, and the statuses.
 
 ghost use Rattle.std.specs.Prelude.{◌≡◌, ◌≤◌, Err, map};
-ghost use Rattle.host.specs.declared.words.WordsFault.{WordsFault};
+ghost use Rattle.inputs.specs.declared.command_line.WordsFault.{WordsFault};
 ghost use Rattle.refusing.specs.Serving.{Ends, Means, answer_of, asked_by};
 ghost use Rattle.refusing.specs.Words.{request_of_words};
 
 use crate::request::requested;
 use crate::texts::{Input, told_of};
-use host::{ReadFiles, WordsFault};
-use inputs::FileFailure;
+use inputs::{FileFailure, ReadFiles, WordsFault};
 use sink::{Sink, put_all};
 use std::alloc::Global;
 

@@ -28,7 +28,7 @@ pub struct Refused<'a> {
 }
 
 /// A part of docs/ERRORS.md.
-#[derive(Clone, Copy, Debug, PartialEq, Eq)]
+#[derive(Clone, Copy)]
 pub enum Section {
     Header,
     Programs,

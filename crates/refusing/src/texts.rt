@@ -8,8 +8,7 @@ ghost use Rattle.refusing.specs.Texts.{AreAccepted, IsInput, IsRefused, IsUnread
 
 use crate::printing::printed;
 use crate::telling::{Refused, told_of_events, told_of_world};
-use host::ReadFiles;
-use inputs::{FileFailure, read_file};
+use inputs::{FileFailure, ReadFiles, read_file};
 use naming::{Named, name_text};
 use std::alloc::{AllocError, Global};
 use text::{Reason, TextFault, World, read_events, read_world};

@@ -16,10 +16,10 @@ use Rattle.inputs.specs.Reads.{AreInFiles, Contents}
 use Rattle.running.specs.Words.{AsksAudit, AsksRun, request_of_words}
 use Rattle.running.specs.declared.serving.Failure.{Failure}
 use Rattle.running.specs.declared.serving.Failure.TheVariants as failure
-use Rattle.host.specs.declared.files.FileFault.{FileFault}
-use Rattle.host.specs.declared.files.FileFault.TheVariants as file
-use Rattle.host.specs.declared.words.WordsFault.{WordsFault}
-use Rattle.host.specs.declared.words.WordsFault.TheVariants as word
+use Rattle.inputs.specs.declared.files.FileFault.{FileFault}
+use Rattle.inputs.specs.declared.files.FileFault.TheVariants as file
+use Rattle.inputs.specs.declared.command_line.WordsFault.{WordsFault}
+use Rattle.inputs.specs.declared.command_line.WordsFault.TheVariants as word
 use Rattle.running.specs.declared.serving.TheConstants.{STORED_EVENTS, STORED_WORLD}
 
 -- The words of the command line, where they could be read.

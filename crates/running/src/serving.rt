@@ -1,7 +1,7 @@
 //! What the program does: its texts and its statuses.
 
 ghost use Rattle.std.specs.Prelude.{◌≡◌, ◌≤◌, IfOk, IfErr, IfSome, OnErr, OnOk, map};
-ghost use Rattle.host.specs.declared.files.FileFault.{FileFault};
+ghost use Rattle.inputs.specs.declared.files.FileFault.{FileFault};
 ghost use Rattle.sink.specs.Sinks.{BreaksOff, TakesAll};
 ghost use Rattle.inputs.specs.Reads.{AreInFiles};
 ghost use Rattle.running.specs.Serving.{AreOther, AskFor, AskForAudit, Ends, IsToldAs, Means, answer_of, failure_of, status_of};
@@ -9,8 +9,7 @@ ghost use Rattle.running.specs.Serving.{AreOther, AskFor, AskForAudit, Ends, IsT
 use crate::words::{Request, requested};
 use arrayvec::ArrayString;
 use audit::{AuditFault, TraceFault, audit_text};
-use host::{FileFault, ReadFiles, WordsFault};
-use inputs::tell_unread;
+use inputs::{FileFault, ReadFiles, WordsFault, tell_unread};
 use kernel::{RunError, Sink, SinkFault, put_all, run};
 use std::alloc::Global;
 use std::fmt::Write;

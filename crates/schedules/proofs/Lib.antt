@@ -4,3 +4,7 @@ pub mod ScheduledLemmas
 pub mod GivenLemmas
 pub mod WalkLemmas
 pub mod Rows
+mod LineLemmas
+mod NumberLemmas
+mod SayLemmas
+mod AddLemmas

@@ -1,3 +1,4 @@
 pub mod Families
 pub mod Schedules
 pub mod Walks
+pub mod EventLines

@@ -1,4 +1,5 @@
-//! Schedules: the ways to put ticks into a list of events, which ones there are, and each in turn.
+//! Schedules: the ways to put ticks into a list of events, which ones there are, and each in turn; and lists of events
+//! as texts.
 #![tactic(auto)]
 
 ghost use Rattle.std.specs.Prelude.{◌≡◌, ◌≢◌, ◌+◌, ◌≤◌, ◌↔◌, ℕ, List, length, All, AllPairs, Contains};
@@ -7,10 +8,12 @@ ghost use Rattle.posix.specs.declared.event.Event.{Event};
 ghost use Rattle.schedules.specs.Families.{Places, family, IsSchedule, IsBefore, choose};
 ghost use Rattle.schedules.specs.Schedules.{scheduled, from_front};
 
+mod eventtext;
 mod places;
 pub mod schedule;
 pub mod sizes;
 
+pub use eventtext::write_events;
 pub use schedule::Schedule;
 pub use sizes::family_size;
 

@@ -10,8 +10,9 @@ use crate::state::put_state;
 use crate::stepping::{Ask, StepFault, Steps, put_text};
 use crate::words::{Request, process_of, requested};
 use arrayvec::ArrayString;
-use host::{ReadFiles, WordsFault};
-use inputs::{InputFault, Inputs, NoRequest, number, read_inputs, tell_unread};
+use inputs::{
+    InputFault, Inputs, NoRequest, ReadFiles, WordsFault, number, read_inputs, tell_unread,
+};
 use kernel::{Sink, SinkFault, put_all};
 use posix::Pid;
 use std::alloc::{AllocError, Global};

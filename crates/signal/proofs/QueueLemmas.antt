@@ -1,5 +1,5 @@
 -- The queue of real-time signals, and the bits that say which of them are queued.
-use Rattle.std.proofs.Common.{◌≡◌, ◌≢◌, ℕ, zero, suc, ◌-◌, ◌^◌, ◌<◌, ◌≤◌, Bool, true, false, not, ◌&&◌, ◌||◌, ◌==◌, nat_le, nat_lt, List, [], ◌∷◌, ◌++◌, length, refl, sym, ap, ◌∙◌, subst, arith, bit_and, filter, get_or, Option, Some, None, inl, inr}
+use Rattle.std.proofs.Common.{◌≡◌, ◌≢◌, ℕ, zero, suc, ◌-◌, ◌^◌, ◌<◌, ◌≤◌, Bool, true, false, not, ◌&&◌, ◌||◌, ◌==◌, nat_le, nat_lt, List, [], ◌∷◌, ◌++◌, length, refl, sym, ap, ◌∙◌, subst, arith, bit_and, filter, get_or, Option, Some, None, is_some, inl, inr}
 use Rattle.std.specs.Prelude.{if◌then◌else◌}
 use Rattle.std.specs.Int.{bit_at}
 use Rattle.std.specs.List.{list_any, position, position_or_len, remove}
@@ -27,6 +27,11 @@ pub at_most_64 : (s : ℕ) → is_realtime s ≡ true → s ≤ 64
 at_most_64 s is = leb-true s 64 (and_parts _ _ is).1
 
 -- ---- the first signal with a number
+
+-- one stands somewhere where there is one
+pub is_some_position : (t : PendingSignal → Bool) (q : List PendingSignal) → is_some (position t q) ≡ list_any t q
+is_some_position t [] = refl
+is_some_position t (m ∷ q) = grind (arith, is_some_position t q)
 
 -- it stands where none before it has the number
 first_at : (s i : ℕ) (q : List PendingSignal) (d : PendingSignal) → i < length q → has_sig s (get_or q i d) ≡ true → ((k : ℕ) → k < i → has_sig s (get_or q k d) ≡ false)

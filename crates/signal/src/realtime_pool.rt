@@ -1,7 +1,7 @@
 //! Room for the real-time signals that are queued for processes.
 
-ghost use Rattle.std.specs.Prelude.{ℕ, ◌≡◌, ◌+◌, ◌-◌, ◌<◌, ◌≤◌, ◌++◌, ◌∷◌, [], not, nat_le, IsSome, Some, None, IfOk, OnOk, OnErr, filter, length, slice_get};
-ghost use Rattle.std.specs.List.{list_any, position};
+ghost use Rattle.std.specs.Prelude.{ℕ, ◌≡◌, ◌+◌, ◌-◌, ◌<◌, ◌≤◌, ◌++◌, ◌∷◌, [], not, IsSome, Some, None, IfOk, OnOk, OnErr, filter, length};
+ghost use Rattle.std.specs.List.{position};
 ghost use Rattle.posix.specs.Choice.{first_carried, without_first};
 ghost use Rattle.posix.specs.Generation.{has_sig};
 ghost use Rattle.posix.specs.Sends.{most_queued};
@@ -38,32 +38,18 @@ impl RealtimePool {
         })
     }
 
-    /// Whether no more signals can be queued.
-    pub fn is_full(&self) -> bool
-        ensures { result ≡ nat_le most_queued (length self.now) }
+    /// What is queued.
+    pub fn as_slice(&self) -> &[PendingSignal]
+        ensures { result.now ≡ self.now }
     {
-        self.signals.len() == 32
+        self.signals.as_slice()
     }
 
     /// Where the first of the signals with this number stands.
-    fn place(&self, sig: Sig) -> Option<usize>
+    pub fn place(&self, sig: Sig) -> Option<usize>
         ensures { result ≡ position (has_sig sig) self.now }
     {
         self.signals.iter().position(|signal| signal.sig == sig)
-    }
-
-    /// Whether a signal with this number is queued.
-    pub fn holds(&self, sig: Sig) -> bool
-        ensures { result ≡ list_any (has_sig sig) self.now }
-    {
-        self.signals.iter().any(|signal| signal.sig == sig)
-    }
-
-    /// The signal that stands at a place, the first at 0.
-    pub fn get(&self, place: usize) -> Option<PendingSignal>
-        ensures { result ≡ slice_get self.now place }
-    {
-        self.signals.get(place).copied()
     }
 
     /// A signal is queued behind the others.
@@ -126,7 +112,7 @@ impl GrantedPools {
         }
     }
 
-    /// No pool, in a granted_pools of its own. It takes no memory.
+    /// No pool, from the same host. It takes no memory.
     pub fn without_pools(&self) -> GrantedPools
         ensures { result.pools ≡ 0 }
     {

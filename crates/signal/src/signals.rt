@@ -106,7 +106,7 @@ impl Signals {
     pub fn queued(&self, place: usize) -> Option<PendingSignal>
         ensures { result ≡ slice_get self.now.queue place }
     {
-        self.tables.queued(place)
+        self.tables.queue().get(place).copied()
     }
 
     /// How many handlers have been entered and haven't returned.
@@ -295,7 +295,7 @@ impl Signals {
     pub fn is_queue_full(&self) -> bool
         ensures { result ≡ nat_le most_queued (length self.now.queue) }
     {
-        self.tables.is_queue_full()
+        self.tables.queue().len() >= 32
     }
 
     /// A real-time signal is generated for the process, which has this number and life. It is queued behind those

@@ -48,11 +48,11 @@ impl Model for LazyTables {
 }
 
 /// There are 16 frames already.
-#[derive(Clone, Copy, Debug, PartialEq, Eq)]
+#[derive(Clone, Copy)]
 pub struct FramesFull;
 
 /// There is no frame.
-#[derive(Clone, Copy, Debug, PartialEq, Eq)]
+#[derive(Clone, Copy)]
 pub struct NoFrame;
 
 impl LazyTables {
@@ -153,30 +153,24 @@ impl LazyTables {
 
     // ---- the queue
 
-    /// The real-time signal that stands at a place of the queue, the first at 0.
-    pub fn queued(&self, place: usize) -> Option<PendingSignal>
-        ensures { result ≡ slice_get self.now.queue place }
+    /// The queue.
+    pub fn queue(&self) -> &[PendingSignal]
+        ensures { result.now ≡ self.now.queue }
     {
-        self.queue.as_ref()?.get(place)
+        match &self.queue {
+            None => &[],
+            Some(pool) => pool.as_slice(),
+        }
     }
 
     /// Whether a real-time signal is queued.
+    #[tactic(auto, using(crate::proofs::QueueLemmas::is_some_position))]
     pub fn is_queued(&self, sig: Sig) -> bool
         ensures { result ≡ list_any (has_sig sig) self.now.queue }
     {
         match &self.queue {
             None => false,
-            Some(pool) => pool.holds(sig),
-        }
-    }
-
-    /// Whether no more real-time signals can be queued.
-    pub fn is_queue_full(&self) -> bool
-        ensures { result ≡ nat_le most_queued (length self.now.queue) }
-    {
-        match &self.queue {
-            None => false,
-            Some(pool) => pool.is_full(),
+            Some(pool) => pool.place(sig).is_some(),
         }
     }
 

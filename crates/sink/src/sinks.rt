@@ -7,7 +7,7 @@ ghost use Rattle.sink.specs.Sinks.{Seen, TakesAll, BreaksOff, failures_after, is
 use std::io::Write;
 
 /// A sink took no more.
-#[derive(Clone, Copy, Debug, PartialEq, Eq)]
+#[derive(Clone, Copy)]
 pub struct SinkFault;
 
 /// What takes bytes.

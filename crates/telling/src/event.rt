@@ -327,7 +327,7 @@ impl<'l, 't> Teller<'l, 't> {
             _ => 0,
         };
         let hears = old.pending.contains(Sig::CHLD) && self.hears(new, entries, all);
-        let is_same = old.pending == new.pending && old.queued == new.queued;
+        let is_same = old.pending.bits() == new.pending.bits() && old.queued == new.queued;
         if is_same && sent == 0 && !hears {
             return false;
         }

@@ -200,7 +200,7 @@ fn ignored_by(own: &OwnPart) -> SigSet {
     let mut set = SigSet::EMPTY;
     for number in 1..65u8 {
         if let Some((sig, action)) = action_of(own, number) {
-            if action.handler == Handler::Ignore {
+            if matches!(action.handler, Handler::Ignore) {
                 set = set.union(SigSet::just(sig));
             }
         }

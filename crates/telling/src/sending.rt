@@ -8,7 +8,7 @@ use signal::Signals;
 pub(crate) const MOST_QUEUED: usize = 32;
 
 /// What a process makes of a signal that is sent to it.
-#[derive(Clone, Copy, PartialEq, Eq)]
+#[derive(Clone, Copy)]
 pub enum Fate {
     Kept,
     Ignored,

@@ -84,10 +84,10 @@ fn put_losses(text: &mut Prose, it: &Snapshot, asked: &Asked, drops: bool) {
     if let Some(group) = group_of(it, asked) {
         text.push_with("once it has no child left in group ", group.number());
         text.push_str(", ");
-    } else if drops && asked.target == Target::All {
+    } else if drops && matches!(asked.target, Target::All) {
         text.push_str("once it has no child left, ");
     }
-    if asked.target == Target::OwnGroup && it.session != it.pid && !it.ran_exec {
+    if matches!(asked.target, Target::OwnGroup) && it.session != it.pid && !it.ran_exec {
         text.push_str("once it is moved to another group, ");
     }
 }

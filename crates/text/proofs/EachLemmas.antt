@@ -26,6 +26,10 @@ pub each-last : {A B E : Type 0} (f : A → Result B E) (xs : List A) (x : A) �
 each-last f [] x = one (f x)
 each-last f (a ∷ xs) x = rw (each-last f xs x) (before-last (f a) (each f xs) (f x))
 
+-- where all elements give something, and one more does, all of them give that
+pub each-one_more : {A B E : Type 0} (f : A → Result B E) (xs : List A) (x : A) (ys : List B) (y : B) → each f xs ≡ Ok ys → f x ≡ Ok y → each f (xs ++ x ∷ []) ≡ Ok (ys ++ y ∷ [])
+each-one_more f xs x ys y all one = each-last f xs x ∙ rw (all, one) refl
+
 after-first : {B E : Type 0} (y : B) (front : List B) (r : Result (List B) E) →
     ((r >>= λ ys. Ok (y ∷ ys)) >>= λ rest. Ok (front ++ rest)) ≡ (r >>= λ rest. Ok ((front ++ y ∷ []) ++ rest))
 after-first y front (Ok ys) = rw append_assoc refl
@@ -38,6 +42,13 @@ pub each-next : {A B E : Type 0} (f : A → Result B E) (xs : List A) (i : ℕ) 
 each-next f xs i x y front whole below is gives so =
     let split : drop i xs ≡ x ∷ drop (i + 1) xs = grind (arith, drop-cons xs i x) in
     so ∙ (ap (λ l. each f l >>= λ rest. Ok (front ++ rest)) split ∙ (ap (λ r. (r >>= λ b. (each f (drop (i + 1) xs) >>= λ ys. Ok (b ∷ ys))) >>= λ rest. Ok (front ++ rest)) gives ∙ after-first y front (each f (drop (i + 1) xs))))
+
+-- A loop that has come to `i`, where the next element is refused, gives why.
+pub each-refused : {A B E : Type 0} (f : A → Result B E) (xs : List A) (i : ℕ) (x : A) (e : E) (front : List B) (whole : Result (List B) E) →
+    i < length xs → x ≡ get_or xs i x → f x ≡ Err e → whole ≡ (each f (drop i xs) >>= λ rest. Ok (front ++ rest)) → whole ≡ Err e
+each-refused f xs i x e front whole below is refused so =
+    let split : drop i xs ≡ x ∷ drop (i + 1) xs = grind (arith, drop-cons xs i x) in
+    so ∙ (ap (λ l. each f l >>= λ rest. Ok (front ++ rest)) split ∙ ap (λ r. (r >>= λ b. (each f (drop (i + 1) xs) >>= λ ys. Ok (b ∷ ys))) >>= λ rest. Ok (front ++ rest)) refused)
 
 -- A loop that has come to the end gives what it has.
 pub each-ends : {A B E : Type 0} (f : A → Result B E) (xs : List A) (i : ℕ) (front : List B) (whole : Result (List B) E) →

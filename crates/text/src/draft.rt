@@ -8,7 +8,7 @@ ghost use Rattle.text.specs.Reading.{Answers, AnswersAs, IsFaultOf};
 ghost use Rattle.text.specs.declared.fault.Reason.TheVariants.{Memory};
 ghost use Rattle.text.specs.WorldTexts.{Becomes, before_colon as before_colon_of, close_program as closed, consoles_line as consoles_line_of, empty_draft, fault_at_end, header as header_of, inner_line as inner_line_of, instruction_line as instruction_line_of, label_line as label_line_of, line_at as line_at_of, outer_line as outer_line_of, outlines_at, pidmax_line as pidmax_line_of, programs_of, setting as setting_of, world_at_end, world_line as world_line_of, world_of};
 
-use crate::fault::{Reason, TextFault};
+use crate::fault::{Reason, TextFault, no_memory};
 use crate::instructions::{Operation, operands, operation_named};
 use crate::names::Definitions;
 use crate::numbers::number_in;
@@ -249,7 +249,6 @@ impl Draft {
 
     /// The programs that began, with their names looked up. The first name that isn't found is
     /// `NameUnknown` at its line, and `line` is that of a fault `Memory`.
-    #[tactic(auto, using(crate::proofs::EachLemmas::each_rules))]
     fn completed(&self, line: u64) -> Result<Vec<Program>, TextFault>
         ensures answer { AnswersAs result (λ v. v.items) (programs_of self.now) }
         ensures len { IfOk result (λ v. length v.items ≡ length (outlines_at self.now.section self.now.programs self.now.opened)) }
@@ -257,14 +256,14 @@ impl Draft {
     {
         let names = &self.names;
         let mut programs = programs(self.alloc, names, self.programs.as_slice(), line)?;
-        if self.section == Section::InProgram {
-            let program = self.opened.program(self.alloc, names, line)?;
-            programs.push(program).map_err(|_| TextFault {
-                line,
-                reason: Reason::Memory,
-            })?;
+        let Section::InProgram = self.section else {
+            return Ok(programs);
+        };
+        let program = self.opened.program(self.alloc, names, line)?;
+        match programs.push(program) {
+            Ok(()) => Ok(programs),
+            Err(_) => Err(no_memory(line)),
         }
-        Ok(programs)
     }
 
     /// The fault of a text that has this fault behind the lines so far: it, or the first name of theirs

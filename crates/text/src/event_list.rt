@@ -14,7 +14,7 @@ use std::marker::Model;
 const UNIT: u64 = 1 << 32;
 
 /// So many times one event, fewer than 2^40. It takes eight bytes, as a text can have a run for each key.
-#[derive(Clone, Copy, Debug, PartialEq, Eq)]
+#[derive(Clone, Copy, PartialEq, Eq)]
 pub struct EventRun {
     event: Event,
     units: u8,

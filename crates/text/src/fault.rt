@@ -56,3 +56,13 @@ pub struct TextFault {
     pub line: u64,
     pub reason: Reason,
 }
+
+/// There was no memory at a line.
+pub(crate) fn no_memory(line: u64) -> TextFault
+    ensures { result ≡ record { line = line; reason = Memory } }
+{
+    TextFault {
+        line,
+        reason: Reason::Memory,
+    }
+}

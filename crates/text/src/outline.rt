@@ -8,7 +8,7 @@ ghost use Rattle.text.specs.Outlines.{completed, names_for, program_of};
 ghost use Rattle.text.specs.Reading.{Answers, AnswersAs, each};
 ghost use Rattle.text.specs.WorldTexts.{empty_outline};
 
-use crate::fault::{Reason, TextFault};
+use crate::fault::{Reason, TextFault, no_memory};
 use crate::names::{Definitions, Name};
 use crate::sketch::{Sketch, Use, Written};
 use posix::{Gid, Instr, Uid};
@@ -165,15 +165,17 @@ fn instructions(
     ensures len { IfOk result (λ v. length v.items ≡ length code.now) }
     ensures range { IfOk result (λ v. list_all is_instruction v.items ≡ true) }
 {
-    let memory = TextFault {
-        line,
-        reason: Reason::Memory,
+    let Ok(mut instructions) = Vec::with_capacity(alloc, code.len()) else {
+        return Err(no_memory(line));
     };
-    let mut instructions = Vec::with_capacity(alloc, code.len()).map_err(|_| memory)?;
     for written in code {
-        let instr = complete(names, written)?;
-        range_holds(&instr);
-        instructions.push(instr).map_err(|_| memory)?;
+        match complete(names, written) {
+            Ok(instr) => {
+                range_holds(&instr);
+                instructions.push_reserved(instr);
+            }
+            Err(fault) => return Err(fault),
+        }
     }
     Ok(instructions)
 }
@@ -189,14 +191,14 @@ pub fn programs(
     ensures len { IfOk result (λ v. length v.items ≡ length outlines.now) }
     ensures range { IfOk result (λ v. list_all is_program v.items ≡ true) }
 {
-    let memory = TextFault {
-        line,
-        reason: Reason::Memory,
+    let Ok(mut programs) = Vec::with_capacity(alloc, outlines.len()) else {
+        return Err(no_memory(line));
     };
-    let mut programs = Vec::with_capacity(alloc, outlines.len()).map_err(|_| memory)?;
     for outline in outlines {
-        let program = outline.program(alloc, names, line)?;
-        programs.push(program).map_err(|_| memory)?;
+        match outline.program(alloc, names, line) {
+            Ok(program) => programs.push_reserved(program),
+            Err(fault) => return Err(fault),
+        }
     }
     Ok(programs)
 }

@@ -40,7 +40,7 @@ pub fn ends_line(key: u8) -> bool
 }
 
 /// What a key did.
-#[derive(Clone, Copy, Debug, PartialEq, Eq)]
+#[derive(Clone, Copy)]
 pub struct KeyEffect {
     /// The signal that goes to the foreground process group; none for a key that is no signal key.
     pub signal: Option<Sig>,

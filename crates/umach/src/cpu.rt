@@ -178,9 +178,9 @@ impl Cpu {
         ensures within { IsWithin most result.0 result.1 }
     {
         for done in 0..most {
-            let trap = self.exec_one(program);
-            if trap != Trap::Next {
-                return (done, trap);
+            match self.exec_one(program) {
+                Trap::Next => {}
+                trap => return (done, trap),
             }
         }
         (most, Trap::Next)

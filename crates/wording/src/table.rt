@@ -1,7 +1,7 @@
 //! The names of numbers.
 
 /// What a name is one of.
-#[derive(Clone, Copy, Debug, PartialEq, Eq)]
+#[derive(Clone, Copy, PartialEq, Eq)]
 pub enum Kind {
     Signal,
     Errno,

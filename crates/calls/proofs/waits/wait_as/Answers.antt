@@ -206,7 +206,7 @@ returns-else-leaves-clause-brief g c = λ quiet.
     let parent = parent_is c.in-End.child _ mid.state.processes child.what refl there_child ∙ child.parent in
     let slots = wait_slots c.in-Some.asked.target me.pid s.processes in
     brief_on 9 _ _ c.args.machine.now mid _ looks.same looks.visits (omega (arith, slots))
-    (brief_reaped me.pid c.in-End.child _ mid c.reap.new.self _ here.what child.what (c.requires.regular.bounded c.in-End.child child.what child.found).group_least (quiet_on _ c.args.machine.now _ looks.same quiet) c.reap.ensures.changes.state (c.reap.ensures.changes.to_recheck ∙ ap (λ p. without_gone c.in-End.child p mid.to_recheck) parent)
+    (brief_reaped me.pid c.in-End.child _ mid c.reap.new.self _ here.what child.what (c.requires.regular.bounded c.in-End.child child.what child.found).session_least (quiet_on _ c.args.machine.now _ looks.same quiet) c.reap.ensures.changes.state (c.reap.ensures.changes.to_recheck ∙ ap (λ p. without_gone c.in-End.child p mid.to_recheck) parent)
     (c.reap.ensures.foregrounds_unchecked child.what there_child) c.reap.ensures.changes.costs.visits here.found c.take.ensures.state c.take.ensures.costs)
 
 pub returns-else-leaves-2-clause-brief : goal.returns-else-leaves-2-clause-brief

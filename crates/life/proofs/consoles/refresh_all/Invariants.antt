@@ -1,12 +1,12 @@
-use Rattle.std.proofs.Common.{◌≡◌, ◌+◌, ◌≤◌, count_by, take}
-use Rattle.life.specs.Foregrounds.{is_unchecked, refreshed_where}
+use Rattle.std.proofs.Common.{◌≡◌, ◌+◌, ◌≤◌}
+use Rattle.posix.specs.Settle.{refreshed}
 use Rattle.life.proofs.ReaderLemmas.{refreshed_to}
 use Rattle.life.proofs.consoles.refresh_all.Given as goal
 
 abbrev pub invariant-loop-console_index : goal.invariant-loop-console_index
 invariant-loop-console_index g l = record {
-  consoles : l.consoles.items ≡ refreshed_to (refreshed_where l.fn.unchecked l.fn.table.processes) l.console_index l.fn.consoles.items;
+  consoles : l.consoles.items ≡ refreshed_to (refreshed l.fn.table.processes) l.console_index l.fn.consoles.items;
   processes : l.table.processes ≡ l.fn.table.processes;
   no_fewer : l.fn.table.visits ≤ l.table.visits;
-  visits : l.table.visits ≤ l.fn.table.visits + count_by (is_unchecked l.fn.unchecked) (take l.console_index l.fn.consoles.items);
+  visits : l.table.visits ≤ l.fn.table.visits + l.console_index;
 }

@@ -1,9 +1,8 @@
-use Rattle.std.proofs.Common.{◌≡◌, sym, ap, ◌∙◌, arith, rules, subst, map, length, ◌-◌}
+use Rattle.std.proofs.Common.{sym, ap, ◌∙◌, arith, rules}
 use Rattle.std.specs.Option.{option_copied}
 use Rattle.std.proofs.lemmas.List.Sorted.{answers_always}
 use Rattle.std.proofs.lemmas.Bool.Decides.{nat_tests}
-use Rattle.pidset.specs.Numbers.{IsNumberAt}
-use Rattle.pidset.proofs.ItemLemmas.{last_number, point_end, found_at, point_at}
+use Rattle.pidset.proofs.ItemLemmas.{point_end, found_at, point_at}
 use Rattle.pidset.proofs.numbered.search.Goals as goal
 
 pub returns-then-greatest-number-clause-absent : goal.returns-then-greatest-number-clause-absent

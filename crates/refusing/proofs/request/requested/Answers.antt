@@ -1,4 +1,4 @@
-use Rattle.std.proofs.Common.{◌∙◌, map, sym}
+use Rattle.std.proofs.Common.{map}
 use Rattle.inputs.proofs.RequestLemmas.{refused_words, taken_words, told_refused}
 use Rattle.refusing.specs.Words.{asked_in, command_line, request_of_words}
 use Rattle.refusing.proofs.RequestLemmas.{asked_alike, is_simple}

@@ -1,4 +1,3 @@
-use Rattle.std.proofs.Common.{◌≡◌}
 use Rattle.refusing.specs.Texts.{input_of}
 use Rattle.refusing.specs.Words.{said}
 use Rattle.refusing.proofs.ServingLemmas.{unwritten}

@@ -1,4 +1,4 @@
-use Rattle.std.proofs.Common.{◌≡◌, ◌∙◌, sym, arith, ◌<◌}
+use Rattle.std.proofs.Common.{◌∙◌, sym, arith, ◌<◌}
 use Rattle.refusing.proofs.SightLemmas.{behind_no_word}
 use Rattle.refusing.proofs.sight.behind_words.Goals as goal
 

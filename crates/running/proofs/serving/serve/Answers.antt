@@ -1,5 +1,5 @@
 use Rattle.std.proofs.Common.{◌≡◌, refl, rules, Err}
-use Rattle.host.specs.declared.words.WordsFault.TheVariants as word
+use Rattle.inputs.specs.declared.command_line.WordsFault.TheVariants as word
 use Rattle.running.proofs.ServingLemmas.{means_served}
 use Rattle.running.proofs.serving.serve.Goals as goal
 use Rattle.running.proofs.serving.serve.Goals.{in-Ok, in-Err-NotText, in-Err-Memory}

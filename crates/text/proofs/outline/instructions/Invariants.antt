@@ -1,5 +1,5 @@
-use Rattle.std.proofs.Common.{◌≡◌, ◌++◌, length, drop, true}
-use Rattle.std.specs.Prelude.{Ok}
+use Rattle.std.proofs.Common.{◌≡◌, ◌≤◌, ◌+◌, ◌++◌, length, drop, true, vec_len}
+use Rattle.std.specs.Prelude.{Ok, vec_capacity}
 use Rattle.std.specs.List.{list_all}
 use Rattle.posix.specs.Ranges.{is_instruction}
 use Rattle.text.specs.Outlines.{completed}
@@ -12,4 +12,5 @@ invariant-loop-written l = record {
       ≡ (each (completed l.names.programs.now l.names.labels.now) (drop l.written-index l.code) >>= λ rest. Ok (l.instructions.items ++ rest));
   len : length l.instructions.items ≡ l.written-index;
   range : list_all is_instruction l.instructions.items ≡ true;
+  room : vec_len l.instructions + length l.code ≤ vec_capacity l.instructions + l.written-index;
 }

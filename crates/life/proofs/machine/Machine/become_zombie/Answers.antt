@@ -12,7 +12,7 @@ use Rattle.life.proofs.EndLemmas.{keeps_made_zombie, there_after, zombie_after}
 use Rattle.life.proofs.RecheckLemmas.{has_room, room_after, room_of, pids_of, listed_more, listed_where}
 use Rattle.life.proofs.DepartureLemmas.{listed_left, deaf_parent, quiet_zombie}
 use Rattle.life.proofs.SoundLemmas.{there, here_in, heir_in, found_in, sound_departed, there_made_zombie, within_departed}
-use Rattle.life.proofs.ForegroundLemmas.{fresh_all}
+use Rattle.life.proofs.ForegroundLemmas.{fresh_departed}
 use Rattle.life.proofs.ViewLemmas.{state_is}
 use Rattle.life.proofs.MoveLemmas.{zombie_put}
 use Rattle.life.proofs.machine.Machine.become_zombie.Goals as goal
@@ -76,7 +76,7 @@ invariant_of-self g c =
     (rw up (i.sound.parents p me.what c.requires.other found)) (heir_there s p heir i.sound.regular h) c.insert.ensures.pids c.insert.ensures.room c.recheck_where.ensures c.recheck_where-2.ensures
     (deaf_parent s p parent c.args.status me.what _ c.change_seen-parent.result.after awaited found up made c.change_seen-parent.ensures.after c.is_awaited-awaited.ensures.value)
     (λ e. quiet_zombie s p c.args.status c.is_awaited-awaited.new.table.processes c.next_wanted.result i.sound.regular (c.is_awaited-awaited.ensures.same ∙ made) c.next_wanted.ensures (sym c.is_some-told.ensures ∙ e)) in
-    rw (c.adopt.ensures.processes, c.is_awaited-awaited.ensures.same, made, c.drop_place.ensures.pids) record { sound = search rules; listed = listed; noted = subst (λ n. IsNoted n m.groups_at_risk) (sym (room_of c.recheck_where-2.ensures ∙ room_of c.recheck_where.ensures ∙ c.insert.ensures.room)) i.noted; fresh = fresh_all _; indexed = i.indexed; within = within_departed p heir c.args.status _ i.within }
+    rw (c.adopt.ensures.processes, c.is_awaited-awaited.ensures.same, made, c.drop_place.ensures.pids) record { sound = search rules; listed = listed; noted = subst (λ n. IsNoted n m.groups_at_risk) (sym (room_of c.recheck_where-2.ensures ∙ room_of c.recheck_where.ensures ∙ c.insert.ensures.room)) i.noted; fresh = fresh_departed m.foregrounds_unchecked p heir c.args.status m.table.processes m.consoles.items i.fresh; indexed = i.indexed; within = within_departed p heir c.args.status _ i.within }
 
 pub returns : goal.returns
 returns g c =

@@ -1,5 +1,5 @@
 use Rattle.jobs.specs.Indexes.{record_seen}
-use Rattle.life.specs.declared.consoles.Unchecked.TheVariants.{All}
+use Rattle.life.specs.Foregrounds.{also_in}
 use Rattle.std.proofs.Common.{cond, ap, sym, ◌∙◌, subst, [], ◌∷◌, refl, rules}
 use Rattle.posix.specs.States.{State}
 use Rattle.posix.specs.Tables.{lookup, parent_of}
@@ -64,4 +64,4 @@ returns-clause-put g c = λ h.
     let before = seen_is _ _ _ c.change_seen-parent.ensures.before run.found in
     let after = seen_is _ _ _ c.change_seen-parent.ensures.after (ap (lookup c.args.pid) run.is ∙ record_found _ c.args.pid run.before run.after run.found) in
     let mark = rw (before, after) at c.move_numbers.ensures.foregrounds_unchecked in
-    (search rules, mark ∙ ap (λ b. cond b All c.self.inside.foregrounds_unchecked) (not_moved (record_seen run.before) (record_seen run.after) (stays _ _ _ run.found run.ran)) ∙ ap (λ (m : MachineView). m.foregrounds_unchecked) c.self.view_is)
+    (search rules, mark ∙ ap (λ b. cond b (also_in run.before.session c.self.inside.foregrounds_unchecked) c.self.inside.foregrounds_unchecked) (not_moved (record_seen run.before) (record_seen run.after) (stays _ _ _ run.found run.ran)) ∙ ap (λ (m : MachineView). m.foregrounds_unchecked) c.self.view_is)

@@ -105,4 +105,4 @@ invariant_of-self-2 g c =
     let listed = listed_born _ _ _ _ _ _ roomy.listed fits new.fresh (is_there _ me.what found) (c.insert-3.ensures.pids ∙ ap (with_number c.args.child) c.insert-2.ensures.pids) (c.insert-3.ensures.room ∙ c.insert-2.ensures.room) in
     let noted = subst (λ n. IsNoted n c.make_room.new.groups_at_risk) (sym (c.insert-3.ensures.room ∙ c.insert-2.ensures.room)) roomy.noted in
     rw (c.insert.ensures.processes, c.in_ok-fields.ensures.looks.processes, processes_of c.in_ok-reserve.ensures.rest)
-    (record { sound = sound; listed = listed; noted = noted; fresh = fresh_still _ _ _ _ (λ ds h. fresh_inserted (process_of c.args.child c.args.parent c.in_ok-fields.fields) _ ds h) roomy.fresh; indexed = roomy.indexed; within = within_inserted (process_of c.args.child c.args.parent c.in_ok-fields.fields) _ new.fresh (c.in_ok-reserve-4.ensures.numbers, subst (λ n. n < c.reserve-4.new.self.numbers) (sym groups.1) (roomy.within c.args.parent me.what found).1) roomy.within })
+    (record { sound = sound; listed = listed; noted = noted; fresh = fresh_still c.self.inside.foregrounds_unchecked _ _ _ (λ ds h. fresh_inserted (process_of c.args.child c.args.parent c.in_ok-fields.fields) _ ds h) roomy.fresh; indexed = roomy.indexed; within = within_inserted (process_of c.args.child c.args.parent c.in_ok-fields.fields) _ new.fresh (c.in_ok-reserve-4.ensures.numbers, subst (λ n. n < c.reserve-4.new.self.numbers) (sym groups.1) (roomy.within c.args.parent me.what found).1) roomy.within })

@@ -6,7 +6,7 @@ use Rattle.posix.specs.Tables.{lookup, removed}
 use Rattle.proctable.specs.Records.{snapshot_of}
 use Rattle.proctable.specs.declared.snapshot.Snapshot.{Snapshot}
 use Rattle.life.specs.Machines.{AreWithin, IsNoted}
-use Rattle.life.specs.Foregrounds.{AreFreshBut, after_loss}
+use Rattle.life.specs.Foregrounds.{AreFreshBut, also_in}
 use Rattle.life.specs.Rechecks.{without_gone}
 use Rattle.life.proofs.ForegroundLemmas.{fresh_removed}
 use Rattle.life.proofs.SoundLemmas.{found_in}
@@ -35,13 +35,13 @@ invariant_of-self g c =
     let up = c.self.invariant.sound.parents c.args.pid it.0 c.requires.other found in
     let fields : c.discard-snapshot.result ≡ snapshot_of it.0 = same_Some _ _ (c.discard-snapshot.ensures.value ∙ ap (option_map snapshot_of) found) in
     let parent : c.discard-snapshot.result.parent ≡ it.0.parent = rw fields refl in
-    let group : c.discard-snapshot.result.group ≡ it.0.group = rw fields refl in
+    let session : c.discard-snapshot.result.session ≡ it.0.session = rw fields refl in
     rw c.discard-snapshot.ensures.processes (record {
       sound = sound_gone _ _ _ _ c.args.pid _ _ it.0 c.self.invariant.sound found it.2 c.requires.other gone (omega arith);
       listed = listed_removed _ c.args.pid _ _ it.0 _ _ c.self.invariant.sound.regular (listed_zombie _ c.args.pid it.0 _ c.self.invariant.listed found it.2 c.put.ensures.moved) found up
           (pids_of c.forget.ensures ∙ ap (λ n. without_gone c.args.pid n c.self.inside.to_recheck.pids) parent) (room_of c.forget.ensures) (none_marked c.args.pid _ _ c.put.ensures.moved);
       noted = subst (λ n. IsNoted n c.self.inside.groups_at_risk) (sym (room_of c.forget.ensures)) c.self.invariant.noted;
-      fresh = subst (λ u. AreFreshBut u (removed c.args.pid c.self.inside.table.processes) c.self.inside.consoles.items) (sym (c.after_loss-self-inside.ensures ∙ ap (λ g. after_loss g c.self.inside.foregrounds_unchecked) group)) (fresh_removed _ c.args.pid it.0 _ _ c.self.invariant.sound.regular.rising found c.self.invariant.fresh);
+      fresh = subst (λ u. AreFreshBut u (removed c.args.pid c.self.inside.table.processes) c.self.inside.consoles.items) (sym (c.also_in-self-inside.ensures ∙ ap (λ g. also_in g c.self.inside.foregrounds_unchecked) session)) (fresh_removed _ c.args.pid it.0 _ _ c.self.invariant.sound.regular.rising found c.self.invariant.fresh);
       indexed = c.self.invariant.indexed;
       within = subst (λ n. AreWithin n (removed c.args.pid c.self.inside.table.processes)) (sym c.put.ensures.numbers) (within_removed c.args.pid _ c.self.invariant.within);
     })
@@ -51,11 +51,11 @@ returns g c =
     let it = c.requires.zombie in
     let found = found_in _ _ (state_is c.self.view_is) c.args.pid it.0 it.1 in
     let rs = c.self.inside.table.processes in
-    let group = λ (r : Process) (e : lookup c.args.pid rs ≡ Some r). ap (λ (f : Snapshot). f.group) (same_Some _ (snapshot_of r) (c.discard-snapshot.ensures.value ∙ ap (option_map snapshot_of) e)) in
+    let session = λ (r : Process) (e : lookup c.args.pid rs ≡ Some r). ap (λ (f : Snapshot). f.session) (same_Some _ (snapshot_of r) (c.discard-snapshot.ensures.value ∙ ap (option_map snapshot_of) e)) in
     let one = length_removed c.args.pid it.0 rs c.self.invariant.sound.regular.rising found in
     let left = ap (λ (l : List Process). length l) c.discard-snapshot.ensures.processes in
     record {
       changes = record { state = rw (c.discard-snapshot.ensures.processes, (c.discard-snapshot.ensures.counts it.0 found).last, ← c.self.view_is) refl; to_recheck = search rules; costs = search rules };
-      foregrounds_unchecked = λ r e. c.after_loss-self-inside.ensures ∙ ap (λ g. after_loss g c.self.inside.foregrounds_unchecked) (group r (found_in _ _ (state_is c.self.view_is) c.args.pid r e)) ∙ search rules;
+      foregrounds_unchecked = λ r e. c.also_in-self-inside.ensures ∙ ap (λ g. also_in g c.self.inside.foregrounds_unchecked) (session r (found_in _ _ (state_is c.self.view_is) c.args.pid r e)) ∙ search rules;
       born = omega (arith, one, left, c.self.invariant.sound.counted);
     }

@@ -40,7 +40,7 @@ returns-clause-changes g c =
       state =
           c.change-before.ensures.changes.state ∙ ap (with_processes c.args.self.now.state) (run_as (with_alarm c.due_in-due.result) c.change-before.ensures.run c.change-before.ensures.changes.costs.regular.rising (λ b d r k q. search rules))
           ∙ ap (λ (a : Option ℕ). record (c.args.self.now.state) { processes = changed c.args.pid (with_alarm a) c.args.self.now.state.processes }) due;
-      to_recheck = search rules;
-      foregrounds_unchecked = search rules;
-      costs = search rules;
+      to_recheck = c.change-before.ensures.changes.to_recheck;
+      foregrounds_unchecked = c.change-before.ensures.changes.foregrounds_unchecked;
+      costs = c.change-before.ensures.changes.costs;
     }

@@ -26,7 +26,7 @@ invariant_of-self g c =
     let at = found_there _ _ (ap (λ (s : State). s.consoles) (sym (state_is c.self.view_is))) it.1 c.index_mut.ensures.value in
     rw (c.take.ensures.console, at.1) (machine_put _ _ _ _ _ _ _ _ _ _ console_index (line_taken (length c.args.out.now) it.0) c.self.invariant
     (put_unread _ _ console_index it.0 _ c.self.invariant.sound.regular c.self.invariant.listed at.0 refl refl refl (λ e. ap (lines_left (length c.args.out.now)) e))
-    (fresh_alike _ _ _ console_index it.0 _ at.0 refl refl c.self.invariant.fresh)
+    (fresh_alike c.self.inside.foregrounds_unchecked c.self.inside.table.processes _ console_index it.0 _ at.0 refl refl c.self.invariant.fresh)
     (terminals_kept _ console_index it.0 _ _ at.0 refl c.self.invariant.indexed))
 
 pub returns-clause-taken : goal.returns-clause-taken

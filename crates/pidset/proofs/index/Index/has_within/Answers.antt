@@ -15,8 +15,8 @@ told low high from items pairs seen first most are is same view read =
 
 pub returns-in-Some : goal.returns-in-Some
 returns-in-Some c =
-    told c.args.low c.args.high c.keyed.result c.deref.result.now c.self.inside.pairs.items _ (Some c.in-Some.pair.now) c.keyed.ensures.range.1 c.self.invariant c.keyed.ensures.is c.deref.ensures.value (sym (ap (λ (s : IndexView). s.pairs) c.self.view_is)) (sym (ap option_copied c.in-Some.is) ∙ c.next_above.ensures)
+    told c.args.low c.args.high c.keyed.result c.as_slice.result.now c.self.inside.pairs.items _ (Some c.in-Some.pair.now) c.keyed.ensures.range.1 c.self.invariant c.keyed.ensures.is c.as_slice.ensures (sym (ap (λ (s : IndexView). s.pairs) c.self.view_is)) (sym (ap option_copied c.in-Some.is) ∙ c.next_above.ensures)
 
 pub returns-in-None : goal.returns-in-None
 returns-in-None c =
-    told c.args.low c.args.high c.keyed.result c.deref.result.now c.self.inside.pairs.items _ None c.keyed.ensures.range.1 c.self.invariant c.keyed.ensures.is c.deref.ensures.value (sym (ap (λ (s : IndexView). s.pairs) c.self.view_is)) (sym (ap option_copied c.in-None.is) ∙ c.next_above.ensures)
+    told c.args.low c.args.high c.keyed.result c.as_slice.result.now c.self.inside.pairs.items _ None c.keyed.ensures.range.1 c.self.invariant c.keyed.ensures.is c.as_slice.ensures (sym (ap (λ (s : IndexView). s.pairs) c.self.view_is)) (sym (ap option_copied c.in-None.is) ∙ c.next_above.ensures)

@@ -1,12 +1,12 @@
-use Rattle.std.proofs.Common.{◌∙◌, ◌==◌, ◌&&◌, not, sym, ap, subst, arith, filter, find}
+use Rattle.std.proofs.Common.{◌∙◌, ◌==◌, ◌&&◌, not, sym, ap, subst, filter, find}
 use Rattle.std.specs.Option.{IsSome}
 use Rattle.pidset.specs.declared.index.Pair.{Pair}
 use Rattle.pidset.specs.Indexes.{ArePairs, IndexView, is_pair_in, pair_number}
-use Rattle.pidset.proofs.PairLemmas.{child_taken, child_found, pairs_taken, on_some}
+use Rattle.pidset.proofs.PairLemmas.{child_taken, child_found, pairs_taken}
 use Rattle.pidset.proofs.index.Index.remove.Goals as goal
 
 pub invariant_of-self : goal.invariant_of-self
-invariant_of-self c = subst ArePairs (sym c.take_out-pair.ensures.items) (pairs_taken _ _ c.self.invariant)
+invariant_of-self c = subst ArePairs (sym c.take_out.ensures.items) (pairs_taken _ _ c.self.invariant)
 
 pub returns-clause-rising : goal.returns-clause-rising
 returns-clause-rising c = invariant_of-self c
@@ -15,7 +15,7 @@ pub returns-clause-pairs : goal.returns-clause-pairs
 returns-clause-pairs c = λ p d.
     let items = c.self.inside.pairs.items in
     let gone : Pair = record { key = c.args.key; pid = c.args.pid } in
-    ap (is_pair_in p d) (c.take_out-pair.ensures.items ∙ ap (λ x. filter (λ y. not (pair_number y == pair_number x)) items) c.keyed-pair.ensures.is)
+    ap (is_pair_in p d) (c.take_out.ensures.items ∙ ap (λ x. filter (λ y. not (pair_number y == pair_number x)) items) c.keyed-pair.ensures.is)
     ∙ child_taken gone items c.keyed-pair.ensures.range c.self.invariant.within p d
     ∙ ap (λ (s : IndexView). not (p == c.args.key && d == c.args.pid) && is_pair_in p d s.pairs) c.self.view_is
 
@@ -24,6 +24,4 @@ returns-clause-left c = λ e.
     let items = c.self.inside.pairs.items in
     let gone : Pair = record { key = c.args.key; pid = c.args.pid } in
     let some = child_found gone items c.keyed-pair.ensures.range c.self.invariant.within (ap (λ (s : IndexView). is_pair_in c.args.key c.args.pid s.pairs) c.self.view_is ∙ e) in
-    let is = c.take_out-pair.ensures.value ∙ ap (λ x. find (λ y. pair_number y == pair_number x) items) c.keyed-pair.ensures.is in
-    let less = on_some c.take_out-pair.result (subst IsSome (sym is) some) c.take_out-pair.ensures.one_less in
-    omega (arith, less, c.take_out-pair.ensures.capacity, c.self.inside.pairs.ok.0, c.take_out-pair.new.items.ok.0)
+    c.take_out.ensures.left (subst (λ x. IsSome (find (λ y. pair_number y == pair_number x) items)) (sym c.keyed-pair.ensures.is) some)

@@ -1,4 +1,4 @@
-use Rattle.std.proofs.Common.{◌≡◌, ◌+◌, ◌-◌, ◌<◌, ◌≤◌, ℕ, None, length}
+use Rattle.std.proofs.Common.{◌≡◌, ◌+◌, ◌-◌, ◌<◌, ◌≤◌, ℕ, None}
 use Rattle.pidset.specs.Pages.{value_at}
 use Rattle.pidset.proofs.page.Page.next_above.Given as goal
 
@@ -11,4 +11,4 @@ invariant-loop-at g l = record {
 }
 
 abbrev pub decreases-loop-at : goal.decreases-loop-at
-decreases-loop-at g l = length l.self.values.items - l.at
+decreases-loop-at g l = l.self.end - l.at

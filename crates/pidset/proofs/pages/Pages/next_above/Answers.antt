@@ -16,7 +16,7 @@ pub returns-then-is_some-clause-value : goal.returns-then-is_some-clause-value
 returns-then-is_some-clause-value g c =
     let ps = c.self.inside.pages.items in
     let n = c.args.after in
-    let is = c.above_in_page-near.ensures ∙ ap (λ ps. option_and_then (λ p. first_above n (entries_in p)) (page_of (n / 256) ps)) c.deref.ensures.value in
+    let is = c.next_in-near.ensures ∙ ap (option_and_then (λ p. first_above n (entries_in p))) (c.page.ensures.is ∙ ap (page_of (n / 256)) c.deref.ensures.value) in
     rw (← c.self.view_is) (near _ _ (sym c.is_some.ensures ∙ c.if-is_some.true) ∙ ap (λ o. option_or o (option_and_then (λ p. first_above n (entries_in p)) (slice_get (filter (λ p. nat_lt (n / 256) p.number) ps) 0))) is ∙ sym (first_pages ps c.self.invariant.0.used c.self.invariant.0.rising n))
 
 pub returns-then-is_some-clause-rising : goal.returns-then-is_some-clause-rising
@@ -26,9 +26,9 @@ pub returns-clause-value : goal.returns-clause-value
 returns-clause-value g c =
     let ps = c.self.inside.pages.items in
     let n = c.args.after in
-    let is = c.above_in_page-near.ensures ∙ ap (λ ps. option_and_then (λ p. first_above n (entries_in p)) (page_of (n / 256) ps)) c.deref.ensures.value in
-    let rest = c.first_behind_page.ensures ∙ ap (λ ps. option_and_then (λ p. first_above n (entries_in p)) (slice_get (filter (λ p. nat_lt (n / 256) p.number) ps) 0)) c.deref-2.ensures.value in
-    rw (← c.self.view_is) (far _ _ (sym c.is_some.ensures ∙ c.if-is_some.false) ∙ ap (option_or c.above_in_page-near.result) rest ∙ ap (λ o. option_or o (option_and_then (λ p. first_above n (entries_in p)) (slice_get (filter (λ p. nat_lt (n / 256) p.number) ps) 0))) is ∙ sym (first_pages ps c.self.invariant.0.used c.self.invariant.0.rising n))
+    let is = c.next_in-near.ensures ∙ ap (option_and_then (λ p. first_above n (entries_in p))) (c.page.ensures.is ∙ ap (page_of (n / 256)) c.deref.ensures.value) in
+    let rest = c.next_in.ensures ∙ ap (option_and_then (λ p. first_above n (entries_in p))) (c.page_behind.ensures.is ∙ ap (λ ps. slice_get (filter (λ p. nat_lt (n / 256) p.number) ps) 0) c.deref-2.ensures.value) in
+    rw (← c.self.view_is) (far _ _ (sym c.is_some.ensures ∙ c.if-is_some.false) ∙ ap (option_or c.next_in-near.result) rest ∙ ap (λ o. option_or o (option_and_then (λ p. first_above n (entries_in p)) (slice_get (filter (λ p. nat_lt (n / 256) p.number) ps) 0))) is ∙ sym (first_pages ps c.self.invariant.0.used c.self.invariant.0.rising n))
 
 pub returns-clause-rising : goal.returns-clause-rising
 returns-clause-rising g c = rw (← c.self.view_is) (rises_pages c.self.inside.pages.items c.self.invariant.0.used c.self.invariant.0.rising)

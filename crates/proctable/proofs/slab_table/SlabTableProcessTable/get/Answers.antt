@@ -8,7 +8,7 @@ pub returns-in-None-clause-value : goal.returns-in-None-clause-value
 returns-in-None-clause-value c = rw (← c.self.view_is) (sym (ap (option_map snapshot_of) (unslotted c.self.inside.index.entries c.self.inside.slots.processes c.args.pid c.self.invariant.standing (sym c.get.ensures ∙ c.in-None.is))))
 
 pub returns-in-None-clause-size : goal.returns-in-None-clause-size
-returns-in-None-clause-size c = rw (← c.self.view_is, as_many c.self.inside.index.entries c.self.inside.slots.processes c.self.invariant.standing) (omega (arith, c.few.ensures))
+returns-in-None-clause-size c = rw (← c.self.view_is, as_many c.self.inside.index.entries c.self.inside.slots.processes c.self.invariant.standing) (omega (arith, c.size_holds.ensures))
 
 pub returns-in-None-clause-rising : goal.returns-in-None-clause-rising
 returns-in-None-clause-rising c = rw (← c.self.view_is) (rising_processes c.self.inside.index.entries c.self.inside.slots.processes c.self.invariant.standing c.self.invariant.rising)
@@ -22,7 +22,7 @@ returns-in-Some-clause-value c =
     rw (← c.self.view_is) (sym c.snapshot.ensures.value ∙ ap (option_map snapshot_of) (s.at ∙ sym s.found))
 
 pub returns-in-Some-clause-size : goal.returns-in-Some-clause-size
-returns-in-Some-clause-size c = rw (← c.self.view_is, as_many c.self.inside.index.entries c.self.inside.slots.processes c.self.invariant.standing) (omega (arith, c.few.ensures))
+returns-in-Some-clause-size c = rw (← c.self.view_is, as_many c.self.inside.index.entries c.self.inside.slots.processes c.self.invariant.standing) (omega (arith, c.size_holds.ensures))
 
 pub returns-in-Some-clause-rising : goal.returns-in-Some-clause-rising
 returns-in-Some-clause-rising c = rw (← c.self.view_is) (rising_processes c.self.inside.index.entries c.self.inside.slots.processes c.self.invariant.standing c.self.invariant.rising)

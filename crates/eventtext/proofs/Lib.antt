@@ -1,4 +1,0 @@
-mod LineLemmas
-mod NumberLemmas
-mod SayLemmas
-mod AddLemmas

@@ -1,9 +1,0 @@
-use Rattle.std.proofs.Common.{[], map, take}
-use Rattle.std.specs.String.{string_bytes}
-use Rattle.posix.specs.declared.event.Event.TheVariants.{Key}
-use Rattle.text.specs.EventLists.{expanded}
-use Rattle.eventtext.specs.EventLines.{AddsFirst}
-use Rattle.eventtext.proofs.write_events.Given as goal
-
-abbrev pub invariant-loop-run : goal.invariant-loop-run
-invariant-loop-run l = AddsFirst (string_bytes l.fn.text) [] (expanded (take l.run-index l.run-items)) (string_bytes l.text) (map (Key l.keys.console) l.keys.bytes.items)

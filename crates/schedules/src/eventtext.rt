@@ -1,0 +1,162 @@
+//! Lists of events as the texts that stand for them.
+
+ghost use Rattle.std.specs.Prelude.{◌≡◌, ◌<◌, ◌≤◌, [], ◌∷◌, ◌++◌, length, map, replicate, OnOk};
+ghost use Rattle.std.specs.String.{string_bytes};
+ghost use Rattle.arrayvec.specs.ArrayVec.{array_vec_len};
+ghost use Rattle.posix.specs.declared.event.Event.{Event as AnEvent};
+ghost use Rattle.posix.specs.declared.event.Event.TheVariants.{Key, Hangup};
+ghost use Rattle.text.specs.EventTexts.{most_events};
+ghost use Rattle.schedules.specs.EventLines.{AddsFirst, AddsLines, AddsText, IsWordOf, two_digits};
+
+use arrayvec::ArrayVec;
+use posix::Event;
+use std::alloc::AllocError;
+use std::fmt::Write;
+use text::{EventList, EventRun};
+
+/// The most events of a line `step N` or `tick N`.
+const MOST_COUNTED: u64 = 1_000_000;
+
+/// The most bytes of a line `key C B ..`: so it stays short.
+const MOST_KEYS: usize = 16;
+
+/// Keys of one console that wait for the line of keys to end.
+#[derive(Drop)]
+struct Keys {
+    console: u8,
+    bytes: ArrayVec<u8, MOST_KEYS>,
+}
+
+/// Writes so many steps or ticks.
+fn write_counted(text: &mut String, word: &str, count: u64) -> Result<(), AllocError>
+    ensures { OnOk result ((event : AnEvent) → IsWordOf event word.now → AddsLines (string_bytes text.old) (replicate count event) (string_bytes text.new)) }
+{
+    let mut left = count;
+    while left > 0 {
+        let here = left.min(MOST_COUNTED);
+        writeln!(text, "    {word} {here}")?;
+        left -= here;
+    }
+    Ok(())
+}
+
+/// Writes a hangup.
+fn write_hangup(text: &mut String, console: u8) -> Result<(), AllocError>
+    ensures { OnOk result (AddsLines (string_bytes text.old) (Hangup console ∷ []) (string_bytes text.new)) }
+{
+    writeln!(text, "    hangup {console}")?;
+    Ok(())
+}
+
+/// Writes so many hangups.
+fn write_hangups(text: &mut String, console: u8, count: u64) -> Result<(), AllocError>
+    ensures { OnOk result (AddsLines (string_bytes text.old) (replicate count (Hangup console)) (string_bytes text.new)) }
+{
+    for _i in 0..count {
+        write_hangup(text, console)?;
+    }
+    Ok(())
+}
+
+/// Writes a byte as a word of two digits.
+fn write_byte(text: &mut String, byte: u8) -> Result<(), AllocError>
+    ensures { OnOk result (string_bytes text.new ≡ string_bytes text.old ++ 32 ∷ two_digits byte) }
+{
+    write!(text, " {byte:02X}")
+}
+
+/// Writes a line of keys.
+fn write_key_line(text: &mut String, console: u8, bytes: &[u8]) -> Result<(), AllocError>
+    requires { length bytes.now ≤ 16 }
+    ensures { OnOk result (AddsLines (string_bytes text.old) (map (Key console) bytes.now) (string_bytes text.new)) }
+{
+    if bytes.is_empty() {
+        return Ok(());
+    }
+    write!(text, "    key {console}")?;
+    for byte in bytes {
+        write_byte(text, *byte)?;
+    }
+    text.push_str("\n")?;
+    Ok(())
+}
+
+/// Ends the line of the keys that wait, if there are some.
+fn end_keys(text: &mut String, keys: &mut Keys) -> Result<(), AllocError>
+    ensures adds { OnOk result (AddsFirst (string_bytes text.old) (map (Key keys.old.console) keys.old.bytes.items) [] (string_bytes text.new) (map (Key keys.new.console) keys.new.bytes.items)) }
+    ensures none { OnOk result (keys.new.bytes.items ≡ []) }
+    ensures len { OnOk result (array_vec_len keys.new.bytes ≡ 0) }
+{
+    write_key_line(text, keys.console, keys.bytes.as_slice())?;
+    keys.bytes.clear();
+    Ok(())
+}
+
+/// Ends the line of the keys that wait where it is full, or of another console.
+fn make_room(text: &mut String, keys: &mut Keys, console: u8) -> Result<(), AllocError>
+    ensures adds { OnOk result (AddsFirst (string_bytes text.old) (map (Key keys.old.console) keys.old.bytes.items) [] (string_bytes text.new) (map (Key keys.new.console) keys.new.bytes.items)) }
+    ensures console { OnOk result (keys.new.console ≡ console) }
+    ensures room { OnOk result (array_vec_len keys.new.bytes < 16) }
+{
+    if keys.console == console && !keys.bytes.is_full() {
+        return Ok(());
+    }
+    end_keys(text, keys)?;
+    keys.console = console;
+    Ok(())
+}
+
+/// Adds a key so many times.
+fn put_keys(
+    text: &mut String,
+    keys: &mut Keys,
+    console: u8,
+    byte: u8,
+    count: u64,
+) -> Result<(), AllocError>
+    ensures { OnOk result (AddsFirst (string_bytes text.old) (map (Key keys.old.console) keys.old.bytes.items) (replicate count (Key console byte)) (string_bytes text.new) (map (Key keys.new.console) keys.new.bytes.items)) }
+{
+    for _i in 0..count {
+        make_room(text, keys, console)?;
+        keys.bytes.push(byte);
+    }
+    Ok(())
+}
+
+/// Adds a run of one event.
+fn put_run(text: &mut String, keys: &mut Keys, run: EventRun) -> Result<(), AllocError>
+    ensures { OnOk result (AddsFirst (string_bytes text.old) (map (Key keys.old.console) keys.old.bytes.items) (replicate run.count run.event) (string_bytes text.new) (map (Key keys.new.console) keys.new.bytes.items)) }
+{
+    match run.event() {
+        Event::Step => {
+            end_keys(text, keys)?;
+            write_counted(text, "step", run.count())
+        }
+        Event::Tick => {
+            end_keys(text, keys)?;
+            write_counted(text, "tick", run.count())
+        }
+        Event::Key { console, byte } => put_keys(text, keys, console, byte, run.count()),
+        Event::Hangup { console } => {
+            end_keys(text, keys)?;
+            write_hangups(text, console, run.count())
+        }
+    }
+}
+
+/// Writes a list of events as a text that stands for them, each line behind four blanks. Without memory a part of
+/// the text may have been added.
+pub fn write_events(text: &mut String, events: &EventList) -> Result<(), AllocError>
+    requires { length events.now ≤ most_events }
+    ensures { OnOk result (AddsText (string_bytes text.old) events.now (string_bytes text.new)) }
+{
+    let mut keys = Keys {
+        console: 0,
+        bytes: ArrayVec::new(),
+    };
+    for run in events.runs() {
+        put_run(text, &mut keys, *run)?;
+    }
+    end_keys(text, &mut keys)?;
+    Ok(())
+}
