@@ -1,9 +1,7 @@
 -- What an audit that knows some texts knows after one more.
-use Rattle.std.proofs.Common.{◌≡◌, ℕ, true, false, List, [], ◌∷◌, ◌++◌, Option, Some, None, is_none, ◌≢◌, inl, inr, refl, ap, sym, ◌∙◌, subst, Result, Ok, Err, OnOk}
+use Rattle.std.proofs.Common.{◌≡◌, ℕ, true, false, List, [], ◌∷◌, ◌++◌, Some, None, is_none, ◌≢◌, inl, inr, refl, ap, sym, ◌∙◌, subst, Result, Ok, Err, OnOk}
 use mathlib.Core.Path.{fun_ext}
-use Rattle.posix.specs.Entries.{Line, line}
-use Rattle.posix.specs.declared.entry.Entry.{Entry}
-use Rattle.posix.specs.declared.entry.Entry.TheVariants.{Halted}
+use Rattle.posix.specs.Entries.{Line}
 use Rattle.laws.specs.TraceLines.{Says}
 use Rattle.laws.specs.Lives.{Laws, laws, last_line}
 use Rattle.laws.specs.Keeping.{Kept, Phase, kept_of, kept_after, last_number, phase_of, fault_of}
@@ -18,10 +16,6 @@ use Rattle.audit.specs.declared.fault.AuditFault.{AuditFault}
 use Rattle.audit.specs.declared.fault.AuditFault.TheVariants.{NoLine, Memory}
 
 -- ---- the lines that texts say
-
-line_in : Option (ℕ × Entry) → Line
-line_in None = line 0 Halted
-line_in (Some x) = line x.0 x.1
 
 -- texts say one list of lines
 pub all_one : (texts : List (List ℕ)) (ls ms : List Line) → AllSay texts ls → AllSay texts ms → ls ≡ ms

@@ -1,8 +1,8 @@
 //! The children of each number, in lists of records that are linked both ways: so an end visits its own children alone.
 
-ghost use Rattle.std.specs.Prelude.{◌≡◌, ◌≢◌, ◌≤◌, ℕ, true, nat_lt, is_some, OnOk, OnErr, None};
+ghost use Rattle.std.specs.Prelude.{◌≡◌, ◌≢◌, ◌≤◌, true, nat_lt, is_some, OnOk, OnErr, None};
 ghost use Rattle.audit.specs.Records.{record_in};
-ghost use Rattle.audit.specs.Children.{AreLinked, IsPutBehind, IsJoined, IsGiven, AreAllGiven, AreGivenOn, IsBegun, first_of, parent_in, behind_in};
+ghost use Rattle.audit.specs.Children.{AreLinked, IsPutBehind, IsJoined, IsGiven, AreAllGiven, AreGivenOn, IsBegun, first_of, parent_in};
 
 use crate::records::{Link, Record, Records, State, behind_by, first_by, relink, restart};
 use posix::Pid;

@@ -4,7 +4,6 @@ use Rattle.posix.specs.SignalNumbers.{TTIN, TTOU}
 use Rattle.posix.specs.Processes.{Process}
 use Rattle.posix.specs.States.{State}
 use Rattle.posix.specs.Consoles.{Console}
-use Rattle.posix.specs.Outcomes.{Attempted}
 use Rattle.posix.specs.Groups.{is_orphaned}
 use Rattle.posix.specs.Terminals.{is_in_background, blocks_or_ignores}
 use Rattle.calls.specs.declared.background.Access.{Access}

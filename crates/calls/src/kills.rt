@@ -1,6 +1,6 @@
 //! Signals that processes send (XSH kill, XSH sigqueue).
 
-ghost use Rattle.std.specs.Prelude.{◌≡◌, ◌+◌, ◌≤◌, Bool, length, IsSome, Some, pos, true};
+ghost use Rattle.std.specs.Prelude.{◌≡◌, ◌+◌, ◌≤◌, Bool, length, IsSome, Some, true};
 ghost use Rattle.posix.specs.Sends.{message as message_of, signal_or_none as signal_number_or_none, send as sending};
 ghost use Rattle.posix.specs.States.{process};
 ghost use Rattle.life.specs.Callers.{process_like};

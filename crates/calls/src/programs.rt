@@ -1,6 +1,6 @@
 //! Programs that processes run in place of their own (XSH exec).
 
-ghost use Rattle.std.specs.Prelude.{◌≡◌, ◌≤◌, length, IsSome};
+ghost use Rattle.std.specs.Prelude.{◌≤◌, length, IsSome};
 ghost use Rattle.posix.specs.States.{process};
 ghost use Rattle.calls.specs.Outcomes.{Attempts};
 

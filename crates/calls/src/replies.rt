@@ -1,6 +1,6 @@
 //! Calls that change their process alone: its number, ids, actions and signal mask.
 
-ghost use Rattle.std.specs.Prelude.{◌≡◌, ◌≤◌, length, pos, true, is_some, IfSome};
+ghost use Rattle.std.specs.Prelude.{◌≡◌, ◌≤◌, length, true, is_some, IfSome};
 ghost use Rattle.std.specs.Int.{cast_unsigned, w64};
 ghost use Rattle.posix.specs.Processes.{Process, argument};
 ghost use Rattle.posix.specs.Outcomes.{refusal as refusal_of};

@@ -1,6 +1,6 @@
 //! Waits for children (XSH waitpid, XSH waitid).
 
-ghost use Rattle.std.specs.Prelude.{◌≡◌, ◌≢◌, ◌+◌, ◌*◌, ◌≤◌, ◌++◌, option_map, true, ◌∷◌, [], length, pos, IsSome, IfSome, Some, is_some};
+ghost use Rattle.std.specs.Prelude.{◌≡◌, ◌≢◌, ◌+◌, ◌*◌, ◌≤◌, ◌++◌, true, ◌∷◌, [], length, pos, IsSome, Some};
 ghost use Rattle.posix.specs.declared.entry.Entry.TheVariants.{Called, Looked, Reported};
 ghost use Rattle.posix.specs.Processes.{Process};
 ghost use Rattle.posix.specs.Calls.{call_of_wait};

@@ -96,8 +96,8 @@ fn explain_line<'a, O: Sink>(
     ensures err { IfErr result (λ why. (said : List ℕ) × (is_one_line said ≡ true) × Stops why out.old out.new (O.seen out.old) (O.seen out.new) (waiting.old.items ++ told_line line.now said)) }
 {
     say(known, words, line)?;
-    let said = words.as_str()?;
-    tell_line(waiting, line, one_line(said.as_bytes()), out)
+    let said = words.as_bytes()?;
+    tell_line(waiting, line, one_line(said), out)
 }
 
 /// Puts a trace, and behind each line, after three spaces, what its numbers say. A line whose numbers say no more than

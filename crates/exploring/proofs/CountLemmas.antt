@@ -16,7 +16,7 @@ use Rattle.exploring.specs.Tallies.{with_schedule_if}
 use Rattle.exploring.specs.Texts.{have_text, saw, after_run}
 use Rattle.exploring.specs.Endings.{ending_of, is_halted, is_at_rest, is_alarmed, is_going, with_ending}
 use Rattle.exploring.specs.Courses.{IsCourse, course_of}
-use Rattle.exploring.specs.Books.{empty_book, with_run}
+use Rattle.exploring.specs.Books.{with_run}
 use Rattle.exploring.specs.Counts.{tally_over, ends_so, shows, endings_over, find_over, book_over}
 use Rattle.exploring.proofs.CourseLemmas.{is_course}
 

@@ -1,6 +1,6 @@
 -- Runs, one after another, where all memory is granted.
 use Rattle.kernel.proofs.RunLemmas.{runs_then}
-use Rattle.std.proofs.Common.{Result, Ok, Err, OnOk, ◌≡◌, ℕ, zero, suc, ◌+◌, ◌-◌, ◌<◌, ◌≤◌, Bool, true, false, ◌||◌, Option, Some, None, List, [], ◌∷◌, ◌++◌, length, map, take, get_or, Contains, refl, ap, ap₂, sym, subst, ◌∙◌, append_assoc, append-nil, arith}
+use Rattle.std.proofs.Common.{Result, Ok, Err, OnOk, ◌≡◌, ℕ, zero, suc, ◌+◌, ◌-◌, ◌<◌, ◌≤◌, Bool, true, false, ◌||◌, Option, None, List, [], ◌∷◌, ◌++◌, length, map, take, get_or, Contains, refl, ap, ap₂, sym, subst, ◌∙◌, append_assoc, append-nil, arith}
 use Rattle.std.specs.Prelude.{replicate, option_and_then, if◌then◌else◌}
 use Rattle.std.specs.List.{All, AllByRecursion}
 use Rattle.std.specs.Result.{IfOk}
@@ -12,7 +12,7 @@ use Rattle.posix.specs.declared.event.Event.{Event}
 use Rattle.posix.specs.declared.event.Event.TheVariants.{Step}
 use Rattle.posix.specs.declared.entry.Entry.{Entry}
 use Rattle.posix.specs.declared.call.Call.{Call}
-use Rattle.posix.specs.declared.entry.Entry.TheVariants.{NoMemory, Noted}
+use Rattle.posix.specs.declared.entry.Entry.TheVariants.{NoMemory}
 use Rattle.posix.specs.Entries.{Line, line, numbered}
 use Rattle.posix.specs.States.{State, World, boot, current, current_process, process}
 use Rattle.posix.specs.Outcomes.{silent}

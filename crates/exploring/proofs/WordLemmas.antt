@@ -1,12 +1,12 @@
 -- What the words of the command line ask for.
-use Rattle.std.proofs.Common.{◌≡◌, ◌≢◌, ◌∙◌, List, Option, Some, None, true, ap, refl, Result, Ok, Err, MatchResult}
+use Rattle.std.proofs.Common.{◌≡◌, ◌≢◌, ◌∙◌, List, Option, Some, None, true, refl, Result, Ok, Err, MatchResult}
 use Rattle.clap.specs.Words.{Text, is_simple_and_free}
 use Rattle.inputs.specs.declared.words.NoRequest.{NoRequest}
 use Rattle.inputs.specs.declared.words.NoRequest.TheVariants.{Usage}
 use Rattle.exploring.specs.declared.words.Next.{Next}
 use Rattle.exploring.specs.declared.words.Next.TheVariants.{Any, Sought, File}
 use Rattle.exploring.specs.declared.words.Request.{Request}
-use Rattle.exploring.specs.Words.{Asked, Parted, asked_by_parts, asked_if_whole, asked_of, command_line, said}
+use Rattle.exploring.specs.Words.{Asked, asked_if_whole, asked_of, command_line, said}
 
 pub is_simple : is_simple_and_free command_line ≡ true
 is_simple = refl

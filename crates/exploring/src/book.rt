@@ -1,6 +1,6 @@
 //! What is kept of the runs of schedules.
 
-ghost use Rattle.std.specs.Prelude.{◌≡◌, ◌+◌, ◌<◌, ◌≤◌, ◌^◌, ◌-◌, List, length, map, IfOk, OnOk};
+ghost use Rattle.std.specs.Prelude.{◌≡◌, ◌+◌, ◌<◌, ◌≤◌, ◌^◌, ◌-◌, length, map, IfOk, OnOk};
 ghost use Rattle.exploring.specs.Endings.{with_ending};
 ghost use Rattle.exploring.specs.Texts.{after_run, saw, tally_of};
 ghost use Rattle.exploring.specs.Books.{AreCounted, empty_book, with_run, unseen};

@@ -1,6 +1,6 @@
 //! Texts that are looked for in the lines of runs.
 
-ghost use Rattle.std.specs.Prelude.{◌≡◌, ◌<◌, ◌≤◌, ◌^◌, ◌-◌, ◌||◌, false, length, map, All};
+ghost use Rattle.std.specs.Prelude.{◌≡◌, ◌<◌, ◌≤◌, ◌^◌, ◌-◌, false, length, map, All};
 ghost use Rattle.exploring.specs.Tallies.{no_schedules};
 ghost use Rattle.exploring.specs.Texts.{FindView, has_text, looked_at, after_run};
 

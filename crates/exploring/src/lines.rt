@@ -1,6 +1,6 @@
 //! Lines of a trace that are kept.
 
-ghost use Rattle.std.specs.Prelude.{◌≡◌, Some, None, option_map, if◌then◌else◌};
+ghost use Rattle.std.specs.Prelude.{◌≡◌};
 ghost use Rattle.posix.specs.Entries.{line};
 ghost use Rattle.exploring.specs.Texts.{shown as shown_of};
 ghost use Rattle.exploring.specs.Courses.{denies_memory as denies};

@@ -5,7 +5,7 @@ ghost use Rattle.std.specs.String.{string_bytes};
 ghost use Rattle.schedules.specs.Families.{IsSchedule};
 ghost use Rattle.schedules.specs.Schedules.{scheduled as scheduled_events};
 ghost use Rattle.schedules.specs.EventLines.{AddsText};
-ghost use Rattle.exploring.specs.Reports.{Adds, AreOfFamily, IsFirstOf, Reports, ShowsFind, ShowsFinds, ShowsFirst, at_rest_lines, ending_line, find_line, first_lines, first_that, plural as plural_of, size_line};
+ghost use Rattle.exploring.specs.Reports.{Adds, AreOfFamily, IsFirstOf, Reports, ShowsFind, ShowsFinds, ShowsFirst, at_rest_lines, ending_line, first_lines, first_that, plural as plural_of, size_line};
 
 use crate::course::run_list;
 use crate::{Book, Ending, Endings, Family, Find, Line, Tally, events_of, is_schedule};

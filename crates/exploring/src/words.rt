@@ -1,8 +1,8 @@
 //! The words of the command line.
 
-ghost use Rattle.std.specs.Prelude.{◌≡◌, IfErr, IfOk, MatchResult, None, OnOk, Some, map, option_map};
+ghost use Rattle.std.specs.Prelude.{◌≡◌, IfOk, MatchResult, None, OnOk, Some, map, option_map};
 ghost use Rattle.clap.specs.Lexer.{name_and_value};
-ghost use Rattle.clap.specs.Words.{app_of, found_of, matches_of, rows_of};
+ghost use Rattle.clap.specs.Words.{app_of, found_of, rows_of};
 ghost use Rattle.exploring.specs.Words.{asked_by_parts, asked_in, command_line as command_line_asked, nothing_parted, parted, parted_as, said, with_any, with_find, with_word};
 
 use clap::{ArgAction, ArgMatches, Command};

@@ -1,6 +1,6 @@
 //! The words of a command line that names one file, or a world and its events, and has options.
 
-ghost use Rattle.std.specs.Prelude.{◌≡◌, ◌≢◌, IfErr, IfOk, MatchResult, None, Some, false, map, option_map};
+ghost use Rattle.std.specs.Prelude.{◌≡◌, ◌≢◌, IfOk, MatchResult, None, Some, false, map, option_map};
 ghost use Rattle.clap.specs.Words.{app_of, first_of, found_of, kind_of, rows_of, rule_of};
 ghost use Rattle.inputs.specs.Words.{command_of, command_with_file, file_in_words, file_rule, files_in, is_used as is_used_in, option_rule};
 

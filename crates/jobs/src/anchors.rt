@@ -1,7 +1,7 @@
 //! Who keeps a process group from being orphaned (XBD 3): what moves in their index where a process changes, or its
 //! children get another parent.
 
-ghost use Rattle.std.specs.Prelude.{◌≡◌, ◌≢◌, ℕ, ◌+◌, ◌*◌, ◌<◌, ◌≤◌, ◌⊎◌, List, length, None, Some, IsSome, IfSome, option_map, if◌then◌else◌};
+ghost use Rattle.std.specs.Prelude.{◌≡◌, ◌≢◌, ℕ, ◌+◌, ◌*◌, ◌<◌, ◌≤◌, ◌⊎◌, List, length, None, Some, IsSome, option_map, if◌then◌else◌};
 ghost use Rattle.posix.specs.Processes.{Process};
 ghost use Rattle.posix.specs.Tables.{lookup, children_in, parent_of};
 ghost use Rattle.pidset.specs.Indexes.{AreTurned, IsAnchorIndex, IsMoved};

@@ -1,6 +1,6 @@
 //! The table: who is there.
 
-ghost use Rattle.std.specs.Prelude.{◌≡◌, ◌≢◌, ◌+◌, ◌*◌, ◌<◌, ◌≤◌, ◌^◌, ◌⊎◌, [], ⊤, ℕ, Some, IfOk, IfSome, IsSome, OnOk, None, true, not, is_some, if◌then◌else◌, length, filter, option_map};
+ghost use Rattle.std.specs.Prelude.{◌≡◌, ◌≢◌, ◌+◌, ◌*◌, ◌<◌, ◌≤◌, ◌^◌, ◌⊎◌, [], ⊤, ℕ, Some, IfOk, IfSome, IsSome, OnOk, None, not, is_some, length, filter, option_map};
 ghost use mathlib.Core.Option.{none};
 ghost use Rattle.std.specs.Borrow.{sem, Lends, follows_so};
 ghost use Rattle.std.specs.List.{list_any};

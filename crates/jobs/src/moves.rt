@@ -1,6 +1,6 @@
 //! Who may move from one process group to another, or lead a session (XSH setpgid, setsid).
 
-ghost use Rattle.std.specs.Prelude.{◌≡◌, ◌+◌, ◌*◌, ◌≤◌, ◌==◌, ◌&&◌, ◌||◌, not, if◌then◌else◌, Option, Some, None, IsSome, IfSome, IfErr, ◌<◌, is_ok, length, option_map};
+ghost use Rattle.std.specs.Prelude.{◌≡◌, ◌==◌, ◌&&◌, ◌||◌, not, if◌then◌else◌, Option, Some, None, IsSome, IfSome, IfErr, ◌<◌, is_ok, option_map};
 ghost use Rattle.posix.specs.declared.errno.Errno.TheVariants.{EPERM};
 ghost use Rattle.posix.specs.Processes.{Process};
 ghost use Rattle.posix.specs.Tables.{lookup};

@@ -4,8 +4,7 @@ use crate::fault::{Fault, Number, Refusal, Stop, Verdict, refuse};
 use crate::lines::Line;
 use crate::numbers::{judge_end, judge_number};
 use crate::words::is_byte;
-use naming::MAX_LINE_LEN;
-use text::Reason;
+use text::{MAX_LINE_LEN, Reason};
 
 /// Judges a line `key`.
 fn judge_keys<'a>(line: Line<'a>, consoles: u8) -> Verdict<'a> {

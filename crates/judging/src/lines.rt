@@ -1,51 +1,9 @@
 //! Lines of a text, and their words.
 
-ghost use Rattle.std.specs.Prelude.{◌≡◌, ◌<◌, ◌≤◌, ◌==◌, [], IfSome, MatchOption, Some, length, option_map};
-ghost use Rattle.std.specs.List.{position, position_or_len};
-ghost use Rattle.judging.specs.Lines.{behind_line as behind_line_of, behind_lines as behind_lines_of, first_line, line_of};
+ghost use Rattle.std.specs.Prelude.{◌≡◌, option_map};
+ghost use Rattle.judging.specs.Lines.{behind_lines as behind_lines_of, line_of};
 
-use naming::{next_word, split_comment};
-
-/// Where the first line feed stands.
-fn first_feed(text: &[u8]) -> Option<usize>
-    ensures { result ≡ position (λ b. b == 10) text.now }
-{
-    text.iter().position(|b| *b == b'\n')
-}
-
-/// How many bytes the first line has.
-fn line_len(text: &[u8]) -> usize
-    ensures len { result ≡ position_or_len (λ b. b == 10) text.now }
-    ensures within { result ≤ length text.now }
-{
-    first_feed(text).unwrap_or(text.len())
-}
-
-/// What follows the first line of a text.
-fn behind_line(text: &[u8]) -> &[u8]
-    ensures rest { result.now ≡ behind_line_of text.now }
-    ensures shorter { 0 < length text.now → length result.now < length text.now }
-{
-    let end = line_len(text);
-    if end < text.len() {
-        &text[end + 1..]
-    } else {
-        &text[end..]
-    }
-}
-
-/// The first line of a text without its line feed, which the last one may lack, and what follows it; none of the empty
-/// text.
-pub fn next_line(text: &[u8]) -> Option<(&[u8], &[u8])>
-    ensures lines { MatchOption result (text.now ≡ []) (λ f. (first_line text.now ≡ Some f.0.now) × (f.1.now ≡ behind_line_of text.now)) }
-    ensures shorter { IfSome result (λ f. length f.1.now < length text.now) }
-{
-    if text.is_empty() {
-        return None;
-    }
-    let (line, _) = text.split_at(line_len(text));
-    Some((line, behind_line(text)))
-}
+use text::{next_line, next_word, split_comment};
 
 /// What follows so many lines of a text.
 fn behind_lines(text: &[u8], count: u64) -> &[u8]
@@ -53,8 +11,11 @@ fn behind_lines(text: &[u8], count: u64) -> &[u8]
 {
     let mut rest = text;
     let mut left = count;
-    while left > 0 && !rest.is_empty() {
-        rest = behind_line(rest);
+    while left > 0 {
+        let Some((_, more)) = next_line(rest) else {
+            return rest;
+        };
+        rest = more;
         left -= 1;
     }
     rest

@@ -1,22 +1,14 @@
 //! Names that are near to a word.
 
 use crate::instructions::INSTRUCTIONS;
-use naming::{Nearest, next_word};
 use posix::Call;
 use std::alloc::{AllocError, Global};
-use std::str;
+use text::next_word;
+use wording::{Nearest, distance};
 
 /// Whether a name is near to a word.
 pub fn is_near(alloc: Global, word: &[u8], name: &[u8]) -> Result<bool, AllocError> {
     Ok(distance(alloc, word, name)?.is_some())
-}
-
-/// How far a name is from a word that it is near to.
-pub fn distance(alloc: Global, word: &[u8], name: &[u8]) -> Result<Option<usize>, AllocError> {
-    match (str::from_utf8(word), str::from_utf8(name)) {
-        (Ok(word), Ok(name)) => naming::distance(alloc, word, name),
-        _ => Ok(None),
-    }
 }
 
 /// Offers the words of a list, with blanks between them.

@@ -2,9 +2,8 @@
 
 use crate::fault::{Fault, Number, Verdict, refuse};
 use crate::lines::Line;
-use crate::words::{is_number, number_in};
 use posix::Uid;
-use text::Reason;
+use text::{Reason, integer};
 
 impl Number {
     /// The least and the greatest one.
@@ -18,12 +17,12 @@ impl Number {
         }
     }
 
-    /// Whether a word is in the range.
-    fn has(self, word: &[u8]) -> bool {
+    /// Whether a number is in the range.
+    fn has(self, number: i64) -> bool {
         let (low, high) = self.range();
-        match number_in(word).map(u64::try_from) {
-            Some(Ok(number)) => low <= number && number <= high,
-            Some(Err(_)) | None => false,
+        match u64::try_from(number) {
+            Ok(number) => low <= number && number <= high,
+            Err(_) => false,
         }
     }
 }
@@ -32,13 +31,12 @@ impl Number {
 pub fn judge_number<'a>(line: Line<'a>, place: usize, number: Number) -> Verdict<'a> {
     let word = line.word(place);
     if word.is_empty() {
-        refuse(Reason::UnknownWord, place, Fault::Missing(number))
-    } else if !is_number(word) {
-        refuse(Reason::BadNumber, place, Fault::NoNumber(number))
-    } else if !number.has(word) {
-        refuse(Reason::OutOfRange, place, Fault::OutOfRange(number))
-    } else {
-        Ok(())
+        return refuse(Reason::UnknownWord, place, Fault::Missing(number));
+    }
+    match integer(word) {
+        Ok(value) if number.has(value) => Ok(()),
+        Err(Reason::BadNumber) => refuse(Reason::BadNumber, place, Fault::NoNumber(number)),
+        _ => refuse(Reason::OutOfRange, place, Fault::OutOfRange(number)),
     }
 }
 

@@ -2,12 +2,12 @@
 //! stand.
 
 use crate::fault::{Definition, Fault, NameUse, Named, Refusal};
-use crate::lines::{Line, line_at, next_line};
-use crate::names::{distance, is_near};
-use crate::words::is_name_byte;
+use crate::lines::{Line, line_at};
+use crate::names::is_near;
 use crate::world::World;
 use std::alloc::{AllocError, Global};
-use text::Reason;
+use text::{Reason, is_name_byte, next_line};
+use wording::distance;
 
 /// What is told of another line than the one that is shown.
 #[derive(Clone, Copy)]

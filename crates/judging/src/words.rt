@@ -1,45 +1,22 @@
 //! The rules of words, by docs/FORMATS.md.
 
-use std::alloc::{AllocError, Global};
-use std::str;
+use arrayvec::ArrayVec;
+use text::{Reason, are_name_bytes, integer};
 
-/// The most bytes of a name.
-const MAX_NAME_LEN: usize = 16;
-
-/// Whether a byte may stand in a name.
-pub fn is_name_byte(byte: u8) -> bool {
-    byte.is_ascii_lowercase() || byte.is_ascii_digit() || byte == b'_'
-}
+/// So many bytes of a word are compared with names. No name has so many, and to a word of so many none is near.
+const MAX_COMPARED: usize = 24;
 
 /// Whether a word is a name, however long.
 pub fn is_long_name(word: &[u8]) -> bool {
     match word {
-        [first, rest @ ..] => first.is_ascii_lowercase() && rest.iter().all(|b| is_name_byte(*b)),
+        [first, rest @ ..] => first.is_ascii_lowercase() && are_name_bytes(rest),
         [] => false,
     }
 }
 
-/// Whether a word is a name.
-pub fn is_name(word: &[u8]) -> bool {
-    word.len() <= MAX_NAME_LEN && is_long_name(word)
-}
-
-/// Whether a word is digits alone, one or more.
-pub fn are_digits(word: &[u8]) -> bool {
-    !word.is_empty() && word.iter().all(u8::is_ascii_digit)
-}
-
 /// Whether a word is a number: digits, and maybe a minus before them.
 pub fn is_number(word: &[u8]) -> bool {
-    match word {
-        [b'-', digits @ ..] => are_digits(digits),
-        _ => are_digits(word),
-    }
-}
-
-/// The number of a word that is one and fits 64 bits.
-pub fn number_in(word: &[u8]) -> Option<i64> {
-    str::from_utf8(word).ok()?.parse::<i64>().ok()
+    !matches!(integer(word), Err(Reason::BadNumber))
 }
 
 /// Whether a word is a register.
@@ -55,12 +32,23 @@ pub fn is_byte(word: &[u8]) -> bool {
     }
 }
 
-/// A word in small letters.
-pub fn lower(alloc: Global, word: &[u8]) -> Result<Vec<u8>, AllocError> {
-    word.iter().map(u8::to_ascii_lowercase).collect(alloc)
+/// The beginning of a word that is compared with names.
+fn beginning_of(word: &[u8]) -> ArrayVec<u8, MAX_COMPARED> {
+    let mut beginning = ArrayVec::new();
+    let _ = beginning.try_extend_from_slice(&word[..word.len().min(MAX_COMPARED)]);
+    beginning
 }
 
-/// A word in capitals.
-pub fn upper(alloc: Global, word: &[u8]) -> Result<Vec<u8>, AllocError> {
-    word.iter().map(u8::to_ascii_uppercase).collect(alloc)
+/// A word in small letters, as far as it is compared.
+pub fn lower(word: &[u8]) -> ArrayVec<u8, MAX_COMPARED> {
+    let mut small = beginning_of(word);
+    small.make_ascii_lowercase();
+    small
+}
+
+/// A word in capitals, as far as it is compared.
+pub fn upper(word: &[u8]) -> ArrayVec<u8, MAX_COMPARED> {
+    let mut capitals = beginning_of(word);
+    capitals.make_ascii_uppercase();
+    capitals
 }

@@ -2,12 +2,11 @@
 
 use crate::fault::{Definition, Fault, NameUse, Named, Number, Refusal, Stop, Verdict, refuse};
 use crate::instructions::{Operands, is_call, operands_of};
-use crate::lines::{Line, next_line};
+use crate::lines::Line;
 use crate::numbers::{judge_end, judge_number};
-use crate::words::{is_name, is_number, is_register, number_in};
-use naming::MAX_LINE_LEN;
+use crate::words::{is_number, is_register};
 use std::alloc::{AllocError, Global};
-use text::Reason;
+use text::{MAX_LINE_LEN, Reason, integer, is_name, next_line};
 use umach::Program;
 
 /// The most programs of a world.
@@ -282,12 +281,12 @@ impl<'a> World<'a> {
             [] => refuse(Reason::UnknownWord, 2, Fault::NoValue),
             [b'@', name @ ..] => self.take_marked(number, name, Named::Label),
             [b'$', name @ ..] => self.take_marked(number, name, Named::Program),
-            word if !is_number(word) => {
-                refuse(Reason::BadNumber, 2, Fault::BadValue(self.first_line()))
-            }
-            word => match number_in(word) {
-                Some(_) => Ok(()),
-                None => refuse(Reason::OutOfRange, 2, Fault::WideValue),
+            word => match integer(word) {
+                Ok(_) => Ok(()),
+                Err(Reason::BadNumber) => {
+                    refuse(Reason::BadNumber, 2, Fault::BadValue(self.first_line()))
+                }
+                Err(_) => refuse(Reason::OutOfRange, 2, Fault::WideValue),
             },
         }
     }

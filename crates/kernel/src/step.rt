@@ -15,7 +15,7 @@ ghost use Rattle.posix.specs.Execute.{exec_one};
 ghost use Rattle.posix.specs.Step.{code_of, enter as entered, tick as ticking, go_on as going_on, IsStep};
 ghost use Rattle.posix.specs.Alarms.{most_ticks};
 ghost use Rattle.posix.specs.Attempts.{attempt_again};
-ghost use Rattle.posix.specs.Regular.{IsPlaced, IsRegular};
+ghost use Rattle.posix.specs.Regular.{IsRegular};
 ghost use Rattle.posix.specs.Settle.{IsSettled};
 ghost use Rattle.proctable.specs.Records.{snapshot_of};
 ghost use Rattle.posix.specs.States.{has_place};

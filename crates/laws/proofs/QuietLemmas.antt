@@ -183,10 +183,7 @@ pub record Untold (f : Process → Process) : Type 0 where
 abbrev pub KeepsKill : (Process → Process) → Type 0
 KeepsKill f = (r : Process) → is_pending r.signals KILL ≡ true → is_pending (f r).signals KILL ≡ true
 
--- no change is one, and two such changes are
-pub untold_none : Untold (λ r. r)
-untold_none = record { pid = λ r. refl; parent = λ r. refl; mark = λ r. refl; life = λ r. refl; news = λ r. refl }
-
+-- two such changes are one
 pub untold_then : (f g : Process → Process) → Untold f → Untold g → Untold (λ r. g (f r))
 untold_then f g h k = record {
   pid = λ r. k.pid (f r) ∙ h.pid r;

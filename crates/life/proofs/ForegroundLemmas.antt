@@ -117,10 +117,6 @@ fresh_alike u rs cs k c d at owner foreground h = fresh_put u rs cs k d h (by u 
 
 -- ---- a foreground is set
 
--- where one more is unchecked
-pub fresh_also : (session : ℕ) (u : Unchecked) (rs : List Process) (cs : List Console) → AreFreshBut u rs cs → AreFreshBut (also_in session u) rs cs
-fresh_also session u rs cs h = fresh_beside u session rs rs cs (λ other group ne e. e) h
-
 pub own_unchecked : (session : ℕ) (u : Unchecked) (c : Console) → c.session ≡ session → is_unchecked (also_in session u) c ≡ true
 own_unchecked session Nothing c own = or_right (session == 0) _ (eq-eqb c.session session own)
 own_unchecked session (In other) c own = elim (other == session) as (λ b. is_unchecked (cond b (In session) All) c ≡ true) [ true ↦ or_right (session == 0) _ (eq-eqb c.session session own) | false ↦ refl ]

@@ -17,7 +17,7 @@ use Rattle.posix.specs.Notices.{told_of_change, noticed_of_change, child_signal,
 use Rattle.posix.specs.Tables.{IsRising, lookup, at, changed, parent_of, is_member}
 use Rattle.posix.specs.States.{State, process, change, is_in, change as change_of}
 use Rattle.posix.specs.Regular.{IsRegular, IsPlaced}
-use Rattle.posix.proofs.TableLemmas.{pid_looked, changed_absent, changed_id, changed_same, lookup_changed, rising_changed}
+use Rattle.posix.proofs.TableLemmas.{pid_looked, changed_absent, changed_same, lookup_changed, rising_changed}
 use Rattle.posix.proofs.MapLemmas.{at_pid, at_keeps, lookup_back}
 use Rattle.posix.proofs.MemberLemmas.{each}
 use Rattle.posix.proofs.RegularLemmas.{Keeps, regular_change, lookup_other}
@@ -478,14 +478,6 @@ is_noticed {rs = rs} {p = p} child w seen acts signal is run up here did takes b
           let signal : takes_signal me ≡ _ = same_Some _ _ (ap (option_map takes_signal) (sym found) ∙ takes) in
           both ∙ rw (ran.says it named sees, sym signal) (ap (λ r. awaits r it || takes_signal me) (sym same));
     }
-
--- A process was looked at by a change that changes nothing, to tell whether it waits for the child that is seen so.
-pub awaits_looked : {F : Type 0} {g : Once F (MutBor Record × Unit {0}) (Bool × (MutBor Record × Unit {0}))} {change : F} {rs ts : List Process} {p : ℕ} {b : Bool} (child : ℕ) (seen : IndexedFields) → IsRun g change rs ts p b → IsRising rs → IsSome (lookup p rs)
-    → ((d e : Record) (r : Bool) → FnOnceReturnsAtMut g change d r e → (q : ℕ) → (process_of p q e ≡ process_of p q d) × ((it : Process) → it.pid ≡ child → seen ≡ seen_of it → r ≡ awaits (process_of p q d) it))
-    → (ts ≡ rs) × ((me it : Process) → lookup p rs ≡ Some me → it.pid ≡ child → seen ≡ seen_of it → b ≡ awaits me it)
-awaits_looked {rs = rs} {p = p} child seen run up here did =
-    let ran = has_run (λ r. r) (λ r b. (it : Process) → it.pid ≡ child → seen ≡ seen_of it → b ≡ awaits r it) run up here did in
-    (ran.is ∙ changed_id p (λ r. r) rs up (record (ran.me.what) { pid = p }) ran.me.found refl, λ me it found named sees. ran.says it named sees ∙ ap (λ r. awaits r it) (same_Some _ _ (sym ran.me.found ∙ found)))
 
 -- ---- the list of those to recheck
 

@@ -1,6 +1,6 @@
 //! Births.
 
-ghost use Rattle.std.specs.Prelude.{◌≡◌, ◌+◌, ◌<◌, ◌≤◌, ◌^◌, length, Some, OnOk, OnErr};
+ghost use Rattle.std.specs.Prelude.{◌≡◌, ◌+◌, ◌<◌, ◌≤◌, ◌^◌, Some, OnOk, OnErr};
 ghost use Rattle.posix.specs.States.{next_pid as next_pid_of};
 ghost use Rattle.posix.specs.Births.{born};
 ghost use Rattle.posix.specs.Regular.{IsPlaced};

@@ -1,7 +1,7 @@
 //! Consoles: whose terminal each is, who waits to read from it, and what a key, a hangup and a lost foreground
 //! process group do (XBD 11.1).
 
-ghost use Rattle.std.specs.Prelude.{◌≡◌, ◌≢◌, ◌==◌, ◌+◌, ◌<◌, ◌≤◌, ◌^◌, ◌||◌, ℕ, List, IfOk, OnOk, IfSome, MatchOption, Some, None, [], count_by, length, false, true, if◌then◌else◌, option_map, map, replicate, slice_get, slice_set};
+ghost use Rattle.std.specs.Prelude.{◌≡◌, ◌≢◌, ◌==◌, ◌+◌, ◌<◌, ◌≤◌, ◌||◌, ℕ, List, IfOk, IfSome, MatchOption, Some, None, [], count_by, length, false, true, if◌then◌else◌, option_map, map, replicate, slice_get, slice_set};
 ghost use Rattle.std.specs.Option.{option_copied};
 ghost use Rattle.posix.specs.Processes.{Process};
 ghost use Rattle.posix.specs.States.{process, is_in, without};

@@ -1,6 +1,6 @@
 //! The machine: all that the state of a world consists of.
 
-ghost use Rattle.std.specs.Prelude.{◌≡◌, ◌≢◌, ◌+◌, ◌<◌, ◌≤◌, ◌^◌, ◌++◌, ◌∷◌, [], ⊤, ℕ, IfOk, IfSome, OnOk, length, option_map, replicate, false, true, if◌then◌else◌};
+ghost use Rattle.std.specs.Prelude.{◌≡◌, ◌≢◌, ◌+◌, ◌<◌, ◌≤◌, ◌^◌, ◌++◌, ◌∷◌, [], ⊤, IfOk, IfSome, OnOk, option_map, replicate, false, true, if◌then◌else◌};
 ghost use Rattle.posix.specs.Consoles.{unused_console};
 ghost use Rattle.pidalloc.specs.Rows.{IsPids, born_in, unborne_table};
 ghost use mathlib.Core.Option.{none};

@@ -1,6 +1,6 @@
 //! Signals that processes send.
 
-ghost use Rattle.std.specs.Prelude.{◌≡◌, ℕ, Bool, true, false, ◌+◌, ◌*◌, ◌<◌, ◌≤◌, Some, None, IfSome, [], ◌∷◌, filter, length};
+ghost use Rattle.std.specs.Prelude.{◌≡◌, Bool, true, false, ◌+◌, ◌*◌, ◌<◌, ◌≤◌, Some, None, IfSome, [], ◌∷◌, filter, length};
 ghost use Rattle.posix.specs.declared.process.PendingSignal.{PendingSignal as PendingValue};
 ghost use Rattle.posix.specs.Processes.{Process};
 ghost use Rattle.posix.specs.Tables.{IsNext, above, first_pid, has_pid};

@@ -1,3 +1,3 @@
 pub mod LineLemmas
-pub mod CutLemmas
+pub mod DigitLemmas
 pub mod TextLemmas

@@ -4,8 +4,8 @@ use Rattle.std.specs.Prelude.{All, Err, IfOk, MatchOption, None, Ok, Option, Res
 use Rattle.std.proofs.Math.Seq.{take-append_seam, drop-append_seam}
 use Rattle.std.proofs.lemmas.List.Elements.{All-append, All-cons, All-drop, All-nil, All-take}
 use Rattle.std.specs.List.{position_or_len}
-use Rattle.text.specs.Words.{is_separator}
-use Rattle.naming.specs.Lines.{Grows, IsOneLine, from_word}
+use Rattle.text.specs.Words.{from_word, is_separator}
+use Rattle.naming.specs.Lines.{Grows, IsOneLine}
 
 -- one line before another is one line
 pub both_one_line : (xs ys : List ℕ) → IsOneLine xs → IsOneLine ys → IsOneLine (xs ++ ys)

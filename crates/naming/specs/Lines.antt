@@ -1,9 +1,9 @@
 -- What becomes of a line.
-use Rattle.std.specs.Prelude.{◌≡◌, ◌≢◌, ◌⊎◌, ℕ, ◌==◌, ◌||◌, ◌++◌, not, Bool, true, List, [], All, codes, drop, length, if◌then◌else◌}
+use Rattle.std.specs.Prelude.{◌≡◌, ◌≢◌, ◌⊎◌, ℕ, ◌==◌, ◌||◌, ◌++◌, not, Bool, true, List, [], All, codes, length, if◌then◌else◌}
 use Rattle.std.specs.Char.{is_ascii_uppercase}
-use Rattle.std.specs.List.{before_first, list_any, position_or_len}
+use Rattle.std.specs.List.{list_any}
 use Rattle.std.specs.Str.{bytes_eq}
-use Rattle.text.specs.Words.{before_comment, is_separator}
+use Rattle.text.specs.Words.{before_comment, behind_word, first_word}
 use Rattle.naming.specs.declared.line.Sort.{Sort}
 use Rattle.naming.specs.declared.line.Sort.TheVariants.{Set, Key, Typed, Other}
 
@@ -16,17 +16,6 @@ abbrev pub IsOneLine : List ℕ → Type 0
 IsOneLine line = All (λ b. b ≢ 10) line
 
 -- ---- what a line is for
-
--- without the separators at its front
-abbrev pub from_word : List ℕ → List ℕ
-from_word text = drop (position_or_len (λ b. not (is_separator b)) text) text
-
--- its first word, and what follows that
-abbrev pub first_word : List ℕ → List ℕ
-first_word text = before_first is_separator (from_word text)
-
-abbrev pub behind_word : List ℕ → List ℕ
-behind_word text = drop (position_or_len is_separator (from_word text)) (from_word text)
 
 abbrev pub sort_named : List ℕ → Sort
 sort_named word = if bytes_eq word (codes "set") then Set

@@ -4,8 +4,8 @@ ghost use Rattle.std.specs.Prelude.{OnOk};
 ghost use Rattle.naming.specs.Lines.{Grows};
 
 use crate::message::Message;
-use crate::nearest::meant;
 use std::alloc::AllocError;
+use wording::meant;
 
 /// What is wrong with a name, a key or a text.
 #[derive(Clone, Copy)]

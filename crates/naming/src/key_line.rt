@@ -6,9 +6,9 @@ ghost use Rattle.naming.specs.Keys.{control as control_of, two_digits};
 ghost use Rattle.naming.specs.Lines.{Grows, IsOneLine};
 
 use crate::fault::Fault;
-use crate::line::{next_word, split_comment};
 use crate::message::Message;
 use std::alloc::{AllocError, Global};
+use text::{next_word, split_comment};
 
 /// The byte of a key that is pressed with Ctrl, as `^C`.
 fn control(key: &[u8]) -> Option<u8>

@@ -5,7 +5,6 @@ mod fault;
 mod key_line;
 mod line;
 mod message;
-mod nearest;
 mod number;
 mod serving;
 mod set_line;
@@ -13,8 +12,6 @@ mod texts;
 mod type_line;
 
 pub use key_line::push_byte;
-pub use line::{MAX_LINE_LEN, next_word, skip_separators, split_comment};
 pub use message::{Message, digits_of};
-pub use nearest::{Nearest, distance, meant};
 pub use serving::serve;
 pub use texts::{Named, name_text};

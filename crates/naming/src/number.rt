@@ -3,8 +3,8 @@
 ghost use Rattle.std.specs.Prelude.{◌<◌, IfSome, length};
 
 use crate::fault::Fault;
-use crate::line::is_separator;
 use posix::{Sig, SigSet};
+use text::is_separator;
 use wording::{Kind, NAMES, SIGRTMIN};
 
 /// How names stand together.

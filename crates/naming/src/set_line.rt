@@ -6,10 +6,11 @@ ghost use Rattle.std.specs.String.{string_bytes};
 ghost use Rattle.naming.specs.Lines.{Grows, IsOneLine};
 
 use crate::fault::Fault;
-use crate::line::{is_separator, joined, next_word, skip_separators, split_comment, word_len};
+use crate::line::joined;
 use crate::message::Message;
 use crate::number::{Form, number_of};
 use std::alloc::{AllocError, Global};
+use text::{is_separator, next_word, skip_separators, split_comment, word_len};
 
 /// Where the operand of a `set` stands in a line without its comment; none where there is none.
 fn operand_at(code: &[u8]) -> Option<usize>

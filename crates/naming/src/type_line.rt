@@ -1,14 +1,15 @@
 //! Lines `type C "TEXT"`.
 
-ghost use Rattle.std.specs.Prelude.{◌≡◌, ◌<◌, ◌≤◌, IfOk, IfSome, MatchOption, OnOk, length};
+ghost use Rattle.std.specs.Prelude.{◌≡◌, ◌<◌, IfOk, IfSome, MatchOption, OnOk};
 ghost use Rattle.naming.specs.Letters.{IsOneLineLetter, IsShorter};
 ghost use Rattle.naming.specs.Lines.{Grows, IsOneLine};
 
 use crate::fault::Fault;
 use crate::key_line::push_byte;
-use crate::line::{MAX_LINE_LEN, is_separator, joined, next_word, skip_separators};
+use crate::line::joined;
 use crate::message::Message;
 use std::alloc::{AllocError, Global};
+use text::{MAX_LINE_LEN, is_separator, next_word, skip_separators};
 
 /// The next letter of a text.
 enum Letter<'a> {

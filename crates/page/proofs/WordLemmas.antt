@@ -43,12 +43,6 @@ first_cut text word rest end h is_word is_rest =
     long : (n : ℕ) (bs : List ℕ) → length bs ≤ n → take n bs ≡ bs
     long n bs h = grind (arith, common_steps, h)
 
-pub less_left : (text rest : List ℕ) (end : ℕ) → IsFirstByte (is_byte 0) text (Some end) → rest ≡ take (length text - (end + 1)) (drop (end + 1) text) → length rest < length text
-less_left text rest end h is_rest = rw is_rest (omega (arith, h.0.high, length-drop (end + 1) text, short (length text - (end + 1)) (drop (end + 1) text)))
-  where
-    short : (n : ℕ) (bs : List ℕ) → length (take n bs) ≤ n
-    short n bs = grind (arith, common_steps)
-
 -- ---- what is no text of words that are UTF-8
 
 pub not_ended : (text : List ℕ) → IsFirstByte (is_byte 0) text None → text ≢ [] → IsNoText text

@@ -1,6 +1,5 @@
 //! What a page is answered.
 
-ghost use Rattle.std.specs.Prelude.{◌≡◌};
 ghost use Rattle.page.specs.Answers.{AreServed, IsAnswered, IsGiven};
 ghost use Rattle.page.specs.Files.{files_of};
 

@@ -7,7 +7,7 @@ use Rattle.posix.specs.Tables.{IsRising, lookup, inserted, removed, bears}
 use Rattle.posix.specs.NextPid.{is_free, next_free}
 use Rattle.posix.proofs.TableLemmas.{pid_looked}
 use Rattle.posix.proofs.PassingLemmas.{none_counted, counted_inserted, counted_removed, counted_map, counted_found, filter_at_most}
-use Rattle.pidalloc.specs.Rows.{Row, Pids, unborne_table, row, count_of, is_free_row, is_free_in, with_row, one_more, one_less, borne, given_up, born_in, gone_from}
+use Rattle.pidalloc.specs.Rows.{Row, Pids, unborne_table, row, count_of, is_free_row, is_free_in, one_more, one_less, borne, given_up, born_in, gone_from}
 use Rattle.pidalloc.specs.Rows as roles
 use Rattle.pidalloc.specs.Tallies.{tally, IsTallied}
 use Rattle.pidalloc.proofs.FreeLemmas.{next_free_same}

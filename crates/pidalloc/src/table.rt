@@ -1,6 +1,6 @@
 //! The numbers up to a greatest one, and who bears them.
 
-ghost use Rattle.std.specs.Prelude.{◌≡◌, ◌+◌, ◌-◌, ◌<◌, ◌≤◌, ◌/◌, ◌%◌, ◌*◌, ◌⊎◌, ℕ, true, false, Some, None, [], IfSome, OnOk, length, replicate, slice_get, slice_set};
+ghost use Rattle.std.specs.Prelude.{◌≡◌, ◌+◌, ◌-◌, ◌<◌, ◌≤◌, ◌/◌, ◌%◌, ◌*◌, ◌⊎◌, ℕ, true, false, Some, None, [], IfSome, OnOk, length, replicate, slice_set};
 ghost use Rattle.posix.specs.NextPid.{next_free, first_free};
 ghost use Rattle.pidalloc.specs.Rows.{IsPids, unborne, unborne_table, row, is_free_in, count_of, borne, given_up, born_in, gone_from, regrouped, page_at, row_in, rows_in, is_free_row, one_more, one_less, last_given, AreSame, IsRowChanged, IsKeptUnlessFree};
 

@@ -1,6 +1,6 @@
 //! Numbers of processes in rising order, each once.
 
-ghost use Rattle.std.specs.Prelude.{◌≡◌, ◌+◌, ◌<◌, ◌≤◌, ◌^◌, ◌==◌, false, [], length, max, slice_get, OnOk, OnErr, IfOk, IfErr};
+ghost use Rattle.std.specs.Prelude.{◌≡◌, ◌<◌, ◌^◌, ◌==◌, false, [], length, max, slice_get, OnOk, OnErr, IfOk, IfErr};
 ghost use Rattle.posix.specs.States.{is_in, without};
 ghost use Rattle.pidset.specs.Numbers.{Rises, with_number, numbers_above, IsNumberAt, IsInsertionPoint};
 

@@ -2,21 +2,51 @@
 
 ghost use Rattle.std.specs.Prelude.{◌∷◌, [], codes};
 
-use bitflags::{Flag, Flags, bitflag_items};
+use bitflags::{Flag, Flags};
 
 /// The flags of an action for a signal (XSH sigaction; Linux's numbers, sigaction(2)).
 #[derive(Clone, Copy, Debug, PartialEq, Eq)]
 pub struct SaFlags(u32);
 
-bitflag_items! {
-    impl SaFlags: u32 {
-        const SA_NOCLDSTOP = 0x1;
-        const SA_NOCLDWAIT = 0x2;
-        const SA_SIGINFO = 0x4;
-        const SA_RESTART = 0x1000_0000;
-        const SA_NODEFER = 0x4000_0000;
-        const SA_RESETHAND = 0x8000_0000;
-    }
+impl SaFlags {
+    pub const SA_NOCLDSTOP: SaFlags = SaFlags(0x1);
+
+    pub const SA_NOCLDWAIT: SaFlags = SaFlags(0x2);
+
+    pub const SA_SIGINFO: SaFlags = SaFlags(0x4);
+
+    pub const SA_RESTART: SaFlags = SaFlags(0x1000_0000);
+
+    pub const SA_NODEFER: SaFlags = SaFlags(0x4000_0000);
+
+    pub const SA_RESETHAND: SaFlags = SaFlags(0x8000_0000);
+
+    const FLAGS: &'static [Flag<SaFlags>] = &[
+        Flag {
+            name: "SA_NOCLDSTOP",
+            value: SaFlags::SA_NOCLDSTOP,
+        },
+        Flag {
+            name: "SA_NOCLDWAIT",
+            value: SaFlags::SA_NOCLDWAIT,
+        },
+        Flag {
+            name: "SA_SIGINFO",
+            value: SaFlags::SA_SIGINFO,
+        },
+        Flag {
+            name: "SA_RESTART",
+            value: SaFlags::SA_RESTART,
+        },
+        Flag {
+            name: "SA_NODEFER",
+            value: SaFlags::SA_NODEFER,
+        },
+        Flag {
+            name: "SA_RESETHAND",
+            value: SaFlags::SA_RESETHAND,
+        },
+    ];
 }
 
 impl Flags for SaFlags {

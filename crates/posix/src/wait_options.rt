@@ -2,18 +2,33 @@
 
 ghost use Rattle.std.specs.Prelude.{◌∷◌, [], codes};
 
-use bitflags::{Flag, Flags, bitflag_items};
+use bitflags::{Flag, Flags};
 
 /// The options of waitpid (XSH waitpid; Linux's numbers, waitpid(2)).
 #[derive(Clone, Copy, Debug, PartialEq, Eq)]
 pub struct WaitOptions(u64);
 
-bitflag_items! {
-    impl WaitOptions: u64 {
-        const WNOHANG = 1;
-        const WUNTRACED = 2;
-        const WCONTINUED = 8;
-    }
+impl WaitOptions {
+    pub const WNOHANG: WaitOptions = WaitOptions(1);
+
+    pub const WUNTRACED: WaitOptions = WaitOptions(2);
+
+    pub const WCONTINUED: WaitOptions = WaitOptions(8);
+
+    const FLAGS: &'static [Flag<WaitOptions>] = &[
+        Flag {
+            name: "WNOHANG",
+            value: WaitOptions::WNOHANG,
+        },
+        Flag {
+            name: "WUNTRACED",
+            value: WaitOptions::WUNTRACED,
+        },
+        Flag {
+            name: "WCONTINUED",
+            value: WaitOptions::WCONTINUED,
+        },
+    ];
 }
 
 impl Flags for WaitOptions {
@@ -49,14 +64,39 @@ impl WaitidOptions {
     pub const SORTS: WaitidOptions = WaitidOptions(14);
 }
 
-bitflag_items! {
-    impl WaitidOptions: u64 {
-        const WNOHANG = 1;
-        const WSTOPPED = 2;
-        const WEXITED = 4;
-        const WCONTINUED = 8;
-        const WNOWAIT = 0x100_0000;
-    }
+impl WaitidOptions {
+    pub const WNOHANG: WaitidOptions = WaitidOptions(1);
+
+    pub const WSTOPPED: WaitidOptions = WaitidOptions(2);
+
+    pub const WEXITED: WaitidOptions = WaitidOptions(4);
+
+    pub const WCONTINUED: WaitidOptions = WaitidOptions(8);
+
+    pub const WNOWAIT: WaitidOptions = WaitidOptions(0x100_0000);
+
+    const FLAGS: &'static [Flag<WaitidOptions>] = &[
+        Flag {
+            name: "WNOHANG",
+            value: WaitidOptions::WNOHANG,
+        },
+        Flag {
+            name: "WSTOPPED",
+            value: WaitidOptions::WSTOPPED,
+        },
+        Flag {
+            name: "WEXITED",
+            value: WaitidOptions::WEXITED,
+        },
+        Flag {
+            name: "WCONTINUED",
+            value: WaitidOptions::WCONTINUED,
+        },
+        Flag {
+            name: "WNOWAIT",
+            value: WaitidOptions::WNOWAIT,
+        },
+    ];
 }
 
 impl Flags for WaitidOptions {

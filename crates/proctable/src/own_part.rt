@@ -1,6 +1,6 @@
 //! What a process may change of itself: nothing that the shape of the machine depends on.
 
-ghost use Rattle.std.specs.Prelude.{◌≡◌, IfOk, OnOk, OnErr, Some, None, pos, ◌∷◌, [], true, false};
+ghost use Rattle.std.specs.Prelude.{◌≡◌, IfOk, OnOk, OnErr, Some, None, ◌∷◌, [], true, false};
 ghost use Rattle.posix.specs.declared.process.Frame.{Frame};
 ghost use Rattle.posix.specs.Processes.{Process, first_process};
 ghost use Rattle.posix.specs.Outcomes.{finished};

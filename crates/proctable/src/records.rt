@@ -5,7 +5,7 @@ ghost use Rattle.posix.specs.SignalNumbers.{is_realtime};
 ghost use Rattle.posix.specs.Processes.{first_process};
 ghost use Rattle.posix.specs.Births.{child_of};
 ghost use Rattle.posix.specs.Ends.{made_zombie, ended};
-ghost use Rattle.posix.specs.Notices.{noticed, noticed_of_change, stopped_by, resumed};
+ghost use Rattle.posix.specs.Notices.{noticed, noticed_of_change};
 ghost use Rattle.posix.specs.Generation.{signalled, effect_of};
 ghost use Rattle.posix.specs.Sends.{is_queuer};
 ghost use Rattle.posix.specs.Waits.{news_told};

@@ -3,8 +3,7 @@ use Rattle.std.proofs.Common.{◌≡◌, ℕ, ◌+◌, ◌-◌, ◌<◌, ◌≤�
 use Rattle.std.proofs.lemmas.List.{take_at}
 use Rattle.std.specs.Prelude.{not}
 use Rattle.std.specs.List.{position_or_len}
-use Rattle.text.specs.Words.{before_comment, is_separator}
-use Rattle.naming.specs.Lines.{behind_word, from_word}
+use Rattle.text.specs.Words.{before_comment, behind_word, from_word, is_separator}
 use Rattle.refusing.specs.Sights.{IsMarked, behind_words}
 
 -- ---- words

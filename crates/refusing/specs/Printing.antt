@@ -2,6 +2,7 @@
 use Rattle.std.specs.Prelude.{ℕ, ◌++◌, List, [], ◌∷◌, codes, decimal}
 use Rattle.refusing.specs.Sections.{section_line}
 use Rattle.refusing.specs.Marks.{blanks, marks, shown}
+use Rattle.refusing.specs.declared.telling.Section.{Section}
 use Rattle.refusing.specs.declared.telling.Shown.{Shown}
 use Rattle.refusing.specs.declared.telling.Shown.TheVariants.{File, FirstLine, Line}
 use Rattle.refusing.specs.declared.telling.Told.{Told}
@@ -46,6 +47,9 @@ first_lines name why FirstLine = place_line name 1 ++ sentence_line why
 first_lines name why (Line number s) =
     place_line name number ++ (text_line number s.line.now ++ mark_line number s.before.now s.marked.now why)
 
+abbrev pub told_lines : List ℕ → List ℕ → Shown → List ℕ → Section → List ℕ
+told_lines name why shown note section = first_lines name why shown ++ (note_line note ++ section_line section)
+
 -- what is printed of a refusal of the text in a file with this name
 abbrev pub printed : List ℕ → Told → List ℕ
-printed name told = first_lines name told.why told.shown ++ (note_line told.note ++ section_line told.section)
+printed name told = told_lines name told.why.items told.shown told.note.items told.section

@@ -1,7 +1,6 @@
 -- Words in a line, and what is seen of it.
 use Rattle.std.specs.Prelude.{zero, suc, ◌≡◌, ◌≤◌, ◌<◌, ◌⊎◌, ℕ, ◌-◌, ◌++◌, List, [], ◌∷◌, bytes_eq, drop, length, take, if◌then◌else◌}
-use Rattle.text.specs.Words.{before_comment}
-use Rattle.naming.specs.Lines.{behind_word, from_word}
+use Rattle.text.specs.Words.{before_comment, behind_word, from_word}
 use Rattle.refusing.specs.declared.sight.Sight.{Sight}
 
 -- a carriage return at the end of a line isn't shown

@@ -3,12 +3,12 @@ use Rattle.std.specs.Prelude.{◌≡◌, ◌⊎◌, ℕ, List, None, Some}
 use Rattle.text.specs.declared.fault.Reason.{Reason}
 use Rattle.text.specs.declared.fault.Reason.TheVariants.{UnknownWord, BadNumber, OutOfRange, NameUnknown, NameTwice, LineTooLong, EndMissing, NoProgram, Memory}
 use Rattle.text.specs.declared.fault.TextFault.{TextFault}
-use Rattle.refusing.specs.Printing.{printed}
+use Rattle.refusing.specs.Printing.{told_lines}
 use Rattle.judging.specs.Lines.{line_of}
 use Rattle.refusing.specs.Sights.{IsSight, without_return}
+use Rattle.refusing.specs.declared.telling.Section.{Section}
 use Rattle.refusing.specs.declared.telling.Shown.{Shown}
 use Rattle.refusing.specs.declared.telling.Shown.TheVariants.{File, FirstLine, Line}
-use Rattle.refusing.specs.declared.telling.Told.{Told}
 
 -- The number of the line that is shown is that of the fault: but the mistake behind a name that isn't known may stand in
 -- another line, and where a text ends too early the last line is shown that has words.
@@ -42,4 +42,4 @@ IsShownOf why text (Line number s) = IsNumber why.reason why.line number × IsLi
 
 -- This is printed of the text in a file with this name, which has this fault.
 abbrev pub IsTold : List ℕ → List ℕ → TextFault → List ℕ → Type 0
-IsTold name text why out = (told : Told) × IsShownOf why text told.shown × (out ≡ printed name told)
+IsTold name text why out = (shown : Shown) × (sentence note : List ℕ) × (section : Section) × IsShownOf why text shown × (out ≡ told_lines name sentence shown note section)

@@ -1,7 +1,6 @@
 //! What is told of a refusal, as it is printed.
 
-ghost use Rattle.std.specs.Prelude.{◌≡◌, ◌++◌, IfOk, OnOk, decimal, option_map};
-ghost use Rattle.std.specs.String.{string_bytes};
+ghost use Rattle.std.specs.Prelude.{◌≡◌, ◌++◌, IfOk, OnOk};
 ghost use Rattle.refusing.specs.Marks.{shown};
 ghost use Rattle.refusing.specs.Sections.{section_line};
 ghost use Rattle.refusing.specs.Printing.{behind_marks, file_line, first_lines, mark_line, note_line, place_line, printed as printed_of, sentence_line, text_line};
@@ -145,8 +144,8 @@ pub fn printed(alloc: Global, name: &str, told: &Told<'_>) -> Result<Vec<u8>, Al
     ensures { IfOk result (λ v. v.items ≡ printed_of name.now told.now) }
 {
     let mut out = Vec::new(alloc);
-    write_first(alloc, &mut out, name, told.why.as_bytes(), &told.shown)?;
-    write_note(&mut out, told.note.as_bytes())?;
+    write_first(alloc, &mut out, name, told.why.as_slice(), &told.shown)?;
+    write_note(&mut out, told.note.as_slice())?;
     write_section(&mut out, told.section)?;
     Ok(out)
 }

@@ -1,12 +1,10 @@
 //! A line that is shown, and the words in it that are marked.
 
-ghost use Rattle.std.specs.Prelude.{◌≡◌, ◌≤◌, ◌-◌, ◌++◌, ◌⊎◌, List, [], drop, length, take};
-ghost use Rattle.text.specs.Words.{before_comment};
-ghost use Rattle.naming.specs.Lines.{from_word};
-ghost use Rattle.refusing.specs.Sights.{IsFront, IsLong, IsMarked, IsMissing, IsSight, behind_words as behind_words_of, without_return as without_return_of};
+ghost use Rattle.std.specs.Prelude.{◌≡◌, ◌≤◌, ◌-◌, [], length};
+ghost use Rattle.refusing.specs.Sights.{IsFront, IsSight, behind_words as behind_words_of, without_return as without_return_of};
 
 use judging::Line;
-use naming::{next_word, skip_separators, split_comment};
+use text::{next_word, skip_separators, split_comment};
 
 /// The most bytes that are shown of a line that is too long.
 const MOST_SHOWN: usize = 60;

@@ -9,11 +9,11 @@ use crate::sight::{Sight, without_return, words_at};
 use crate::why::{Seen, put_why};
 use judging::{
     Fault, Line, Mistake, Note, Refusal, World, has_one_line, is_listed, last_with_words, line_at,
-    lower, mistake_of, next_line, no_text, refusal_of,
+    lower, mistake_of, no_text, refusal_of,
 };
-use naming::Message;
 use std::alloc::{AllocError, Global};
-use text::{Reason, TextFault};
+use text::{Reason, TextFault, next_line};
+use wording::Prose;
 
 /// A text that is refused.
 #[derive(Clone, Copy)]
@@ -50,38 +50,30 @@ impl Section {
     }
 
     /// The part about a line of a world.
-    fn of_world(
-        alloc: Global,
-        world: &World<'_>,
-        refusal: &Refusal<'_>,
-        line: Line<'_>,
-    ) -> Result<Section, AllocError> {
+    fn of_world(world: &World<'_>, refusal: &Refusal<'_>, line: Line<'_>) -> Section {
         let reason = refusal.reason;
         if reason == Reason::NameUnknown {
-            return Ok(Section::ProgramLines);
+            return Section::ProgramLines;
         }
         if world.is_in_header() || reason == Reason::NoProgram {
-            return Ok(Section::Header);
+            return Section::Header;
         }
         let is_many = reason == Reason::OutOfRange && refusal.place == 0;
         if reason == Reason::EndMissing || is_many || world.inside().is_none() {
-            return Ok(Section::Programs);
+            return Section::Programs;
         }
         let is_word = matches!(reason, Reason::UnknownWord | Reason::NameTwice);
-        let first = lower(alloc, line.first())?;
-        Ok(if is_word && is_listed("program end", first.as_slice()) {
+        if is_word && is_listed("program end", lower(line.first()).as_slice()) {
             Section::Programs
         } else {
             Section::ProgramLines
-        })
+        }
     }
 }
 
 /// What is wrong with the names of a line, the first of it.
 fn told_of<'a>(alloc: Global, told: &'a [u8], line: u64) -> Result<Option<&'a [u8]>, AllocError> {
-    let mut begin = Message::new(alloc);
-    begin.say_number("jobk: line ", line)?;
-    begin.say(": ")?;
+    let begin = format!(in alloc; "jobk: line {line}: ")?;
     let mut rest = told;
     while let Some((fault, more)) = next_line(rest) {
         if let Some(why) = fault.strip_prefix(begin.as_bytes()) {
@@ -116,8 +108,8 @@ pub enum Shown<'a> {
 #[derive(Drop)]
 pub struct Told<'a> {
     pub shown: Shown<'a>,
-    pub why: Message,
-    pub note: Message,
+    pub why: Vec<u8>,
+    pub note: Vec<u8>,
     pub section: Section,
 }
 
@@ -125,12 +117,12 @@ pub struct Told<'a> {
 fn told_of_file<'a>(alloc: Global, what: &str, section: Section) -> Result<Told<'a>, AllocError>
     ensures { IfOk result (λ told. told.shown ≡ Shown.FirstLine) }
 {
-    let mut why = Message::new(alloc);
-    why.say(what)?;
+    let mut why = Vec::new(alloc);
+    why.extend_from_slice(what.as_bytes())?;
     Ok(Told {
         shown: Shown::FirstLine,
         why,
-        note: Message::new(alloc),
+        note: Vec::new(alloc),
         section,
     })
 }
@@ -171,16 +163,19 @@ fn why_of(
     seen: &Seen<'_, '_>,
     number: u64,
     refusal: &Refusal<'_>,
-) -> Result<Message, AllocError> {
-    let mut why = Message::new(alloc);
-    if may_be_name(Line::new(seen.line), refusal.place) && refusal.reason != Reason::NameUnknown {
-        if let Some(told) = told_of(alloc, refused.told, number)? {
-            why.quote(told)?;
-            return Ok(why);
-        }
+) -> Result<Vec<u8>, AllocError> {
+    let mut why = Prose::new(alloc);
+    let line = Line::new(seen.line);
+    let told = if refusal.reason != Reason::NameUnknown && may_be_name(line, refusal.place) {
+        told_of(alloc, refused.told, number)
+    } else {
+        Ok(None)
+    };
+    match why.found(told) {
+        Some(told) => why.push_bytes(told),
+        None => put_why(&mut why, seen, refusal),
     }
-    put_why(&mut why, seen, refusal)?;
-    Ok(why)
+    why.finish()
 }
 
 /// What is wrong with a text whose first line is refused and shows that it is none.
@@ -217,7 +212,7 @@ pub fn told_of_events<'a>(
     Ok(Told {
         shown: shown_line(refused.given, number, line, &refusal),
         why: why_of(alloc, refused, &seen, number, &refusal)?,
-        note: Message::new(alloc),
+        note: Vec::new(alloc),
         section: Section::Events,
     })
 }
@@ -279,8 +274,8 @@ fn shown_of<'a>(
 }
 
 /// What is told of another line.
-fn note_of(alloc: Global, note: Option<Note<'_>>) -> Result<Message, AllocError> {
-    let mut told = Message::new(alloc);
+fn note_of(alloc: Global, note: Option<Note<'_>>) -> Result<Vec<u8>, AllocError> {
+    let mut told = Prose::new(alloc);
     match note {
         Some(
             Note::Right {
@@ -289,21 +284,21 @@ fn note_of(alloc: Global, note: Option<Note<'_>>) -> Result<Message, AllocError>
                 defined,
             },
         ) => {
-            told.say_number("line ", line)?;
-            told.say_with(" is right: it names ", name)?;
+            told.push_with("line ", line);
+            told.push_word(" is right: it names ", name);
             if let Some(defined) = defined {
-                told.say_number(", and line ", defined)?;
-                told.say(" defines that")?;
+                told.push_with(", and line ", defined);
+                told.push_str(" defines that");
             }
-            told.say(", but below a refused line nothing counts as defined")?;
+            told.push_str(", but below a refused line nothing counts as defined");
         }
         Some(Note::RefusedToo(line)) => {
-            told.say_number("line ", line)?;
-            told.say(" is refused, too")?;
+            told.push_with("line ", line);
+            told.push_str(" is refused, too");
         }
         None => {}
     }
-    Ok(told)
+    told.finish()
 }
 
 /// What is told of a line of a world.
@@ -328,6 +323,6 @@ pub fn told_of_world<'a>(alloc: Global, refused: &Refused<'a>) -> Result<Told<'a
         shown: shown_of(refused.given, number, seen.line, &refusal),
         why: why_of(alloc, refused, &seen, here, &refusal)?,
         note: note_of(alloc, mistake.note)?,
-        section: Section::of_world(alloc, &world, &refusal, Line::new(seen.line))?,
+        section: Section::of_world(&world, &refusal, Line::new(seen.line)),
     })
 }

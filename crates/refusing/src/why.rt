@@ -9,8 +9,7 @@ use crate::why_words::{
     put_no_program, put_range, put_wide_value,
 };
 use judging::{Definition, Fault, Line, NameUse, Named, Number, Refusal, World, oddity};
-use naming::Message;
-use std::alloc::AllocError;
+use wording::Prose;
 
 /// A line that is refused, and what is known around it.
 #[derive(Clone, Copy)]
@@ -25,96 +24,90 @@ pub struct Seen<'a, 'w> {
 }
 
 /// Adds that a number is missing.
-fn put_missing(why: &mut Message, number: Number) -> Result<(), AllocError> {
+fn put_missing(why: &mut Prose, number: Number) {
     let words = match number {
         Number::KeyConsole(_) => "the console is missing, and a byte: key 1 0A",
         Number::HangupConsole(_) => "the console is missing: hangup 1",
         Number::Id => "an id is missing, ",
         Number::Pidmax | Number::Consoles | Number::Count => "a number is missing, ",
     };
-    put_range(why, words, number)
+    put_range(why, words, number);
 }
 
 /// Adds which numbers may stand at the place of this one.
-fn put_out_of_range(
-    why: &mut Message,
-    line: Line<'_>,
-    word: &[u8],
-    number: Number,
-) -> Result<(), AllocError> {
+fn put_out_of_range(why: &mut Prose, line: Line<'_>, word: &[u8], number: Number) {
     match number {
         Number::KeyConsole(consoles) | Number::HangupConsole(consoles) => {
-            put_no_console(why, line, consoles)
+            put_no_console(why, line, consoles);
         }
         Number::Id => put_range(why, "an id is ", number),
         Number::Pidmax | Number::Consoles => {
-            why.quote(line.first())?;
-            put_range(why, " is ", number)
+            why.push_bytes(line.first());
+            put_range(why, " is ", number);
         }
         Number::Count => {
-            why.quote(line.first())?;
-            put_range(why, " has ", number)?;
-            if word.iter().all(|b| matches!(b, b'0' | b'-')) {
-                return Ok(());
+            why.push_bytes(line.first());
+            put_range(why, " has ", number);
+            if !word.iter().all(|b| matches!(b, b'0' | b'-')) {
+                why.push_str("; write several lines for more");
             }
-            why.say("; write several lines for more")
         }
     }
 }
 
 /// Adds that a name is defined twice.
-fn put_twice(why: &mut Message, named: Named, line: u64) -> Result<(), AllocError> {
-    why.say_number("line ", line)?;
-    match named {
-        Named::Label => why.say(" has this label; choose another"),
-        Named::Program => why.say(" has a program of this name; choose another"),
-    }
+fn put_twice(why: &mut Prose, named: Named, line: u64) {
+    why.push_with("line ", line);
+    why.push_str(match named {
+        Named::Label => " has this label; choose another",
+        Named::Program => " has a program of this name; choose another",
+    });
 }
 
 /// Adds a program, and the line in which it begins.
-fn put_program(why: &mut Message, before: &str, program: Definition<'_>) -> Result<(), AllocError> {
-    why.say_around(before, program.name, ", of line ")?;
-    why.say_number("", program.line)?;
-    why.say(", whose end is missing")
+fn put_program(why: &mut Prose, before: &str, program: Definition<'_>) {
+    why.push_word(before, program.name);
+    why.push_with(", of line ", program.line);
+    why.push_str(", whose end is missing");
 }
 
 /// Adds that a line has too many bytes.
-fn put_long_line(why: &mut Message, line: &[u8]) -> Result<(), AllocError> {
-    why.say_number("this line has ", line.len() as u64)?;
-    why.say(" bytes; a line has at most 200, its comment too")
+fn put_long_line(why: &mut Prose, line: &[u8]) {
+    why.push_with("this line has ", line.len() as u64);
+    why.push_str(" bytes; a line has at most 200, its comment too");
 }
 
-/// Adds that a value is missing.
-fn put_no_value_at_all(why: &mut Message, given: &[u8]) -> Result<(), AllocError> {
-    why.say("a number is missing")?;
+/// What is told where a value is missing.
+fn no_value_at_all(given: &[u8]) -> &'static str {
     if given.contains(&b'#') {
-        why.say("; from # on the line is a comment")?;
+        "a number is missing; from # on the line is a comment"
+    } else {
+        "a number is missing"
     }
-    Ok(())
 }
 
 /// Adds that nothing names a name that is defined, where another one is used.
-fn put_unused(why: &mut Message, is: Definition<'_>, used: NameUse<'_>) -> Result<(), AllocError> {
-    why.say_with("nothing names ", is.name)?;
-    why.say_number("; line ", used.line)?;
-    why.say_with(" names ", used.name)
+fn put_unused(why: &mut Prose, is: Definition<'_>, used: NameUse<'_>) {
+    why.push_word("nothing names ", is.name);
+    why.push_with("; line ", used.line);
+    why.push_word(" names ", used.name);
 }
 
 /// Adds which programs of others have a label.
-fn put_elsewhere(why: &mut Message, world: &World<'_>, name: &[u8]) -> Result<bool, AllocError> {
+fn put_elsewhere(why: &mut Prose, world: &World<'_>, name: &[u8]) -> bool {
     let mut is_there = false;
     for label in &world.labels {
         if label.is.name == name {
-            why.say_number("; that of line ", label.is.line)?;
-            why.say(" is of another program")?;
+            why.push_with("; that of line ", label.is.line);
+            why.push_str(" is of another program");
             is_there = true;
         }
     }
-    Ok(is_there)
+    is_there
 }
 
 /// Adds the names of all programs.
-fn put_programs(why: &mut Message, world: &World<'_>) -> Result<(), AllocError> {
+fn put_programs(why: &mut Prose, world: &World<'_>) {
     let count = world.programs.len();
     for (place, program) in world.programs.iter().enumerate() {
         let before = if place == 0 {
@@ -124,38 +117,37 @@ fn put_programs(why: &mut Message, world: &World<'_>) -> Result<(), AllocError> 
         } else {
             ", "
         };
-        why.say_with(before, program.name)?;
+        why.push_word(before, program.name);
     }
-    Ok(())
 }
 
 /// Adds that nothing defines a name, and which one is meant.
 fn put_unknown(
-    why: &mut Message,
+    why: &mut Prose,
     world: &World<'_>,
     used: NameUse<'_>,
     near: Option<Definition<'_>>,
-) -> Result<(), AllocError> {
+) {
     match used.named {
         Named::Label => {
             let program = match world.programs.get(used.program) {
                 Some(program) => program.name,
                 None => &[],
             };
-            why.say_around("program ", program, " has no label ")?;
+            why.push_around("program ", program, " has no label ");
         }
-        Named::Program => why.say("no program has the name ")?,
+        Named::Program => why.push_str("no program has the name "),
     }
-    why.quote(used.name)?;
-    if let Some(near) = near {
-        why.say_around("; did you mean ", near.name, ", of line ")?;
-        why.say_number("", near.line)?;
-        return why.say("?");
-    }
-    match used.named {
-        Named::Label if put_elsewhere(why, world, used.name)? => Ok(()),
-        Named::Label => why.say_around("; a line ", used.name, ": is one"),
-        Named::Program => put_programs(why, world),
+    why.push_bytes(used.name);
+    match (near, used.named) {
+        (Some(near), _) => {
+            why.push_word("; did you mean ", near.name);
+            why.push_with(", of line ", near.line);
+            why.push_str("?");
+        }
+        (None, Named::Label) if put_elsewhere(why, world, used.name) => {}
+        (None, Named::Label) => why.push_around("; a line ", used.name, ": is one"),
+        (None, Named::Program) => put_programs(why, world),
     }
 }
 
@@ -180,15 +172,11 @@ const NO_PROGRAMS: &str =
     "behind the header at least one program follows: program NAME, its lines, end";
 
 /// Adds why a word is refused that is none of those which may stand at its place.
-fn put_other(
-    why: &mut Message,
-    seen: &Seen<'_, '_>,
-    refusal: &Refusal<'_>,
-) -> Result<(), AllocError> {
+fn put_other(why: &mut Prose, seen: &Seen<'_, '_>, refusal: &Refusal<'_>) {
     let line = Line::new(seen.line);
     let word = line.word(refusal.place);
     if let Some(what) = oddity(word) {
-        return why.say(what);
+        return why.push_str(what);
     }
     match refusal.fault {
         Fault::NoNumber(number) => put_no_number(why, word, number),
@@ -204,40 +192,37 @@ fn put_other(
         Fault::NoEvent => put_no_event(why, word),
         Fault::NoByte => put_no_byte(why, word),
         Fault::ManyConsoles => put_many_consoles(why, line, word),
-        _ => Ok(()),
+        _ => {}
     }
 }
 
 /// Adds why a word is refused; nothing where that isn't known.
-pub fn put_why(
-    why: &mut Message,
-    seen: &Seen<'_, '_>,
-    refusal: &Refusal<'_>,
-) -> Result<(), AllocError> {
+pub fn put_why(why: &mut Prose, seen: &Seen<'_, '_>, refusal: &Refusal<'_>) {
     if let Some(words) = words_of(refusal.fault) {
-        return why.say(words);
+        return why.push_str(words);
     }
     let line = Line::new(seen.line);
     let word = line.word(refusal.place);
     match refusal.fault {
-        Fault::Unsaid => Ok(()),
+        Fault::Unsaid => {}
         Fault::LongLine => put_long_line(why, seen.line),
         Fault::Missing(number) => put_missing(why, number),
         Fault::OutOfRange(number) => put_out_of_range(why, line, word, number),
         Fault::Within(program) => put_program(why, "this is within program ", program),
         Fault::NoMarkedName(named) => put_no_name(why, behind_mark(word), named),
         Fault::Twice(named, line) => put_twice(why, named, line),
-        Fault::NoValue => put_no_value_at_all(why, seen.given),
+        Fault::NoValue => why.push_str(no_value_at_all(seen.given)),
         Fault::MarkedNumber => put_marked_number(why, word),
         Fault::WideValue => put_wide_value(why, word),
-        Fault::ByteMissing => why.say_around("a byte is missing: key ", line.word(1), " 0A"),
+        Fault::ByteMissing => why.push_around("a byte is missing: key ", line.word(1), " 0A"),
         Fault::ProgramEnds(program) => put_program(why, "the text ends within program ", program),
-        Fault::LabelWritten(name) => why.say_around("a label is written ", name, ":"),
+        Fault::LabelWritten(name) => why.push_around("a label is written ", name, ":"),
         Fault::Unused(is, used) => put_unused(why, is, used),
-        Fault::Unknown(used, near) => match seen.world {
-            Some(world) => put_unknown(why, world, used, near),
-            None => Ok(()),
-        },
+        Fault::Unknown(used, near) => {
+            if let Some(world) = seen.world {
+                put_unknown(why, world, used, near);
+            }
+        }
         _ => put_other(why, seen, refusal),
     }
 }

@@ -1,27 +1,31 @@
 //! Why a word is no name, no number, and none of the header's and the programs' lines.
 
-use judging::{
-    Line, Named, Number, are_digits, is_listed, is_long_name, is_name, is_number, lower,
-    nearest_in, oddity,
-};
-use naming::Message;
+use judging::{Line, Named, Number, is_listed, is_long_name, is_number, lower, nearest_in, oddity};
 use std::alloc::AllocError;
+use text::{are_digits, is_name};
+use wording::Prose;
+
+/// Adds which name is meant, if one is near.
+pub fn put_meant(why: &mut Prose, near: Result<Option<&[u8]>, AllocError>) {
+    if let Some(name) = why.found(near) {
+        why.push_around("; did you mean ", name, "?");
+    }
+}
 
 /// Adds which word of a list is meant by a word, if one is near.
-pub fn put_nearest(why: &mut Message, word: &[u8], list: &'static str) -> Result<(), AllocError> {
-    let name = nearest_in(why.alloc(), word, list)?;
-    why.say_meant("; did you mean ", name)
+pub fn put_nearest(why: &mut Prose, word: &[u8], list: &'static str) {
+    let near = nearest_in(why.alloc(), word, list);
+    put_meant(why, near);
 }
 
 /// Adds words, and which numbers may stand at the place of this one, but for the number of a console.
-pub fn put_range(why: &mut Message, words: &str, number: Number) -> Result<(), AllocError> {
-    why.say(words)?;
-    if matches!(number, Number::KeyConsole(_) | Number::HangupConsole(_)) {
-        return Ok(());
+pub fn put_range(why: &mut Prose, words: &str, number: Number) {
+    why.push_str(words);
+    if !matches!(number, Number::KeyConsole(_) | Number::HangupConsole(_)) {
+        let (low, high) = number.range();
+        why.push_number(low);
+        why.push_with(" to ", high);
     }
-    let (low, high) = number.range();
-    why.say_number("", low)?;
-    why.say_number(" to ", high)
 }
 
 /// What a name is of.
@@ -30,13 +34,6 @@ fn text_of(named: Named) -> &'static str {
         Named::Label => "label",
         Named::Program => "program",
     }
-}
-
-/// Adds the kind of a name between words.
-fn put_named(why: &mut Message, named: Named, behind: &str) -> Result<(), AllocError> {
-    why.say("the name of a ")?;
-    why.say(text_of(named))?;
-    why.say(behind)
 }
 
 /// Whether a word stands between quotes.
@@ -53,39 +50,37 @@ fn is_label(word: &[u8]) -> bool {
 }
 
 /// Adds why a word is no name.
-pub fn put_no_name(why: &mut Message, word: &[u8], named: Named) -> Result<(), AllocError> {
-    if word.is_empty() {
-        return put_named(why, named, " is missing");
-    }
+pub fn put_no_name(why: &mut Prose, word: &[u8], named: Named) {
+    let small = lower(word);
     if let Some(what) = oddity(word) {
-        return why.say(what);
-    }
-    let small = lower(why.alloc(), word)?;
-    if is_quoted(word) {
-        why.say("a name has no quotes")
+        why.push_str(what);
+    } else if is_quoted(word) {
+        why.push_str("a name has no quotes");
     } else if is_label(word) {
-        why.say("only a label has a colon, where it stands")
+        why.push_str("only a label has a colon, where it stands");
     } else if is_name(small.as_slice()) {
-        why.say_with("names have small letters: ", small.as_slice())
+        why.push_word("names have small letters: ", small.as_slice());
     } else if is_long_name(word) {
-        why.say_number(
+        why.push_with(
             "a name has at most 16 letters; this one has ",
             word.len() as u64,
-        )
+        );
     } else {
-        put_no_letter(why, word, named)
+        put_no_letter(why, word, named);
     }
 }
 
-/// Adds why a word is no name that doesn't begin with a small letter, or has other letters.
-fn put_no_letter(why: &mut Message, word: &[u8], named: Named) -> Result<(), AllocError> {
-    match word {
-        _ if is_number(word) => put_named(why, named, " stands here, and no number"),
-        [b'@', ..] => put_named(why, named, " stands here, without @"),
-        [b'$', ..] => put_named(why, named, " stands here, without $"),
-        [b'a'..=b'z', ..] => why.say("a name has small letters, digits and _"),
-        _ => why.say("a name begins with a small letter"),
-    }
+/// Adds why a word is no name that is empty, doesn't begin with a small letter, or has other letters.
+fn put_no_letter(why: &mut Prose, word: &[u8], named: Named) {
+    let behind = match word {
+        [] => " is missing",
+        _ if is_number(word) => " stands here, and no number",
+        [b'@', ..] => " stands here, without @",
+        [b'$', ..] => " stands here, without $",
+        [b'a'..=b'z', ..] => return why.push_str("a name has small letters, digits and _"),
+        _ => return why.push_str("a name begins with a small letter"),
+    };
+    why.push_around("the name of a ", text_of(named).as_bytes(), behind);
 }
 
 /// What stands behind `@` or `$`.
@@ -97,21 +92,20 @@ pub fn behind_mark(word: &[u8]) -> &[u8] {
 }
 
 /// Adds that a number has no `@` or `$`.
-pub fn put_marked_number(why: &mut Message, word: &[u8]) -> Result<(), AllocError> {
+pub fn put_marked_number(why: &mut Prose, word: &[u8]) {
     match word {
-        [b'@', number @ ..] => why.say_with("a number has no @: ", number),
-        [_, number @ ..] => why.say_with("a number has no $: ", number),
-        [] => Ok(()),
+        [b'@', number @ ..] => why.push_word("a number has no @: ", number),
+        [_, number @ ..] => why.push_word("a number has no $: ", number),
+        [] => {}
     }
 }
 
 /// Adds that a number doesn't fit 64 bits.
-pub fn put_wide_value(why: &mut Message, word: &[u8]) -> Result<(), AllocError> {
-    if word == b"18446744073709551615".as_slice() {
-        why.say("numbers have a sign; -1 has all 64 bits")
-    } else {
-        why.say("a number is -9223372036854775808 to 9223372036854775807")
-    }
+pub fn put_wide_value(why: &mut Prose, word: &[u8]) {
+    why.push_str(match word {
+        b"18446744073709551615" => "numbers have a sign; -1 has all 64 bits",
+        _ => "a number is -9223372036854775808 to 9223372036854775807",
+    });
 }
 
 /// A word without the digits at its front, of which there is one at least; a minus may stand before them.
@@ -162,29 +156,29 @@ fn hexadecimal(word: &[u8]) -> Option<u64> {
 }
 
 /// Adds why a word is no number, whatever its range is. Whether something is told.
-pub fn put_no_digits(why: &mut Message, word: &[u8]) -> Result<bool, AllocError> {
+pub fn put_no_digits(why: &mut Prose, word: &[u8]) -> bool {
     if has_unit(word) {
-        why.say("a number has digits alone, and no unit")?;
+        why.push_str("a number has digits alone, and no unit");
     } else if let Some(number) = hexadecimal(word) {
-        why.say_number("numbers are decimal: ", number)?;
+        why.push_with("numbers are decimal: ", number);
     } else {
         match word {
             [b'+', digits @ ..] if are_digits(digits) => {
-                why.say_with("no + stands before a number: ", digits)?;
+                why.push_word("no + stands before a number: ", digits);
             }
             [b'\'', byte, b'\''] => {
-                why.say_number("a byte is written as its number: ", u64::from(*byte))?;
+                why.push_with("a byte is written as its number: ", u64::from(*byte));
             }
-            _ => return Ok(false),
+            _ => return false,
         }
     }
-    Ok(true)
+    true
 }
 
 /// Adds why a word is no number.
-pub fn put_no_number(why: &mut Message, word: &[u8], number: Number) -> Result<(), AllocError> {
-    if put_no_digits(why, word)? {
-        return Ok(());
+pub fn put_no_number(why: &mut Prose, word: &[u8], number: Number) {
+    if put_no_digits(why, word) {
+        return;
     }
     let words = match number {
         Number::KeyConsole(_) => "the number of a console stands here: key 1 ..",
@@ -192,75 +186,72 @@ pub fn put_no_number(why: &mut Message, word: &[u8], number: Number) -> Result<(
         Number::Id => "an id is a number, ",
         Number::Pidmax | Number::Consoles | Number::Count => "a number stands here, ",
     };
-    put_range(why, words, number)?;
+    put_range(why, words, number);
     if number == Number::Id && word == b"root".as_slice() {
-        why.say("; root is 0")?;
+        why.push_str("; root is 0");
     }
-    Ok(())
 }
 
 /// The words that begin lines of a trace behind their event.
 const OF_TRACE: &str = "note call handle discard stop return end halt";
 
 /// Adds what the first line of a world is to be, or the second.
-pub fn put_no_header(why: &mut Message, line: Line<'_>, number: Number) -> Result<(), AllocError> {
+pub fn put_no_header(why: &mut Prose, line: Line<'_>, number: Number) {
     let word = line.first();
     let is_first = number == Number::Pidmax;
-    let name = if is_first { "pidmax" } else { "consoles" };
-    if word.strip_suffix(b":") == Some(name.as_bytes()) {
-        return why.say_around("", name.as_bytes(), " has no colon");
-    }
-    if is_first && is_listed("step tick key type hangup", word) {
-        return why.say("these are events; the world is named first");
-    }
-    if is_first && are_digits(word) && is_listed(OF_TRACE, line.word(1)) {
-        return why.say("this is a trace; a world begins with pidmax");
-    }
-    if lower(why.alloc(), word)?.as_slice() == name.as_bytes() {
-        return why.say_with("small letters: ", name.as_bytes());
-    }
-    why.say(if is_first {
-        "a world begins with pidmax N, and then consoles N"
+    let (name, words) = if is_first {
+        (
+            "pidmax",
+            "a world begins with pidmax N, and then consoles N",
+        )
     } else {
-        "behind pidmax N stands consoles N"
-    })?;
-    put_nearest(why, word, name)
+        ("consoles", "behind pidmax N stands consoles N")
+    };
+    if word.strip_suffix(b":") == Some(name.as_bytes()) {
+        why.push_around("", name.as_bytes(), " has no colon");
+    } else if is_first && is_listed("step tick key type hangup", word) {
+        why.push_str("these are events; the world is named first");
+    } else if is_first && are_digits(word) && is_listed(OF_TRACE, line.word(1)) {
+        why.push_str("this is a trace; a world begins with pidmax");
+    } else if word.eq_ignore_ascii_case(name.as_bytes()) {
+        why.push_word("small letters: ", name.as_bytes());
+    } else {
+        why.push_str(words);
+        put_nearest(why, word, name);
+    }
 }
 
 /// Adds why a word begins no program.
-pub fn put_no_program(
-    why: &mut Message,
-    word: &[u8],
-    behind: Option<(&[u8], u64)>,
-) -> Result<(), AllocError> {
-    if lower(why.alloc(), word)?.as_slice() == b"program".as_slice() {
-        return why.say("small letters: program");
-    }
-    if nearest_in(why.alloc(), word, "program")?.is_some() {
-        return why.say("did you mean program?");
-    }
-    match behind {
-        None => why.say("a program begins with program NAME"),
-        Some((_, end)) if word == b"end".as_slice() => {
-            why.say_number("the program has its end in line ", end)
+pub fn put_no_program(why: &mut Prose, word: &[u8], behind: Option<(&[u8], u64)>) {
+    let alloc = why.alloc();
+    if word.eq_ignore_ascii_case(b"program") {
+        why.push_str("small letters: program");
+    } else if why.found(nearest_in(alloc, word, "program")).is_some() {
+        why.push_str("did you mean program?");
+    } else {
+        match behind {
+            None => why.push_str("a program begins with program NAME"),
+            Some((_, end)) if word == b"end".as_slice() => {
+                why.push_with("the program has its end in line ", end);
+            }
+            Some((name, _)) => why.push_around(
+                "this is behind the end of program ",
+                name,
+                "; program NAME begins another",
+            ),
         }
-        Some((name, _)) => why.say_around(
-            "this is behind the end of program ",
-            name,
-            "; program NAME begins another",
-        ),
     }
 }
 
 /// Adds why a word can't stand behind the name of a program.
-pub fn put_no_option(why: &mut Message, word: &[u8]) -> Result<(), AllocError> {
+pub fn put_no_option(why: &mut Prose, word: &[u8]) {
     match word {
-        b"setuid" => why.say("setuid stands before setgid"),
-        b"{" => why.say("a program has no braces: end is its last line"),
-        [b'u' | b'g', b'i', b'd'] => why.say_around("did you mean set", word, "?"),
+        b"setuid" => why.push_str("setuid stands before setgid"),
+        b"{" => why.push_str("a program has no braces: end is its last line"),
+        [b'u' | b'g', b'i', b'd'] => why.push_around("did you mean set", word, "?"),
         _ => {
-            why.say("only setuid U and setgid G stand behind the name")?;
-            put_nearest(why, word, "setuid setgid")
+            why.push_str("only setuid U and setgid G stand behind the name");
+            put_nearest(why, word, "setuid setgid");
         }
     }
 }

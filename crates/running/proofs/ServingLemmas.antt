@@ -1,5 +1,5 @@
 -- How runs of texts end.
-use Rattle.std.proofs.Common.{◌≡◌, ℕ, List, [], ◌∷◌, Some, map, refl, sym, ◌∙◌, subst, arith, inl, inr, Result, Ok, Err, Bor}
+use Rattle.std.proofs.Common.{◌≡◌, ℕ, List, [], ◌∷◌, Some, map, refl, sym, subst, arith, inl, inr, Result, Ok, Err, Bor}
 use Rattle.clap.specs.Words.{Text}
 use Rattle.kernel.specs.Headline.{Fails}
 use Rattle.kernel.specs.declared.texts.RunError.{RunError}

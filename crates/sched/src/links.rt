@@ -1,6 +1,6 @@
 //! A list of numbers, as nodes that are linked both ways and found by the number.
 
-ghost use Rattle.std.specs.Prelude.{◌≡◌, ℕ, ◌+◌, ◌<◌, ◌≤◌, ◌==◌, [], ◌∷◌, ◌++◌, cond, length, slice_get, vec_len, true, false, IfSome, OnOk, OnErr};
+ghost use Rattle.std.specs.Prelude.{◌≡◌, ◌+◌, ◌<◌, ◌≤◌, ◌==◌, [], ◌∷◌, ◌++◌, length, slice_get, vec_len, true, false, IfSome, OnOk, OnErr};
 ghost use Rattle.posix.specs.States.{is_in, without};
 ghost use Rattle.posix.specs.Regular.{IsDistinct};
 ghost use Rattle.sched.specs.Links.{IsJoined, IsJoinedLast, IsGrown, prev_of, next_of};

@@ -1,6 +1,6 @@
 //! Places of as many ticks, one list after another.
 
-ghost use Rattle.schedules.specs.Walks.{next_of_ticks, Advances};
+ghost use Rattle.schedules.specs.Walks.{Advances};
 
 /// Goes to the next list of as many places, all below `upto`; at `false` there is none, and nothing changed.
 ///

@@ -1,6 +1,6 @@
 //! The schedules of a family, one after another.
 
-ghost use Rattle.std.specs.Prelude.{◌≡◌, ◌≤◌, ℕ, List, [], ◌∷◌, ◌++◌, length, true, false};
+ghost use Rattle.std.specs.Prelude.{◌≡◌, ◌≤◌, List, [], ◌∷◌, ◌++◌, length, true, false};
 ghost use Rattle.schedules.specs.Families.{Places, family, IsSchedule};
 ghost use Rattle.schedules.specs.Walks.{Goes, Comes};
 

@@ -79,13 +79,6 @@ taken_more before after x n j k from rising to =
 
 -- ---- kernels that were reached
 
-pub reached_start : (w : World) (events : List Event) (k : KernelView) → k.state ≡ boot w → k.events ≡ 0 → IsReached w events k
-reached_start w events k at none = record {
-  lines = [];
-  within = omega (arith, none);
-  runs = subst (λ (n : ℕ). Runs w (take n events) [] k.state) (sym none) (refl, at);
-}
-
 -- events of the run at i were given, up to the last one that is wanted
 pub reached_more : (w : World) (all : List Event) (rs : List CountedEvent) (i : ℕ) (r : CountedEvent) (a b : KernelView) (old last end stop : ℕ) → i < length rs → r ≡ get_or rs i r → expanded rs ≡ all
     → end ≡ length (expanded (take i rs)) → a.events ≡ max old (min last end) → stop ≡ min (end + r.count) last → a.events < stop → b.events ≤ stop → AreGiven r.event a b → IsReached w all a → IsReached w all b

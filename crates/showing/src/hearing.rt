@@ -40,7 +40,7 @@ fn read(
     for pid in pids {
         match kernel.snapshot(*pid) {
             Some(it) => reading.add(it, kernel.look(*pid), sent)?,
-            None => reading.miss(*pid)?,
+            None => reading.gone.push(*pid)?,
         }
     }
     Ok(())
@@ -61,7 +61,7 @@ fn learn(teller: &mut Teller<'_, '_>, kernel: &mut Kernel) -> Result<(), AllocEr
     let alloc = teller.view.alloc;
     let mut all = Reading::new(alloc, turns(alloc, kernel)?);
     read_all(alloc, kernel, &mut all)?;
-    teller.learn(kernel.events(), all);
+    teller.rows.set(kernel.events(), all);
     Ok(())
 }
 
@@ -109,15 +109,14 @@ fn told_of(kernel: &Kernel, event: Event) -> Pid {
 
 impl Observer for Telling<'_, '_> {
     fn before(&mut self, replay: &mut Replay, event: Event) -> Result<(), AllocError> {
-        if !self.teller.knows(replay.kernel.events()) {
+        if !self.teller.rows.are_after(replay.kernel.events()) {
             learn(&mut self.teller, &mut replay.kernel)?;
         }
-        let actor = match event {
+        self.teller.actor = match event {
             Event::Step => actor_of(&mut replay.kernel),
             Event::Tick | Event::Key { .. } | Event::Hangup { .. } => None,
         };
         self.told = told_of(&replay.kernel, event);
-        self.teller.begin(actor);
         Ok(())
     }
 
@@ -131,7 +130,9 @@ impl Observer for Telling<'_, '_> {
         let sent = self.teller.sent(event, entries, self.told, kernel.ticks());
         let mut reading = Reading::new(alloc, turns(alloc, kernel)?);
         read_concerned(&self.teller, kernel, entries, sent, &mut reading)?;
+        let number = kernel.events();
         self.teller
-            .tell(kernel.events(), event, entries, reading, sent.as_ref())
+            .tell(number, event, entries, &reading, sent.as_ref())?;
+        self.teller.rows.keep(number, reading)
     }
 }

@@ -7,7 +7,7 @@ ghost use Rattle.showing.specs.Statuses.{status_of};
 use crate::hearing::Telling;
 use crate::replay::{Replay, past_at, run_to};
 use crate::state::put_state;
-use crate::stepping::{Ask, StepFault, Steps, put_text};
+use crate::stepping::{Ask, AskFault, Steps, put_text};
 use crate::words::{Request, process_of, requested};
 use arrayvec::ArrayString;
 use inputs::{
@@ -24,7 +24,7 @@ use wording::{Listing, Prose};
 
 /// Why the program doesn't end with status 0.
 #[derive(Clone, Copy, Debug, Error)]
-enum Failure<'a> {
+pub enum Failure<'a> {
     #[error("usage: jobk show WORLD EVENTS [--at E] [--calls] [--process P].. [--step]")]
     Usage,
     #[error("jobk: --at takes the number of an event, or 0")]
@@ -66,12 +66,11 @@ impl From<NoRequest> for Failure<'_> {
     }
 }
 
-impl From<StepFault> for Failure<'_> {
-    fn from(why: StepFault) -> Self {
+impl From<AskFault> for Failure<'_> {
+    fn from(why: AskFault) -> Self {
         match why {
-            StepFault::Memory => Failure::Memory,
-            StepFault::Write => Failure::Write,
-            StepFault::Read => Failure::Read,
+            AskFault::Device => Failure::Read,
+            AskFault::Memory => Failure::Memory,
         }
     }
 }
@@ -110,17 +109,16 @@ fn at_of<'a>(word: Option<&str>, events: u64) -> Result<u64, Failure<'a>>
     Ok(at)
 }
 
-/// The process that a word names.
-fn process_in<'a>(word: &str) -> Result<Pid, Failure<'a>> {
-    number(word).and_then(process_of).ok_or(Failure::Process)
-}
-
 /// The processes that words name.
 fn processes_of<'a>(alloc: Global, words: &[&str]) -> Result<Vec<Pid>, Failure<'a>> {
     let mut pids = Vec::new(alloc);
     for word in words {
-        let pid = process_in(word)?;
-        pids.push(pid).map_err(|_| Failure::Memory)?;
+        let Some(pid) = number(word).and_then(process_of) else {
+            return Err(Failure::Process);
+        };
+        if pids.push(pid).is_err() {
+            return Err(Failure::Memory);
+        }
     }
     Ok(pids)
 }
@@ -154,8 +152,7 @@ fn put_now<'a, O: Sink>(
 ) -> Result<(), Failure<'a>> {
     let mut text = Prose::new(view.alloc);
     put_state(view, &mut text, replay)?;
-    put_text(&mut text, out)?;
-    Ok(())
+    put_text(&mut text, out)
 }
 
 /// Lets a person go through a run.
@@ -171,7 +168,7 @@ fn serve_steps<'a, 't, O: Sink, A: Ask>(
     let mut steps = Steps::new(view, &inputs.world, &inputs.events);
     let done = steps.follow_all(replay, ask, out);
     drop(steps);
-    Ok(done?)
+    done
 }
 
 /// Puts a line for each event up to the one with number `last`.
@@ -212,22 +209,22 @@ fn serve_past<'a, 'l, 't, O: Sink, A: Ask>(
     }
 }
 
-/// Does what is asked for of a world and its events, of which this is the listing.
-fn serve_listed<'a, 'l, 't, O: Sink, A: Ask>(
+/// Does what is asked for of a world and its events.
+fn serve_inputs<'a, 't, O: Sink, A: Ask>(
     alloc: Global,
     request: &Request<'a>,
     only: &'t [Pid],
-    listing: &'l Listing<'t>,
     inputs: &'t Inputs,
     out: &mut O,
     ask: &mut A,
 ) -> Result<(), Failure<'a>>
     requires { length inputs.now.events ≤ most_events }
 {
+    let listing = Listing::new(alloc, inputs.world_text.as_slice())?;
     let last = at_of(request.at, inputs.events.len())?;
     let view = View {
         alloc,
-        listing,
+        listing: &listing,
         events: inputs.events.len(),
         only,
     };
@@ -241,21 +238,6 @@ fn serve_listed<'a, 'l, 't, O: Sink, A: Ask>(
     let done = serve_past(view, request, &mut replay, inputs, last, out, ask);
     drop(replay);
     done
-}
-
-/// Does what is asked for of a world and its events.
-fn serve_inputs<'a, 't, O: Sink, A: Ask>(
-    alloc: Global,
-    request: &Request<'a>,
-    only: &'t [Pid],
-    inputs: &'t Inputs,
-    out: &mut O,
-    ask: &mut A,
-) -> Result<(), Failure<'a>>
-    requires { length inputs.now.events ≤ most_events }
-{
-    let listing = Listing::new(alloc, inputs.world_text.as_slice())?;
-    serve_listed(alloc, request, only, &listing, inputs, out, ask)
 }
 
 /// Does what is asked for.

@@ -5,9 +5,10 @@ ghost use Rattle.text.specs.EventTexts.{most_events};
 
 use crate::hearing::Telling;
 use crate::replay::{Replay, Silent, run_to};
+use crate::serving::Failure;
 use crate::state::{put_head, put_state};
 use crate::words::process_of;
-use kernel::{Sink, SinkFault, put_all};
+use kernel::{Sink, put_all};
 use posix::Pid;
 use std::alloc::{AllocError, Global};
 use telling::{Teller, View};
@@ -32,35 +33,6 @@ pub enum AskFault {
     Memory,
 }
 
-/// Why a run isn't gone through any more.
-#[derive(Clone, Copy)]
-pub enum StepFault {
-    Memory,
-    Write,
-    Read,
-}
-
-impl From<AllocError> for StepFault {
-    fn from(_: AllocError) -> Self {
-        StepFault::Memory
-    }
-}
-
-impl From<SinkFault> for StepFault {
-    fn from(_: SinkFault) -> Self {
-        StepFault::Write
-    }
-}
-
-impl From<AskFault> for StepFault {
-    fn from(why: AskFault) -> Self {
-        match why {
-            AskFault::Device => StepFault::Read,
-            AskFault::Memory => StepFault::Memory,
-        }
-    }
-}
-
 /// What a person asks for.
 #[derive(Clone, Copy)]
 enum Command {
@@ -70,14 +42,12 @@ enum Command {
     Back(u64),
     /// To the state after this event.
     Go(u64),
-    /// On until this process acts.
-    Process(Pid),
-    /// The word for a process has no number of one.
-    NoProcess,
-    /// On until an event shows a line of the trace.
-    Line,
+    /// On until this process acts; until an event shows a line of the trace, where there is none.
+    Until(Option<Pid>),
     /// The state.
     State,
+    /// The word for a process has no number of one.
+    NoProcess,
     Quit,
     Help,
 }
@@ -92,7 +62,7 @@ fn command_alone(word: &str) -> Command {
     match word {
         "n" => Command::Next(1),
         "b" => Command::Back(1),
-        "l" => Command::Line,
+        "l" => Command::Until(None),
         "s" => Command::State,
         "q" => Command::Quit,
         _ => Command::Help,
@@ -106,7 +76,7 @@ fn command_with(word: &str, number: u64) -> Command {
         "b" => Command::Back(number),
         "g" => Command::Go(number),
         "p" => match process_of(number) {
-            Some(pid) => Command::Process(pid),
+            Some(pid) => Command::Until(Some(pid)),
             None => Command::NoProcess,
         },
         _ => Command::Help,
@@ -136,8 +106,8 @@ fn next_command<A: Ask>(alloc: Global, ask: &mut A) -> Result<Command, AskFault>
 }
 
 /// Puts a text, and takes it away.
-pub fn put_text<O: Sink>(text: &mut Prose, out: &mut O) -> Result<(), StepFault> {
-    put_all(out, text.as_str()?.as_bytes())?;
+pub fn put_text<'a, O: Sink>(text: &mut Prose, out: &mut O) -> Result<(), Failure<'a>> {
+    put_all(out, text.as_bytes()?)?;
     text.clear();
     Ok(())
 }
@@ -202,8 +172,7 @@ impl<'l, 't> Steps<'l, 't> {
             Command::Next(count) => self.go_on(replay, now.saturating_add(count)),
             Command::Back(count) => self.go(replay, now.saturating_sub(count)),
             Command::Go(event) => self.go(replay, event),
-            Command::Process(pid) => self.go_until(replay, Some(pid)),
-            Command::Line => self.go_until(replay, None),
+            Command::Until(pid) => self.go_until(replay, pid),
             Command::State => put_state(self.view, &mut self.telling.teller.text, replay),
             Command::NoProcess => Ok(self.telling.teller.text.push_str(NO_PROCESS)),
             Command::Help => Ok(self.telling.teller.text.push_str(HELP)),
@@ -212,7 +181,7 @@ impl<'l, 't> Steps<'l, 't> {
     }
 
     /// Puts what was told, where the run is, and a prompt.
-    fn put_prompt<O: Sink>(&mut self, replay: &Replay, out: &mut O) -> Result<(), StepFault> {
+    fn put_prompt<'a, O: Sink>(&mut self, replay: &Replay, out: &mut O) -> Result<(), Failure<'a>> {
         let text = &mut self.telling.teller.text;
         put_head(text, &replay.kernel, self.view.events);
         text.push_str("> ");
@@ -220,12 +189,12 @@ impl<'l, 't> Steps<'l, 't> {
     }
 
     /// Goes through the run as it is asked for.
-    pub fn follow_all<A: Ask, O: Sink>(
+    pub fn follow_all<'a, A: Ask, O: Sink>(
         &mut self,
         replay: &mut Replay,
         ask: &mut A,
         out: &mut O,
-    ) -> Result<(), StepFault> {
+    ) -> Result<(), Failure<'a>> {
         for _ in 0..u64::MAX {
             self.put_prompt(replay, out)?;
             let command = next_command(self.view.alloc, ask)?;

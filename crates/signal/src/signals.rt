@@ -1,6 +1,6 @@
 //! The signals of one process.
 
-ghost use Rattle.std.specs.Prelude.{◌≡◌, ◌⊎◌, ◌<◌, ◌≤◌, ◌&&◌, [], true, false, not, nat_le, length, slice_get, None, Some, Ok, Err, OnOk, OnErr, IfOk, IfErr, IfSome, IsSome};
+ghost use Rattle.std.specs.Prelude.{◌≡◌, ◌⊎◌, ◌<◌, ◌&&◌, [], true, false, not, nat_le, length, slice_get, None, Some, Ok, Err, OnOk, OnErr, IfOk, IfErr, IfSome, IsSome};
 ghost use Rattle.posix.specs.SignalNumbers.{is_realtime};
 ghost use Rattle.posix.specs.Processes.{initial_signals, nothing_pending};
 ghost use Rattle.posix.specs.Ends.{forgotten, drops_children as drops_children_of};

@@ -31,30 +31,25 @@ fn put_owner(text: &mut Prose, session: Pid, foreground: Pid, is_living: bool) {
     }
 }
 
-/// Writes what was typed on a console.
-fn put_typed(text: &mut Prose, console: &Console) {
-    text.push_str(", edited ");
-    put_quoted(text, console.edited());
-    let lines = console.finished_lines();
-    text.push_with(", ", lines);
-    text.push_str(if lines == 1 {
-        " finished line"
-    } else {
-        " finished lines"
-    });
-    if console.tostop() {
-        text.push_str(", TOSTOP");
-    }
-    if console.is_hung_up() {
-        text.push_str(", hung up");
-    }
-    text.push_str("\n");
-}
-
 /// Writes a console, by its number; whether a process of its foreground group hasn't ended.
 pub fn put_console(text: &mut Prose, number: usize, console: &Console, is_living: bool) {
     text.push_with("console ", number);
     text.push_str(": ");
     put_owner(text, console.session(), console.foreground(), is_living);
-    put_typed(text, console);
+    text.push_str(", edited ");
+    put_quoted(text, console.edited());
+    let lines = console.finished_lines();
+    text.push_with(", ", lines);
+    text.push_str(match lines {
+        1 => " finished line",
+        _ => " finished lines",
+    });
+    if console.tostop() {
+        text.push_str(", TOSTOP");
+    }
+    text.push_str(if console.is_hung_up() {
+        ", hung up\n"
+    } else {
+        "\n"
+    });
 }

@@ -2,7 +2,7 @@
 
 use crate::process::{end_cell, put_carried, put_name};
 use crate::reading::{Concern, Reading, Rows, row_of};
-use crate::sending::{Row, Sent, Whom, has_sent, is_taken, signal_of_key, told_of};
+use crate::sending::{Row, Sent, Whom, has_sent, is_taken, told_of};
 use crate::view::View;
 use posix::{Call, Entry, Event, Instr, Life, Pid, Register, Sig, SigSet, Target};
 use proctable::{OwnPart, Snapshot};
@@ -21,7 +21,8 @@ pub struct Actor {
     /// Whom it sends which signal, if it calls kill or sigqueue; whom it moves, if it calls setpgid.
     target: i64,
     sig: Option<Sig>,
-    pc: i64,
+    /// The place of its instruction in its program.
+    place: Option<usize>,
 }
 
 impl Actor {
@@ -32,7 +33,7 @@ impl Actor {
             with: Arguments::of(&own.cpu),
             target: own.cpu.register(Register::FIRST_ARGUMENT),
             sig: signal_in(own.cpu.register(Register::SECOND_ARGUMENT)),
-            pc: own.cpu.frame(SigSet::EMPTY).pc,
+            place: place_of(own.cpu.frame(SigSet::EMPTY).pc),
         }
     }
 }
@@ -42,8 +43,10 @@ impl Actor {
 pub struct Teller<'l, 't> {
     pub view: View<'l, 't>,
     programs: &'t [umach::Program],
-    rows: Rows,
-    actor: Option<Actor>,
+    /// The processes before the event.
+    pub rows: Rows,
+    /// Who acts in the event.
+    pub actor: Option<Actor>,
     /// Whether the last event showed a line of the trace.
     pub showed: bool,
     /// The line of the event.
@@ -52,27 +55,23 @@ pub struct Teller<'l, 't> {
     pub text: Prose,
 }
 
-/// The process with the number in a register; none where none can have it.
-fn process_in(word: i64) -> Option<Pid> {
-    Pid::new(u32::try_from(word).ok()?)
-}
-
 /// Whom else the call of an actor changes, which shows these entries: who is born, moved, or collected.
 fn other_of(actor: &Actor, entries: &[Entry]) -> Option<Pid> {
-    match *entries.first()? {
+    let word = match *entries.first()? {
         Entry::Called {
             call: Call::Fork,
             result,
             ..
-        } => process_in(result),
+        } => result,
         Entry::Called {
             call: Call::Setpgid,
             result: 0,
             ..
-        } => process_in(actor.target),
-        Entry::Reported { child, .. } => Some(child),
-        _ => None,
-    }
+        } => actor.target,
+        Entry::Reported { child, .. } => return Some(child),
+        _ => return None,
+    };
+    Pid::new(u32::try_from(word).ok()?)
 }
 
 /// Writes a key by its byte, and as it is typed.
@@ -85,7 +84,7 @@ fn put_key(text: &mut Prose, console: u8, byte: u8) {
         _ => return,
     };
     text.push_str(mark);
-    text.push_ascii(typed);
+    text.push_byte(typed);
     text.push_str(")");
 }
 
@@ -112,15 +111,13 @@ fn put_given(text: &mut Prose, pid: Pid, heir: Pid) {
 
 /// Writes that the event continued a process, or woke it. Whether it did.
 fn put_new_life(text: &mut Prose, old: &Row, new: &Row) -> bool {
-    if old.it.life == Life::Stopped && new.it.life == Life::Running {
-        text.push_with("; continues ", new.it.pid.number());
-        return true;
-    }
-    let wakes = !old.can_act && new.can_act;
-    if wakes {
-        text.push_with("; wakes ", new.it.pid.number());
-    }
-    wakes
+    let words = match (old.it.life, new.it.life) {
+        (Life::Stopped, Life::Running) => "; continues ",
+        _ if !old.can_act && new.can_act => "; wakes ",
+        _ => return false,
+    };
+    text.push_with(words, new.it.pid.number());
+    true
 }
 
 /// Writes what an entry says, but for a call that it tells of.
@@ -200,7 +197,7 @@ impl<'l, 't> Teller<'l, 't> {
             return Some(blocked.call());
         }
         let program = self.programs.get(usize::from(actor.it.program))?;
-        match program.get(place_of(actor.pc)?)? {
+        match program.get(actor.place?)? {
             Instr::Sys(call) => Some(call),
             _ => None,
         }
@@ -209,7 +206,7 @@ impl<'l, 't> Teller<'l, 't> {
     /// The instruction of an actor, as its world writes it.
     fn written_of(&self, actor: &Actor) -> Option<Written<'t>> {
         let source = self.view.listing.program(usize::from(actor.it.program))?;
-        source.at(place_of(actor.pc)?)
+        source.at(actor.place?)
     }
 
     /// Writes the call or the instruction of an actor.
@@ -219,10 +216,11 @@ impl<'l, 't> Teller<'l, 't> {
             let source = listing.program(usize::from(actor.it.program));
             return put_call(&mut self.line, call, actor.with, source, listing);
         }
-        match self.written_of(actor) {
-            Some(written) => self.line.push_str(written.text),
-            None => self.line.push_str("no instruction"),
-        }
+        let text = match self.written_of(actor) {
+            Some(written) => written.text,
+            None => "no instruction",
+        };
+        self.line.push_str(text);
     }
 
     /// Writes who acts, and at which line.
@@ -251,13 +249,15 @@ impl<'l, 't> Teller<'l, 't> {
     /// Writes what an actor did.
     fn put_act(&mut self, new: &[Row], actor: &Actor, entries: &[Entry]) {
         self.put_actor(actor);
-        let Some(first) = entries.first() else {
-            self.put_instruction(actor);
-            return self.put_silence(new, actor);
+        let is_signal = match entries.first() {
+            Some(first) => !is_of_instruction(first) && actor.it.chosen.is_some(),
+            None => false,
         };
-        let is_signal = !is_of_instruction(first) && actor.it.chosen.is_some();
         if !is_signal {
             self.put_instruction(actor);
+        }
+        if entries.is_empty() {
+            self.put_silence(new, actor);
         }
         let mut mark = if is_signal { "" } else { "; " };
         for entry in entries {
@@ -274,9 +274,7 @@ impl<'l, 't> Teller<'l, 't> {
         match (event, self.actor) {
             (Event::Tick, _) => self.line.push_str("tick"),
             (Event::Key { console, byte }, _) => put_key(&mut self.line, console, byte),
-            (Event::Hangup { console }, _) => {
-                self.line.push_with("hangup ", console);
-            }
+            (Event::Hangup { console }, _) => self.line.push_with("hangup ", console),
             (Event::Step, Some(actor)) => self.put_act(new, &actor, entries),
             (Event::Step, None) => self.line.push_str("nobody acts"),
         }
@@ -364,9 +362,9 @@ impl<'l, 't> Teller<'l, 't> {
     /// Whether the event continued a child of a process.
     fn has_continued(&self, parent: Pid, all: &[Row]) -> bool {
         for row in all {
-            if row.it.parent == parent && row.it.life == Life::Running {
+            if row.it.parent == parent && matches!(row.it.life, Life::Running) {
                 if let Some(old) = self.rows.of(row.it.pid) {
-                    if old.it.life == Life::Stopped {
+                    if matches!(old.it.life, Life::Stopped) {
                         return true;
                     }
                 }
@@ -407,64 +405,35 @@ impl<'l, 't> Teller<'l, 't> {
         is_shown
     }
 
-    /// Whether it knows the processes after so many events.
-    pub fn knows(&self, events: u64) -> bool {
-        self.rows.are_after(events)
-    }
-
-    /// All processes were read, after so many events.
-    pub fn learn(&mut self, events: u64, all: Reading) {
-        self.rows.set(events, all);
-    }
-
-    /// An event is given next; the actor is who acts in it.
-    pub fn begin(&mut self, actor: Option<Actor>) {
-        self.actor = actor;
-    }
-
     /// What an event sends, by the call of its actor, if that doesn't wait then; by a key, to the foreground process group
     /// `told`; by a hangup, to the leader `told`; or by the alarms that ring, as so many ticks have passed. The entries are
     /// those of the event. Number 0 for nobody.
     pub fn sent(&self, event: Event, entries: &[Entry], told: Pid, ticks: u64) -> Option<Sent> {
-        match event {
-            Event::Tick => Some(Sent {
-                sig: Sig::ALRM,
-                whom: Whom::Ringing(ticks),
-            }),
-            Event::Key { byte, .. } => Some(Sent {
-                sig: signal_of_key(byte)?,
-                whom: Whom::Group(told),
-            }),
-            Event::Hangup { .. } => Some(Sent {
-                sig: Sig::HUP,
-                whom: Whom::Leader(told),
-            }),
-            Event::Step => match &self.actor {
-                Some(actor) => self.sent_by(actor, entries),
-                None => None,
-            },
-        }
+        let (sig, whom) = match event {
+            Event::Tick => (Sig::ALRM, Whom::Ringing(ticks)),
+            Event::Key { byte: 0x03, .. } => (Sig::INT, Whom::Group(told)),
+            Event::Key { byte: 0x1c, .. } => (Sig::QUIT, Whom::Group(told)),
+            Event::Key { byte: 0x1a, .. } => (Sig::TSTP, Whom::Group(told)),
+            Event::Key { .. } => return None,
+            Event::Hangup { .. } => (Sig::HUP, Whom::Leader(told)),
+            Event::Step => return self.sent_by(self.actor.as_ref()?, entries),
+        };
+        Some(Sent { sig, whom })
     }
 
     /// What the call of an actor sends: one on a terminal that shows nothing sends its group a signal, or waits.
     fn sent_by(&self, actor: &Actor, entries: &[Entry]) -> Option<Sent> {
-        let call = self.call_of_actor(actor)?;
-        let named = match call {
-            Call::Kill => Some(Target::from_word(actor.target)),
-            Call::Sigqueue => Some(Target::process_from_word(actor.target)),
-            _ => None,
-        };
-        let is_sent = match named {
-            Some(_) => has_sent(entries),
-            None => entries.is_empty(),
-        };
-        if !is_sent {
-            return None;
-        }
-        let (sig, whom) = match (call, named) {
-            (_, Some(target)) => (actor.sig?, Whom::Named(actor.it, target)),
-            (Call::Read, _) => (Sig::TTIN, Whom::Group(actor.it.group)),
-            (Call::Write | Call::Tcsetpgrp | Call::Settostop, _) => {
+        let (sig, whom) = match self.call_of_actor(actor)? {
+            Call::Kill if has_sent(entries) => {
+                let target = Target::from_word(actor.target);
+                (actor.sig?, Whom::Named(actor.it, target))
+            }
+            Call::Sigqueue if has_sent(entries) => {
+                let target = Target::process_from_word(actor.target);
+                (actor.sig?, Whom::Named(actor.it, target))
+            }
+            Call::Read if entries.is_empty() => (Sig::TTIN, Whom::Group(actor.it.group)),
+            Call::Write | Call::Tcsetpgrp | Call::Settostop if entries.is_empty() => {
                 (Sig::TTOU, Whom::Group(actor.it.group))
             }
             _ => return None,
@@ -475,17 +444,15 @@ impl<'l, 't> Teller<'l, 't> {
     /// Whom a step of an actor may have changed, by what it showed and what it sent.
     fn concern_of(&self, actor: &Actor, entries: &[Entry], sent: Option<Sent>) -> Concern {
         let it = &actor.it;
-        let has_ended = entries
-            .iter()
-            .any(|entry| matches!(entry, Entry::Ended { .. }));
-        let has_stopped = entries
-            .iter()
-            .any(|entry| matches!(entry, Entry::Stopped { .. }));
-        let hears = if has_ended || has_stopped {
-            it.parent
-        } else {
-            Pid::NONE
-        };
+        let (mut hears, mut ended) = (Pid::NONE, Pid::NONE);
+        for entry in entries {
+            match entry {
+                Entry::Ended { .. } => (hears, ended) = (it.parent, it.pid),
+                Entry::Stopped { .. } => hears = it.parent,
+                _ => {}
+            }
+        }
+        let has_ended = ended != Pid::NONE;
         let other = other_of(actor, entries).unwrap_or(Pid::NONE);
         let (target, continues) = match &sent {
             Some(sent) => (sent.target(), sent.sig == Sig::CONT),
@@ -494,7 +461,7 @@ impl<'l, 't> Teller<'l, 't> {
         let hangs_up = has_ended && it.session == it.pid;
         Concern {
             few: [it.pid, hears, other, target],
-            ended: if has_ended { it.pid } else { Pid::NONE },
+            ended,
             sent: if target == Pid::NONE { sent } else { None },
             all: hangs_up || ((has_ended || continues) && self.rows.have_stopped()),
         }
@@ -537,7 +504,7 @@ impl<'l, 't> Teller<'l, 't> {
         number: u64,
         event: Event,
         entries: &[Entry],
-        reading: Reading,
+        reading: &Reading,
         sent: Option<&Sent>,
     ) -> Result<(), AllocError> {
         let new = reading.rows.as_slice();
@@ -547,11 +514,15 @@ impl<'l, 't> Teller<'l, 't> {
         self.put_event(event, entries, new);
         let is_shown = self.put_effects(new, entries, sent);
         let is_gone = self.put_gone(reading.gone.as_slice(), entries);
-        if is_shown || is_gone || self.has_actor() {
-            self.text.push_str(self.line.as_str()?);
+        let has_actor = match self.actor {
+            Some(actor) => self.view.has(actor.it.pid),
+            None => self.view.only.is_empty(),
+        };
+        if is_shown || is_gone || has_actor {
+            self.text.push_bytes(self.line.as_bytes()?);
             self.text.push_str("\n");
         }
-        self.rows.keep(number, reading)
+        Ok(())
     }
 
     /// Writes what the event made of the processes that were read anew. Whether it made something of one that is shown.
@@ -564,17 +535,14 @@ impl<'l, 't> Teller<'l, 't> {
         }
         is_shown
     }
-
-    /// Whether an event is shown, in which these processes were concerned.
-    fn has_actor(&self) -> bool {
-        match self.actor {
-            Some(actor) => self.view.has(actor.it.pid),
-            None => self.view.only.is_empty(),
-        }
-    }
 }
 
 /// Whether a wait reported a process.
 fn is_reported(entries: &[Entry], pid: Pid) -> bool {
-    entries.iter().any(|entry| matches!(*entry, Entry::Reported { child, .. } if child == pid))
+    for entry in entries {
+        if matches!(*entry, Entry::Reported { child, .. } if child == pid) {
+            return true;
+        }
+    }
+    false
 }

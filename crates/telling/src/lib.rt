@@ -13,7 +13,7 @@ mod wakers;
 pub use console::{put_console, put_turns};
 pub use event::{Actor, Teller};
 pub use process::{Around, put_process};
-pub use reading::Reading;
+pub use reading::{Reading, Rows};
 pub use sending::Sent;
 pub use since::{Since, Times};
 pub use view::View;

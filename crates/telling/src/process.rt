@@ -57,9 +57,7 @@ fn put_place(text: &mut Prose, shown: &Shown<'_, '_>, own: &OwnPart) {
         return text.push_with(", at address ", pc);
     };
     match source.at(place) {
-        Some(written) => {
-            text.push_with(", at line ", written.line);
-        }
+        Some(written) => text.push_with(", at line ", written.line),
         None => text.push_str(", outside its program"),
     }
     if put_label(text, shown.source, place, " (") {
@@ -87,11 +85,6 @@ fn put_wait(
     }
 }
 
-/// Writes since which event something is so.
-fn put_since(text: &mut Prose, event: u64) {
-    text.push_with(" since ", event);
-}
-
 /// Writes that a process is stopped, since when, and whether a wait has reported it.
 fn put_stop(text: &mut Prose, shown: &Shown<'_, '_>, own: &OwnPart, listing: &Listing<'_>) {
     text.push_str("stopped");
@@ -99,7 +92,7 @@ fn put_stop(text: &mut Prose, shown: &Shown<'_, '_>, own: &OwnPart, listing: &Li
         text.push_str(" by ");
         put_signal(text, sig);
     }
-    put_since(text, shown.times.stop);
+    text.push_with(" since ", shown.times.stop);
     if let News::StoppedBy(_) = shown.it.news {
         text.push_str(", not reported yet");
     }
@@ -113,8 +106,7 @@ fn put_stop(text: &mut Prose, shown: &Shown<'_, '_>, own: &OwnPart, listing: &Li
 fn put_doing(text: &mut Prose, shown: &Shown<'_, '_>, own: &OwnPart, listing: &Listing<'_>) {
     match (shown.it.life, shown.it.blocked) {
         (Life::Zombie(status), _) => {
-            text.push_str("zombie");
-            put_since(text, shown.times.end);
+            text.push_with("zombie since ", shown.times.end);
             text.push_str(", ");
             return put_status(text, status);
         }
@@ -122,7 +114,7 @@ fn put_doing(text: &mut Prose, shown: &Shown<'_, '_>, own: &OwnPart, listing: &L
         (Life::Running, Some(blocked)) => {
             text.push_str("waits in ");
             put_wait(text, shown, own, blocked, listing);
-            put_since(text, shown.times.wait);
+            text.push_with(" since ", shown.times.wait);
         }
         (Life::Running, None) => text.push_str("runs"),
     }
@@ -132,47 +124,39 @@ fn put_doing(text: &mut Prose, shown: &Shown<'_, '_>, own: &OwnPart, listing: &L
     }
 }
 
-/// Writes the cells of the mask and of the pending signals; a zombie has neither.
-fn put_signals(text: &mut Prose, own: &OwnPart, is_zombie: bool) {
-    if is_zombie {
-        let start = text.len();
-        return end_cell(text, start, 38);
-    }
-    put_set_cell(text, "mask ", own.signals.mask(), 18);
-    put_set_cell(text, "pending ", own.signals.pending(), 20);
-}
-
-/// Writes the row of a process.
+/// Writes the row of a process. A zombie has neither a mask nor pending signals.
 fn put_row(text: &mut Prose, shown: &Shown<'_, '_>, own: &OwnPart, listing: &Listing<'_>) {
-    let it = shown.it;
+    let it = &shown.it;
     let is_zombie = matches!(it.life, Life::Zombie(_));
     put_name(text, it.pid, if is_zombie { None } else { shown.source });
     let start = text.len();
     put_doing(text, shown, own, listing);
     end_cell(text, start, 45);
-    put_signals(text, own, is_zombie);
-    for (name, pid) in [
-        ("parent ", it.parent),
-        ("  group ", it.group),
-        ("  session ", it.session),
-    ] {
-        text.push_with(name, pid.number());
+    if is_zombie {
+        let start = text.len();
+        end_cell(text, start, 38);
+    } else {
+        put_set_cell(text, "mask ", own.signals.mask(), 18);
+        put_set_cell(text, "pending ", own.signals.pending(), 20);
     }
+    text.push_with("parent ", it.parent.number());
+    text.push_with("  group ", it.group.number());
+    text.push_with("  session ", it.session.number());
     text.push_str("\n");
 }
 
-/// The action for the signal with a number; none where no signal has it.
-fn action_of(own: &OwnPart, number: u8) -> Option<(Sig, Action)> {
-    let sig = Sig::new(number)?;
-    Some((sig, own.signals.action(sig)))
-}
-
 /// Writes a signal that is caught: where its handler stands, and the mask and the flags, where there are any.
-fn put_caught(text: &mut Prose, shown: &Shown<'_, '_>, sig: Sig, action: Action, address: i64) {
+fn put_caught(
+    text: &mut Prose,
+    source: Option<&Source<'_>>,
+    sig: Sig,
+    action: Action,
+    address: i64,
+) {
     text.push_str("    catches ");
     put_signal(text, sig);
     text.push_str(" at ");
-    put_address(text, shown.source, address);
+    put_address(text, source, address);
     if !action.mask.is_empty() {
         text.push_str(", mask ");
         put_set(text, action.mask);
@@ -184,44 +168,24 @@ fn put_caught(text: &mut Prose, shown: &Shown<'_, '_>, sig: Sig, action: Action,
     text.push_str("\n");
 }
 
-/// Writes the signals that a process catches.
-fn put_catches(text: &mut Prose, shown: &Shown<'_, '_>, own: &OwnPart) {
+/// Writes the signals that a process catches, and those that it ignores by their actions.
+fn put_actions(text: &mut Prose, source: Option<&Source<'_>>, own: &OwnPart) {
+    let mut ignored = SigSet::EMPTY;
     for number in 1..65u8 {
-        if let Some((sig, action)) = action_of(own, number) {
-            if let Handler::At(address) = action.handler {
-                put_caught(text, shown, sig, action, address);
+        if let Some(sig) = Sig::new(number) {
+            let action = own.signals.action(sig);
+            match action.handler {
+                Handler::At(address) => put_caught(text, source, sig, action, address),
+                Handler::Ignore => ignored = ignored.union(SigSet::just(sig)),
+                Handler::Default => {}
             }
         }
     }
-}
-
-/// The signals that a process ignores by their actions.
-fn ignored_by(own: &OwnPart) -> SigSet {
-    let mut set = SigSet::EMPTY;
-    for number in 1..65u8 {
-        if let Some((sig, action)) = action_of(own, number) {
-            if matches!(action.handler, Handler::Ignore) {
-                set = set.union(SigSet::just(sig));
-            }
-        }
-    }
-    set
-}
-
-/// Writes the signals that a process ignores by their actions, where there are any.
-fn put_ignored(text: &mut Prose, own: &OwnPart) {
-    let ignored = ignored_by(own);
     if !ignored.is_empty() {
         text.push_str("    ignores ");
         put_set(text, ignored);
         text.push_str("\n");
     }
-}
-
-/// Writes in how many ticks an alarm is due.
-fn put_alarm(text: &mut Prose, left: u64) {
-    text.push_with("    alarm in ", left);
-    text.push_str(if left == 1 { " tick\n" } else { " ticks\n" });
 }
 
 /// Writes what a queued signal carries: its value, and its sender.
@@ -300,37 +264,8 @@ fn put_memory(text: &mut Prose, own: &OwnPart) {
     }
 }
 
-/// Writes what else is known of a process that hasn't ended.
-fn put_details(
-    view: View<'_, '_>,
-    text: &mut Prose,
-    shown: &Shown<'_, '_>,
-    own: &OwnPart,
-    ticks: u64,
-) {
-    put_catches(text, shown, own);
-    put_ignored(text, own);
-    put_queue(text, own);
-    let handlers = own.signals.handlers();
-    if handlers != 0 {
-        text.push_with("    handlers that haven't returned: ", handlers);
-        text.push_str("\n");
-    }
-    if let Some(due) = shown.it.alarm {
-        put_alarm(text, due.saturating_sub(ticks));
-    }
-    put_ids(text, &shown.it);
-    if shown.it.is_subreaper {
-        text.push_str("    is a subreaper\n");
-    }
-    if !view.only.is_empty() {
-        put_registers(text, own);
-        put_memory(text, own);
-    }
-}
-
 /// What is known of a process beside its fields.
-#[derive(Clone, Copy)]
+#[derive(Drop)]
 pub struct Around {
     pub times: Times,
     /// Whether it has no turn.
@@ -347,19 +282,33 @@ pub fn put_process(
     around: Around,
     own: &OwnPart,
 ) {
-    let is_zombie = matches!(it.life, Life::Zombie(_));
     let source = view.listing.program(usize::from(it.program));
-    let shown = Shown {
-        it,
-        times: around.times,
-        source,
-    };
-    put_row(text, &shown, own, view.listing);
-    if is_zombie {
+    let times = around.times;
+    put_row(text, &Shown { it, times, source }, own, view.listing);
+    if matches!(it.life, Life::Zombie(_)) {
         return;
     }
     if around.sleeps {
-        put_wakers(text, &shown.it, own, around.terminal);
+        put_wakers(text, &it, own, around.terminal);
     }
-    put_details(view, text, &shown, own, around.ticks);
+    put_actions(text, source, own);
+    put_queue(text, own);
+    let handlers = own.signals.handlers();
+    if handlers != 0 {
+        text.push_with("    handlers that haven't returned: ", handlers);
+        text.push_str("\n");
+    }
+    if let Some(due) = it.alarm {
+        let left = due.saturating_sub(around.ticks);
+        text.push_with("    alarm in ", left);
+        text.push_str(if left == 1 { " tick\n" } else { " ticks\n" });
+    }
+    put_ids(text, &it);
+    if it.is_subreaper {
+        text.push_str("    is a subreaper\n");
+    }
+    if !view.only.is_empty() {
+        put_registers(text, own);
+        put_memory(text, own);
+    }
 }

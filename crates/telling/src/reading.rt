@@ -1,5 +1,7 @@
 //! The processes as they are from one event to the next: those alone are read anew that an event may have changed.
 
+ghost use Rattle.std.specs.Prelude.{◌<◌, IfOk, length};
+
 use crate::sending::{Row, Sent};
 use posix::{Life, Pid, Sig};
 use proctable::{OwnPart, Snapshot};
@@ -13,7 +15,7 @@ pub struct Reading {
     /// Those that are there.
     pub(crate) rows: Vec<Row>,
     /// Those that aren't any more.
-    pub(crate) gone: Vec<Pid>,
+    pub gone: Vec<Pid>,
 }
 
 impl Reading {
@@ -39,12 +41,6 @@ impl Reading {
         let place = self.rows.len();
         insert(&mut self.rows, place, Row::new(it, own, can_act, sent))
     }
-
-    /// A process isn't there any more.
-    pub fn miss(&mut self, pid: Pid) -> Result<(), AllocError> {
-        self.gone.push(pid)?;
-        Ok(())
-    }
 }
 
 /// Whether a number is in a list that rises.
@@ -62,10 +58,16 @@ fn add_others(pids: &mut Vec<Pid>, these: &[Pid], those: &[Pid]) -> Result<(), A
     Ok(())
 }
 
+/// The place of a process among rows that rise; where it isn't there, the place that it would have.
+fn place_of(rows: &[Row], pid: Pid) -> Result<usize, usize>
+    ensures { IfOk result (λ place. place < length rows.now) }
+{
+    rows.binary_search_by_key(&pid, |row| row.it.pid)
+}
+
 /// The row of a process; none where it isn't there. The rows rise.
 pub fn row_of(rows: &[Row], pid: Pid) -> Option<Row> {
-    let place = rows.binary_search_by_key(&pid, |row| row.it.pid).ok()?;
-    rows.get(place).copied()
+    rows.get(place_of(rows, pid).ok()?).copied()
 }
 
 /// Puts a row at a place; behind the last one where that is before it.
@@ -78,7 +80,7 @@ fn insert(rows: &mut Vec<Row>, place: usize, row: Row) -> Result<(), AllocError>
 }
 
 /// Whom an event may have changed, beside those that get a turn or lose theirs.
-#[derive(Clone, Copy)]
+#[derive(Drop)]
 pub(crate) struct Concern {
     /// Who acted; who hears that it stopped or ended; who was born, moved or collected by its call; whom it named for a
     /// signal. Number 0 for nobody.
@@ -113,7 +115,7 @@ impl Concern {
 
 /// The processes as they are after an event.
 #[derive(Drop)]
-pub(crate) struct Rows {
+pub struct Rows {
     /// They rise.
     rows: Vec<Row>,
     /// Those that have a turn, in the order of their numbers.
@@ -133,12 +135,12 @@ impl Rows {
     }
 
     /// Whether they are those after so many events.
-    pub(crate) fn are_after(&self, events: u64) -> bool {
+    pub fn are_after(&self, events: u64) -> bool {
         self.events == Some(events)
     }
 
     /// All processes were read, after so many events.
-    pub(crate) fn set(&mut self, events: u64, all: Reading) {
+    pub fn set(&mut self, events: u64, all: Reading) {
         self.rows = all.rows;
         self.acting = all.acting;
         self.events = Some(events);
@@ -152,7 +154,7 @@ impl Rows {
     /// Whether a process is stopped.
     pub(crate) fn have_stopped(&self) -> bool {
         for row in &self.rows {
-            if row.it.life == Life::Stopped {
+            if matches!(row.it.life, Life::Stopped) {
                 return true;
             }
         }
@@ -189,34 +191,31 @@ impl Rows {
     }
 
     /// A process is as this row says.
-    fn put(&mut self, row: Row) -> Result<(), AllocError> {
-        match self
-            .rows
-            .binary_search_by_key(&row.it.pid, |row| row.it.pid)
-        {
+    fn put(&mut self, row: &Row) -> Result<(), AllocError> {
+        match place_of(self.rows.as_slice(), row.it.pid) {
             Ok(place) => {
                 if let Some(kept) = self.rows.get_mut(place) {
-                    *kept = row;
+                    *kept = *row;
                 }
                 Ok(())
             }
-            Err(place) => insert(&mut self.rows, place, row),
+            Err(place) => insert(&mut self.rows, place, *row),
         }
     }
 
     /// These aren't there any more.
     fn remove_all(&mut self, gone: &[Pid]) {
         for pid in gone {
-            if let Ok(place) = self.rows.binary_search_by_key(pid, |row| row.it.pid) {
+            if let Ok(place) = place_of(self.rows.as_slice(), *pid) {
                 self.rows.remove(place);
             }
         }
     }
 
     /// Some were read anew, after so many events.
-    pub(crate) fn keep(&mut self, events: u64, new: Reading) -> Result<(), AllocError> {
+    pub fn keep(&mut self, events: u64, new: Reading) -> Result<(), AllocError> {
         for row in &new.rows {
-            self.put(*row)?;
+            self.put(row)?;
         }
         self.remove_all(new.gone.as_slice());
         self.acting = new.acting;

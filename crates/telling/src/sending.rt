@@ -18,21 +18,15 @@ pub enum Fate {
 
 /// What a process makes of a signal.
 fn fate_of(pid: Pid, signals: &Signals, sig: Sig) -> Fate {
-    let handler = signals.action(sig).handler;
-    let does_something = match handler {
-        Handler::At(_) => true,
-        Handler::Ignore => false,
-        Handler::Default => !matches!(
-            sig.default_action(),
-            DefaultAction::Ignore | DefaultAction::Continue
-        ),
-    };
-    if pid == Pid::INIT && !matches!(handler, Handler::At(_)) {
-        Fate::NotCaught
-    } else if does_something || signals.mask().contains(sig) {
-        Fate::Kept
-    } else {
-        Fate::Ignored
+    match signals.action(sig).handler {
+        Handler::At(_) => Fate::Kept,
+        _ if pid == Pid::INIT => Fate::NotCaught,
+        _ if signals.mask().contains(sig) => Fate::Kept,
+        Handler::Ignore => Fate::Ignored,
+        Handler::Default => match sig.default_action() {
+            DefaultAction::Ignore | DefaultAction::Continue => Fate::Ignored,
+            _ => Fate::Kept,
+        },
     }
 }
 
@@ -114,16 +108,6 @@ pub struct Sent {
     pub whom: Whom,
 }
 
-/// The signal that a key sends.
-pub fn signal_of_key(byte: u8) -> Option<Sig> {
-    match byte {
-        0x03 => Some(Sig::INT),
-        0x1c => Some(Sig::QUIT),
-        0x1a => Some(Sig::TSTP),
-        _ => None,
-    }
-}
-
 /// Whether a caller names a process.
 fn is_named(caller: &Snapshot, target: &Target, it: &Snapshot) -> bool {
     match *target {
@@ -164,26 +148,33 @@ impl Sent {
 
 /// Whether a kill or a sigqueue has succeeded.
 pub fn has_sent(entries: &[Entry]) -> bool {
-    entries.iter().any(|entry| {
-        matches!(
-            *entry,
-            Entry::Called {
-                call: Call::Kill | Call::Sigqueue,
-                result: 0,
-                ..
-            }
-        )
-    })
+    for entry in entries {
+        if let Entry::Called {
+            call: Call::Kill | Call::Sigqueue,
+            result: 0,
+            ..
+        } = entry
+        {
+            return true;
+        }
+    }
+    false
 }
 
 /// Whether a process has taken a signal.
 pub fn is_taken(entries: &[Entry], it: Pid, signal: Sig) -> bool {
-    entries.iter().any(|entry| match *entry {
-        Entry::Handled { pid, sig, .. }
-        | Entry::Discarded { pid, sig }
-        | Entry::Stopped { pid, sig } => pid == it && sig == signal,
-        _ => false,
-    })
+    for entry in entries {
+        let (pid, sig) = match *entry {
+            Entry::Handled { pid, sig, .. }
+            | Entry::Discarded { pid, sig }
+            | Entry::Stopped { pid, sig } => (pid, sig),
+            _ => continue,
+        };
+        if pid == it && sig == signal {
+            return true;
+        }
+    }
+    false
 }
 
 /// What is told behind a signal of a process, which hears of a child, and which was sent the signal; nothing where the
@@ -195,7 +186,7 @@ pub fn told_of(old: &Row, new: &Row, hears: bool, is_sent: bool, sig: Sig) -> Op
     if hears && sig == Sig::CHLD {
         return Some(", pending already");
     }
-    let continues = sig == Sig::CONT && old.it.life == Life::Stopped;
+    let continues = sig == Sig::CONT && matches!(old.it.life, Life::Stopped);
     if !is_sent || continues || matches!(new.it.life, Life::Zombie(_)) {
         return None;
     }

@@ -44,28 +44,23 @@ impl Since {
         }
     }
 
-    /// Notes what an entry of an event tells.
-    fn note_entry(&mut self, event: u64, entry: &Entry) -> Result<(), AllocError> {
-        match *entry {
-            Entry::Stopped { pid, sig } => {
-                let mut times = self.of(pid);
-                times.stop = event;
-                times.stopped_by = sig.number();
-                self.set(pid, times)
-            }
-            Entry::Ended { pid, .. } => {
-                let mut times = self.of(pid);
-                times.end = event;
-                self.set(pid, times)
-            }
-            _ => Ok(()),
-        }
-    }
-
     /// Notes what the entries of an event tell.
     pub fn note(&mut self, event: u64, entries: &[Entry]) -> Result<(), AllocError> {
         for entry in entries {
-            self.note_entry(event, entry)?;
+            match *entry {
+                Entry::Stopped { pid, sig } => {
+                    let mut times = self.of(pid);
+                    times.stop = event;
+                    times.stopped_by = sig.number();
+                    self.set(pid, times)?;
+                }
+                Entry::Ended { pid, .. } => {
+                    let mut times = self.of(pid);
+                    times.end = event;
+                    self.set(pid, times)?;
+                }
+                _ => {}
+            }
         }
         Ok(())
     }

@@ -37,7 +37,7 @@ fn put_children(text: &mut Prose, it: &Snapshot, asked: &Asked) {
 /// the wait for it alone has no child left.
 fn doings(it: &Snapshot, asked: &Asked, drops: bool) -> [(bool, &'static str); 5] {
     let is_for_one = matches!(asked.target, Target::Process(_));
-    let is_for_group = group_of(it, asked).is_some();
+    let is_for_group = matches!(asked.target, Target::OwnGroup | Target::Group(_));
     let ends = if drops {
         is_for_one
     } else {

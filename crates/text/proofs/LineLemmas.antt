@@ -1,10 +1,11 @@
 -- How the first line of a text is found.
-use Rattle.std.proofs.Common.{◌≡◌, ℕ, ◌+◌, ◌<◌, true, false, List, [], ◌∷◌, ◌++◌, length, get_or, take, drop, refl, ap, sym, ◌∙◌, arith}
+use Rattle.std.proofs.Common.{◌≡◌, ℕ, ◌+◌, ◌<◌, suc, Bool, true, false, List, [], ◌∷◌, ◌++◌, length, drop, take, refl, ap, sym, ◌∙◌, append_assoc, append-nil, length-append, arith}
 use Rattle.std.specs.Prelude.{◌==◌}
-use Rattle.std.proofs.lemmas.Grind.{common_steps}
-use Rattle.std.proofs.lemmas.Bool.Decides.{nat_tests}
-use Rattle.std.proofs.lemmas.List.{take_all, drop_more, take_more}
-use Rattle.text.specs.Lines.{lines_from, all_lines, last_line}
+use Rattle.std.specs.List.{after_first, before_first, position_or_len}
+use Rattle.text.specs.Lines.{lines_from, all_lines, last_line, behind_line}
+
+abbrev is_feed : ℕ → Bool
+is_feed b = b == 10
 
 -- all lines of a text, of whose first line some bytes have come
 abbrev pub all_from : List ℕ → List ℕ → List (List ℕ)
@@ -18,29 +19,28 @@ all_from-end begun c bs h = rw h refl
 pub all_from-more : (begun : List ℕ) (c : ℕ) (bs : List ℕ) → (c == 10) ≡ false → all_from begun (c ∷ bs) ≡ all_from (begun ++ c ∷ []) bs
 all_from-more begun c bs h = rw h refl
 
--- past a byte that is no line feed, the lines are the same
-pub line_more : (bs : List ℕ) (i : ℕ) → i < length bs → (get_or bs i 0 ≡ 10 → ⊥) → all_from (take (i + 1) bs) (drop (i + 1) bs) ≡ all_from (take i bs) (drop i bs)
-line_more bs i lt h =
-    let ne : (get_or bs i 0 == 10) ≡ false = grind (arith, nat_tests) in
-    ap (λ (w : List ℕ). all_from w (drop (i + 1) bs)) (take_more bs i 0 lt)
-    ∙ sym (ap (all_from (take i bs)) (drop_more bs i 0 lt) ∙ all_from-more (take i bs) (get_or bs i 0) (drop (i + 1) bs) ne)
-
--- at a line feed, the bytes before it are the first line
-pub line_taken : (bs : List ℕ) (i : ℕ) → i < length bs → get_or bs i 0 ≡ 10 → all_from (take i bs) (drop i bs) ≡ take i bs ∷ all_lines (drop (i + 1) bs)
-line_taken bs i lt h =
-    let eq : (get_or bs i 0 == 10) ≡ true = grind (arith, nat_tests) in
-    ap (all_from (take i bs)) (drop_more bs i 0 lt) ∙ all_from-end (take i bs) (get_or bs i 0) (drop (i + 1) bs) eq
-
 -- a last line that lacks its line feed
 pub some_line : (bs : List ℕ) → 0 < length bs → last_line bs ≡ bs ∷ []
 some_line [] h = absurd (omega arith)
 some_line (b ∷ bs) h = refl
 
--- where no line feed has come by the end, the whole text is one line
-pub line_rest : (bs : List ℕ) (i : ℕ) → 0 < length bs → i ≡ length bs → all_from (take i bs) (drop i bs) ≡ bs ∷ all_lines []
-line_rest bs i some e =
-    let none : drop i bs ≡ [] = grind (arith, common_steps) in
-    let all : take i bs ≡ bs = take_all i bs (omega arith) in
-    rw (none, all) (some_line bs some)
+by_byte : (begun : List ℕ) (b : ℕ) (bs : List ℕ) (t : Bool) → is_feed b ≡ t
+    → (all_from (begun ++ b ∷ []) bs ≡ ((begun ++ b ∷ []) ++ before_first is_feed bs) ∷ all_lines (after_first is_feed bs))
+    → all_from begun (b ∷ bs) ≡ (begun ++ before_first is_feed (b ∷ bs)) ∷ all_lines (after_first is_feed (b ∷ bs))
+by_byte begun b bs true e h = rw e (ap (λ (l : List ℕ). l ∷ all_lines bs) (sym (append-nil begun)))
+by_byte begun b bs false e h =
+    let next : position_or_len is_feed (b ∷ bs) ≡ suc (position_or_len is_feed bs) = rw e (omega arith) in
+    let behind : suc (position_or_len is_feed bs + 1) ≡ position_or_len is_feed (b ∷ bs) + 1 = omega (arith, next) in
+    all_from-more begun b bs e ∙ h
+    ∙ ap (λ (l : List ℕ). l ∷ all_lines (after_first is_feed bs)) (append_assoc begun (b ∷ []) (before_first is_feed bs) ∙ ap (λ n. begun ++ take n (b ∷ bs)) (sym next))
+    ∙ ap (λ n. (begun ++ before_first is_feed (b ∷ bs)) ∷ all_lines (drop n (b ∷ bs))) behind
 
-pub ruleset line_rules = (line_more, line_taken, line_rest)
+all_from_first : (begun bs : List ℕ) → 0 < length begun → all_from begun bs ≡ (begun ++ before_first is_feed bs) ∷ all_lines (after_first is_feed bs)
+all_from_first begun [] some = some_line begun some ∙ ap (λ (l : List ℕ). l ∷ []) (sym (append-nil begun))
+all_from_first begun (b ∷ bs) some =
+    by_byte begun b bs (is_feed b) refl (all_from_first (begun ++ b ∷ []) bs (omega (arith, length-append begun (b ∷ []))))
+
+-- a text that isn't empty is its first line and the lines behind it
+pub lines_by_first : (text : List ℕ) → 0 < length text → all_lines text ≡ before_first is_feed text ∷ all_lines (behind_line text)
+lines_by_first [] some = absurd (omega arith)
+lines_by_first (b ∷ bs) some = by_byte [] b bs (is_feed b) refl (all_from_first (b ∷ []) bs (omega arith))

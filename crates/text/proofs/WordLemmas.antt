@@ -1,42 +1,90 @@
 -- How the first word of a line is found.
-use Rattle.std.proofs.Common.{◌≡◌, ℕ, ◌+◌, ◌<◌, true, false, List, [], ◌∷◌, ◌++◌, length, get_or, take, drop, refl, ap, sym, ◌∙◌, arith, length-take}
-use Rattle.std.proofs.lemmas.Grind.{common_steps}
-use Rattle.std.proofs.lemmas.List.{drop_more, take_more}
-use Rattle.text.specs.Words.{words, words_from, closed, is_separator}
+use Rattle.std.proofs.Common.{◌≡◌, ℕ, ◌<◌, suc, Bool, true, false, List, [], ◌∷◌, ◌++◌, length, drop, take, refl, ap, sym, ◌∙◌, append_assoc, append-nil, subst, arith, length-take}
+use Rattle.std.specs.Prelude.{nat_lt, not, unwrap_or}
+use Rattle.std.specs.List.{before_first, position, position_or_len}
+use Rattle.std.proofs.lemmas.Bool.{ltb-false}
+use Rattle.std.proofs.lemmas.List.Sums.{prefix_len-le-length}
+use Rattle.text.specs.Words.{behind_word, closed, first_word, from_word, is_separator, words, words_from}
 
--- a separator ends the word that has begun
-pub words_from-sep : (begun : List ℕ) (b : ℕ) (bs : List ℕ) → is_separator b ≡ true → words_from begun (b ∷ bs) ≡ closed begun ++ words bs
-words_from-sep begun b bs h = rw h refl
+by_test : (p : ℕ → Bool) (xs : List ℕ) (b : Bool) → nat_lt (position_or_len p xs) (length xs) ≡ b → unwrap_or (position p xs) (length xs) ≡ position_or_len p xs
+by_test p xs true e = rw e refl
+by_test p xs false e =
+    let ge = ltb-false (position_or_len p xs) (length xs) e in
+    let le = prefix_len-le-length (λ x. not (p x)) xs in
+    let same : length xs ≡ position_or_len p xs = omega (arith, ge, le) in
+    rw e same
+
+-- the first place, or the end
+pub first_or_end : (p : ℕ → Bool) (xs : List ℕ) → unwrap_or (position p xs) (length xs) ≡ position_or_len p xs
+first_or_end p xs = by_test p xs (nat_lt (position_or_len p xs) (length xs)) refl
+
+-- ---- words
+
+-- a separator at the front is skipped, and another byte isn't
+skipped : (b : ℕ) (bs : List ℕ) → is_separator b ≡ true → from_word (b ∷ bs) ≡ from_word bs
+skipped b bs e =
+    let next : position_or_len (λ b. not (is_separator b)) (b ∷ bs) ≡ suc (position_or_len (λ b. not (is_separator b)) bs) = rw e (omega arith) in
+    ap (λ n. drop n (b ∷ bs)) next
+
+kept : (b : ℕ) (bs : List ℕ) → is_separator b ≡ false → from_word (b ∷ bs) ≡ b ∷ bs
+kept b bs e = rw e refl
+
+skip : (b : ℕ) (bs : List ℕ) (t : Bool) → is_separator b ≡ t → words bs ≡ words (from_word bs) → words (b ∷ bs) ≡ words (from_word (b ∷ bs))
+skip b bs true e h = let step : words (b ∷ bs) ≡ words bs = rw e refl in step ∙ h ∙ ap words (sym (skipped b bs e))
+skip b bs false e h = ap words (sym (kept b bs e))
+
+words_skip : (text : List ℕ) → words text ≡ words (from_word text)
+words_skip [] = refl
+words_skip (b ∷ bs) = skip b bs (is_separator b) refl (words_skip bs)
 
 pub words_from-more : (begun : List ℕ) (b : ℕ) (bs : List ℕ) → is_separator b ≡ false → words_from begun (b ∷ bs) ≡ words_from (begun ++ b ∷ []) bs
 words_from-more begun b bs h = rw h refl
 
-pub words_drop : (bs : List ℕ) (i : ℕ) → i < length bs → is_separator (get_or bs i 0) ≡ true → words (drop (i + 1) bs) ≡ words (drop i bs)
-words_drop bs i lt h = sym (ap words (drop_more bs i 0 lt) ∙ words_from-sep [] (get_or bs i 0) (drop (i + 1) bs) h)
+-- the bytes up to the next separator belong to the word that has begun
+take_word : (begun : List ℕ) (b : ℕ) (bs : List ℕ) (t : Bool) → is_separator b ≡ t
+    → words_from (begun ++ b ∷ []) bs ≡ closed ((begun ++ b ∷ []) ++ before_first is_separator bs) ++ words (drop (position_or_len is_separator bs) bs)
+    → words_from begun (b ∷ bs) ≡ closed (begun ++ before_first is_separator (b ∷ bs)) ++ words (drop (position_or_len is_separator (b ∷ bs)) (b ∷ bs))
+take_word begun b bs true e h = rw (e, append-nil begun, e) refl
+take_word begun b bs false e h =
+    let next : position_or_len is_separator (b ∷ bs) ≡ suc (position_or_len is_separator bs) = rw e (omega arith) in
+    words_from-more begun b bs e ∙ h
+    ∙ ap (λ (w : List ℕ). closed w ++ words (drop (position_or_len is_separator bs) bs)) (append_assoc begun (b ∷ []) (before_first is_separator bs))
+    ∙ ap (λ n. closed (begun ++ take n (b ∷ bs)) ++ words (drop n (b ∷ bs))) (sym next)
 
-pub words_take : (bs : List ℕ) (i : ℕ) → i < length bs → is_separator (get_or bs i 0) ≡ false →
-    words_from (take (i + 1) bs) (drop (i + 1) bs) ≡ words_from (take i bs) (drop i bs)
-words_take bs i lt h =
-    ap (λ w. words_from w (drop (i + 1) bs)) (take_more bs i 0 lt)
-    ∙ sym (ap (words_from (take i bs)) (drop_more bs i 0 lt) ∙ words_from-more (take i bs) (get_or bs i 0) (drop (i + 1) bs) h)
+words_take : (begun text : List ℕ) → words_from begun text ≡ closed (begun ++ before_first is_separator text) ++ words (drop (position_or_len is_separator text) text)
+words_take begun [] = rw (append-nil begun) (sym (append-nil (closed begun)))
+words_take begun (b ∷ bs) = take_word begun b bs (is_separator b) refl (words_take (begun ++ b ∷ []) bs)
 
 closed_some : (w : List ℕ) → 0 < length w → closed w ≡ w ∷ []
 closed_some [] h = absurd (omega arith)
 closed_some (b ∷ bs) h = refl
 
--- a separator that comes makes the bytes before it a word
-pub words_taken : (bs : List ℕ) (i : ℕ) → 0 < i → i < length bs → is_separator (get_or bs i 0) ≡ true →
-    words_from (take i bs) (drop i bs) ≡ take i bs ∷ words (drop i bs)
-words_taken bs i some lt h =
-    ap (words_from (take i bs)) (drop_more bs i 0 lt)
-    ∙ words_from-sep (take i bs) (get_or bs i 0) (drop (i + 1) bs) h
-    ∙ ap (λ ws. ws ++ words (drop (i + 1) bs)) (closed_some (take i bs) (simp length-take (omega arith)))
-    ∙ ap (λ ws. take i bs ∷ ws) (words_drop bs i lt h)
+no_bytes : (text : List ℕ) → length text ≡ 0 → text ≡ []
+no_bytes [] e = refl
+no_bytes (b ∷ bs) e = absurd (omega (arith, e))
 
--- so does the end of the line
-pub words_all : (bs : List ℕ) (i : ℕ) → 0 < i → i ≡ length bs → words_from (take i bs) (drop i bs) ≡ take i bs ∷ words (drop i bs)
-words_all bs i some e =
-    let none : drop i bs ≡ [] = grind (arith, common_steps) in
-    rw none (closed_some (take i bs) (simp length-take (omega arith)))
+abbrev WordHasBytes : List ℕ → Type 0
+WordHasBytes rest = 0 < length rest → 0 < position_or_len is_separator rest
 
-pub ruleset word_rules = (words_drop, words_take, words_taken, words_all)
+has_bytes : (b : ℕ) (bs : List ℕ) (t : Bool) → is_separator b ≡ t → WordHasBytes (from_word bs) → WordHasBytes (from_word (b ∷ bs))
+has_bytes b bs true e h = subst WordHasBytes (sym (skipped b bs e)) h
+has_bytes b bs false e h =
+    let next : position_or_len is_separator (b ∷ bs) ≡ suc (position_or_len is_separator bs) = rw e (omega arith) in
+    subst WordHasBytes (sym (kept b bs e)) (λ some. omega (arith, next))
+
+-- a word has a byte
+pub word_has_bytes : (text : List ℕ) → 0 < length (from_word text) → 0 < position_or_len is_separator (from_word text)
+word_has_bytes [] some = absurd (omega (arith, some))
+word_has_bytes (b ∷ bs) some = has_bytes b bs (is_separator b) refl (word_has_bytes bs) some
+
+-- the words of a text are its first one and those behind it, where it has one
+pub words_by_first : (text : List ℕ) → 0 < length (from_word text) → words text ≡ first_word text ∷ words (behind_word text)
+words_by_first text some =
+    let has = word_has_bytes text some in
+    words_skip text ∙ words_take [] (from_word text)
+    ∙ ap (λ ws. ws ++ words (behind_word text)) (closed_some (first_word text) (simp length-take (omega (arith, has, some))))
+
+pub no_words : (text : List ℕ) → length (from_word text) ≡ 0 → words text ≡ []
+no_words text none = words_skip text ∙ ap words (no_bytes (from_word text) none)
+
+pub ruleset word_rules = (word_has_bytes, words_by_first, no_words)

@@ -1,5 +1,6 @@
 -- The lines of a text: each ends in a line feed, which the last may lack.
-use Rattle.std.specs.Prelude.{ℕ, ◌==◌, List, [], ◌∷◌, ◌++◌, if◌then◌else◌}
+use Rattle.std.specs.Prelude.{ℕ, ◌==◌, List, [], ◌∷◌, ◌++◌, if◌then◌else◌, Option, Some, None}
+use Rattle.std.specs.List.{after_first, before_first}
 
 -- the lines that are ended, and what follows the last line feed
 pub record Lines : Type 0 where
@@ -27,3 +28,12 @@ last_line (b ∷ bs) = (b ∷ bs) ∷ []
 -- every line, the last also where it lacks its line feed
 abbrev pub all_lines : List ℕ → List (List ℕ)
 all_lines text = (lines_of text).whole ++ last_line (lines_of text).rest
+
+-- the first line; none of the empty text
+abbrev pub first_line : List ℕ → Option (List ℕ)
+first_line [] = None
+first_line (b ∷ bs) = Some (before_first (λ b. b == 10) (b ∷ bs))
+
+-- what follows the first line
+abbrev pub behind_line : List ℕ → List ℕ
+behind_line text = after_first (λ b. b == 10) text

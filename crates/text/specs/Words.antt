@@ -1,6 +1,6 @@
 -- The words of a line, and names.
-use Rattle.std.specs.Prelude.{ℕ, length, ◌==◌, ◌&&◌, ◌||◌, Bool, false, List, [], ◌∷◌, ◌++◌, if◌then◌else◌, nat_le}
-use Rattle.std.specs.List.{before_first, list_all}
+use Rattle.std.specs.Prelude.{ℕ, length, ◌==◌, ◌&&◌, ◌||◌, Bool, false, not, List, [], ◌∷◌, ◌++◌, drop, if◌then◌else◌, nat_le}
+use Rattle.std.specs.List.{before_first, list_all, position_or_len}
 
 -- space, tab, carriage return and comma separate words
 abbrev pub is_separator : ℕ → Bool
@@ -23,6 +23,17 @@ words_from begun (b ∷ bs) = if is_separator b then closed begun ++ words_from 
 -- the words of some bytes
 abbrev pub words : List ℕ → List (List ℕ)
 words bs = words_from [] bs
+
+-- without the separators at its front
+abbrev pub from_word : List ℕ → List ℕ
+from_word text = drop (position_or_len (λ b. not (is_separator b)) text) text
+
+-- its first word, and what follows that
+abbrev pub first_word : List ℕ → List ℕ
+first_word text = before_first is_separator (from_word text)
+
+abbrev pub behind_word : List ℕ → List ℕ
+behind_word text = drop (position_or_len is_separator (from_word text)) (from_word text)
 
 -- the words of a line
 abbrev pub line_words : List ℕ → List (List ℕ)

@@ -77,7 +77,7 @@ fn setting<'a>(name: &[u8], line: &'a [u8]) -> Result<(Option<u32>, &'a [u8]), R
     ensures range { IfOk result (λ f. IfSome f.0 (λ n. n ≤ 2147483647)) }
 {
     match next_word(line) {
-        Some((word, rest)) if word == name => {
+        Some((_, word, rest)) if word == name => {
             let (word, rest) = first_word(rest)?;
             let number = number_in(0, Uid::MAX, word)?;
             Ok((Some(number), rest))
@@ -115,7 +115,7 @@ impl Draft {
         ensures { Becomes self.old self.new result (world_line_of number self.old line.now) }
     {
         match next_word(words_within(line)?) {
-            Some((word, rest)) => self.take_words(number, word, rest),
+            Some((_, word, rest)) => self.take_words(number, word, rest),
             None => Ok(()),
         }
     }

@@ -49,7 +49,7 @@ fn bytes_within(room: u64, line: &[u8]) -> Result<ArrayVec<u8, MAX_KEYS>, Reason
 {
     let mut bytes = ArrayVec::new();
     let mut rest = line;
-    while let Some((word, behind)) = next_word(rest) {
+    while let Some((_, word, behind)) = next_word(rest) {
         let byte = byte_in(word)?;
         if bytes.len() as u64 == room {
             return Err(Reason::OutOfRange);
@@ -109,7 +109,7 @@ fn add_line(list: &mut EventList, consoles: u8, line: &[u8]) -> Result<(), Reaso
     ensures within { length list.new ≤ most_events }
     ensures none { event_line_of consoles (most_events - length list.old) line.now ≡ Ok [] → IsOk result }
 {
-    let Some((word, rest)) = next_word(words_within(line)?) else {
+    let Some((_, word, rest)) = next_word(words_within(line)?) else {
         return Ok(());
     };
     if word == b"step".as_slice() {

@@ -8,18 +8,18 @@ ghost use Rattle.text.specs.Numbers.{byte_in as byte_in_of, hex_digit as hex_dig
 use crate::fault::Reason;
 use posix::decimal_value;
 
-/// Whether all bytes are digits.
-fn are_digits(text: &[u8]) -> bool
+/// Whether no byte is another one than a digit.
+fn has_digits_alone(text: &[u8]) -> bool
     ensures { result ≡ list_all is_ascii_digit text.now }
 {
     text.iter().all(|b| b.is_ascii_digit())
 }
 
-/// Whether these are one or more digits.
-fn is_number(text: &[u8]) -> bool
+/// Whether these are digits, one or more.
+pub fn are_digits(text: &[u8]) -> bool
     ensures { result ≡ is_numeral text.now }
 {
-    !text.is_empty() && are_digits(text)
+    !text.is_empty() && has_digits_alone(text)
 }
 
 /// The i64 that a word says. No number is `BadNumber`, and one outside i64 `OutOfRange`.
@@ -29,7 +29,7 @@ pub fn integer(word: &[u8]) -> Result<i64, Reason>
 {
     let negative = !word.is_empty() && word[0] == b'-';
     let digits = if negative { &word[1..] } else { word };
-    if !is_number(digits) {
+    if !are_digits(digits) {
         return Err(Reason::BadNumber);
     }
     let magnitude = decimal_value(digits);

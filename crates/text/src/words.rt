@@ -1,9 +1,9 @@
-//! Words of a line.
+//! Lines of a text, and words of a line.
 
-ghost use Rattle.std.specs.Prelude.{◌≡◌, ◌+◌, ◌<◌, ◌≤◌, ℕ, List, [], ◌∷◌, Ok, Err, MatchOption, MatchResult, IfSome, IfOk, length, slice_index, false, take, drop};
-ghost use Rattle.std.specs.List.{list_all};
-ghost use Rattle.text.specs.Lines.{all_lines};
-ghost use Rattle.text.specs.Words.{before_comment, is_name as is_name_of, is_name_byte as is_name_byte_of, is_separator as is_separator_of, words};
+ghost use Rattle.std.specs.Prelude.{◌≡◌, ◌==◌, ◌+◌, ◌<◌, ◌≤◌, ◌++◌, ℕ, List, [], ◌∷◌, Some, Ok, Err, MatchOption, MatchResult, IfSome, IfOk, length, not};
+ghost use Rattle.std.specs.List.{list_all, position_or_len};
+ghost use Rattle.text.specs.Lines.{all_lines, behind_line, first_line};
+ghost use Rattle.text.specs.Words.{before_comment, behind_word, first_word as first_word_of, from_word, is_name as is_name_of, is_name_byte as is_name_byte_of, is_separator as is_separator_of, words};
 ghost use Rattle.text.specs.Reading.{words_within as words_within_of};
 ghost use Rattle.text.specs.declared.fault.Reason.TheVariants.{UnknownWord};
 
@@ -15,40 +15,62 @@ pub const MAX_LINE_LEN: usize = 200;
 /// The most bytes of a name.
 const MAX_NAME_LEN: usize = 16;
 
-/// The first line of a text, and what follows it; none of the empty text.
-#[tactic(auto, using(crate::proofs::LineLemmas::line_rules))]
+/// How many bytes stand before the first that is this one; all of them where none is.
+fn len_before(byte: u8, text: &[u8]) -> usize
+    ensures len { result ≡ position_or_len (λ b. b == byte) text.now }
+    ensures within { result ≤ length text.now }
+{
+    text.iter().position(|b| *b == byte).unwrap_or(text.len())
+}
+
+/// The first line of a text without its line feed, which the last one may lack, and what follows it; none of the empty
+/// text.
 pub fn next_line(text: &[u8]) -> Option<(&[u8], &[u8])>
-    ensures { MatchOption result (all_lines text.now ≡ []) (λ f. (all_lines text.now ≡ f.0.now ∷ all_lines f.1.now) × (length f.1.now < length text.now)) }
+    ensures lines { MatchOption result (all_lines text.now ≡ []) (λ f. all_lines text.now ≡ f.0.now ∷ all_lines f.1.now) }
+    ensures first { MatchOption result (text.now ≡ []) (λ f. (first_line text.now ≡ Some f.0.now) × (f.1.now ≡ behind_line text.now)) }
+    ensures shorter { IfSome result (λ f. length f.1.now < length text.now) }
 {
     if text.is_empty() {
         return None;
     }
-    let mut end = 0;
-    while end < text.len() && text[end] != b'\n' {
-        end += 1;
-    }
-    if end < text.len() {
-        return Some((&text[..end], &text[end + 1..]));
-    }
-    Some((text, &text[text.len()..]))
+    let (line, rest) = text.split_at(len_before(b'\n', text));
+    let (_, more) = rest.split_at(rest.len().min(1));
+    Some((line, more))
 }
 
 /// Whether a byte separates words.
-fn is_separator(byte: u8) -> bool
+pub fn is_separator(byte: u8) -> bool
     ensures { result ≡ is_separator_of byte }
 {
     byte == b' ' || byte == b'\t' || byte == b'\r' || byte == b','
 }
 
-/// A line without its comment.
-fn without_comment(line: &[u8]) -> &[u8]
-    ensures { result.now ≡ before_comment line.now }
+/// How many separators are at the front.
+fn separators_len(text: &[u8]) -> usize
+    ensures len { result ≡ position_or_len (λ b. not (is_separator_of b)) text.now }
+    ensures within { result ≤ length text.now }
 {
-    let mut end = 0;
-    while end < line.len() && line[end] != b'#' {
-        end += 1;
-    }
-    &line[..end]
+    text.iter()
+        .position(|b| !is_separator(*b))
+        .unwrap_or(text.len())
+}
+
+/// How many bytes the word at the front has.
+pub fn word_len(text: &[u8]) -> usize
+    ensures len { result ≡ position_or_len is_separator_of text.now }
+    ensures within { result ≤ length text.now }
+{
+    text.iter()
+        .position(|b| is_separator(*b))
+        .unwrap_or(text.len())
+}
+
+/// A line without its comment, and the comment.
+pub fn split_comment(line: &[u8]) -> (&[u8], &[u8])
+    ensures front { result.0.now ≡ before_comment line.now }
+    ensures whole { line.now ≡ result.0.now ++ result.1.now }
+{
+    line.split_at(len_before(b'#', line))
 }
 
 /// A line of at most 200 bytes without its comment; a longer one is `LineTooLong`.
@@ -59,49 +81,34 @@ pub fn words_within(line: &[u8]) -> Result<&[u8], Reason>
     if line.len() > MAX_LINE_LEN {
         return Err(Reason::LineTooLong);
     }
-    Ok(without_comment(line))
+    let (code, _) = split_comment(line);
+    Ok(code)
 }
 
-/// A line without the separators at its front.
+/// A text without the separators at its front.
+pub fn skip_separators(text: &[u8]) -> &[u8]
+    ensures rest { result.now ≡ from_word text.now }
+    ensures within { length result.now ≤ length text.now }
+{
+    let (_, rest) = text.split_at(separators_len(text));
+    rest
+}
+
+/// The separators at the front, the word behind them, and what follows it; none where there is no word.
 #[tactic(auto, using(crate::proofs::WordLemmas::word_rules))]
-fn skip_separators(line: &[u8]) -> &[u8]
-    ensures within { length result.now ≤ length line.now }
-    ensures same { words result.now ≡ words line.now }
-    ensures begins { 0 < length result.now → is_separator_of (slice_index result.now 0) ≡ false }
+pub fn next_word(text: &[u8]) -> Option<(&[u8], &[u8], &[u8])>
+    ensures words { MatchOption result (words text.now ≡ []) (λ f. words text.now ≡ f.1.now ∷ words f.2.now) }
+    ensures first { MatchOption result (length (from_word text.now) ≡ 0) (λ f. (f.1.now ≡ first_word_of text.now) × (f.2.now ≡ behind_word text.now)) }
+    ensures whole { IfSome result (λ f. text.now ≡ f.0.now ++ (f.1.now ++ f.2.now)) }
+    ensures within { IfSome result (λ f. length f.0.now + length f.1.now + length f.2.now ≡ length text.now) }
+    ensures shorter { IfSome result (λ f. length f.2.now < length text.now) }
 {
-    let mut start = 0;
-    while start < line.len() && is_separator(line[start]) {
-        start += 1;
-    }
-    &line[start..]
-}
-
-/// The length of the word at the front.
-#[tactic(auto, using(crate::proofs::WordLemmas::word_rules))]
-fn word_len(line: &[u8]) -> usize
-    requires some { 0 < length line.now }
-    requires begins { is_separator_of (slice_index line.now 0) ≡ false }
-    ensures within { result ≤ length line.now }
-    ensures word { words line.now ≡ take result line.now ∷ words (drop result line.now) }
-{
-    let mut end = 1;
-    while end < line.len() && !is_separator(line[end]) {
-        end += 1;
-    }
-    end
-}
-
-/// The first word, and what follows it; none where there is no word.
-pub fn next_word(line: &[u8]) -> Option<(&[u8], &[u8])>
-    ensures within { IfSome result (λ f. length f.0.now + length f.1.now ≤ length line.now) }
-    ensures words { MatchOption result (words line.now ≡ []) (λ f. words line.now ≡ f.0.now ∷ words f.1.now) }
-{
-    let rest = skip_separators(line);
+    let (separators, rest) = text.split_at(separators_len(text));
     if rest.is_empty() {
         return None;
     }
-    let end = word_len(rest);
-    Some((&rest[..end], &rest[end..]))
+    let (word, more) = rest.split_at(word_len(rest));
+    Some((separators, word, more))
 }
 
 /// The first word, and what follows it. A word too few is `UnknownWord`.
@@ -109,7 +116,10 @@ pub fn first_word(line: &[u8]) -> Result<(&[u8], &[u8]), Reason>
     ensures within { IfOk result (λ f. length f.0.now + length f.1.now ≤ length line.now) }
     ensures words { MatchResult result (λ f. words line.now ≡ f.0.now ∷ words f.1.now) (λ reason. (words line.now ≡ []) × (reason ≡ UnknownWord)) }
 {
-    next_word(line).ok_or(Reason::UnknownWord)
+    match next_word(line) {
+        Some((_, word, rest)) => Ok((word, rest)),
+        None => Err(Reason::UnknownWord),
+    }
 }
 
 /// The end of a line. A word too many is `UnknownWord`.
@@ -123,14 +133,14 @@ pub fn no_more_words(line: &[u8]) -> Result<(), Reason>
 }
 
 /// Whether a byte may stand in a name behind its first.
-fn is_name_byte(byte: u8) -> bool
+pub fn is_name_byte(byte: u8) -> bool
     ensures { result ≡ is_name_byte_of byte }
 {
     byte.is_ascii_lowercase() || byte.is_ascii_digit() || byte == b'_'
 }
 
 /// Whether all bytes may stand in a name behind its first.
-fn are_name_bytes(text: &[u8]) -> bool
+pub fn are_name_bytes(text: &[u8]) -> bool
     ensures { result ≡ list_all is_name_byte_of text.now }
 {
     text.iter().all(|b| is_name_byte(*b))

@@ -1,6 +1,6 @@
 //! Programs.
 
-ghost use Rattle.std.specs.Prelude.{◌≡◌, ◌==◌, ◌≤◌, length, slice_get, true, IfOk};
+ghost use Rattle.std.specs.Prelude.{◌≡◌, ◌≤◌, length, slice_get, true, IfOk};
 ghost use Rattle.std.specs.List.{list_all};
 ghost use Rattle.posix.specs.Ranges.{is_instruction, is_program};
 

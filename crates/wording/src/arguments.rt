@@ -208,7 +208,7 @@ pub fn put_call(
     listing: &Listing<'_>,
 ) {
     for byte in call.name() {
-        text.push_ascii(*byte);
+        text.push_byte(*byte);
     }
     text.push_str("(");
     put_arguments(text, call, with, source, listing);
@@ -232,7 +232,7 @@ pub fn put_byte(text: &mut Prose, byte: u8) {
         b'\r' => text.push_str("\\r"),
         b'"' => text.push_str("\\\""),
         b'\\' => text.push_str("\\\\"),
-        0x20..=0x7e => text.push_ascii(byte),
+        0x20..=0x7e => text.push_byte(byte),
         _ => {
             let _ = write!(text, "\\x{byte:02x}");
         }

@@ -1,10 +1,11 @@
 //! What a world and its machine are told by: names of signals, sets, errors, statuses and options, calls with their
-//! arguments, the lines and labels of a world's text, and the text that is written.
+//! arguments, the lines and labels of a world's text, and the text that is written; and the name that a word is near to.
 #![tactic(auto)]
 
 mod arguments;
 mod listing;
 mod names;
+mod nearest;
 mod prose;
 mod table;
 
@@ -16,5 +17,6 @@ pub use listing::{Label, Listing, Source, Written};
 pub use names::{
     errno_name, put_flags, put_set, put_set_or_none, put_signal, put_status, signal_in,
 };
+pub use nearest::{Nearest, distance, meant};
 pub use prose::Prose;
 pub use table::{Kind, NAMES, SIGRTMIN};

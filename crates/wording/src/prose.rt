@@ -4,10 +4,12 @@ use std::alloc::{AllocError, Global};
 use std::fmt;
 use std::fmt::{Display, Write};
 
-/// A text that grows piece by piece. Once there is no memory for a piece it takes no other, and isn't given out.
+/// A text that grows piece by piece, of words and of bytes that a user wrote. Once there is no memory for a piece it takes no
+/// other, and isn't given out.
 #[derive(Drop)]
 pub struct Prose {
-    text: String,
+    alloc: Global,
+    text: Vec<u8>,
     is_whole: bool,
 }
 
@@ -15,22 +17,50 @@ impl Prose {
     /// The empty text.
     pub fn new(alloc: Global) -> Prose {
         Prose {
-            text: String::new(alloc),
+            alloc,
+            text: Vec::new(alloc),
             is_whole: true,
         }
     }
 
+    /// What its memory is of.
+    pub fn alloc(&self) -> Global {
+        self.alloc
+    }
+
+    /// Adds bytes, as a user wrote them.
+    pub fn push_bytes(&mut self, bytes: &[u8]) {
+        if self.is_whole {
+            self.is_whole = self.text.extend_from_slice(bytes).is_ok();
+        }
+    }
+
+    /// Adds a byte.
+    pub fn push_byte(&mut self, byte: u8) {
+        self.push_bytes(&[byte]);
+    }
+
     /// Adds a piece.
     pub fn push_str(&mut self, piece: &str) {
-        if self.is_whole {
-            self.is_whole = self.text.push_str(piece).is_ok();
-        }
+        self.push_bytes(piece.as_bytes());
+    }
+
+    /// Adds a piece and a word.
+    pub fn push_word(&mut self, piece: &str, word: &[u8]) {
+        self.push_str(piece);
+        self.push_bytes(word);
+    }
+
+    /// Adds a word between two pieces.
+    pub fn push_around(&mut self, before: &str, word: &[u8], behind: &str) {
+        self.push_word(before, word);
+        self.push_str(behind);
     }
 
     /// Adds a number.
     pub fn push_number<N: Display + Drop>(&mut self, number: N) {
-        if self.is_whole {
-            self.is_whole = write!(self.text, "{number}").is_ok();
+        if write!(self, "{number}").is_err() {
+            self.is_whole = false;
         }
     }
 
@@ -40,10 +70,14 @@ impl Prose {
         self.push_number(number);
     }
 
-    /// Adds a byte that is ASCII.
-    pub fn push_ascii(&mut self, byte: u8) {
-        if self.is_whole {
-            self.is_whole = self.text.push(char::from(byte)).is_ok();
+    /// What was looked for, to be told here. Where there was no memory to find it this text isn't given out.
+    pub fn found<'n>(&mut self, what: Result<Option<&'n [u8]>, AllocError>) -> Option<&'n [u8]> {
+        match what {
+            Ok(what) => what,
+            Err(AllocError) => {
+                self.is_whole = false;
+                None
+            }
         }
     }
 
@@ -57,10 +91,19 @@ impl Prose {
         self.text.clear();
     }
 
-    /// The text; an error where there was no memory for a piece.
-    pub fn as_str(&self) -> Result<&str, AllocError> {
+    /// Its bytes; an error where there was no memory for a piece.
+    pub fn as_bytes(&self) -> Result<&[u8], AllocError> {
         if self.is_whole {
-            Ok(self.text.as_str())
+            Ok(self.text.as_slice())
+        } else {
+            Err(AllocError)
+        }
+    }
+
+    /// Its bytes, at its end; an error where there was no memory for a piece.
+    pub fn finish(self) -> Result<Vec<u8>, AllocError> {
+        if self.is_whole {
+            Ok(self.text)
         } else {
             Err(AllocError)
         }

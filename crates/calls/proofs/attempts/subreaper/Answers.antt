@@ -1,4 +1,4 @@
-use Rattle.std.proofs.Common.{◌≡◌, ◌∙◌, ap, sym, true, rules, ◌++◌, ◌∷◌, [], to_z, of_z, w64}
+use Rattle.std.proofs.Common.{◌∙◌, ap, sym, true, ◌++◌, ◌∷◌, []}
 use Rattle.posix.specs.declared.entry.Entry.TheVariants.{Marked}
 use Rattle.posix.specs.Processes.{argument}
 use Rattle.posix.specs.States.{State, change}

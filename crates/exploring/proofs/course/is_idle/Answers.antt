@@ -1,4 +1,4 @@
-use Rattle.std.proofs.Common.{◌≡◌, ap, rules, subst, sym}
+use Rattle.std.proofs.Common.{◌≡◌, rules, subst, sym}
 use Rattle.posix.specs.declared.event.Event.TheVariants.{Step}
 use Rattle.posix.specs.Outcomes.{silent}
 use Rattle.posix.specs.Step.{next}

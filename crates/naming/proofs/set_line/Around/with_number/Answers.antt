@@ -2,7 +2,7 @@ use Rattle.std.proofs.Common.{◌≡◌, ◌∙◌, ap, subst, sym, w64}
 use Rattle.std.proofs.Math.Facts.{to_z-of_z}
 use Rattle.std.specs.Fmt.{signed_decimal}
 use Rattle.naming.specs.Lines.{IsOneLine}
-use Rattle.naming.proofs.CutLemmas.{signed_one_line}
+use Rattle.naming.proofs.DigitLemmas.{signed_one_line}
 use Rattle.naming.proofs.LineLemmas.{four_one_line}
 use Rattle.naming.proofs.set_line.Around.with_number.Goals as goal
 

@@ -1,5 +1,5 @@
 use Rattle.std.proofs.Common.{◌≤◌, ◌<◌, ◌∙◌, length, ap, refl, inl, arith}
-use Rattle.naming.specs.Lines.{from_word}
+use Rattle.text.specs.Words.{from_word}
 use Rattle.refusing.proofs.SightLemmas.{marked_cut}
 use Rattle.refusing.proofs.sight.Sight.of_words.Goals as goal
 

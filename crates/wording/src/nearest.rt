@@ -1,9 +1,9 @@
 //! Which name is meant by a word that is none.
 
+use crate::table::NAMES;
 use std::alloc::{AllocError, Global};
 use std::str;
 use strsim::osa_distance;
-use wording::NAMES;
 
 /// So many letters may be wrong: two, or a third of the letters; one in a word of three.
 fn limit_of(word: &str) -> usize {
@@ -15,8 +15,11 @@ fn limit_of(word: &str) -> usize {
 }
 
 /// How many letters are left out, put in, replaced, or exchanged with their neighbour, between a word and a name that it is
-/// near to; none where it isn't near.
-pub fn distance(alloc: Global, word: &str, name: &str) -> Result<Option<usize>, AllocError> {
+/// near to; none where it isn't near, or one of them isn't UTF-8.
+pub fn distance(alloc: Global, word: &[u8], name: &[u8]) -> Result<Option<usize>, AllocError> {
+    let (Ok(word), Ok(name)) = (str::from_utf8(word), str::from_utf8(name)) else {
+        return Ok(None);
+    };
     let limit = limit_of(word);
     if word.len().abs_diff(name.len()) > limit {
         return Ok(None);
@@ -32,8 +35,7 @@ pub fn distance(alloc: Global, word: &str, name: &str) -> Result<Option<usize>, 
 /// first letter.
 #[derive(Clone, Copy)]
 pub struct Nearest<'w, 'n> {
-    /// None where the word isn't UTF-8, to which no name is near.
-    word: Option<&'w str>,
+    word: &'w [u8],
     least: usize,
     found: Option<&'n [u8]>,
 }
@@ -42,7 +44,7 @@ impl<'w, 'n> Nearest<'w, 'n> {
     /// No name was offered for a word.
     pub fn new(word: &'w [u8]) -> Nearest<'w, 'n> {
         Nearest {
-            word: str::from_utf8(word).ok(),
+            word,
             least: usize::MAX,
             found: None,
         }
@@ -50,13 +52,10 @@ impl<'w, 'n> Nearest<'w, 'n> {
 
     /// Offers a name.
     pub fn offer(&mut self, alloc: Global, name: &'n [u8]) -> Result<(), AllocError> {
-        let (Some(word), Ok(text)) = (self.word, str::from_utf8(name)) else {
+        let Some(distance) = distance(alloc, self.word, name)? else {
             return Ok(());
         };
-        let Some(distance) = distance(alloc, word, text)? else {
-            return Ok(());
-        };
-        let differs = usize::from(word.as_bytes().first() != name.first());
+        let differs = usize::from(self.word.first() != name.first());
         let rank = distance.saturating_mul(2).saturating_add(differs);
         if rank < self.least {
             self.least = rank;
