@@ -47,6 +47,7 @@ first_lines name why FirstLine = place_line name 1 ++ sentence_line why
 first_lines name why (Line number s) =
     place_line name number ++ (text_line number s.line.now ++ mark_line number s.before.now s.marked.now why)
 
+-- what is told of a text in a file with this name: why, the line that is shown, a note, and a section of docs/ERRORS.md
 abbrev pub told_lines : List ℕ → List ℕ → Shown → List ℕ → Section → List ℕ
 told_lines name why shown note section = first_lines name why shown ++ (note_line note ++ section_line section)
 
