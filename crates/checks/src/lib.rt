@@ -1,4 +1,4 @@
-//! Tests of the crates below: each call that takes memory once with enough of it, the table that scans, refused growths.
+//! Tests that no program can show by bytes: slots that are read, texts in pieces, the table that scans, refused growths.
 #![tactic(auto)]
 
 #[cfg(test)]
@@ -6,7 +6,7 @@ mod counts;
 #[cfg(test)]
 mod explorations;
 #[cfg(test)]
-mod parts;
+mod pieces;
 #[cfg(test)]
 mod refusals;
 #[cfg(test)]
