@@ -27,10 +27,10 @@ export class Jobk {
     return { files };
   }
 
-  // A fault, with the line of a refused text, a mark below the word that is wrong, and what was probably meant.
+  // The first fault, with the line of a refused text, a mark below the word that is wrong, and what was probably meant.
   async told(texts, fault) {
-    const ran = fault.line ? await this.quick.run(['refusal', 'world', 'events'], texts) : null;
-    return { ...fault, told: ran?.status === 1 ? ran.out.split('\n').slice(1, -2).join('\n') : '' };
+    const ran = fault.line ? await this.quick.run(['run', '--names', 'world', 'events'], texts) : null;
+    return { ...fault, told: ran?.status === 1 ? ran.err.split(/\n {2}see /, 1)[0].split('\n').slice(2).join('\n') : '' };
   }
 
   // The lines of the trace, each with what it says in words, or the fault of a text; null where the run is stopped.

@@ -280,8 +280,8 @@ def tells_faults(person):
     person.page.wait('!document.getElementById("refused").hidden', 'the fault is told')
     told = person.native_run('run', 'world', 'events').stderr
     want('fault', re.sub(r'^jobk: world: line (\d+): (.*)\n', r'✗ world, line \1: \2', told), person.page.text('#refused').split('\n')[0])
-    refusal = person.native_says('refusal', 'world', 'events')
-    want('its word', ''.join(refusal.splitlines(True)[1:-1]).rstrip('\n'), person.page.text('#refused pre'))
+    refusal = person.native_run('run', '--names', 'world', 'events').stderr
+    want('its word', ''.join(refusal.splitlines(True)[2:-1]).rstrip('\n'), person.page.text('#refused pre'))
     want('its mark', int(re.search(r'line (\d+)', told).group(1)), person.marked_line('world', 'fault'))
     person.put('world', world)
     person.page.wait('document.getElementById("refused").hidden', 'it is mended')

@@ -7,7 +7,7 @@ pub const HELP: &[u8] =
     jobk run WORLD EVENTS      prints the trace of a world over its events
     jobk audit TRACE           says ok, or the first line at which a trace breaks a law
     jobk explain TRACE         prints a trace, and behind each line what its numbers say
-    jobk explore WORLD EVENTS  runs all schedules: the events with a few ticks put in
+    jobk explore WORLD EVENTS  runs all schedules: the events with a few ticks put in; no other choice is varied
         --ticks K              at most K of them, 0 to 8; 2 if not named
         --upto N               before the first N events alone
         --find TEXT            counts the schedules that have a line with TEXT
@@ -18,9 +18,9 @@ pub const HELP: &[u8] =
         --calls                each event up to it, and what it did
         --process P            of process P alone
         --step                 goes through the run, at a terminal
+    jobk run --names FILES, jobk explore --names FILES .., jobk show --names FILES ..
+                               read names, as SIGTERM or ^C; FILES are WORLD EVENTS or FOLDER [EVENTS]
     jobk names TEXT            prints a world or events with numbers for names, as SIGTERM or ^C
-    jobk refusal WORLD EVENTS  says which word of a refused text is meant, why, and what was probably meant
-        --as NAME              tells NAME in place of the file's name
     jobk                       prints the trace of a small world of its own
 
 Status: 0 done, 1 a text is refused or a trace faulty, 2 other words, 3 a device or memory fails,

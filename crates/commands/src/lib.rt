@@ -2,6 +2,7 @@
 #![tactic(auto)]
 
 mod help;
+mod named;
 mod serving;
 
 pub use serving::serve;

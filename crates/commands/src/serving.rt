@@ -1,15 +1,17 @@
 //! The program's commands: what the words are for, and what each serves.
 
-ghost use Rattle.std.specs.Prelude.{◌≡◌, map};
-ghost use Rattle.commands.specs.Serving.{Serves, first_or_empty as first_or_empty_of, is_help as is_help_of, is_version as is_version_of, purpose_of, said};
+ghost use Rattle.std.specs.Prelude.{◌≡◌, Ok, map, option_map};
+ghost use Rattle.commands.specs.Commands.{ServesAs, first_or_empty as first_or_empty_of, is_help as is_help_of, is_version as is_version_of, purpose_of, said};
+ghost use Rattle.commands.specs.Named.{named_in as named_in_words};
+ghost use Rattle.commands.specs.Serving.{Serves};
 
 use crate::help::{HELP, VERSION};
+use crate::named::{serve_named, takes_names};
 use explaining::serve as serve_explain;
 use exploring::{Progress, serve as serve_explore};
 use inputs::{ReadFiles, WordsFault};
 use kernel::Sink;
 use naming::serve as serve_names;
-use refusing::serve as serve_refusal;
 use running::{put_own, serve as serve_run_or_audit};
 use showing::{Ask, serve as serve_show};
 use std::alloc::Global;
@@ -28,8 +30,6 @@ enum Command<'a> {
     Explain(&'a [&'a str]),
     /// `names`, and the words behind it.
     Names(&'a [&'a str]),
-    /// `refusal`, and the words behind it.
-    Refusal(&'a [&'a str]),
     /// `run`, `audit`, no words, or any others.
     RunOrAudit,
 }
@@ -78,16 +78,51 @@ fn command_in<'a>(words: &'a [&'a str]) -> Command<'a>
         Command::Explain(more)
     } else if *first == "names" {
         Command::Names(more)
-    } else if *first == "refusal" {
-        Command::Refusal(more)
     } else {
         Command::RunOrAudit
     }
 }
 
+/// Does what words ask for that don't have names. Where the first or the second word asks for help or for the version,
+/// that is told; `explore`, `show`, `explain` and `names` are served by the words behind them; all other words as
+/// [`serve_run_or_audit`] says.
+pub fn serve_command<'a, F: ReadFiles, O: Sink, E: Sink, P: Progress + Ask>(
+    alloc: Global,
+    words: &'a [&'a str],
+    files: &F,
+    keys: Option<RandomState>,
+    out: &mut O,
+    err: &mut E,
+    person: &mut P,
+) -> u8
+    ensures { ServesAs (F.contents files.now) (Ok words.entry) out.old out.new (O.seen out.old) (O.seen out.new) result (purpose_of (map (λ w. w.now) words.entry.now)) }
+{
+    match command_in(words) {
+        Command::Help => put_own(HELP, out, err),
+        Command::Version => put_own(VERSION, out, err),
+        Command::Explore(more) => serve_explore(alloc, Ok(more), files, out, err, person),
+        Command::Show(more) => serve_show(alloc, Ok(more), files, out, err, person),
+        Command::Explain(more) => serve_explain(alloc, Ok(more), files, out, err),
+        Command::Names(more) => serve_names(alloc, Ok(more), files, out, err),
+        Command::RunOrAudit => serve_run_or_audit(alloc, Ok(words), files, keys, out, err),
+    }
+}
+
+/// The command that has `--names` behind it, and the words behind that; none where there is no such command.
+fn named_in<'a>(words: &'a [&'a str]) -> Option<(&'a str, &'a [&'a str])>
+    ensures { option_map (λ n. (n.0.now, map (λ w. w.now) n.1.now)) result ≡ named_in_words (map (λ w. w.now) words.entry.now) }
+{
+    match words {
+        [command, option, more @ ..] if takes_names(command) && *option == "--names" => {
+            Some((command, more))
+        }
+        _ => None,
+    }
+}
+
 /// Does what the words of the command line ask for, without the program's name, and gives the status of the program.
-/// Where the first or the second word asks for help or for the version, that is told; `explore`, `show`, `explain`,
-/// `names` and `refusal` are served by the words behind them; all other words as [`serve_run_or_audit`] says.
+/// `run`, `explore` and `show` with `--names` behind them are served as [`serve_named`] says, all other words as
+/// [`serve_command`] does.
 pub fn serve<'a, F: ReadFiles, O: Sink, E: Sink, P: Progress + Ask>(
     alloc: Global,
     words: Result<&'a [&'a str], WordsFault>,
@@ -102,14 +137,8 @@ pub fn serve<'a, F: ReadFiles, O: Sink, E: Sink, P: Progress + Ask>(
     let Ok(words) = words else {
         return serve_run_or_audit(alloc, words, files, keys, out, err);
     };
-    match command_in(words) {
-        Command::Help => put_own(HELP, out, err),
-        Command::Version => put_own(VERSION, out, err),
-        Command::Explore(more) => serve_explore(alloc, Ok(more), files, out, err, person),
-        Command::Show(more) => serve_show(alloc, Ok(more), files, out, err, person),
-        Command::Explain(more) => serve_explain(alloc, Ok(more), files, out, err),
-        Command::Names(more) => serve_names(alloc, Ok(more), files, out, err),
-        Command::Refusal(more) => serve_refusal(alloc, Ok(more), files, out, err),
-        Command::RunOrAudit => serve_run_or_audit(alloc, Ok(words), files, keys, out, err),
+    match named_in(words) {
+        Some((command, more)) => serve_named(alloc, command, more, files, out, err, person),
+        None => serve_command(alloc, words, files, keys, out, err, person),
     }
 }

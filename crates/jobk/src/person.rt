@@ -7,37 +7,53 @@ use std::io::{Input, IsTerminal};
 use std::rt::Clock;
 use std::time::{Duration, Instant};
 
-/// Is told how far the schedules have come, once a second, and asked for commands.
+/// Is told how far the schedules have come: once a second where the error output is a terminal, else every ten seconds. And
+/// is asked for commands.
 #[derive(Drop)]
 pub struct Person<'a> {
     rt: &'a HostRuntime,
-    /// When it was told last, or it began; none where the error output is no terminal, or the clock fails.
-    told: Option<Instant>,
+    every: Duration,
+    /// When the program began, and when it told last; none where the clock fails.
+    times: Option<(Instant, Instant)>,
 }
 
 impl<'a> Person<'a> {
     pub fn new(rt: &'a HostRuntime) -> Self {
-        let told = if rt.stderr().is_terminal() {
-            Instant::now(rt).ok()
-        } else {
-            None
+        let seconds = if rt.stderr().is_terminal() { 1 } else { 10 };
+        let times = match Instant::now(rt) {
+            Ok(now) => Some((now, now)),
+            Err(_) => None,
         };
-        Person { rt, told }
+        Person {
+            rt,
+            every: Duration::from_secs(seconds),
+            times,
+        }
     }
+}
+
+/// How many seconds the other schedules take, where so many took so long.
+fn seconds_left(passed: Duration, done: u64, size: u64) -> u64 {
+    let left = size.saturating_sub(done);
+    let all = passed.as_secs().saturating_mul(left);
+    all.checked_div(done).unwrap_or(0)
 }
 
 impl Progress for Person<'_> {
     fn update(&mut self, done: u64, size: u64) {
-        let Some(told) = self.told else {
+        let Some((began, told)) = self.times else {
             return;
         };
         let Ok(now) = Instant::now(self.rt) else {
-            self.told = None;
+            self.times = None;
             return;
         };
-        if now.duration_since(told) >= Duration::from_secs(1) {
-            self.told = Some(now);
-            let _ = eprintln!(self.rt; "jobk: {done} of {size} schedules");
+        if now.duration_since(told) >= self.every {
+            self.times = Some((began, now));
+            let left = seconds_left(now.duration_since(began), done, size);
+            let _ = eprintln!(self.rt;
+                "jobk: {done} of {size} schedules, some {left} seconds left"
+            );
         }
     }
 }

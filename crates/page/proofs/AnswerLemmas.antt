@@ -14,7 +14,9 @@ use Rattle.running.specs.Serving.{AskFor, AskForAudit, IsAccepted, IsFaulty, IsR
 use Rattle.running.specs.Words.{Asked, AsksAudit, AsksRun, request_of_words}
 use Rattle.exploring.specs.Serving.{Means as MeansOfExploring}
 use Rattle.exploring.specs.Words.{Asked as AskedOfExploring}
-use Rattle.commands.specs.Serving.{Explains, Explores, Helps, Names, Purpose, Refuses, RunsOrAudits, Serves, ServesAs, Shows, TellsVersion, purpose_of}
+use Rattle.commands.specs.Commands.{Explains, Explores, Helps, Names, Purpose, RunsOrAudits, ServesAs, Shows, TellsVersion, purpose_of}
+use Rattle.commands.specs.Named.{Place, ServesNamed, named_in, place_in}
+use Rattle.commands.specs.Serving.{Serves, ServesWords}
 use Rattle.page.specs.Answers.{AreServed, BeginsTrace, IsAnswered, IsAudited, IsGiven, IsRun, IsTrace}
 use Rattle.page.specs.Files.{files_of}
 use Rattle.page.specs.Words.{AreWordsOf, text_of, words_of, words_to_audit, words_to_run}
@@ -48,12 +50,32 @@ as_along f contents words old new before after status (Explores more) h = (explo
 as_along f contents words old new before after status (Shows more) h = h
 as_along f contents words old new before after status (Explains more) h = (means_of_along f _ _ _ _ _ old new status (λ d. d) h.0, h.1)
 as_along f contents words old new before after status (Names more) h = (means_of_along f _ _ _ _ _ old new status (λ d. d) h.0, h.1)
-as_along f contents words old new before after status (Refuses more) h = (means_of_along f _ _ _ _ _ old new status (λ d. (d.0, ap f d.1)) h.0, h.1)
 as_along f contents words old new before after status RunsOrAudits h = (means_along f contents words old new before after status h.0, h.1)
+
+named_along : {S T : Type 0} (f : S → T) (contents : Contents) (command : Text) (place : Option Place) (old new : S) (before after : Seen) (status : ℕ)
+    → ServesNamed contents command place old new before after status → ServesNamed contents command place (f old) (f new) before after status
+named_along f contents command None old new before after status h = (h.0, ap f h.1)
+named_along f contents command (Some place) old new before after status (inr h) = inr (h.0, ap f h.1)
+named_along f contents command (Some place) old new before after status (inl h) = inl (record {
+  world = h.world;
+  events = h.events;
+  world_name = h.world_name;
+  events_name = h.events_name;
+  of_world = h.of_world;
+  of_events = h.of_events;
+  served = record { words = h.served.words; are = h.served.are; serves = as_along f _ (Ok h.served.words) old new before after status _ h.served.serves };
+})
+
+words_along : {S T : Type 0} (f : S → T) (contents : Contents) (words : Words) (texts : List Text) (old new : S) (before after : Seen) (status : ℕ) (named : Option (Text × List Text))
+    → ServesWords contents words texts old new before after status named → ServesWords contents words texts (f old) (f new) before after status named
+words_along f contents words texts old new before after status None h = as_along f contents words old new before after status _ h
+words_along f contents words texts old new before after status (Some named) h = named_along f contents named.0 (place_in named.1) old new before after status h
 
 serves_along : {S T : Type 0} (f : S → T) (contents : Contents) (words : Words) (old new : S) (before after : Seen) (status : ℕ)
     → Serves contents words old new before after status → Serves contents words (f old) (f new) before after status
-serves_along f contents (Ok words) old new before after status h = as_along f contents (Ok words) old new before after status _ h
+serves_along f contents (Ok words) old new before after status h =
+    let texts = map (λ w. w.now) words.now in
+    words_along f contents (Ok words) texts old new before after status (named_in texts) h
 serves_along f contents (Err fault) old new before after status h = (means_along f contents (Err fault) old new before after status h.0, h.1)
 
 pub are_served : {S : Type 0} (old new : S) (f : S → List ℕ) (seen : S → Seen) (contents : Contents) (words : Words) (status : ℕ)
@@ -78,12 +100,24 @@ as_most contents words old new before after status (Explores more) h = h.1
 as_most contents words old new before after status (Shows more) h = omega (arith, h)
 as_most contents words old new before after status (Explains more) h = omega (arith, h.1)
 as_most contents words old new before after status (Names more) h = omega (arith, h.1)
-as_most contents words old new before after status (Refuses more) h = omega (arith, h.1)
 as_most contents words old new before after status RunsOrAudits h = omega (arith, h.1)
+
+named_most : {S : Type 0} (contents : Contents) (command : Text) (place : Option Place) (old new : S) (before after : Seen) (status : ℕ)
+    → ServesNamed contents command place old new before after status → status ≤ 4
+named_most contents command None old new before after status h = omega (arith, h.0)
+named_most contents command (Some place) old new before after status (inl h) = as_most _ (Ok h.served.words) old new before after status _ h.served.serves
+named_most contents command (Some place) old new before after status (inr h) = omega (arith, h.0)
+
+words_most : {S : Type 0} (contents : Contents) (words : Words) (texts : List Text) (old new : S) (before after : Seen) (status : ℕ) (named : Option (Text × List Text))
+    → ServesWords contents words texts old new before after status named → status ≤ 4
+words_most contents words texts old new before after status None h = as_most contents words old new before after status _ h
+words_most contents words texts old new before after status (Some named) h = named_most contents named.0 (place_in named.1) old new before after status h
 
 serves_most : {S : Type 0} (contents : Contents) (words : Words) (old new : S) (before after : Seen) (status : ℕ)
     → Serves contents words old new before after status → status ≤ 4
-serves_most contents (Ok words) old new before after status h = as_most contents (Ok words) old new before after status _ h
+serves_most contents (Ok words) old new before after status h =
+    let texts = map (λ w. w.now) words.now in
+    words_most contents (Ok words) texts old new before after status (named_in texts) h
 serves_most contents (Err fault) old new before after status h = omega (arith, h.1)
 
 pub most_answered : (words trace world events put : List ℕ) (status : ℕ) → IsAnswered words trace world events put status → status ≤ 4
@@ -100,10 +134,11 @@ record IsMeant (contents : Contents) (words : List Text) (put : List ℕ) (befor
   cut_short : status ≡ 3 → (put ≡ []) ⊎ (OfTexts (AskFor contents words) (λ world events. CutsShort world events before after) ⊎ OfTrace (AskForAudit contents words) (λ trace. Unit {0}))
 
 meant_of_words : (contents : Contents) (said : Bor (List (Bor Text))) (words : List Text) (put : List ℕ) (before after : Seen) (status : ℕ)
-    → map (λ w. w.now) said.now ≡ words → purpose_of words ≡ RunsOrAudits → Serves contents (Ok said) [] put before after status → IsMeant contents words put before after status
-meant_of_words contents said words put before after status are purpose h =
+    → map (λ w. w.now) said.now ≡ words → named_in words ≡ None → purpose_of words ≡ RunsOrAudits → Serves contents (Ok said) [] put before after status → IsMeant contents words put before after status
+meant_of_words contents said words put before after status are plain purpose h =
+    let served = subst (λ named. ServesWords contents (Ok said) (map (λ w. w.now) said.now) [] put before after status named) (ap named_in are ∙ plain) h in
     let asked : ServesAs contents (Ok said) [] put before after status RunsOrAudits =
-    subst (λ p. ServesAs contents (Ok said) [] put before after status p) (ap purpose_of are ∙ purpose) h in
+    subst (λ p. ServesAs contents (Ok said) [] put before after status p) (ap purpose_of are ∙ purpose) served in
     let means = asked.0 in
     subst (λ ws. IsMeant contents ws put before after status) are (record {
       most = asked.1;
@@ -126,11 +161,11 @@ meant_of_fault contents Memory words put before after status other h = record {
 }
 
 meant : (contents : Contents) (text : List ℕ) (said : Words) (words : List Text) (put : List ℕ) (before after : Seen) (status : ℕ) → AreWordsOf text said
-    → words_of text ≡ Some words → AllByRecursion IsUtf8 words → purpose_of words ≡ RunsOrAudits → Serves contents said [] put before after status → IsMeant contents words put before after status
-meant contents text (Ok said) words put before after status are is texts purpose h =
+    → words_of text ≡ Some words → AllByRecursion IsUtf8 words → named_in words ≡ None → purpose_of words ≡ RunsOrAudits → Serves contents said [] put before after status → IsMeant contents words put before after status
+meant contents text (Ok said) words put before after status are is texts plain purpose h =
     let same : map (λ w. w.now) said.now ≡ words = cc in
-    meant_of_words contents said words put before after status same purpose h
-meant contents text (Err fault) words put before after status are is texts purpose h =
+    meant_of_words contents said words put before after status same plain purpose h
+meant contents text (Err fault) words put before after status are is texts plain purpose h =
     meant_of_fault contents fault words put before after status (λ e. let none : (AllByRecursion IsUtf8 words → ⊥) = rw is at (are e) in none texts) h
 
 -- ---- the words `run world events` and `audit trace`
@@ -212,7 +247,7 @@ pub is_run : (words trace world events put : List ℕ) (status : ℕ) → words 
 is_run words trace world events put status is h =
     let s = h.served in
     let are : AreWordsOf (text_of words_to_run) h.said = subst (λ text. AreWordsOf text h.said) is h.are in
-    let m = meant (files_of trace world events) (text_of words_to_run) h.said words_to_run put s.before s.after status are text_to_run texts_to_run refl s.serves in
+    let m = meant (files_of trace world events) (text_of words_to_run) h.said words_to_run put s.before s.after status are text_to_run texts_to_run refl refl s.serves in
     record {
       most = m.most;
       traced = λ e. elim (m.done e) [
@@ -237,7 +272,7 @@ pub is_audited : (words trace world events put : List ℕ) (status : ℕ) → wo
 is_audited words trace world events put status is h =
     let s = h.served in
     let are : AreWordsOf (text_of words_to_audit) h.said = subst (λ text. AreWordsOf text h.said) is h.are in
-    let m = meant (files_of trace world events) (text_of words_to_audit) h.said words_to_audit put s.before s.after status are text_to_audit texts_to_audit refl s.serves in
+    let m = meant (files_of trace world events) (text_of words_to_audit) h.said words_to_audit put s.before s.after status are text_to_audit texts_to_audit refl refl s.serves in
     record {
       most = m.most;
       lawful = λ e. elim (m.done e) [

@@ -1,3 +1,1 @@
 pub mod SightLemmas
-pub mod RequestLemmas
-pub mod ServingLemmas

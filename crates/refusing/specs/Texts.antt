@@ -1,5 +1,6 @@
 -- A world and its events, and what is told of them.
-use Rattle.std.specs.Prelude.{◌≡◌, ◌≢◌, ◌⊎◌, ℕ, List, Ok, Err, IfSome}
+use Rattle.std.specs.Prelude.{◌≡◌, ◌≢◌, ◌⊎◌, ℕ, List, None, Some, Ok, Err, IfSome, codes, if◌then◌else◌}
+use Rattle.std.specs.Str.{bytes_eq}
 use Rattle.inputs.specs.Reads.{Contents, Text}
 use Rattle.inputs.specs.declared.failure.FileFailure.{FileFailure}
 use Rattle.inputs.specs.declared.failure.FileFailure.TheVariants.{Usage, CannotRead, Memory as NoMemory, Write}
@@ -10,22 +11,31 @@ use Rattle.text.specs.EventTexts.{event_text}
 use Rattle.text.specs.WorldTexts.{world_text}
 use Rattle.text.specs.declared.fault.Reason.TheVariants.{Memory}
 use Rattle.text.specs.declared.fault.TextFault.{TextFault}
-use Rattle.refusing.specs.Telling.{IsTold}
+use Rattle.refusing.specs.Telling.{BeginsTold}
 use Rattle.refusing.specs.declared.texts.Input.{Input as DeclaredInput}
+use Rattle.refusing.specs.declared.texts.Texts.{Texts}
 
--- a text, and the one that stands for it with numbers for its names
+-- the name of a file, a text, and the one that stands for it with numbers for its names
 pub record Input : Type 0 where
+  pub name : Text
   pub given : List ℕ
   pub named : List ℕ
 
 abbrev pub input_of : DeclaredInput → Input
-input_of i = record { given = i.given.items; named = i.named.text.items }
+input_of i = record { name = i.name.now; given = i.given.items; named = i.named.text.items }
 
--- It is the text of a file, as far as it is known what that holds.
-pub record IsInput (contents : Contents) (name : Text) (input : Input) : Type 0 where
+-- It is the text of the file, as far as it is known what that holds.
+pub record IsInput (contents : Contents) (input : Input) : Type 0 where
   pub told : List ℕ
-  pub in_file : IfSome (contents name) (λ known. input.given ≡ known)
+  pub in_file : IfSome (contents input.name) (λ known. input.given ≡ known)
   pub is_named : IsNamed input.given input.named told
+
+-- The files `world` and `events` hold these texts, and no others are there.
+abbrev pub files_with : List ℕ → List ℕ → Contents
+files_with world events name = if bytes_eq name (codes "world") then Some world else if bytes_eq name (codes "events") then Some events else None
+
+abbrev pub named_files : Texts → Contents
+named_files texts = files_with texts.world.named.text.items texts.events.named.text.items
 
 -- It isn't read.
 abbrev pub IsUnread : FileFailure → Type 0
@@ -41,8 +51,8 @@ pub record AreAccepted (world events : Input) : Type 0 where
   pub world_is : world_text world.named ≡ Ok known
   pub events_are : event_text known.consoles events.named ≡ Ok list
 
--- The world has a fault, or else the events have one, and this is told of it, with these names of their files.
-abbrev pub IsRefused : Text → Text → Input → Input → List ℕ → Type 0
-IsRefused world_name events_name world events out = (why : TextFault) × (why.reason ≢ Memory)
-    × ((world_text world.named ≡ Err why) × IsTold world_name world.given why out
-    ⊎ ((known : World) × (world_text world.named ≡ Ok known) × (event_text known.consoles events.named ≡ Err why) × IsTold events_name events.given why out))
+-- The world has a fault, or else the events have one, and what is told begins with it.
+abbrev pub IsRefused : Input → Input → List ℕ → Type 0
+IsRefused world events out = (why : TextFault) × (why.reason ≢ Memory)
+    × ((world_text world.named ≡ Err why) × BeginsTold world.name world.given why out
+    ⊎ ((known : World) × (world_text world.named ≡ Ok known) × (event_text known.consoles events.named ≡ Err why) × BeginsTold events.name events.given why out))

@@ -1,11 +1,9 @@
-//! What `jobk refusal` does: which word of a text is refused, why, and what was probably meant. The program adds the host
-//! alone.
+//! A world and its events that may have names, and what is told where one of them is refused: which word is refused, why,
+//! and what was probably meant.
 #![tactic(auto)]
 
 mod marks;
 mod printing;
-mod request;
-mod serving;
 mod sight;
 mod telling;
 mod texts;
@@ -14,4 +12,4 @@ mod why_events;
 mod why_instructions;
 mod why_words;
 
-pub use serving::serve;
+pub use texts::{Input, Texts};

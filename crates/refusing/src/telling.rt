@@ -111,6 +111,8 @@ pub struct Told<'a> {
     pub why: Vec<u8>,
     pub note: Vec<u8>,
     pub section: Section,
+    /// The line to leave out, so that the text's other faults are told; none where those may come of this one.
+    pub apart: Option<u64>,
 }
 
 /// What is told of a file that is no text.
@@ -124,6 +126,7 @@ fn told_of_file<'a>(alloc: Global, what: &str, section: Section) -> Result<Told<
         why,
         note: Vec::new(alloc),
         section,
+        apart: None,
     })
 }
 
@@ -214,6 +217,7 @@ pub fn told_of_events<'a>(
         why: why_of(alloc, refused, &seen, number, &refusal)?,
         note: Vec::new(alloc),
         section: Section::Events,
+        apart: Some(number),
     })
 }
 
@@ -301,6 +305,22 @@ fn note_of(alloc: Global, note: Option<Note<'_>>) -> Result<Vec<u8>, AllocError>
     told.finish()
 }
 
+/// The line of a program that a mistake stands in, unless it may be the definition that another line lacks.
+fn line_apart(fault: TextFault, mistake: &Mistake<'_>, section: Section) -> Option<u64> {
+    let is_own = fault.reason != Reason::NameUnknown || mistake.line == fault.line;
+    let is_between = matches!(
+        mistake.note,
+        Some(Note::Right {
+            defined: Some(_),
+            ..
+        })
+    );
+    match section {
+        Section::ProgramLines if is_own || is_between => Some(mistake.line),
+        _ => None,
+    }
+}
+
 /// What is told of a line of a world.
 pub fn told_of_world<'a>(alloc: Global, refused: &Refused<'a>) -> Result<Told<'a>, AllocError>
     ensures { IfOk result (λ told. IsShownOf refused.now.fault refused.now.given.now told.shown) }
@@ -319,10 +339,12 @@ pub fn told_of_world<'a>(alloc: Global, refused: &Refused<'a>) -> Result<Told<'a
         given: line_or_empty(refused.given, here),
         world: Some(&world),
     };
+    let section = Section::of_world(&world, &refusal, Line::new(seen.line));
     Ok(Told {
         shown: shown_of(refused.given, number, seen.line, &refusal),
         why: why_of(alloc, refused, &seen, here, &refusal)?,
         note: note_of(alloc, mistake.note)?,
-        section: Section::of_world(&world, &refusal, Line::new(seen.line)),
+        section,
+        apart: line_apart(refused.fault, &mistake, section),
     })
 }

@@ -1,38 +1,75 @@
-//! A world and its events, and what is told where one of them is refused.
+//! A world and its events that may have names, and what is told where one of them is refused.
 
-ghost use Rattle.std.specs.Prelude.{◌≡◌, ◌≢◌, IfErr, IfOk, MatchOption, Ok};
+ghost use Rattle.std.specs.Prelude.{◌≡◌, ◌≢◌, ◌⊎◌, IfErr, IfOk, MatchOption, Ok};
 ghost use Rattle.text.specs.WorldTexts.{world_text};
 ghost use Rattle.text.specs.declared.fault.Reason.TheVariants.{Memory};
-ghost use Rattle.refusing.specs.Telling.{IsTold};
+ghost use Rattle.refusing.specs.Telling.{BeginsTold, IsTold};
 ghost use Rattle.refusing.specs.Texts.{AreAccepted, IsInput, IsRefused, IsUnread, input_of};
 
 use crate::printing::printed;
 use crate::telling::{Refused, told_of_events, told_of_world};
-use inputs::{FileFailure, ReadFiles, read_file};
+use inputs::{FileFailure, FileFault, ReadFiles, read_file};
 use naming::{Named, name_text};
 use std::alloc::{AllocError, Global};
-use text::{Reason, TextFault, World, read_events, read_world};
+use text::{Reason, TextFault, World, next_line, read_events, read_world};
+
+/// The most faults of a text that are told.
+const MOST_TOLD: u8 = 10;
 
 /// A text that a file holds, and the one with numbers for its names.
 #[derive(Drop)]
-pub struct Input {
-    given: Vec<u8>,
-    named: Named,
+pub struct Input<'a> {
+    /// The name of the file.
+    pub name: &'a str,
+    pub given: Vec<u8>,
+    pub named: Named,
 }
 
-impl Input {
+impl<'a> Input<'a> {
     /// Reads a file.
-    pub fn read<'a, F: ReadFiles>(
+    fn read<F: ReadFiles>(
         alloc: Global,
         files: &F,
         name: &'a str,
-    ) -> Result<Input, FileFailure<'a>>
-        ensures ok { IfOk result (λ i. IsInput (F.contents files.now) name.entry.now (input_of i)) }
+    ) -> Result<Input<'a>, FileFailure<'a>>
+        ensures ok { IfOk result (λ i. IsInput (F.contents files.now) (input_of i)) }
+        ensures name { IfOk result (λ i. i.name.now ≡ name.entry.now) }
         ensures err { IfErr result IsUnread }
     {
         let given = read_file(files, name)?;
         let named = name_text(alloc, given.as_slice())?;
-        Ok(Input { given, named })
+        Ok(Input { name, given, named })
+    }
+
+    /// Reads a file, or another one where the first can't be read.
+    fn read_either<F: ReadFiles>(
+        alloc: Global,
+        files: &F,
+        name: &'a str,
+        other: &'a str,
+    ) -> Result<Input<'a>, FileFailure<'a>>
+        ensures ok { IfOk result (λ i. IsInput (F.contents files.now) (input_of i)) }
+        ensures name { IfOk result (λ i. (i.name.now ≡ name.entry.now) ⊎ (i.name.now ≡ other.entry.now)) }
+        ensures err { IfErr result IsUnread }
+    {
+        match Input::read(alloc, files, name) {
+            Err(FileFailure::CannotRead(_)) => match Input::read(alloc, files, other) {
+                Err(FileFailure::CannotRead(_)) => Err(FileFailure::CannotRead(name)),
+                read => read,
+            },
+            read => read,
+        }
+    }
+
+    /// A copy of the text with numbers for its names.
+    fn copy_named(&self, alloc: Global) -> Result<Vec<u8>, FileFault>
+        ensures { IfOk result (λ copy. copy.items ≡ self.now.named.text.items) }
+    {
+        let mut copy = Vec::new(alloc);
+        match copy.extend_from_slice(self.named.text.as_slice()) {
+            Ok(()) => Ok(copy),
+            Err(_) => Err(FileFault::Memory),
+        }
     }
 
     /// The text, with its fault.
@@ -47,6 +84,106 @@ impl Input {
             fault,
         }
     }
+
+    /// What is told of the text's first fault, and the line to leave out for the others: of events for a world of so many
+    /// consoles, or else of a world.
+    fn told_first(
+        &self,
+        alloc: Global,
+        consoles: Option<u8>,
+        fault: TextFault,
+    ) -> Result<(Vec<u8>, Option<u64>), AllocError>
+        ensures { IfOk result (λ t. IsTold self.now.name.now self.now.given.items fault t.0.items) }
+    {
+        let refused = self.refused(fault);
+        let told = match consoles {
+            Some(consoles) => told_of_events(alloc, &refused, consoles)?,
+            None => told_of_world(alloc, &refused)?,
+        };
+        Ok((printed(alloc, self.name, &told)?, told.apart))
+    }
+
+    /// The text's first fault, if it has one.
+    fn fault(&self, alloc: Global, consoles: Option<u8>) -> Result<Option<TextFault>, AllocError> {
+        let text = self.named.text.as_slice();
+        let fault = match consoles {
+            Some(consoles) => read_events(alloc, consoles, text).err(),
+            None => read_world(alloc, text).err(),
+        };
+        match fault {
+            Some(fault) => Ok(Some(own_fault(fault)?)),
+            None => Ok(None),
+        }
+    }
+
+    /// The text with an empty line for one of its lines.
+    fn without(&self, alloc: Global, number: u64) -> Result<Input<'a>, AllocError> {
+        let given = without_line(alloc, self.given.as_slice(), number)?;
+        let named = name_text(alloc, given.as_slice())?;
+        Ok(Input {
+            name: self.name,
+            given,
+            named,
+        })
+    }
+
+    /// What is told of the faults behind the first, nine at most, with the line `apart` left out; nothing where there is
+    /// none to leave out.
+    fn told_behind(
+        &self,
+        alloc: Global,
+        consoles: Option<u8>,
+        apart: Option<u64>,
+    ) -> Result<Vec<u8>, AllocError> {
+        let mut all = Vec::new(alloc);
+        let Some(number) = apart else {
+            return Ok(all);
+        };
+        let mut left = self.without(alloc, number)?;
+        for _ in 1..MOST_TOLD {
+            let Some(fault) = left.fault(alloc, consoles)? else {
+                break;
+            };
+            let (told, apart) = left.told_first(alloc, consoles, fault)?;
+            all.extend_from_slice(told.as_slice())?;
+            let Some(number) = apart else {
+                break;
+            };
+            left = left.without(alloc, number)?;
+        }
+        Ok(all)
+    }
+
+    /// What is told of the text, which has this fault first.
+    fn told(
+        &self,
+        alloc: Global,
+        consoles: Option<u8>,
+        fault: TextFault,
+    ) -> Result<Vec<u8>, AllocError>
+        ensures { IfOk result (λ out. BeginsTold self.now.name.now self.now.given.items fault out.items) }
+    {
+        let (mut out, apart) = self.told_first(alloc, consoles, fault)?;
+        let more = self.told_behind(alloc, consoles, apart)?;
+        out.extend_from_slice(more.as_slice())?;
+        Ok(out)
+    }
+}
+
+/// A text with an empty line for the one with this number.
+fn without_line(alloc: Global, text: &[u8], number: u64) -> Result<Vec<u8>, AllocError> {
+    let mut all = Vec::new(alloc);
+    let mut rest = text;
+    let mut at: u64 = 1;
+    while let Some((line, more)) = next_line(rest) {
+        if at != number {
+            all.extend_from_slice(line)?;
+        }
+        all.push(b'\n')?;
+        at = at.saturating_add(1);
+        rest = more;
+    }
+    Ok(all)
 }
 
 /// A fault, but for want of memory.
@@ -59,63 +196,79 @@ fn own_fault(fault: TextFault) -> Result<TextFault, AllocError>
     }
 }
 
-/// What is told of a text that has a fault, in a file with this name: of events for a world of so many consoles, or else of
-/// a world.
-fn told_of_text(
+/// A world and its events. With numbers for their names they are the files `world` and `events`, and no others are there.
+#[derive(Drop)]
+pub struct Texts<'a> {
     alloc: Global,
-    name: &str,
-    text: &Input,
-    consoles: Option<u8>,
-    fault: TextFault,
-) -> Result<Vec<u8>, AllocError>
-    ensures { IfOk result (λ out. IsTold name.now text.now.given.items fault out.items) }
-{
-    let refused = text.refused(fault);
-    let told = match consoles {
-        Some(consoles) => told_of_events(alloc, &refused, consoles)?,
-        None => told_of_world(alloc, &refused)?,
-    };
-    printed(alloc, name, &told)
+    pub world: Input<'a>,
+    pub events: Input<'a>,
 }
 
-/// What is told of the events of a world; none where they aren't refused.
-fn told_for(
-    alloc: Global,
-    names: (&str, &str),
-    world: &Input,
-    known: &World,
-    events: &Input,
-) -> Result<Option<Vec<u8>>, AllocError>
-    requires { world_text world.now.named.text.items ≡ Ok known.now }
-    ensures { IfOk result (λ told. MatchOption told (AreAccepted (input_of world.now) (input_of events.now))
-        (λ out. IsRefused names.entry.0.now names.entry.1.now (input_of world.now) (input_of events.now) out.items)) }
-{
-    match read_events(alloc, known.consoles(), events.named.text.as_slice()) {
-        Ok(_) => Ok(None),
-        Err(fault) => {
-            let fault = own_fault(fault)?;
-            let out = told_of_text(alloc, names.1, events, Some(known.consoles()), fault)?;
-            Ok(Some(out))
+impl ReadFiles for Texts<'_> {
+    ghost use Rattle.refusing.specs.Texts.{named_files};
+
+    ghost contents = { λ texts. named_files texts };
+
+    fn read_file(&self, name: &str) -> Result<Vec<u8>, FileFault> {
+        match name {
+            "world" => self.world.copy_named(self.alloc),
+            "events" => self.events.copy_named(self.alloc),
+            _ => Err(FileFault::Device),
         }
     }
 }
 
-/// What is told of a world and its events, in files with these names; none where neither is refused.
-pub fn told_of(
-    alloc: Global,
-    names: (&str, &str),
-    world: &Input,
-    events: &Input,
-) -> Result<Option<Vec<u8>>, AllocError>
-    ensures { IfOk result (λ told. MatchOption told (AreAccepted (input_of world.now) (input_of events.now))
-        (λ out. IsRefused names.entry.0.now names.entry.1.now (input_of world.now) (input_of events.now) out.items)) }
-{
-    match read_world(alloc, world.named.text.as_slice()) {
-        Ok(known) => told_for(alloc, names, world, &known, events),
-        Err(fault) => {
-            let fault = own_fault(fault)?;
-            let out = told_of_text(alloc, names.0, world, None, fault)?;
-            Ok(Some(out))
+impl<'a> Texts<'a> {
+    /// Reads a world, which is in the first or else in the second of two files, and then its events.
+    pub fn read<F: ReadFiles>(
+        alloc: Global,
+        files: &F,
+        world: (&'a str, &'a str),
+        events: &'a str,
+    ) -> Result<Texts<'a>, FileFailure<'a>>
+        ensures ok { IfOk result (λ t. IsInput (F.contents files.now) (input_of t.world) × IsInput (F.contents files.now) (input_of t.events)) }
+        ensures names { IfOk result (λ t. ((t.world.name.now ≡ world.entry.0.now) ⊎ (t.world.name.now ≡ world.entry.1.now)) × (t.events.name.now ≡ events.entry.now)) }
+        ensures err { IfErr result IsUnread }
+    {
+        let world = Input::read_either(alloc, files, world.0, world.1)?;
+        let events = Input::read(alloc, files, events)?;
+        Ok(Texts {
+            alloc,
+            world,
+            events,
+        })
+    }
+
+    /// What is told of the events; none where they aren't refused.
+    fn told_of_events(&self, known: &World) -> Result<Option<Vec<u8>>, AllocError>
+        requires { world_text self.now.world.named.text.items ≡ Ok known.now }
+        ensures { IfOk result (λ told. MatchOption told (AreAccepted (input_of self.now.world) (input_of self.now.events))
+            (λ out. IsRefused (input_of self.now.world) (input_of self.now.events) out.items)) }
+    {
+        let text = self.events.named.text.as_slice();
+        match read_events(self.alloc, known.consoles(), text) {
+            Ok(_) => Ok(None),
+            Err(fault) => {
+                let fault = own_fault(fault)?;
+                let out = self.events.told(self.alloc, Some(known.consoles()), fault)?;
+                Ok(Some(out))
+            }
+        }
+    }
+
+    /// What is told of the world or of the events: which word is refused, why, and what was probably meant. None where
+    /// neither is refused.
+    pub fn told(&self) -> Result<Option<Vec<u8>>, AllocError>
+        ensures { IfOk result (λ told. MatchOption told (AreAccepted (input_of self.now.world) (input_of self.now.events))
+            (λ out. IsRefused (input_of self.now.world) (input_of self.now.events) out.items)) }
+    {
+        match read_world(self.alloc, self.world.named.text.as_slice()) {
+            Ok(known) => self.told_of_events(&known),
+            Err(fault) => {
+                let fault = own_fault(fault)?;
+                let out = self.world.told(self.alloc, None, fault)?;
+                Ok(Some(out))
+            }
         }
     }
 }

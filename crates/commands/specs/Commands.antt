@@ -1,0 +1,67 @@
+-- The program's commands: what the words are for, and what a status means.
+use Rattle.std.specs.Prelude.{◌≤◌, ◌||◌, ℕ, Bool, List, [], ◌∷◌, codes, if◌then◌else◌, map}
+use Rattle.std.specs.Str.{bytes_eq}
+use Rattle.explaining.specs.Serving.{Means as MeansOfExplaining, trace_in_words}
+use Rattle.exploring.specs.Serving.{Means as MeansOfExploring}
+use Rattle.exploring.specs.Words.{request_of_words as exploring_asked}
+use Rattle.inputs.specs.Reads.{Contents}
+use Rattle.naming.specs.Serving.{Means as MeansOfNaming, text_in_words}
+use Rattle.sink.specs.Sinks.{Seen}
+use Rattle.running.specs.Serving.{IsToldAs, Means, Words}
+use Rattle.commands.specs.declared.help.TheConstants.{HELP, VERSION}
+use Rattle.commands.specs.declared.serving.Command.{Command}
+use Rattle.commands.specs.declared.serving.Command.TheVariants as command
+
+-- what words are for
+pub data Purpose : Type 0 where
+  Helps : Purpose
+  TellsVersion : Purpose
+  Explores : List (List ℕ) → Purpose  -- by the words behind `explore`
+  Shows : List (List ℕ) → Purpose
+  Explains : List (List ℕ) → Purpose
+  Names : List (List ℕ) → Purpose
+  RunsOrAudits : Purpose
+
+abbrev pub is_help : List ℕ → Bool
+is_help word = bytes_eq word (codes "--help") || bytes_eq word (codes "-h")
+
+abbrev pub is_version : List ℕ → Bool
+is_version word = bytes_eq word (codes "--version") || bytes_eq word (codes "-V")
+
+-- by the first word, and the second, if there is one
+abbrev pub purpose : List ℕ → List ℕ → List (List ℕ) → Purpose
+purpose first second more = if is_help first || is_help second then Helps
+    else if is_version first || is_version second then TellsVersion
+    else if bytes_eq first (codes "explore") then Explores more
+    else if bytes_eq first (codes "show") then Shows more
+    else if bytes_eq first (codes "explain") then Explains more
+    else if bytes_eq first (codes "names") then Names more
+    else RunsOrAudits
+
+abbrev pub first_or_empty : List (List ℕ) → List ℕ
+first_or_empty [] = []
+first_or_empty (word ∷ more) = word
+
+abbrev pub purpose_of : List (List ℕ) → Purpose
+purpose_of [] = RunsOrAudits
+purpose_of (first ∷ more) = purpose first (first_or_empty more) more
+
+abbrev pub said : Command → Purpose
+said command.Help = Helps
+said command.Version = TellsVersion
+said (command.Explore more) = Explores (map (λ w. w.now) more.now)
+said (command.Show more) = Shows (map (λ w. w.now) more.now)
+said (command.Explain more) = Explains (map (λ w. w.now) more.now)
+said (command.Names more) = Names (map (λ w. w.now) more.now)
+said command.RunOrAudit = RunsOrAudits
+
+-- What a status means of words that are for this, with the files and the output from the call to the return. Of `show` it is
+-- only said how great it may be.
+abbrev pub ServesAs : {S : Type 0} → Contents → Words → S → S → Seen → Seen → ℕ → Purpose → Type 0
+ServesAs contents words old new before after status Helps = IsToldAs HELP.now before after status
+ServesAs contents words old new before after status TellsVersion = IsToldAs VERSION.now before after status
+ServesAs contents words old new before after status (Explores more) = MeansOfExploring contents (exploring_asked more) old new before after status × (status ≤ 4)
+ServesAs contents words old new before after status (Shows more) = status ≤ 3
+ServesAs contents words old new before after status (Explains more) = MeansOfExplaining contents (trace_in_words more) old new before after status × (status ≤ 3)
+ServesAs contents words old new before after status (Names more) = MeansOfNaming contents (text_in_words more) old new before after status × (status ≤ 3)
+ServesAs contents words old new before after status RunsOrAudits = Means contents words old new before after status × (status ≤ 3)

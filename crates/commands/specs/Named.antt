@@ -1,0 +1,74 @@
+-- A command over a world and its events that may have names, and may stand in a folder.
+use Rattle.std.specs.Prelude.{◌≡◌, ◌⊎◌, ◌||◌, ◌&&◌, ◌==◌, ◌-◌, ℕ, Bool, false, List, [], ◌∷◌, ◌++◌, Option, None, Some, Ok, codes, get_or, if◌then◌else◌, length, map, option_map}
+use Rattle.std.specs.Option.{option_map_or}
+use Rattle.std.specs.Borrow.{Bor}
+use Rattle.std.specs.Str.{bytes_eq}
+use Rattle.inputs.specs.Reads.{Contents, Text}
+use Rattle.sink.specs.Sinks.{Seen}
+use Rattle.refusing.specs.Texts.{Input, IsInput, files_with}
+use Rattle.commands.specs.Commands.{ServesAs, purpose_of}
+use Rattle.commands.specs.declared.named.Place.{Place as DeclaredPlace}
+
+-- `run`, `explore` and `show`
+abbrev pub takes_names : Text → Bool
+takes_names word = bytes_eq word (codes "run") || bytes_eq word (codes "explore") || bytes_eq word (codes "show")
+
+-- The command whose words have names, where the words are `COMMAND --names`, and the words behind these two.
+abbrev pub named_in : List Text → Option (Text × List Text)
+named_in [] = None
+named_in (command ∷ []) = None
+named_in (command ∷ option ∷ more) = if takes_names command && bytes_eq option (codes "--names") then Some (command, more) else None
+
+-- it begins with `-`, and isn't that alone
+abbrev pub is_option : Text → Bool
+is_option [] = false
+is_option (b ∷ []) = false
+is_option (b ∷ c ∷ more) = b == 45
+
+-- a file or a folder that has the world, a file that has the events, if not the folder, and what stands behind them
+pub record Place : Type 0 where
+  pub world : Text
+  pub events : Option Text
+  pub options : List Text
+
+abbrev pub said : DeclaredPlace → Place
+said p = record { world = p.world.now; events = option_map (λ e. e.now) p.events; options = map (λ w. w.now) p.options.now }
+
+abbrev pub place_behind : Text → List Text → Place
+place_behind world [] = record { world = world; events = None; options = [] }
+place_behind world (word ∷ more) = if is_option word then record { world = world; events = None; options = word ∷ more }
+    else record { world = world; events = Some word; options = more }
+
+abbrev pub place_in : List Text → Option Place
+place_in [] = None
+place_in (world ∷ more) = if is_option world then None else Some (place_behind world more)
+
+-- the name of a file in a folder
+abbrev pub in_folder : Text → Text → Text
+in_folder folder file = if get_or folder (length folder - 1) 0 == 47 then folder ++ file else folder ++ 47 ∷ file
+
+-- the words of a command over the files `world` and `events`
+abbrev pub over_texts : Text → List Text → List Text
+over_texts command options = command ∷ codes "world" ∷ codes "events" ∷ options
+
+-- The command was served over the files `world` and `events`, which have these texts.
+pub record ServesTexts {S : Type 0} (contents : Contents) (command : Text) (options : List Text) (old new : S) (before after : Seen) (status : ℕ) : Type 0 where
+  pub words : Bor (List (Bor Text))
+  pub are : map (λ w. w.now) words.now ≡ over_texts command options
+  pub serves : ServesAs contents (Ok words) old new before after status (purpose_of (over_texts command options))
+
+-- The texts of this place were read, the world from one of the two files that its name can mean, and the command was
+-- served over them with numbers for their names.
+pub record ServesPlace {S : Type 0} (contents : Contents) (command : Text) (place : Place) (old new : S) (before after : Seen) (status : ℕ) : Type 0 where
+  pub world : Input
+  pub events : Input
+  pub world_name : (world.name ≡ place.world) ⊎ (world.name ≡ in_folder place.world (codes "world"))
+  pub events_name : events.name ≡ option_map_or (λ e. e) place.events (in_folder place.world (codes "events"))
+  pub of_world : IsInput contents world
+  pub of_events : IsInput contents events
+  pub served : ServesTexts (files_with world.named events.named) command place.options old new before after status
+
+-- or a file couldn't be read, or there was no memory; or no file is named
+abbrev pub ServesNamed : {S : Type 0} → Contents → Text → Option Place → S → S → Seen → Seen → ℕ → Type 0
+ServesNamed contents command None old new before after status = (status ≡ 2) × (new ≡ old)
+ServesNamed contents command (Some place) old new before after status = ServesPlace contents command place old new before after status ⊎ ((status ≡ 3) × (new ≡ old))

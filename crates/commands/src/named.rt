@@ -1,0 +1,168 @@
+//! A command over a world and its events that may have names, and may stand in a folder.
+
+ghost use Rattle.std.specs.Prelude.{◌≡◌, IfOk, OnErr, Some, map, option_map};
+ghost use Rattle.std.specs.String.{string_bytes};
+ghost use Rattle.refusing.specs.Texts.{named_files};
+ghost use Rattle.commands.specs.Named.{ServesNamed, ServesTexts, in_folder, is_option as is_option_of, over_texts, place_in as place_in_words, said, takes_names as takes_names_of};
+
+use crate::serving::serve_command;
+use exploring::Progress;
+use inputs::{FileFailure, ReadFiles};
+use kernel::{Sink, put_all};
+use refusing::Texts;
+use showing::Ask;
+use std::alloc::{AllocError, Global};
+
+const USAGE: &[u8] =
+    b"usage: jobk COMMAND --names FOLDER [EVENTS] [OPTION].. | jobk COMMAND --names WORLD EVENTS [OPTION]..
+       where COMMAND is run, explore or show
+";
+
+/// Whether a command takes `--names`.
+pub fn takes_names(command: &str) -> bool
+    ensures { result ≡ takes_names_of command.now }
+{
+    command == "run" || command == "explore" || command == "show"
+}
+
+/// Whether a word is an option, and names no file.
+fn is_option(word: &str) -> bool
+    ensures { result ≡ is_option_of word.now }
+{
+    matches!(word.as_bytes(), [b'-', _, ..])
+}
+
+/// Where a world and its events stand, and the options behind them.
+#[derive(Clone, Copy)]
+pub struct Place<'a> {
+    /// A file, or a folder with a file `world`.
+    world: &'a str,
+    /// A file; none where it is the file `events` of the folder.
+    events: Option<&'a str>,
+    options: &'a [&'a str],
+}
+
+/// What the words behind `--names` name; none where they begin with no file.
+fn place_in<'a>(words: &'a [&'a str]) -> Option<Place<'a>>
+    ensures { option_map said result ≡ place_in_words (map (λ w. w.now) words.entry.now) }
+{
+    let (world, more) = words.split_first()?;
+    if is_option(world) {
+        return None;
+    }
+    match more.split_first() {
+        Some((events, options)) if !is_option(events) => Some(Place {
+            world,
+            events: Some(events),
+            options,
+        }),
+        _ => Some(Place {
+            world,
+            events: None,
+            options: more,
+        }),
+    }
+}
+
+/// The name of a file in a folder, which may have `/` at its end.
+fn file_in(alloc: Global, folder: &str, file: &str) -> Result<String, AllocError>
+    ensures { IfOk result (λ name. string_bytes name ≡ in_folder folder.now file.now) }
+{
+    match folder.as_bytes() {
+        [.., b'/'] => format!(in alloc; "{folder}{file}"),
+        _ => format!(in alloc; "{folder}/{file}"),
+    }
+}
+
+/// The words of a command over the files `world` and `events`.
+fn words_over_texts<'a>(
+    alloc: Global,
+    command: &'a str,
+    options: &[&'a str],
+) -> Result<Vec<&'a str>, AllocError>
+    ensures { IfOk result (λ words. map (λ w. w.now) words.items ≡ over_texts command.entry.now (map (λ w. w.now) options.now)) }
+{
+    let mut words = Vec::new(alloc);
+    words.push(command)?;
+    words.push("world")?;
+    words.push("events")?;
+    words.extend_from_slice(options)?;
+    Ok(words)
+}
+
+/// Tells which word of a text is refused, as far as the error output takes it and there is memory.
+fn tell_refused<E: Sink>(texts: &Texts<'_>, err: &mut E) {
+    if let Ok(Some(told)) = texts.told() {
+        let _ = put_all(err, told.as_slice());
+    }
+}
+
+/// Does what a command asks for, over texts.
+fn serve_texts<'a, O: Sink, E: Sink, P: Progress + Ask>(
+    alloc: Global,
+    command: &'a str,
+    options: &'a [&'a str],
+    texts: &Texts<'a>,
+    out: &mut O,
+    err: &mut E,
+    person: &mut P,
+) -> Result<u8, AllocError>
+    ensures ok { IfOk result (λ status. ServesTexts (named_files texts.now) command.entry.now (map (λ w. w.now) options.entry.now) out.old out.new (O.seen out.old) (O.seen out.new) status) }
+    ensures err { OnErr result (out.new ≡ out.old) }
+{
+    let words = words_over_texts(alloc, command, options)?;
+    let status = serve_command(alloc, words.as_slice(), texts, None, out, err, person);
+    if status == 1 {
+        tell_refused(texts, err);
+    }
+    Ok(status)
+}
+
+/// Reads what the words name, and does what a command asks for.
+fn serve_place<'a, F: ReadFiles, O: Sink, E: Sink, P: Progress + Ask>(
+    alloc: Global,
+    command: &'a str,
+    place: Place<'a>,
+    files: &F,
+    out: &mut O,
+    err: &mut E,
+    person: &mut P,
+) -> Result<u8, AllocError>
+    ensures ok { IfOk result (λ status. ServesNamed (F.contents files.now) command.entry.now (Some (said place.entry)) out.old out.new (O.seen out.old) (O.seen out.new) status) }
+    ensures err { OnErr result (out.new ≡ out.old) }
+{
+    let in_folder = file_in(alloc, place.world, "world")?;
+    let events_in_folder = file_in(alloc, place.world, "events")?;
+    let (world, events) = match place.events {
+        Some(events) => ((place.world, in_folder.as_str()), events),
+        None => ((in_folder.as_str(), place.world), events_in_folder.as_str()),
+    };
+    let texts = match Texts::read(alloc, files, world, events) {
+        Ok(texts) => texts,
+        Err(failure) => return Ok(failure.end(USAGE, err)),
+    };
+    serve_texts(alloc, command, place.options, &texts, out, err, person)
+}
+
+/// Serves a command that takes `--names`, by the words behind that option: a folder or a world, its events, if they are
+/// not those of the folder, and options. Where a text is refused, which word is told behind the command's own message.
+/// The status is the command's; 2 where no file is named, and 3 where a file can't be read or there is no memory.
+pub fn serve_named<'a, F: ReadFiles, O: Sink, E: Sink, P: Progress + Ask>(
+    alloc: Global,
+    command: &'a str,
+    words: &'a [&'a str],
+    files: &F,
+    out: &mut O,
+    err: &mut E,
+    person: &mut P,
+) -> u8
+    ensures { ServesNamed (F.contents files.now) command.entry.now (place_in_words (map (λ w. w.now) words.entry.now)) out.old out.new (O.seen out.old) (O.seen out.new) result }
+{
+    let Some(place) = place_in(words) else {
+        return FileFailure::Usage.end(USAGE, err);
+    };
+    match serve_place(alloc, command, place, files, out, err, person) {
+        Ok(status) => status,
+        Err(_) => FileFailure::Memory.end(USAGE, err),
+    }
+}
