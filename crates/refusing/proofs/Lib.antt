@@ -1,1 +1,2 @@
+pub mod FaultLemmas
 pub mod SightLemmas

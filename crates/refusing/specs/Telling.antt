@@ -1,5 +1,5 @@
 -- Which line of a text is shown.
-use Rattle.std.specs.Prelude.{◌≡◌, ◌⊎◌, ◌++◌, ℕ, List, None, Some}
+use Rattle.std.specs.Prelude.{◌≡◌, ◌⊎◌, ℕ, List, None, Some}
 use Rattle.text.specs.declared.fault.Reason.{Reason}
 use Rattle.text.specs.declared.fault.Reason.TheVariants.{UnknownWord, BadNumber, OutOfRange, NameUnknown, NameTwice, LineTooLong, EndMissing, NoProgram, Memory}
 use Rattle.text.specs.declared.fault.TextFault.{TextFault}
@@ -43,7 +43,3 @@ IsShownOf why text (Line number s) = IsNumber why.reason why.line number × IsLi
 -- This is printed of the text in a file with this name, which has this fault.
 abbrev pub IsTold : List ℕ → List ℕ → TextFault → List ℕ → Type 0
 IsTold name text why out = (shown : Shown) × (sentence note : List ℕ) × (section : Section) × IsShownOf why text shown × (out ≡ told_lines name sentence shown note section)
-
--- and maybe more behind that
-abbrev pub BeginsTold : List ℕ → List ℕ → TextFault → List ℕ → Type 0
-BeginsTold name text why out = (first more : List ℕ) × IsTold name text why first × (out ≡ first ++ more)

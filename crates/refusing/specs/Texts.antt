@@ -1,5 +1,5 @@
 -- A world and its events, and what is told of them.
-use Rattle.std.specs.Prelude.{◌≡◌, ◌≢◌, ◌⊎◌, ℕ, List, None, Some, Ok, Err, IfSome, codes, if◌then◌else◌}
+use Rattle.std.specs.Prelude.{◌≡◌, ◌⊎◌, ℕ, List, None, Some, Ok, IfSome, codes, if◌then◌else◌}
 use Rattle.std.specs.Str.{bytes_eq}
 use Rattle.inputs.specs.Reads.{Contents, Text}
 use Rattle.inputs.specs.declared.failure.FileFailure.{FileFailure}
@@ -9,9 +9,8 @@ use Rattle.posix.specs.declared.event.Event.{Event}
 use Rattle.posix.specs.States.{World}
 use Rattle.text.specs.EventTexts.{event_text}
 use Rattle.text.specs.WorldTexts.{world_text}
-use Rattle.text.specs.declared.fault.Reason.TheVariants.{Memory}
 use Rattle.text.specs.declared.fault.TextFault.{TextFault}
-use Rattle.refusing.specs.Telling.{BeginsTold}
+use Rattle.refusing.specs.Faults.{HasFault, Tells}
 use Rattle.refusing.specs.declared.texts.Input.{Input as DeclaredInput}
 use Rattle.refusing.specs.declared.texts.Texts.{Texts}
 
@@ -51,8 +50,7 @@ pub record AreAccepted (world events : Input) : Type 0 where
   pub world_is : world_text world.named ≡ Ok known
   pub events_are : event_text known.consoles events.named ≡ Ok list
 
--- The world has a fault, or else the events have one, and what is told begins with it.
+-- The world has a fault, or else the events have one, and this is told of it and of nine others at most.
 abbrev pub IsRefused : Input → Input → List ℕ → Type 0
-IsRefused world events out = (why : TextFault) × (why.reason ≢ Memory)
-    × ((world_text world.named ≡ Err why) × BeginsTold world.name world.given why out
-    ⊎ ((known : World) × (world_text world.named ≡ Ok known) × (event_text known.consoles events.named ≡ Err why) × BeginsTold events.name events.given why out))
+IsRefused world events out = (why : TextFault) × (HasFault None world.named why × Tells 9 None world.name world.given why out
+    ⊎ ((known : World) × (world_text world.named ≡ Ok known) × HasFault (Some known.consoles) events.named why × Tells 9 (Some known.consoles) events.name events.given why out))

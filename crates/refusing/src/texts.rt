@@ -1,9 +1,10 @@
 //! A world and its events that may have names, and what is told where one of them is refused.
 
-ghost use Rattle.std.specs.Prelude.{◌≡◌, ◌≢◌, ◌⊎◌, IfErr, IfOk, MatchOption, Ok};
-ghost use Rattle.text.specs.WorldTexts.{world_text};
+ghost use Rattle.std.specs.Prelude.{◌≡◌, ◌≢◌, ◌⊎◌, IfErr, IfOk, MatchOption};
 ghost use Rattle.text.specs.declared.fault.Reason.TheVariants.{Memory};
-ghost use Rattle.refusing.specs.Telling.{BeginsTold, IsTold};
+ghost use Rattle.naming.specs.Texts.{IsNamed};
+ghost use Rattle.refusing.specs.Telling.{IsTold};
+ghost use Rattle.refusing.specs.Faults.{HasFault, HasNoFault, Tells, without_line as without_line_of};
 ghost use Rattle.refusing.specs.Texts.{AreAccepted, IsInput, IsRefused, IsUnread, input_of};
 
 use crate::printing::printed;
@@ -11,10 +12,10 @@ use crate::telling::{Refused, told_of_events, told_of_world};
 use inputs::{FileFailure, FileFault, ReadFiles, read_file};
 use naming::{Named, name_text};
 use std::alloc::{AllocError, Global};
-use text::{Reason, TextFault, World, next_line, read_events, read_world};
+use text::{Reason, TextFault, next_line, read_events, read_world};
 
-/// The most faults of a text that are told.
-const MOST_TOLD: u8 = 10;
+/// So many faults behind the first are told at most.
+const OTHERS: u8 = 9;
 
 /// A text that a file holds, and the one with numbers for its names.
 #[derive(Drop)]
@@ -103,21 +104,12 @@ impl<'a> Input<'a> {
         Ok((printed(alloc, self.name, &told)?, told.apart))
     }
 
-    /// The text's first fault, if it has one.
-    fn fault(&self, alloc: Global, consoles: Option<u8>) -> Result<Option<TextFault>, AllocError> {
-        let text = self.named.text.as_slice();
-        let fault = match consoles {
-            Some(consoles) => read_events(alloc, consoles, text).err(),
-            None => read_world(alloc, text).err(),
-        };
-        match fault {
-            Some(fault) => Ok(Some(own_fault(fault)?)),
-            None => Ok(None),
-        }
-    }
-
     /// The text with an empty line for one of its lines.
-    fn without(&self, alloc: Global, number: u64) -> Result<Input<'a>, AllocError> {
+    fn without(&self, alloc: Global, number: u64) -> Result<Input<'a>, AllocError>
+        ensures name { IfOk result (λ i. i.name.now ≡ self.now.name.now) }
+        ensures given { IfOk result (λ i. i.given.items ≡ without_line_of number self.now.given.items) }
+        ensures named { IfOk result (λ i. IsNamed i.given.items i.named.text.items i.named.told) }
+    {
         let given = without_line(alloc, self.given.as_slice(), number)?;
         let named = name_text(alloc, given.as_slice())?;
         Ok(Input {
@@ -127,60 +119,65 @@ impl<'a> Input<'a> {
         })
     }
 
-    /// What is told of the faults behind the first, nine at most, with the line `apart` left out; nothing where there is
-    /// none to leave out.
-    fn told_behind(
-        &self,
-        alloc: Global,
-        consoles: Option<u8>,
-        apart: Option<u64>,
-    ) -> Result<Vec<u8>, AllocError> {
-        let mut all = Vec::new(alloc);
-        let Some(number) = apart else {
-            return Ok(all);
-        };
-        let mut left = self.without(alloc, number)?;
-        for _ in 1..MOST_TOLD {
-            let Some(fault) = left.fault(alloc, consoles)? else {
-                break;
-            };
-            let (told, apart) = left.told_first(alloc, consoles, fault)?;
-            all.extend_from_slice(told.as_slice())?;
-            let Some(number) = apart else {
-                break;
-            };
-            left = left.without(alloc, number)?;
-        }
-        Ok(all)
-    }
-
-    /// What is told of the text, which has this fault first.
+    /// What is told of the text, which has this fault first, and so many others at most: each behind a line that is left
+    /// out.
     fn told(
         &self,
         alloc: Global,
         consoles: Option<u8>,
         fault: TextFault,
+        others: u8,
     ) -> Result<Vec<u8>, AllocError>
-        ensures { IfOk result (λ out. BeginsTold self.now.name.now self.now.given.items fault out.items) }
+        ensures { IfOk result (λ out. Tells others consoles self.now.name.now self.now.given.items fault out.items) }
     {
         let (mut out, apart) = self.told_first(alloc, consoles, fault)?;
-        let more = self.told_behind(alloc, consoles, apart)?;
+        let Some(number) = apart else {
+            return Ok(out);
+        };
+        if others == 0 {
+            return Ok(out);
+        }
+        let left = self.without(alloc, number)?;
+        let Some(next) = fault_of(alloc, consoles, left.named.text.as_slice())? else {
+            return Ok(out);
+        };
+        let more = left.told(alloc, consoles, next, others - 1)?;
         out.extend_from_slice(more.as_slice())?;
         Ok(out)
     }
 }
 
-/// A text with an empty line for the one with this number.
-fn without_line(alloc: Global, text: &[u8], number: u64) -> Result<Vec<u8>, AllocError> {
+/// The first fault of a world, or of events for a world of so many consoles, if it has one.
+fn fault_of(
+    alloc: Global,
+    consoles: Option<u8>,
+    text: &[u8],
+) -> Result<Option<TextFault>, AllocError>
+    ensures { IfOk result (λ fault. MatchOption fault (HasNoFault consoles text.now) (HasFault consoles text.now)) }
+{
+    let read = match consoles {
+        Some(consoles) => read_events(alloc, consoles, text).err(),
+        None => read_world(alloc, text).err(),
+    };
+    match read {
+        Some(fault) => Ok(Some(own_fault(fault)?)),
+        None => Ok(None),
+    }
+}
+
+/// A text with an empty line for the one with this number, from 1.
+fn without_line(alloc: Global, text: &[u8], number: u64) -> Result<Vec<u8>, AllocError>
+    ensures { IfOk result (λ v. v.items ≡ without_line_of number text.now) }
+{
     let mut all = Vec::new(alloc);
     let mut rest = text;
-    let mut at: u64 = 1;
+    let mut left = number;
     while let Some((line, more)) = next_line(rest) {
-        if at != number {
+        if left != 1 {
             all.extend_from_slice(line)?;
         }
         all.push(b'\n')?;
-        at = at.saturating_add(1);
+        left = left.saturating_sub(1);
         rest = more;
     }
     Ok(all)
@@ -239,36 +236,27 @@ impl<'a> Texts<'a> {
         })
     }
 
-    /// What is told of the events; none where they aren't refused.
-    fn told_of_events(&self, known: &World) -> Result<Option<Vec<u8>>, AllocError>
-        requires { world_text self.now.world.named.text.items ≡ Ok known.now }
-        ensures { IfOk result (λ told. MatchOption told (AreAccepted (input_of self.now.world) (input_of self.now.events))
-            (λ out. IsRefused (input_of self.now.world) (input_of self.now.events) out.items)) }
-    {
-        let text = self.events.named.text.as_slice();
-        match read_events(self.alloc, known.consoles(), text) {
-            Ok(_) => Ok(None),
-            Err(fault) => {
-                let fault = own_fault(fault)?;
-                let out = self.events.told(self.alloc, Some(known.consoles()), fault)?;
-                Ok(Some(out))
-            }
-        }
-    }
-
-    /// What is told of the world or of the events: which word is refused, why, and what was probably meant. None where
+    /// What is told of the world or of the events: which words are refused, why, and what was probably meant. None where
     /// neither is refused.
     pub fn told(&self) -> Result<Option<Vec<u8>>, AllocError>
         ensures { IfOk result (λ told. MatchOption told (AreAccepted (input_of self.now.world) (input_of self.now.events))
             (λ out. IsRefused (input_of self.now.world) (input_of self.now.events) out.items)) }
     {
-        match read_world(self.alloc, self.world.named.text.as_slice()) {
-            Ok(known) => self.told_of_events(&known),
+        let known = match read_world(self.alloc, self.world.named.text.as_slice()) {
+            Ok(known) => known,
             Err(fault) => {
                 let fault = own_fault(fault)?;
-                let out = self.world.told(self.alloc, None, fault)?;
+                let out = self.world.told(self.alloc, None, fault, OTHERS)?;
+                return Ok(Some(out));
+            }
+        };
+        let consoles = Some(known.consoles());
+        match fault_of(self.alloc, consoles, self.events.named.text.as_slice())? {
+            Some(fault) => {
+                let out = self.events.told(self.alloc, consoles, fault, OTHERS)?;
                 Ok(Some(out))
             }
+            None => Ok(None),
         }
     }
 }

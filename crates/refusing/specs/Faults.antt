@@ -1,0 +1,38 @@
+-- The faults of a text, one behind the other.
+use Rattle.std.specs.Prelude.{◌≡◌, ◌≢◌, ◌⊎◌, ◌++◌, ◌==◌, ◌-◌, ℕ, zero, suc, List, [], ◌∷◌, Option, None, Some, Ok, Err, if◌then◌else◌}
+use Rattle.inputs.specs.Reads.{Text}
+use Rattle.naming.specs.Texts.{IsNamed}
+use Rattle.posix.specs.declared.event.Event.{Event}
+use Rattle.posix.specs.States.{World}
+use Rattle.text.specs.EventTexts.{event_text}
+use Rattle.text.specs.Lines.{all_lines}
+use Rattle.text.specs.WorldTexts.{world_text}
+use Rattle.text.specs.declared.fault.Reason.TheVariants.{Memory}
+use Rattle.text.specs.declared.fault.TextFault.{TextFault}
+use Rattle.refusing.specs.Telling.{IsTold}
+
+-- A text, with numbers for its names, has this fault: events, for a world of so many consoles, or a world.
+abbrev pub HasFault : Option ℕ → List ℕ → TextFault → Type 0
+HasFault None text why = (why.reason ≢ Memory) × (world_text text ≡ Err why)
+HasFault (Some consoles) text why = (why.reason ≢ Memory) × (event_text consoles text ≡ Err why)
+
+-- It has none.
+abbrev pub HasNoFault : Option ℕ → List ℕ → Type 0
+HasNoFault None text = (known : World) × (world_text text ≡ Ok known)
+HasNoFault (Some consoles) text = (list : List Event) × (event_text consoles text ≡ Ok list)
+
+-- lines, each ended, with an empty one for that of this number, from 1
+abbrev pub lines_without : ℕ → List (List ℕ) → List ℕ
+lines_without number [] = []
+lines_without number (line ∷ more) = (if number == 1 then [] else line) ++ 10 ∷ lines_without (number - 1) more
+
+abbrev pub without_line : ℕ → List ℕ → List ℕ
+without_line number text = lines_without number (all_lines text)
+
+-- What is told of a text in a file with this name, which has this fault first, and of so many others at most: each is the first fault of the text in
+-- which a line of the one before is left out.
+unfoldable pub Tells : ℕ → Option ℕ → Text → List ℕ → TextFault → List ℕ → Type 0
+Tells zero consoles name given why out = IsTold name given why out
+Tells (suc others) consoles name given why out = IsTold name given why out
+    ⊎ ((number : ℕ) × (named told : List ℕ) × (next : TextFault) × (first rest : List ℕ) × IsTold name given why first
+    × IsNamed (without_line number given) named told × HasFault consoles named next × Tells others consoles name (without_line number given) next rest × (out ≡ first ++ rest))
