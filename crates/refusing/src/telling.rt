@@ -112,21 +112,19 @@ pub struct Told<'a> {
     pub note: Vec<u8>,
     pub section: Section,
     /// The line to leave out, so that the text's other faults are told; none where those may come of this one.
-    pub apart: Option<u64>,
+    pub left_out: Option<u64>,
 }
 
 /// What is told of a file that is no text.
 fn told_of_file<'a>(alloc: Global, what: &str, section: Section) -> Result<Told<'a>, AllocError>
     ensures { IfOk result (λ told. told.shown ≡ Shown.FirstLine) }
 {
-    let mut why = Vec::new(alloc);
-    why.extend_from_slice(what.as_bytes())?;
     Ok(Told {
         shown: Shown::FirstLine,
-        why,
+        why: Vec::from_slice(alloc, what.as_bytes())?,
         note: Vec::new(alloc),
         section,
-        apart: None,
+        left_out: None,
     })
 }
 
@@ -217,7 +215,7 @@ pub fn told_of_events<'a>(
         why: why_of(alloc, refused, &seen, number, &refusal)?,
         note: Vec::new(alloc),
         section: Section::Events,
-        apart: Some(number),
+        left_out: Some(number),
     })
 }
 
@@ -306,7 +304,7 @@ fn note_of(alloc: Global, note: Option<Note<'_>>) -> Result<Vec<u8>, AllocError>
 }
 
 /// The line of a program that a mistake stands in, unless it may be the definition that another line lacks.
-fn line_apart(fault: TextFault, mistake: &Mistake<'_>, section: Section) -> Option<u64> {
+fn line_left_out(fault: TextFault, mistake: &Mistake<'_>, section: Section) -> Option<u64> {
     let is_own = fault.reason != Reason::NameUnknown || mistake.line == fault.line;
     let is_between = matches!(
         mistake.note,
@@ -345,6 +343,6 @@ pub fn told_of_world<'a>(alloc: Global, refused: &Refused<'a>) -> Result<Told<'a
         why: why_of(alloc, refused, &seen, here, &refusal)?,
         note: note_of(alloc, mistake.note)?,
         section,
-        apart: line_apart(refused.fault, &mistake, section),
+        left_out: line_left_out(refused.fault, &mistake, section),
     })
 }

@@ -66,9 +66,8 @@ impl<'a> Input<'a> {
     fn copy_named(&self, alloc: Global) -> Result<Vec<u8>, FileFault>
         ensures { IfOk result (λ copy. copy.items ≡ self.now.named.text.items) }
     {
-        let mut copy = Vec::new(alloc);
-        match copy.extend_from_slice(self.named.text.as_slice()) {
-            Ok(()) => Ok(copy),
+        match Vec::from_slice(alloc, self.named.text.as_slice()) {
+            Ok(copy) => Ok(copy),
             Err(_) => Err(FileFault::Memory),
         }
     }
@@ -101,7 +100,7 @@ impl<'a> Input<'a> {
             Some(consoles) => told_of_events(alloc, &refused, consoles)?,
             None => told_of_world(alloc, &refused)?,
         };
-        Ok((printed(alloc, self.name, &told)?, told.apart))
+        Ok((printed(alloc, self.name, &told)?, told.left_out))
     }
 
     /// The text with an empty line for one of its lines.
@@ -130,8 +129,8 @@ impl<'a> Input<'a> {
     ) -> Result<Vec<u8>, AllocError>
         ensures { IfOk result (λ out. Tells others consoles self.now.name.now self.now.given.items fault out.items) }
     {
-        let (mut out, apart) = self.told_first(alloc, consoles, fault)?;
-        let Some(number) = apart else {
+        let (mut out, left_out) = self.told_first(alloc, consoles, fault)?;
+        let Some(number) = left_out else {
             return Ok(out);
         };
         if others == 0 {
