@@ -1,6 +1,7 @@
 -- The program's commands: what the words are for, and what a status means.
 use Rattle.std.specs.Prelude.{◌≤◌, ◌||◌, ℕ, Bool, List, [], ◌∷◌, codes, if◌then◌else◌, map}
 use Rattle.std.specs.Str.{bytes_eq}
+use Rattle.explaining.specs.Drawings.{MeansOfDrawing, drawing_asked}
 use Rattle.explaining.specs.Serving.{Means as MeansOfExplaining, trace_in_words}
 use Rattle.exploring.specs.Serving.{Means as MeansOfExploring}
 use Rattle.exploring.specs.Words.{request_of_words as exploring_asked}
@@ -19,6 +20,7 @@ pub data Purpose : Type 0 where
   Explores : List (List ℕ) → Purpose  -- by the words behind `explore`
   Shows : List (List ℕ) → Purpose
   Explains : List (List ℕ) → Purpose
+  Draws : List (List ℕ) → Purpose  -- by those behind `lanes`
   Names : List (List ℕ) → Purpose
   RunsOrAudits : Purpose
 
@@ -35,6 +37,7 @@ purpose first second more = if is_help first || is_help second then Helps
     else if bytes_eq first (codes "explore") then Explores more
     else if bytes_eq first (codes "show") then Shows more
     else if bytes_eq first (codes "explain") then Explains more
+    else if bytes_eq first (codes "lanes") then Draws more
     else if bytes_eq first (codes "names") then Names more
     else RunsOrAudits
 
@@ -52,6 +55,7 @@ said command.Version = TellsVersion
 said (command.Explore more) = Explores (map (λ w. w.now) more.now)
 said (command.Show more) = Shows (map (λ w. w.now) more.now)
 said (command.Explain more) = Explains (map (λ w. w.now) more.now)
+said (command.Lanes more) = Draws (map (λ w. w.now) more.now)
 said (command.Names more) = Names (map (λ w. w.now) more.now)
 said command.RunOrAudit = RunsOrAudits
 
@@ -63,5 +67,6 @@ ServesAs contents words old new before after status TellsVersion = IsToldAs VERS
 ServesAs contents words old new before after status (Explores more) = MeansOfExploring contents (exploring_asked more) old new before after status × (status ≤ 4)
 ServesAs contents words old new before after status (Shows more) = status ≤ 3
 ServesAs contents words old new before after status (Explains more) = MeansOfExplaining contents (trace_in_words more) old new before after status × (status ≤ 3)
+ServesAs contents words old new before after status (Draws more) = MeansOfDrawing contents (drawing_asked more) old new status × (status ≤ 3)
 ServesAs contents words old new before after status (Names more) = MeansOfNaming contents (text_in_words more) old new before after status × (status ≤ 3)
 ServesAs contents words old new before after status RunsOrAudits = Means contents words old new before after status × (status ≤ 3)

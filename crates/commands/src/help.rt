@@ -7,6 +7,7 @@ pub const HELP: &[u8] =
     jobk run WORLD EVENTS      prints the trace of a world over its events
     jobk audit TRACE           says ok, or the first line at which a trace breaks a law
     jobk explain TRACE         prints a trace, and behind each line what its numbers say
+    jobk lanes TRACE [--svg]   draws a trace, with a lane for each process
     jobk explore WORLD EVENTS  runs all schedules: the events with a few ticks put in; no other choice is varied
         --ticks K              at most K of them, 0 to 8; 2 if not named
         --upto N               before the first N events alone
@@ -18,8 +19,10 @@ pub const HELP: &[u8] =
         --calls                each event up to it, and what it did
         --process P            of process P alone
         --step                 goes through the run, at a terminal
-    jobk run --names FILES, jobk explore --names FILES .., jobk show --names FILES ..
-                               read names, as SIGTERM or ^C; FILES are WORLD EVENTS or FOLDER [EVENTS]
+    jobk run --names FILES, jobk explore --names FILES .., jobk show --names FILES ..,
+    jobk explain --names FILES, jobk lanes --names FILES [--svg]
+                               read names, as SIGTERM or ^C; FILES are WORLD EVENTS or FOLDER [EVENTS],
+                               of whose run the trace is explained or drawn
     jobk names TEXT            prints a world or events with numbers for names, as SIGTERM or ^C
     jobk                       prints the trace of a small world of its own
 

@@ -7,7 +7,7 @@ ghost use Rattle.commands.specs.Serving.{Serves};
 
 use crate::help::{HELP, VERSION};
 use crate::named::{serve_named, takes_names};
-use explaining::serve as serve_explain;
+use explaining::{serve_explain, serve_lanes};
 use exploring::{Progress, serve as serve_explore};
 use inputs::{ReadFiles, WordsFault};
 use kernel::Sink;
@@ -28,6 +28,8 @@ enum Command<'a> {
     Show(&'a [&'a str]),
     /// `explain`, and the words behind it.
     Explain(&'a [&'a str]),
+    /// `lanes`, and the words behind it.
+    Lanes(&'a [&'a str]),
     /// `names`, and the words behind it.
     Names(&'a [&'a str]),
     /// `run`, `audit`, no words, or any others.
@@ -76,6 +78,8 @@ fn command_in<'a>(words: &'a [&'a str]) -> Command<'a>
         Command::Show(more)
     } else if *first == "explain" {
         Command::Explain(more)
+    } else if *first == "lanes" {
+        Command::Lanes(more)
     } else if *first == "names" {
         Command::Names(more)
     } else {
@@ -84,8 +88,8 @@ fn command_in<'a>(words: &'a [&'a str]) -> Command<'a>
 }
 
 /// Does what words ask for that don't have names. Where the first or the second word asks for help or for the version,
-/// that is told; `explore`, `show`, `explain` and `names` are served by the words behind them; all other words as
-/// [`serve_run_or_audit`] says.
+/// that is told; `explore`, `show`, `explain`, `lanes` and `names` are served by the words behind them; all other words
+/// as [`serve_run_or_audit`] says.
 pub fn serve_command<'a, F: ReadFiles, O: Sink, E: Sink, P: Progress + Ask>(
     alloc: Global,
     words: &'a [&'a str],
@@ -103,6 +107,7 @@ pub fn serve_command<'a, F: ReadFiles, O: Sink, E: Sink, P: Progress + Ask>(
         Command::Explore(more) => serve_explore(alloc, Ok(more), files, out, err, person),
         Command::Show(more) => serve_show(alloc, Ok(more), files, out, err, person),
         Command::Explain(more) => serve_explain(alloc, Ok(more), files, out, err),
+        Command::Lanes(more) => serve_lanes(alloc, more, files, out, err),
         Command::Names(more) => serve_names(alloc, Ok(more), files, out, err),
         Command::RunOrAudit => serve_run_or_audit(alloc, Ok(words), files, keys, out, err),
     }
@@ -121,7 +126,7 @@ fn named_in<'a>(words: &'a [&'a str]) -> Option<(&'a str, &'a [&'a str])>
 }
 
 /// Does what the words of the command line ask for, without the program's name, and gives the status of the program.
-/// `run`, `explore` and `show` with `--names` behind them are served as [`serve_named`] says, all other words as
+/// `run`, `explore`, `show`, `explain` and `lanes` with `--names` behind them are served as [`serve_named`] says, all other words as
 /// [`serve_command`] does.
 pub fn serve<'a, F: ReadFiles, O: Sink, E: Sink, P: Progress + Ask>(
     alloc: Global,

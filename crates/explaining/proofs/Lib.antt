@@ -1,2 +1,3 @@
+mod DrawingLemmas
 pub mod ExplanationLemmas
 pub mod ServingLemmas

@@ -32,8 +32,11 @@ fn put_bytes(text: &mut Prose, bytes: &Bytes) {
 }
 
 /// The process that a fork gave; none where it was refused.
-fn child_of(value: i64) -> Option<Pid> {
-    Pid::new(u32::try_from(value).ok()?)
+pub fn child_of(value: i64) -> Option<Pid> {
+    match u32::try_from(value) {
+        Ok(number) if number > 0 => Pid::new(number),
+        _ => None,
+    }
 }
 
 /// Writes why a call was refused, if it was.
@@ -104,10 +107,8 @@ fn put_notice(text: &mut Prose, value: i64, queues: bool) {
     }
 }
 
-/// Writes which signal came from whom, and what its value says.
-fn put_handled(text: &mut Prose, known: &Known, pid: Pid, sig: Sig, value: i64, sender: Pid) {
-    put_signal(text, sig);
-    put_sender(text, sender);
+/// Writes what the value of a signal says, where it may be a child's notice.
+pub fn put_notice_of(text: &mut Prose, known: &Known, pid: Pid, sig: Sig, value: i64, sender: Pid) {
     if sig == Sig::CHLD && sender != pid && sender > Pid::INIT {
         put_notice(text, value, known.queues(sender));
     }
@@ -137,7 +138,11 @@ pub fn put_meaning(text: &mut Prose, known: &mut Known, entry: &Entry) -> Result
             sig,
             value,
             sender,
-        } => put_handled(text, known, pid, sig, value, sender),
+        } => {
+            put_signal(text, sig);
+            put_sender(text, sender);
+            put_notice_of(text, known, pid, sig, value, sender);
+        }
         Entry::Discarded { sig, .. } | Entry::Stopped { sig, .. } => put_signal(text, sig),
         Entry::Ended { pid, status } => {
             put_if_status(text, status);

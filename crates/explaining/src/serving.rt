@@ -1,13 +1,18 @@
 //! What the program does: its text and its statuses.
 
-ghost use Rattle.std.specs.Prelude.{◌≡◌, ◌≤◌, Err, Some, map};
+ghost use Rattle.std.specs.Prelude.{◌≡◌, ◌≤◌, Err, IfOk, IfErr, Some, map};
 ghost use Rattle.inputs.specs.declared.command_line.WordsFault.{WordsFault};
+ghost use Rattle.explaining.specs.Drawings.{Draws, FileIsLined, IsCutOff, MeansOfDrawing, drawing_asked, status_of_drawing};
 ghost use Rattle.explaining.specs.Serving.{Means, answer_of, asked_by, trace_in_words};
 
+use crate::drawing::draw_trace;
 use crate::texts::explain_text;
+use crate::words::requested;
+use arrayvec::ArrayString;
 use inputs::{FileFailure, ReadFiles, WordsFault, named_file, read_file};
-use sink::Sink;
+use sink::{Sink, SinkFault, put_all};
 use std::alloc::Global;
+use std::fmt::Write;
 
 /// Explains a file.
 fn explain_file<'a, F: ReadFiles, O: Sink>(
@@ -48,7 +53,7 @@ fn told<E: Sink>(done: Result<(), FileFailure<'_>>, err: &mut E) -> u8
 
 /// Explains the trace that the words of the command line name, without the program's name, and gives the status of the
 /// program: 0 when it is done, 2 for other words, 3 for a device or memory. A failing `err` changes no status.
-pub fn serve<'a, F: ReadFiles, O: Sink, E: Sink>(
+pub fn serve_explain<'a, F: ReadFiles, O: Sink, E: Sink>(
     alloc: Global,
     words: Result<&'a [&'a str], WordsFault>,
     files: &F,
@@ -64,4 +69,70 @@ pub fn serve<'a, F: ReadFiles, O: Sink, E: Sink>(
         Err(WordsFault::NotText) => told(Err(FileFailure::Usage), err),
         Err(WordsFault::Memory) => told(Err(FileFailure::Memory), err),
     }
+}
+
+/// Draws a file.
+fn draw_file<'a, F: ReadFiles, O: Sink>(
+    alloc: Global,
+    files: &F,
+    name: &'a str,
+    is_svg: bool,
+    out: &mut O,
+) -> Result<Option<u64>, FileFailure<'a>>
+    ensures ok { IfOk result (λ other. FileIsLined (F.contents files.now) other (name.entry.now, is_svg)) }
+    ensures err { IfErr result IsCutOff }
+{
+    let text = read_file(files, name)?;
+    draw_trace(alloc, text.as_slice(), is_svg, out)
+}
+
+/// Draws what the words ask for.
+fn draw_words<'a, F: ReadFiles, O: Sink>(
+    alloc: Global,
+    words: &'a [&'a str],
+    files: &F,
+    out: &mut O,
+) -> Result<Option<u64>, FileFailure<'a>>
+    ensures { Draws (F.contents files.now) (drawing_asked (map (λ w. w.now) words.entry.now)) out.old out.new result }
+{
+    let (name, is_svg) = requested(alloc, words)?;
+    draw_file(alloc, files, name, is_svg, out)
+}
+
+/// Tells which line is none of a trace. The longest of these texts has less than 60 bytes.
+fn tell_other<E: Sink>(number: u64, err: &mut E) -> Result<(), SinkFault> {
+    let mut text = ArrayString::<64>::new();
+    let _ = writeln!(text, "jobk: line {number}: no line of a trace");
+    put_all(err, text.as_str().as_bytes())
+}
+
+/// The status of the program. A failure is told, and a line that is none of a trace.
+fn drawn<E: Sink>(done: Result<Option<u64>, FileFailure<'_>>, err: &mut E) -> u8
+    ensures most { result ≤ 3 }
+    ensures is { result ≡ status_of_drawing done.entry }
+{
+    match done {
+        Ok(None) => 0,
+        Ok(Some(number)) => {
+            let _ = tell_other(number, err);
+            1
+        }
+        Err(failure) => failure.end(b"usage: jobk lanes TRACE [--svg]\n", err),
+    }
+}
+
+/// Draws the trace that the words name, without the command's name, as [`draw_trace`] does, and gives the status of the
+/// program: 0 where all lines are drawn, 1 where one is none of a trace, which is told, and the picture ends above it; 2
+/// for other words, 3 for a device or memory. A failing `err` changes no status.
+pub fn serve_lanes<'a, F: ReadFiles, O: Sink, E: Sink>(
+    alloc: Global,
+    words: &'a [&'a str],
+    files: &F,
+    out: &mut O,
+    err: &mut E,
+) -> u8
+    ensures most { result ≤ 3 }
+    ensures meaning { MeansOfDrawing (F.contents files.now) (drawing_asked (map (λ w. w.now) words.entry.now)) out.old out.new result }
+{
+    drawn(draw_words(alloc, words, files, out), err)
 }

@@ -15,7 +15,7 @@ use wording::Prose;
 
 /// At least so many bytes are put at once, but for the last ones: a put may be a system call, which costs more than a
 /// line.
-const PIECE: usize = 8192;
+pub const PIECE: usize = 8192;
 
 /// Adds words to what waits, behind three spaces; nothing where there are no words.
 fn write_words(waiting: &mut Vec<u8>, words: &[u8]) -> Result<(), AllocError>

@@ -5,7 +5,7 @@ use Rattle.std.specs.Str.{bytes_eq}
 use Rattle.clap.specs.Simple.{on_top}
 use Rattle.clap.specs.Words.{App, Kinds, Row, Rule, Shape, Text, fault_of, first_of, matches_of, new_app, new_rule, with_rule}
 use Rattle.clap.specs.declared.builder.action.ArgAction.{ArgAction}
-use Rattle.clap.specs.declared.builder.action.ArgAction.TheVariants.{Set}
+use Rattle.clap.specs.declared.builder.action.ArgAction.TheVariants.{Set, SetTrue}
 
 -- the name of a file, which is required
 abbrev pub file_rule : Text → Rule
@@ -33,6 +33,10 @@ command_with_file program file = with_rule (on_top without_program_name (new_app
 abbrev pub file_in_words : Text → Text → List Text → Option Text
 file_in_words program file words =
     unless_refused (fault_of (command_with_file program file) words) (first_of file (matches_of (command_with_file program file) words))
+
+-- and with a flag
+abbrev pub command_with_flag : Text → Text → Text → App
+command_with_flag program file flag = with_rule (command_with_file program file) (option_rule (flag, SetTrue))
 
 -- ---- a world and its events
 

@@ -21,7 +21,9 @@ pub use files::{FileFault, HostFiles, ReadFiles};
 use std::alloc::Global;
 use text::{EventList, Reason, TextFault, World, read_events, read_world};
 use thiserror::Error;
-pub use words::{NoRequest, command, is_used, named_file, named_files, value_of, words_behind};
+pub use words::{
+    NoRequest, command, command_with_flag, is_used, named_file, named_files, value_of, words_behind,
+};
 
 /// A world and its events.
 #[derive(Drop)]

@@ -2,7 +2,7 @@
 
 ghost use Rattle.std.specs.Prelude.{◌≡◌, ◌≢◌, IfOk, MatchResult, None, Some, false, map, option_map};
 ghost use Rattle.clap.specs.Words.{app_of, first_of, found_of, kind_of, rows_of, rule_of};
-ghost use Rattle.inputs.specs.Words.{command_of, command_with_file, file_in_words, file_rule, files_in, is_used as is_used_in, option_rule};
+ghost use Rattle.inputs.specs.Words.{command_of, command_with_file, command_with_flag, file_in_words, file_rule, files_in, is_used as is_used_in, option_rule};
 
 use crate::WordsFault;
 use clap::error::ErrorKind;
@@ -124,6 +124,19 @@ fn command_with_file<'a>(
     Command::new(alloc, program)
         .no_binary_name(true)
         .arg(file(alloc, file_name))
+}
+
+/// The command line of a program that is given one file, and has a flag.
+pub fn command_with_flag<'a>(
+    alloc: Global,
+    program: &'a str,
+    file_name: &'a str,
+    flag: &'a str,
+) -> Result<Command<'a>, AllocError>
+    ensures { IfOk result (λ c. app_of c ≡ command_with_flag program.entry.now file_name.entry.now flag.entry.now) }
+{
+    let flag = option(alloc, flag, ArgAction::SetTrue);
+    command_with_file(alloc, program, file_name)?.arg(flag)
 }
 
 /// The name of the one file that the words ask for, which is called `file` on the command line; the program's name isn't

@@ -15,13 +15,12 @@ ghost use Rattle.posix.specs.SignalCalls.{pending_set};
 use crate::actions::{does_nothing, is_caught, is_stop_signal};
 use crate::realtime_pool::RealtimePool;
 use crate::tables::{FramesFull, LazyTables, NoFrame};
-use arena::Arena;
 use bitflags::Flags;
 use posix::{
     Action, Carried, Effect, Errno, Handler, How, Life, PendingSignal, Pid, Register, SaFlags, Sig,
     SigSet,
 };
-use std::alloc::AllocError;
+use std::alloc::{AllocError, Global};
 use std::marker::Model;
 use umach::Cpu;
 
@@ -51,13 +50,13 @@ impl Model for Signals {
 impl Signals {
     /// Those of process 1 at boot: none is blocked or pending, the actions are the defaults. An error where
     /// the host has no memory for them.
-    pub fn initial(arena: Arena) -> Result<Signals, AllocError>
+    pub fn initial(alloc: Global) -> Result<Signals, AllocError>
         ensures { IfOk result (λ s. s ≡ initial_signals) }
     {
         Ok(Signals {
             mask: SigSet::EMPTY,
             pending: SigSet::EMPTY,
-            tables: LazyTables::new(arena)?,
+            tables: LazyTables::new(alloc)?,
         })
     }
 

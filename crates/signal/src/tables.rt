@@ -12,17 +12,18 @@ ghost use Rattle.signal.specs.SignalTables.{initial_tables, nothing_carried, car
 
 use crate::action_fields::{Actions, keep_actions, row_of};
 use crate::realtime_pool::RealtimePool;
-use arena::{Arena, refill};
+use arena::{Arena, new_arena, refill};
 use bitflags::Flags;
 use posix::{Action, Carried, Frame, Handler, PendingSignal, SaFlags, Sig, SigSet};
-use std::alloc::AllocError;
+use std::alloc::{AllocError, Global};
 use std::marker::Model;
 
 /// The actions of a process for signals, what its pending standard signals came with (XSH 2.4.1), the queue of
 /// its pending real-time signals (XSH 2.4.2), and the frames of its handlers that haven't returned.
 ///
-/// Its memory is taken at once, and written to as it is needed: until the first change all is as at boot, and only
-/// frames that are in use are kept. That of the queue comes with the first real-time signal.
+/// Its memory is taken at once, of an arena for each kind, and written to as it is needed: until the first change all is
+/// as at boot, and only frames that are in use are kept. A page that is written to so holds tables of several processes.
+/// That of the queue comes with the first real-time signal.
 #[derive(Drop)]
 pub struct LazyTables {
     /// At most one item, with room for it: without it they are the default ones.
@@ -56,17 +57,24 @@ pub struct FramesFull;
 pub struct NoFrame;
 
 impl LazyTables {
-    /// As at boot. An error where the host has no memory for them.
+    /// As at boot, with room of these arenas. An error where the host has no memory for them.
     #[tactic(auto, unfolding(posix::specs::Processes::default_actions, crate::specs::ActionFields::actions_of, crate::specs::ActionFields::blank_actions, crate::specs::SignalTables::nothing_carried))]
-    pub fn new(arena: Arena) -> Result<LazyTables, AllocError>
+    fn with_room_of(actions: Arena, carried: Arena, frames: Arena) -> Result<LazyTables, AllocError>
         ensures { IfOk result (λ t. t ≡ initial_tables) }
     {
         Ok(LazyTables {
-            actions: Vec::with_capacity(arena.clone()?, 1)?,
-            carried: Vec::with_capacity(arena.clone()?, 1)?,
+            actions: Vec::with_capacity(actions, 1)?,
+            carried: Vec::with_capacity(carried, 1)?,
             queue: None,
-            frames: Vec::with_capacity(arena, 16)?,
+            frames: Vec::with_capacity(frames, 16)?,
         })
+    }
+
+    /// As at boot, with room of new arenas. An error where the host has no memory for them.
+    pub fn new(alloc: Global) -> Result<LazyTables, AllocError>
+        ensures { IfOk result (λ t. t ≡ initial_tables) }
+    {
+        LazyTables::with_room_of(new_arena(alloc)?, new_arena(alloc)?, new_arena(alloc)?)
     }
 
     /// Those of a child that is born now: the same, but nothing came with anything, and nothing is queued. They are
@@ -81,7 +89,11 @@ impl LazyTables {
             mut frames,
         } = match spare {
             Some(tables) => tables,
-            None => LazyTables::new(self.frames.allocator().clone()?)?,
+            None => LazyTables::with_room_of(
+                self.actions.allocator().clone()?,
+                self.carried.allocator().clone()?,
+                self.frames.allocator().clone()?,
+            )?,
         };
         refill(&mut actions, self.actions.as_slice())?;
         carried.clear();

@@ -24,9 +24,7 @@ struct Shown<'l, 't> {
 /// least two.
 pub fn end_cell(text: &mut Prose, start: usize, width: usize) {
     text.push_str("  ");
-    for _ in text.len().saturating_sub(start)..width {
-        text.push_str(" ");
-    }
+    text.pad_to(start.saturating_add(width), b' ');
 }
 
 /// Writes the cell with the number of a process and the name of its program.

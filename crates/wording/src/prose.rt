@@ -70,6 +70,13 @@ impl Prose {
         self.push_number(number);
     }
 
+    /// Adds a byte so often that there are so many bytes, if there are fewer.
+    pub fn pad_to(&mut self, len: usize, byte: u8) {
+        if self.is_whole && self.text.len() < len {
+            self.is_whole = self.text.resize(len, byte).is_ok();
+        }
+    }
+
     /// What was looked for, to be told here. Where there was no memory to find it this text isn't given out.
     pub fn found<'n>(&mut self, what: Result<Option<&'n [u8]>, AllocError>) -> Option<&'n [u8]> {
         match what {

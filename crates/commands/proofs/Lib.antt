@@ -1,0 +1,2 @@
+pub mod AlongLemmas
+mod TraceLemmas

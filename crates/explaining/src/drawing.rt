@@ -1,0 +1,55 @@
+//! A trace that is drawn.
+
+ghost use Rattle.std.specs.Prelude.{IfErr, IfOk};
+ghost use Rattle.explaining.specs.Drawings.{IsCutOff, Lined};
+
+use crate::known::Known;
+use crate::picture::put_picture;
+use crate::rows::Rows;
+use crate::svg::put_svg;
+use inputs::FileFailure;
+use sink::Sink;
+use std::alloc::{AllocError, Global};
+use trace::{next_line, read_line};
+
+/// Adds a row for each line of a trace, up to the first line that is none. The number of that line, if there is one.
+fn read_rows(alloc: Global, rows: &mut Rows, trace: &[u8]) -> Result<Option<u64>, AllocError>
+    ensures { IfOk result (λ other. Lined trace.now other) }
+{
+    let mut known = Known::new(alloc)?;
+    let mut number: u64 = 1;
+    let mut rest = trace;
+    while let Some((line, more)) = next_line(rest) {
+        let Some((event, entry)) = read_line(line) else {
+            return Ok(Some(number));
+        };
+        rows.add(&mut known, event, &entry)?;
+        rest = more;
+        number += 1;
+    }
+    if rest.is_empty() {
+        return Ok(None);
+    }
+    Ok(Some(number))
+}
+
+/// Puts a picture of a trace, as a text or as SVG: a lane for each process, a row for each line, and arrows from lane to
+/// lane. It ends above the first line that has none of the forms of a trace, whose number is the result.
+pub fn draw_trace<'a, O: Sink>(
+    alloc: Global,
+    trace: &[u8],
+    is_svg: bool,
+    out: &mut O,
+) -> Result<Option<u64>, FileFailure<'a>>
+    ensures ok { IfOk result (λ other. Lined trace.now other) }
+    ensures err { IfErr result IsCutOff }
+{
+    let mut rows = Rows::new(alloc)?;
+    let other = read_rows(alloc, &mut rows, trace)?;
+    if is_svg {
+        put_svg(&rows, out)?;
+    } else {
+        put_picture(&rows, out)?;
+    }
+    Ok(other)
+}

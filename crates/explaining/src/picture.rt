@@ -1,0 +1,201 @@
+//! A picture of a trace as a text: a lane for each process, side by side, and arrows from lane to lane.
+
+ghost use Rattle.std.specs.Prelude.{IfErr};
+ghost use Rattle.explaining.specs.Drawings.{IsCutOff};
+
+use crate::rows::{Arrow, Cause, Mark, Row, Rows, State, digits};
+use crate::texts::PIECE;
+use inputs::FileFailure;
+use sink::{Sink, put_all};
+use std::alloc::AllocError;
+use wording::Prose;
+
+/// A picture that is written row by row.
+#[derive(Drop)]
+pub struct Picture<'r> {
+    rows: &'r Rows,
+    /// The column at which each lane begins, and the one behind the last.
+    columns: Vec<usize>,
+    /// What each lane is above the next row.
+    states: Vec<State>,
+    text: Prose,
+    /// The place in the text at which the line begins.
+    start: usize,
+}
+
+/// What an arrow is drawn with.
+fn stroke(arrow: Option<Arrow>) -> u8 {
+    match arrow {
+        Some(
+            Arrow {
+                cause: Cause::Look,
+                ..
+            },
+        ) => b'.',
+        _ => b'-',
+    }
+}
+
+/// The lane at which an arrow points, if there is one.
+fn tip(row: &Row) -> Option<usize> {
+    match row.arrow?.cause {
+        Cause::Birth => Some(row.arrow?.lane),
+        Cause::News | Cause::Look => Some(row.lane),
+    }
+}
+
+/// What stands in a lane that isn't that of the row's process, and is so above the row.
+fn cell(row: &Row, lane: usize, state: State) -> u8 {
+    let (left, right) = row.ends();
+    match (row.arrow, row.mark, state) {
+        (Some(arrow), _, _) if arrow.lane == lane => match arrow.cause {
+            Cause::Birth => b'o',
+            Cause::News | Cause::Look => b'+',
+        },
+        (_, Mark::Halts, State::Lives) => b'=',
+        (arrow, _, State::Empty) if left < lane && lane < right => stroke(arrow),
+        (_, _, State::Empty) => b' ',
+        (_, _, State::Lives) => b'|',
+        (_, _, State::Ended) => b':',
+    }
+}
+
+impl<'r> Picture<'r> {
+    /// Of no row so far.
+    fn new(rows: &'r Rows) -> Result<Picture<'r>, AllocError> {
+        let mut states = Vec::new(rows.alloc);
+        for lane in &rows.lanes {
+            states.push(State::first(lane.pid))?;
+        }
+        Ok(Picture {
+            rows,
+            columns: rows.columns()?,
+            states,
+            text: Prose::new(rows.alloc),
+            start: 0,
+        })
+    }
+
+    /// Writes bytes up to a column of the line.
+    fn pad(&mut self, column: usize, byte: u8) {
+        self.text.pad_to(self.start.saturating_add(column), byte);
+    }
+
+    /// The column at which a lane begins.
+    fn column(&self, lane: usize) -> usize {
+        match self.columns.get(lane) {
+            Some(column) => *column,
+            None => 0,
+        }
+    }
+
+    /// Writes the heads of the lanes.
+    fn put_head(&mut self) {
+        self.pad(self.rows.margin.saturating_sub(5), b' ');
+        self.text.push_str("event");
+        for (place, lane) in self.rows.lanes.iter().enumerate() {
+            self.pad(self.column(place), b' ');
+            self.text.push_number(lane.pid.number());
+        }
+        self.text.push_str("\n");
+    }
+
+    /// Writes what a row has in the lane of its process.
+    fn put_own(&mut self, row: &Row) {
+        self.pad(self.column(row.lane), b' ');
+        self.text.push_str(match row.mark {
+            Mark::Does => "* ",
+            Mark::Ends => "x ",
+            Mark::Halts => "= ",
+        });
+        self.text.push_bytes(row.words.as_slice());
+        if row.lane < row.ends().1 {
+            self.text.push_str(" ");
+        }
+    }
+
+    /// Writes what a row has in a lane.
+    fn put_cell(&mut self, row: &Row, lane: usize, state: State) {
+        if lane == row.lane {
+            return self.put_own(row);
+        }
+        let byte = cell(row, lane, state);
+        if byte != b' ' {
+            self.pad(self.column(lane), b' ');
+            self.text.push_byte(byte);
+        }
+    }
+
+    /// Writes the part of an arrow that leads from a lane to the next one.
+    fn put_stroke(&mut self, row: &Row, lane: usize) {
+        let (left, right) = row.ends();
+        if lane < left || lane >= right {
+            return;
+        }
+        let next = lane.saturating_add(1);
+        if lane == left && tip(row) == Some(left) {
+            self.text.push_str("<");
+        }
+        let column = self.column(next);
+        if next == right && tip(row) == Some(right) {
+            self.pad(column.saturating_sub(1), stroke(row.arrow));
+            self.text.push_str(">");
+        } else {
+            self.pad(column, stroke(row.arrow));
+        }
+    }
+
+    /// Writes a row.
+    fn put_row(&mut self, row: &Row) {
+        self.start = self.text.len();
+        self.pad(self.rows.margin.saturating_sub(digits(row.event)), b' ');
+        self.text.push_number(row.event);
+        for lane in 0..self.states.len() {
+            let state = self.state(lane);
+            self.put_cell(row, lane, state);
+            self.put_stroke(row, lane);
+            self.turn(lane, row.makes(lane));
+        }
+        self.text.push_str("\n");
+    }
+
+    /// What a lane is.
+    fn state(&self, lane: usize) -> State {
+        match self.states.get(lane) {
+            Some(state) => *state,
+            None => State::Empty,
+        }
+    }
+
+    /// A lane becomes what a row makes of it.
+    fn turn(&mut self, lane: usize, made: Option<State>) {
+        if let (Some(state), Some(made)) = (self.states.get_mut(lane), made) {
+            *state = made;
+        }
+    }
+}
+
+/// Puts what was written so far once it is 8 KiB or more.
+pub fn put_if_full<'a, O: Sink>(text: &mut Prose, out: &mut O) -> Result<(), FileFailure<'a>>
+    ensures { IfErr result IsCutOff }
+{
+    if text.len() >= PIECE {
+        put_all(out, text.as_bytes()?)?;
+        text.clear();
+    }
+    Ok(())
+}
+
+/// Puts the picture of rows as a text.
+pub fn put_picture<'a, O: Sink>(rows: &Rows, out: &mut O) -> Result<(), FileFailure<'a>>
+    ensures { IfErr result IsCutOff }
+{
+    let mut picture = Picture::new(rows)?;
+    picture.put_head();
+    for row in &rows.rows {
+        picture.put_row(row);
+        put_if_full(&mut picture.text, out)?;
+    }
+    put_all(out, picture.text.as_bytes()?)?;
+    Ok(())
+}

@@ -1,0 +1,345 @@
+//! A picture of a trace as SVG, in which a column of the text is 8 wide and a row 20 high.
+
+ghost use Rattle.std.specs.Prelude.{IfErr};
+ghost use Rattle.explaining.specs.Drawings.{IsCutOff};
+
+use crate::picture::put_if_full;
+use crate::rows::{Arrow, Cause, Mark, Row, Rows, State, digits};
+use inputs::FileFailure;
+use sink::{Sink, put_all};
+use std::alloc::AllocError;
+use wording::Prose;
+
+/// A place in the picture.
+#[derive(Clone, Copy)]
+struct Point {
+    x: usize,
+    y: usize,
+}
+
+impl Point {
+    /// The place so far to the right, and so far down.
+    fn by(self, right: isize, down: isize) -> Point {
+        Point {
+            x: self.x.saturating_add_signed(right),
+            y: self.y.saturating_add_signed(down),
+        }
+    }
+}
+
+/// The place so many columns to the right.
+fn behind(place: Point, columns: usize) -> Point {
+    Point {
+        x: place.x.saturating_add(columns.saturating_mul(8)),
+        y: place.y,
+    }
+}
+
+/// So far to the right, or to the left.
+fn toward(is_right: bool, by: isize) -> isize {
+    if is_right { by } else { by.saturating_neg() }
+}
+
+/// Writes a line.
+fn put_wire(text: &mut Prose, from: Point, to: Point, dashes: &str) {
+    text.push_with("<line x1=\"", from.x);
+    text.push_with("\" y1=\"", from.y);
+    text.push_with("\" x2=\"", to.x);
+    text.push_with("\" y2=\"", to.y);
+    text.push_str("\" stroke=\"#666666\"");
+    text.push_str(dashes);
+    text.push_str("/>\n");
+}
+
+/// Writes a corner of the point of an arrow.
+fn put_corner(text: &mut Prose, before: &str, corner: Point) {
+    text.push_with(before, corner.x);
+    text.push_with(",", corner.y);
+}
+
+/// Writes the point of an arrow, with its tip and the middle of its back.
+fn put_point(text: &mut Prose, tip: Point, back: Point) {
+    put_corner(text, "<polygon points=\"", tip);
+    put_corner(text, " ", back.by(0, -4));
+    put_corner(text, " ", back.by(0, 4));
+    text.push_str("\"/>\n");
+}
+
+/// Writes a dot.
+fn put_dot(text: &mut Prose, middle: Point, fill: &str) {
+    text.push_with("<circle cx=\"", middle.x);
+    text.push_with("\" cy=\"", middle.y);
+    text.push_str("\" r=\"4\" fill=\"");
+    text.push_str(fill);
+    text.push_str("\" stroke=\"#000000\"/>\n");
+}
+
+/// Writes the end of a lane.
+fn put_bar(text: &mut Prose, middle: Point) {
+    let corner = middle.by(-5, -2);
+    text.push_with("<rect x=\"", corner.x);
+    text.push_with("\" y=\"", corner.y);
+    text.push_str("\" width=\"10\" height=\"4\"/>\n");
+}
+
+/// Writes the beginning of words, which take so many columns.
+fn begin_words(text: &mut Prose, place: Point, columns: usize) {
+    text.push_with("<text x=\"", place.x);
+    text.push_with("\" y=\"", place.by(0, 4).y);
+    text.push_with("\" textLength=\"", columns.saturating_mul(8));
+    text.push_str("\">");
+}
+
+/// Writes words.
+fn put_words(text: &mut Prose, place: Point, words: &[u8]) {
+    begin_words(text, place, words.len());
+    for byte in words {
+        match byte {
+            b'&' => text.push_str("&amp;"),
+            b'<' => text.push_str("&lt;"),
+            b'>' => text.push_str("&gt;"),
+            _ => text.push_byte(*byte),
+        }
+    }
+    text.push_str("</text>\n");
+}
+
+/// Writes a number.
+fn put_number(text: &mut Prose, place: Point, number: u64) {
+    begin_words(text, place, digits(number));
+    text.push_number(number);
+    text.push_str("</text>\n");
+}
+
+/// How low a row stands below the heads of the lanes, which are row 0; half a row below that where a lane begins or ends.
+fn height(row: usize) -> usize {
+    row.saturating_mul(20).saturating_add(18)
+}
+
+/// What a lane is, and since which height.
+#[derive(Clone, Copy)]
+struct Since {
+    state: State,
+    height: usize,
+}
+
+/// A picture that is written piece by piece.
+#[derive(Drop)]
+pub struct Svg<'r> {
+    rows: &'r Rows,
+    /// The column at which each lane begins, and the one behind the last.
+    columns: Vec<usize>,
+    lanes: Vec<Since>,
+    text: Prose,
+}
+
+impl<'r> Svg<'r> {
+    /// The empty picture.
+    fn new(rows: &'r Rows) -> Result<Svg<'r>, AllocError> {
+        let mut lanes = Vec::new(rows.alloc);
+        for lane in &rows.lanes {
+            let state = State::first(lane.pid);
+            lanes.push(Since { state, height: 28 })?;
+        }
+        Ok(Svg {
+            rows,
+            columns: rows.columns()?,
+            lanes,
+            text: Prose::new(rows.alloc),
+        })
+    }
+
+    /// The column at which a lane begins.
+    fn column(&self, lane: usize) -> usize {
+        match self.columns.get(lane) {
+            Some(column) => *column,
+            None => 0,
+        }
+    }
+
+    /// The place of a lane at a height.
+    fn at(&self, lane: usize, height: usize) -> Point {
+        Point {
+            x: self.column(lane).saturating_mul(8),
+            y: height,
+        }
+        .by(12, 0)
+    }
+
+    /// A lane is so from a height on.
+    fn turn(&mut self, lane: usize, state: State, height: usize) {
+        let Some(since) = self.lanes.get(lane).copied() else {
+            return;
+        };
+        if since.state == state {
+            return;
+        }
+        let (from, to) = (self.at(lane, since.height), self.at(lane, height));
+        match since.state {
+            State::Empty => {}
+            State::Lives => put_wire(&mut self.text, from, to, ""),
+            State::Ended => put_wire(&mut self.text, from, to, " stroke-dasharray=\"2,4\""),
+        }
+        if let Some(lane) = self.lanes.get_mut(lane) {
+            *lane = Since { state, height };
+        }
+    }
+
+    /// What a lane is.
+    fn state(&self, lane: usize) -> State {
+        match self.lanes.get(lane) {
+            Some(since) => since.state,
+            None => State::Empty,
+        }
+    }
+
+    /// Draws the ends of the lanes that live at a height.
+    fn end_lanes(&mut self, height: usize) {
+        for lane in 0..self.lanes.len() {
+            if self.state(lane) == State::Lives {
+                let place = self.at(lane, height);
+                put_bar(&mut self.text, place);
+            }
+        }
+    }
+
+    /// The lanes become what a row makes of them.
+    fn pass(&mut self, row: &Row, height: usize) {
+        for lane in 0..self.lanes.len() {
+            if let Some(state) = row.makes(lane) {
+                self.turn(lane, state, height);
+            }
+        }
+    }
+
+    /// Draws the lanes beside a row.
+    fn draw_beside(&mut self, row: &Row, height: usize) {
+        if matches!(row.mark, Mark::Halts) {
+            self.end_lanes(height);
+        }
+        self.pass(row, height);
+    }
+
+    /// Draws what is left of the lanes below all rows.
+    fn finish_lanes(&mut self) {
+        let height = height(self.rows.rows.len()).saturating_add(10);
+        for lane in 0..self.lanes.len() {
+            self.turn(lane, State::Empty, height);
+        }
+    }
+
+    /// Draws the arrow of a row.
+    fn draw_arrow(&mut self, row: &Row, arrow: Arrow, height: usize) {
+        let (own, other) = (self.at(row.lane, height), self.at(arrow.lane, height));
+        let is_right = row.lane < arrow.lane;
+        let near = if is_right {
+            behind(own.by(20, 0), row.words.len())
+        } else {
+            own.by(-5, 0)
+        };
+        if let Cause::Birth = arrow.cause {
+            let tip = other.by(toward(is_right, -5), 0);
+            put_wire(&mut self.text, near, tip, "");
+            put_point(&mut self.text, tip, tip.by(toward(is_right, -8), 0));
+            put_dot(&mut self.text, other, "#ffffff");
+        } else {
+            let dashes = match arrow.cause {
+                Cause::Look => " stroke-dasharray=\"4,4\"",
+                Cause::Birth | Cause::News => "",
+            };
+            put_wire(&mut self.text, near, other, dashes);
+            put_point(&mut self.text, near, near.by(toward(is_right, 8), 0));
+        }
+    }
+
+    /// Draws a row, but for the other lanes.
+    fn draw_row(&mut self, row: &Row, height: usize) {
+        let place = self.at(row.lane, height);
+        let indent = self.rows.margin.saturating_sub(digits(row.event));
+        let margin = behind(Point { x: 8, y: height }, indent);
+        put_number(&mut self.text, margin, row.event);
+        put_words(&mut self.text, place.by(12, 0), row.words.as_slice());
+        if let Some(arrow) = row.arrow {
+            self.draw_arrow(row, arrow, height);
+        }
+        match row.mark {
+            Mark::Does => put_dot(&mut self.text, place, "#000000"),
+            Mark::Ends | Mark::Halts => put_bar(&mut self.text, place),
+        }
+    }
+
+    /// Draws the heads of the lanes.
+    fn draw_heads(&mut self) {
+        let top = height(0);
+        put_words(&mut self.text, Point { x: 8, y: top }, b"event");
+        for (place, lane) in self.rows.lanes.iter().enumerate() {
+            let place = self.at(place, top).by(-4, 0);
+            put_number(&mut self.text, place, u64::from(lane.pid.number()));
+        }
+    }
+
+    /// How many columns the picture has.
+    fn width(&self) -> usize {
+        let mut width = 0;
+        for (place, lane) in self.rows.lanes.iter().enumerate() {
+            width = width.max(self.column(place).saturating_add(lane.reach));
+        }
+        width
+    }
+
+    /// Writes the beginning of the picture: its size, and a white ground.
+    fn begin(&mut self) {
+        let width = self.width().saturating_add(2).saturating_mul(8);
+        let height = height(self.rows.rows.len()).saturating_add(20);
+        self.text
+            .push_str("<?xml version=\"1.0\" encoding=\"UTF-8\"?>\n");
+        self.text.push_with(
+            "<svg xmlns=\"http://www.w3.org/2000/svg\" version=\"1.1\" width=\"",
+            width,
+        );
+        self.text.push_with("\" height=\"", height);
+        self.text.push_str(
+            "\" font-family=\"monospace\" font-size=\"13\" fill=\"#000000\" xml:space=\"preserve\">\n",
+        );
+        self.text.push_with("<rect width=\"", width);
+        self.text.push_with("\" height=\"", height);
+        self.text.push_str("\" fill=\"#ffffff\"/>\n");
+    }
+
+    /// Puts the lanes.
+    fn put_lanes<O: Sink>(&mut self, out: &mut O) -> Result<(), FileFailure<'static>>
+        ensures { IfErr result IsCutOff }
+    {
+        for (place, row) in self.rows.rows.iter().enumerate() {
+            self.draw_beside(row, height(place.saturating_add(1)));
+            put_if_full(&mut self.text, out)?;
+        }
+        self.finish_lanes();
+        Ok(())
+    }
+
+    /// Puts the rows.
+    fn put_rows<O: Sink>(&mut self, out: &mut O) -> Result<(), FileFailure<'static>>
+        ensures { IfErr result IsCutOff }
+    {
+        for (place, row) in self.rows.rows.iter().enumerate() {
+            self.draw_row(row, height(place.saturating_add(1)));
+            put_if_full(&mut self.text, out)?;
+        }
+        Ok(())
+    }
+}
+
+/// Puts the picture of rows as SVG.
+pub fn put_svg<'a, O: Sink>(rows: &Rows, out: &mut O) -> Result<(), FileFailure<'a>>
+    ensures { IfErr result IsCutOff }
+{
+    let mut svg = Svg::new(rows)?;
+    svg.begin();
+    svg.put_lanes(out)?;
+    svg.draw_heads();
+    svg.put_rows(out)?;
+    svg.text.push_str("</svg>\n");
+    put_all(out, svg.text.as_bytes()?)?;
+    Ok(())
+}
