@@ -17,6 +17,7 @@ pub const HELP: &[u8] =
     jobk show WORLD EVENTS     shows the state after the last event
         --at E                 after event E
         --calls                each event up to it, and what it did
+        --trace                the trace up to it, and what each line did
         --process P            of process P alone
         --step                 goes through the run, at a terminal
     jobk run --names FILES, jobk explore --names FILES .., jobk show --names FILES ..,

@@ -25,7 +25,7 @@ use wording::{Listing, Prose};
 /// Why the program doesn't end with status 0.
 #[derive(Clone, Copy, Debug, Error)]
 pub enum Failure<'a> {
-    #[error("usage: jobk show WORLD EVENTS [--at E] [--calls] [--process P].. [--step]")]
+    #[error("usage: jobk show WORLD EVENTS [--at E] [--calls | --trace] [--process P].. [--step]")]
     Usage,
     #[error("jobk: --at takes the number of an event, or 0")]
     At,
@@ -33,7 +33,7 @@ pub enum Failure<'a> {
     AtAbove(u64, u64),
     #[error("jobk: --process takes the number of a process")]
     Process,
-    #[error("jobk: --step takes its commands from a terminal, and goes with neither --at nor --calls")]
+    #[error("jobk: --step takes its commands from a terminal, and goes with none of --at, --calls and --trace")]
     Step,
     #[error("jobk: {0}")]
     Input(#[from] InputFault<'a>),
@@ -202,7 +202,7 @@ fn serve_past<'a, 'l, 't, O: Sink, A: Ask>(
 {
     if request.step {
         serve_steps(view, replay, inputs, out, ask)
-    } else if request.calls {
+    } else if request.tells() {
         serve_calls(view, replay, inputs, last, out)
     } else {
         put_now(view, replay, out)
@@ -226,10 +226,11 @@ fn serve_inputs<'a, 't, O: Sink, A: Ask>(
         alloc,
         listing: &listing,
         events: inputs.events.len(),
+        traced: request.trace,
         only,
     };
     // Where events are told, they are from the first one on.
-    let from = if request.step || request.calls {
+    let from = if request.step || request.tells() {
         0
     } else {
         last
@@ -248,7 +249,7 @@ fn serve_request<'a, F: ReadFiles, O: Sink, A: Ask>(
     out: &mut O,
     ask: &mut A,
 ) -> Result<(), Failure<'a>> {
-    if request.step && (request.calls || request.at.is_some() || !ask.is_terminal()) {
+    if request.step && (request.tells() || request.at.is_some() || !ask.is_terminal()) {
         return Err(Failure::Step);
     }
     let only = processes_of(alloc, request.processes.as_slice())?;

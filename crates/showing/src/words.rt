@@ -15,14 +15,23 @@ pub struct Request<'a> {
     /// What stands behind each `--process`.
     pub processes: Vec<&'a str>,
     pub calls: bool,
+    pub trace: bool,
     pub step: bool,
 }
 
+impl Request<'_> {
+    /// Whether it is told what each event did.
+    pub fn tells(&self) -> bool {
+        self.calls || self.trace
+    }
+}
+
 /// The program's options, each with what its use does.
-const OPTIONS: [(&str, ArgAction); 4] = [
+const OPTIONS: [(&str, ArgAction); 5] = [
     ("at", ArgAction::Set),
     ("process", ArgAction::Append),
     ("calls", ArgAction::SetTrue),
+    ("trace", ArgAction::SetTrue),
     ("step", ArgAction::SetTrue),
 ];
 
@@ -35,6 +44,7 @@ fn request_of<'a>(alloc: Global, matches: &ArgMatches<'a>) -> Result<Request<'a>
         at: matches.get_str("at"),
         processes: words_behind(alloc, matches, "process")?,
         calls: matches.get_flag("calls"),
+        trace: matches.get_flag("trace"),
         step: matches.get_flag("step"),
     })
 }

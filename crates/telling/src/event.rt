@@ -8,6 +8,7 @@ use posix::{Call, Entry, Event, Instr, Life, Pid, Register, Sig, SigSet, Target}
 use proctable::{OwnPart, Snapshot};
 use std::alloc::AllocError;
 use std::fmt::Write;
+use trace::print_entry;
 use wording::{
     Arguments, Prose, Written, place_of, put_call, put_look, put_moved, put_report, put_result,
     put_signal, put_status, signal_in,
@@ -155,6 +156,13 @@ fn put_entry(text: &mut Prose, entry: &Entry) {
     }
 }
 
+/// Writes a line of the trace, without its line feed.
+fn put_trace_line(text: &mut Prose, number: u64, entry: &Entry) {
+    if let [line @ .., b'\n'] = print_entry(number, entry).as_slice() {
+        text.push_bytes(line);
+    }
+}
+
 /// Whether an entry tells of the instruction or the call of its process, and goes on from there.
 fn is_of_instruction(entry: &Entry) -> bool {
     matches!(
@@ -223,8 +231,11 @@ impl<'l, 't> Teller<'l, 't> {
         self.line.push_str(text);
     }
 
-    /// Writes who acts, and at which line.
+    /// Writes who acts, and at which line, where no line of the trace stands before that.
     fn put_actor(&mut self, actor: &Actor) {
+        if self.view.traced {
+            return;
+        }
         let source = self.view.listing.program(usize::from(actor.it.program));
         put_name(&mut self.line, actor.it.pid, source);
         let start = self.line.len();
@@ -498,6 +509,48 @@ impl<'l, 't> Teller<'l, 't> {
         }
     }
 
+    /// Begins the line of an event: with its number, where no line of the trace stands before it.
+    fn begin_line(&mut self, number: u64) {
+        self.line.clear();
+        if !self.view.traced {
+            let _ = write!(self.line, "{number:>6}  ");
+        }
+    }
+
+    /// Writes at which line the actor acted.
+    fn put_place(&mut self) {
+        let Some(actor) = self.actor else {
+            return;
+        };
+        if let Some(written) = self.written_of(&actor) {
+            self.line.push_with(", at line ", written.line);
+        }
+    }
+
+    /// Adds the lines of the trace that an event shows, and behind the first one what the event did.
+    fn put_traced(&mut self, number: u64, entries: &[Entry]) -> Result<(), AllocError> {
+        let Some((first, others)) = entries.split_first() else {
+            return Ok(());
+        };
+        self.put_place();
+        put_trace_line(&mut self.text, number, first);
+        self.text.push_around("   ", self.line.as_bytes()?, "\n");
+        for entry in others {
+            put_trace_line(&mut self.text, number, entry);
+            self.text.push_str("\n");
+        }
+        Ok(())
+    }
+
+    /// Adds the line of an event.
+    fn put_line(&mut self, number: u64, entries: &[Entry]) -> Result<(), AllocError> {
+        if self.view.traced {
+            return self.put_traced(number, entries);
+        }
+        self.text.push_around("", self.line.as_bytes()?, "\n");
+        Ok(())
+    }
+
     /// Tells an event that was given: by its number, what it showed, what was read anew after it, and what it sent.
     pub fn tell(
         &mut self,
@@ -509,8 +562,7 @@ impl<'l, 't> Teller<'l, 't> {
     ) -> Result<(), AllocError> {
         let new = reading.rows.as_slice();
         self.showed = !entries.is_empty();
-        self.line.clear();
-        let _ = write!(self.line, "{number:>6}  ");
+        self.begin_line(number);
         self.put_event(event, entries, new);
         let is_shown = self.put_effects(new, entries, sent);
         let is_gone = self.put_gone(reading.gone.as_slice(), entries);
@@ -519,8 +571,7 @@ impl<'l, 't> Teller<'l, 't> {
             None => self.view.only.is_empty(),
         };
         if is_shown || is_gone || has_actor {
-            self.text.push_bytes(self.line.as_bytes()?);
-            self.text.push_str("\n");
+            return self.put_line(number, entries);
         }
         Ok(())
     }

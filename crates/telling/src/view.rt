@@ -11,6 +11,9 @@ pub struct View<'l, 't> {
     pub listing: &'l Listing<'t>,
     /// How many events the list has.
     pub events: u64,
+    /// Whether what an event did is told behind the first line of the trace that it shows; an event without one isn't told
+    /// then.
+    pub traced: bool,
     /// The processes that are shown, with registers and memory; all, without these, where none is named.
     pub only: &'t [Pid],
 }
