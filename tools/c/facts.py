@@ -1,11 +1,12 @@
 """What C's names of the system mean: numbers, tests of a status word, and calls that others stand for."""
 import os
+import re
 
-NUMBERS = os.path.join(os.path.dirname(os.path.abspath(__file__)), '..', 'numbers.txt')
+TABLE = os.path.join(os.path.dirname(os.path.realpath(__file__)), '../../crates/wording/src/table.rt')
+ROW = re.compile(r'\(Kind::\w+, "(\w+)", (\w+)\)')
 MORE_NUMBERS = {
     'NULL': 0, 'EXIT_SUCCESS': 0, 'EXIT_FAILURE': 1, 'STDIN_FILENO': 0, 'STDOUT_FILENO': 1, 'STDERR_FILENO': 2,
     'PR_SET_CHILD_SUBREAPER': 36, 'CLD_EXITED': 1, 'CLD_KILLED': 2, 'CLD_STOPPED': 5, 'CLD_CONTINUED': 6,
-    'WSTOPPED': 2,
 }
 
 # What stands for a macro of wait.h; `s` is its argument, a status word, which isn't negative.
@@ -89,11 +90,7 @@ INSTEAD = {
 
 
 def read_numbers():
-    """The constants that tools/numbers.txt has, and those that C alone has."""
-    numbers = dict(MORE_NUMBERS)
-    with open(NUMBERS, encoding='ascii') as file:
-        for line in file:
-            words = line.split()
-            if len(words) == 3 and not line.startswith('#'):
-                numbers[words[1]] = int(words[2])
-    return numbers
+    """The constants that jobk has names for, and those that C alone has."""
+    with open(TABLE, encoding='ascii') as table:
+        rows = ROW.findall(table.read())
+    return MORE_NUMBERS | {name: int(number, 0) for name, number in rows}
