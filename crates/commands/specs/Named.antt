@@ -1,5 +1,5 @@
 -- A command over a world and its events that may have names, and may stand in a folder.
-use Rattle.std.specs.Prelude.{◌≡◌, ◌≢◌, ◌⊎◌, ◌||◌, ◌&&◌, ◌==◌, ◌-◌, ℕ, Bool, true, false, List, [], ◌∷◌, ◌++◌, Option, None, Some, Ok, codes, get_or, if◌then◌else◌, length, map, option_map}
+use Rattle.std.specs.Prelude.{◌≡◌, ◌⊎◌, ◌||◌, ◌&&◌, ◌==◌, ◌-◌, ℕ, Bool, false, List, [], ◌∷◌, ◌++◌, Option, None, Some, Ok, codes, get_or, if◌then◌else◌, length, map, option_map}
 use Rattle.std.specs.Option.{option_map_or}
 use Rattle.std.specs.Borrow.{Bor}
 use Rattle.std.specs.Str.{bytes_eq}
@@ -9,13 +9,9 @@ use Rattle.refusing.specs.Texts.{Input, IsInput, files_with}
 use Rattle.commands.specs.Commands.{ServesAs, purpose_of}
 use Rattle.commands.specs.declared.named.Place.{Place as DeclaredPlace}
 
--- `explain` and `lanes`
-abbrev pub takes_trace : Text → Bool
-takes_trace word = bytes_eq word (codes "explain") || bytes_eq word (codes "lanes")
-
--- `run`, `explore` and `show`, and these
+-- `run`, `explore` and `show`
 abbrev pub takes_names : Text → Bool
-takes_names word = bytes_eq word (codes "run") || bytes_eq word (codes "explore") || bytes_eq word (codes "show") || takes_trace word
+takes_names word = bytes_eq word (codes "run") || bytes_eq word (codes "explore") || bytes_eq word (codes "show")
 
 -- The command whose words have names, where the words are `COMMAND --names`, and the words behind these two.
 abbrev pub named_in : List Text → Option (Text × List Text)
@@ -51,44 +47,15 @@ place_in (world ∷ more) = if is_option world then None else Some (place_behind
 abbrev pub in_folder : Text → Text → Text
 in_folder folder file = if get_or folder (length folder - 1) 0 == 47 then folder ++ file else folder ++ 47 ∷ file
 
--- the words of a command over files
-abbrev pub words_over_files : Text → List Text → List Text → List Text
-words_over_files command files options = command ∷ (files ++ options)
+-- the words of a command over the files `world` and `events`
+abbrev pub over_texts : Text → List Text → List Text
+over_texts command options = command ∷ codes "world" ∷ codes "events" ∷ options
 
--- The command was served by these words.
-pub record ServesOver {S : Type 0} (contents : Contents) (texts : List Text) (old new : S) (before after : Seen) (status : ℕ) : Type 0 where
+-- The command was served over the files `world` and `events`, which have these texts.
+pub record ServesTexts {S : Type 0} (contents : Contents) (command : Text) (options : List Text) (old new : S) (before after : Seen) (status : ℕ) : Type 0 where
   pub words : Bor (List (Bor Text))
-  pub are : map (λ w. w.now) words.now ≡ texts
-  pub serves : ServesAs contents (Ok words) old new before after status (purpose_of texts)
-
-abbrev pub both : List Text
-both = codes "world" ∷ codes "events" ∷ []
-
--- the file `trace`, and no others
-abbrev pub trace_file : List ℕ → Contents
-trace_file trace name = if bytes_eq name (codes "trace") then Some trace else None
-
--- The texts were run, that gave this status, and this was put.
-pub record RanTo (contents : Contents) (put : List ℕ) (status : ℕ) : Type 0 where
-  pub before : Seen
-  pub after : Seen
-  pub began : before.taken ≡ Some []
-  pub taken : after.taken ≡ Some put
-  pub ran : ServesOver contents (words_over_files (codes "run") both []) [] put before after status
-
--- The command was served over the trace of the run of these texts, or they didn't run, and the status says why.
-pub record ServesTrace {S : Type 0} (contents : Contents) (command : Text) (options : List Text) (old new : S) (before after : Seen) (status : ℕ) : Type 0 where
-  pub trace : List ℕ
-  pub code : ℕ
-  pub ran : RanTo contents trace code
-  pub served : ((code ≡ 0) × ServesOver (trace_file trace) (words_over_files command (codes "trace" ∷ []) options) old new before after status)
-      ⊎ ((status ≡ code) × (code ≢ 0) × (new ≡ old))
-
--- The command was served over the files `world` and `events`, which have these texts, or over the trace of their run.
-abbrev pub ServesTexts : {S : Type 0} → Contents → Text → List Text → S → S → Seen → Seen → ℕ → Type 0
-ServesTexts contents command options old new before after status =
-    ((takes_trace command ≡ false) × ServesOver contents (words_over_files command both options) old new before after status)
-    ⊎ ((takes_trace command ≡ true) × ServesTrace contents command options old new before after status)
+  pub are : map (λ w. w.now) words.now ≡ over_texts command options
+  pub serves : ServesAs contents (Ok words) old new before after status (purpose_of (over_texts command options))
 
 -- The texts of this place were read, the world from one of the two files that its name can mean, and the command was
 -- served over them with numbers for their names.

@@ -20,10 +20,8 @@ pub const HELP: &[u8] =
         --trace                the trace up to it, and what each line did
         --process P            of process P alone
         --step                 goes through the run, at a terminal
-    jobk run --names FILES, jobk explore --names FILES .., jobk show --names FILES ..,
-    jobk explain --names FILES, jobk lanes --names FILES [--svg]
-                               read names, as SIGTERM or ^C; FILES are WORLD EVENTS or FOLDER [EVENTS],
-                               of whose run the trace is explained or drawn
+    jobk run --names FILES, jobk explore --names FILES .., jobk show --names FILES ..
+                               read names, as SIGTERM or ^C; FILES are WORLD EVENTS or FOLDER [EVENTS]
     jobk names TEXT            prints a world or events with numbers for names, as SIGTERM or ^C
     jobk                       prints the trace of a small world of its own
 

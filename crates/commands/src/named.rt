@@ -3,33 +3,26 @@
 ghost use Rattle.std.specs.Prelude.{◌≡◌, IfOk, OnErr, Some, map, option_map};
 ghost use Rattle.std.specs.String.{string_bytes};
 ghost use Rattle.refusing.specs.Texts.{named_files};
-ghost use Rattle.commands.specs.Named.{ServesNamed, ServesTexts, ServesTrace, in_folder, is_option as is_option_of, place_in as place_in_words, said, takes_names as takes_names_of, takes_trace as takes_trace_of, words_over_files};
+ghost use Rattle.commands.specs.Named.{ServesNamed, ServesTexts, in_folder, is_option as is_option_of, over_texts, place_in as place_in_words, said, takes_names as takes_names_of};
 
 use crate::serving::serve_command;
 use exploring::Progress;
-use inputs::{FileFailure, FileFault, ReadFiles};
-use kernel::{Sink, WriteSink, put_all};
+use inputs::{FileFailure, ReadFiles};
+use kernel::{Sink, put_all};
 use refusing::Texts;
 use showing::Ask;
 use std::alloc::{AllocError, Global};
 
 const USAGE: &[u8] =
     b"usage: jobk COMMAND --names FOLDER [EVENTS] [OPTION].. | jobk COMMAND --names WORLD EVENTS [OPTION]..
-       where COMMAND is run, explore, show, explain or lanes
+       where COMMAND is run, explore or show
 ";
 
 /// Whether a command takes `--names`.
 pub fn takes_names(command: &str) -> bool
     ensures { result ≡ takes_names_of command.now }
 {
-    command == "run" || command == "explore" || command == "show" || takes_trace(command)
-}
-
-/// Whether a command is given a trace: with `--names` that of a run.
-fn takes_trace(command: &str) -> bool
-    ensures { result ≡ takes_trace_of command.now }
-{
-    command == "explain" || command == "lanes"
+    command == "run" || command == "explore" || command == "show"
 }
 
 /// Whether a word is an option, and names no file.
@@ -81,43 +74,20 @@ fn file_in(alloc: Global, folder: &str, file: &str) -> Result<String, AllocError
     }
 }
 
-/// The words of a command over files.
-fn words_over<'a>(
+/// The words of a command over the files `world` and `events`.
+fn words_over_texts<'a>(
     alloc: Global,
     command: &'a str,
-    files: &[&'a str],
     options: &[&'a str],
 ) -> Result<Vec<&'a str>, AllocError>
-    ensures { IfOk result (λ words. map (λ w. w.now) words.items ≡ words_over_files command.entry.now (map (λ f. f.now) files.now) (map (λ w. w.now) options.now)) }
+    ensures { IfOk result (λ words. map (λ w. w.now) words.items ≡ over_texts command.entry.now (map (λ w. w.now) options.now)) }
 {
     let mut words = Vec::new(alloc);
     words.push(command)?;
-    words.extend_from_slice(files)?;
+    words.push("world")?;
+    words.push("events")?;
     words.extend_from_slice(options)?;
     Ok(words)
-}
-
-/// The trace of a run, as the file `trace`.
-#[derive(Clone, Copy)]
-struct Trace<'a> {
-    alloc: Global,
-    bytes: &'a [u8],
-}
-
-impl ReadFiles for Trace<'_> {
-    ghost use Rattle.commands.specs.Named.{trace_file};
-
-    ghost contents = { λ files. trace_file files.bytes.now };
-
-    fn read_file(&self, name: &str) -> Result<Vec<u8>, FileFault> {
-        if name != "trace" {
-            return Err(FileFault::Device);
-        }
-        match Vec::from_slice(self.alloc, self.bytes) {
-            Ok(bytes) => Ok(bytes),
-            Err(_) => Err(FileFault::Memory),
-        }
-    }
 }
 
 /// Tells which word of a text is refused, as far as the error output takes it and there is memory.
@@ -127,64 +97,7 @@ fn tell_refused<E: Sink>(texts: &Texts<'_>, err: &mut E) {
     }
 }
 
-/// Does what a command asks for that is given a trace, over that of the run of texts; where they don't run the status is
-/// that of `run`.
-fn serve_trace<'a, O: Sink, E: Sink, P: Progress + Ask>(
-    alloc: Global,
-    command: &'a str,
-    options: &'a [&'a str],
-    texts: &Texts<'a>,
-    out: &mut O,
-    err: &mut E,
-    person: &mut P,
-) -> Result<u8, AllocError>
-    ensures ok { IfOk result (λ status. ServesTrace (named_files texts.now) command.entry.now (map (λ w. w.now) options.entry.now) out.old out.new (O.seen out.old) (O.seen out.new) status) }
-    ensures err { OnErr result (out.new ≡ out.old) }
-{
-    let to_run = words_over(alloc, "run", &["world", "events"], &[])?;
-    let words = words_over(alloc, command, &["trace"], options)?;
-    let mut trace = WriteSink::new(Vec::<u8>::new(alloc));
-    let status = serve_command(
-        alloc,
-        to_run.as_slice(),
-        texts,
-        None,
-        &mut trace,
-        err,
-        person,
-    );
-    if status != 0 {
-        return Ok(status);
-    }
-    let bytes = trace.into_writer();
-    let files = Trace {
-        alloc,
-        bytes: bytes.as_slice(),
-    };
-    Ok(serve_command(alloc, words.as_slice(), &files, None, out, err, person))
-}
-
-/// Does what a command asks for, over texts, or over the trace of their run.
-fn serve_either<'a, O: Sink, E: Sink, P: Progress + Ask>(
-    alloc: Global,
-    command: &'a str,
-    options: &'a [&'a str],
-    texts: &Texts<'a>,
-    out: &mut O,
-    err: &mut E,
-    person: &mut P,
-) -> Result<u8, AllocError>
-    ensures ok { IfOk result (λ status. ServesTexts (named_files texts.now) command.entry.now (map (λ w. w.now) options.entry.now) out.old out.new (O.seen out.old) (O.seen out.new) status) }
-    ensures err { OnErr result (out.new ≡ out.old) }
-{
-    if takes_trace(command) {
-        return serve_trace(alloc, command, options, texts, out, err, person);
-    }
-    let words = words_over(alloc, command, &["world", "events"], options)?;
-    Ok(serve_command(alloc, words.as_slice(), texts, None, out, err, person))
-}
-
-/// Does what a command asks for, over texts. Which word of them is refused is told.
+/// Does what a command asks for, over texts.
 fn serve_texts<'a, O: Sink, E: Sink, P: Progress + Ask>(
     alloc: Global,
     command: &'a str,
@@ -197,7 +110,8 @@ fn serve_texts<'a, O: Sink, E: Sink, P: Progress + Ask>(
     ensures ok { IfOk result (λ status. ServesTexts (named_files texts.now) command.entry.now (map (λ w. w.now) options.entry.now) out.old out.new (O.seen out.old) (O.seen out.new) status) }
     ensures err { OnErr result (out.new ≡ out.old) }
 {
-    let status = serve_either(alloc, command, options, texts, out, err, person)?;
+    let words = words_over_texts(alloc, command, options)?;
+    let status = serve_command(alloc, words.as_slice(), texts, None, out, err, person);
     if status == 1 {
         tell_refused(texts, err);
     }

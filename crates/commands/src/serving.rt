@@ -126,7 +126,7 @@ fn named_in<'a>(words: &'a [&'a str]) -> Option<(&'a str, &'a [&'a str])>
 }
 
 /// Does what the words of the command line ask for, without the program's name, and gives the status of the program.
-/// `run`, `explore`, `show`, `explain` and `lanes` with `--names` behind them are served as [`serve_named`] says, all other words as
+/// `run`, `explore` and `show` with `--names` behind them are served as [`serve_named`] says, all other words as
 /// [`serve_command`] does.
 pub fn serve<'a, F: ReadFiles, O: Sink, E: Sink, P: Progress + Ask>(
     alloc: Global,

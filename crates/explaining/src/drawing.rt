@@ -46,6 +46,7 @@ pub fn draw_trace<'a, O: Sink>(
 {
     let mut rows = Rows::new(alloc)?;
     let other = read_rows(alloc, &mut rows, trace)?;
+    rows.lay_out()?;
     if is_svg {
         put_svg(&rows, out)?;
     } else {

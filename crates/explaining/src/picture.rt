@@ -14,8 +14,6 @@ use wording::Prose;
 #[derive(Drop)]
 pub struct Picture<'r> {
     rows: &'r Rows,
-    /// The column at which each lane begins, and the one behind the last.
-    columns: Vec<usize>,
     /// What each lane is above the next row.
     states: Vec<State>,
     text: Prose,
@@ -69,7 +67,6 @@ impl<'r> Picture<'r> {
         }
         Ok(Picture {
             rows,
-            columns: rows.columns()?,
             states,
             text: Prose::new(rows.alloc),
             start: 0,
@@ -81,20 +78,12 @@ impl<'r> Picture<'r> {
         self.text.pad_to(self.start.saturating_add(column), byte);
     }
 
-    /// The column at which a lane begins.
-    fn column(&self, lane: usize) -> usize {
-        match self.columns.get(lane) {
-            Some(column) => *column,
-            None => 0,
-        }
-    }
-
     /// Writes the heads of the lanes.
     fn put_head(&mut self) {
         self.pad(self.rows.margin.saturating_sub(5), b' ');
         self.text.push_str("event");
         for (place, lane) in self.rows.lanes.iter().enumerate() {
-            self.pad(self.column(place), b' ');
+            self.pad(self.rows.column(place), b' ');
             self.text.push_number(lane.pid.number());
         }
         self.text.push_str("\n");
@@ -102,7 +91,7 @@ impl<'r> Picture<'r> {
 
     /// Writes what a row has in the lane of its process.
     fn put_own(&mut self, row: &Row) {
-        self.pad(self.column(row.lane), b' ');
+        self.pad(self.rows.column(row.lane), b' ');
         self.text.push_str(match row.mark {
             Mark::Does => "* ",
             Mark::Ends => "x ",
@@ -121,7 +110,7 @@ impl<'r> Picture<'r> {
         }
         let byte = cell(row, lane, state);
         if byte != b' ' {
-            self.pad(self.column(lane), b' ');
+            self.pad(self.rows.column(lane), b' ');
             self.text.push_byte(byte);
         }
     }
@@ -136,7 +125,7 @@ impl<'r> Picture<'r> {
         if lane == left && tip(row) == Some(left) {
             self.text.push_str("<");
         }
-        let column = self.column(next);
+        let column = self.rows.column(next);
         if next == right && tip(row) == Some(right) {
             self.pad(column.saturating_sub(1), stroke(row.arrow));
             self.text.push_str(">");

@@ -136,6 +136,8 @@ pub struct Rows {
     pub lanes: Vec<Lane>,
     /// The place of the lane of each number.
     places: BTreeMap<u32, usize>,
+    /// The column at which each lane begins, and the one behind the last.
+    columns: Vec<usize>,
     /// How many columns the numbers of events and the word above them take.
     pub margin: usize,
 }
@@ -171,6 +173,7 @@ impl Rows {
             rows: Vec::new(alloc),
             lanes: Vec::new(alloc),
             places: BTreeMap::new(alloc),
+            columns: Vec::new(alloc),
             margin: 5,
         };
         rows.lane_of(Pid::INIT)?;
@@ -303,15 +306,22 @@ impl Rows {
         true
     }
 
-    /// The column at which each lane begins, and the one behind the last lane.
-    pub fn columns(&self) -> Result<Vec<usize>, AllocError> {
-        let mut columns = Vec::new(self.alloc);
+    /// Lays the lanes out side by side, once all rows are added.
+    pub fn lay_out(&mut self) -> Result<(), AllocError> {
         let mut column = self.margin.saturating_add(2);
         for lane in &self.lanes {
-            columns.push(column)?;
+            self.columns.push(column)?;
             column = column.saturating_add(lane.width);
         }
-        columns.push(column)?;
-        Ok(columns)
+        self.columns.push(column)?;
+        Ok(())
+    }
+
+    /// The column at which a lane begins.
+    pub fn column(&self, lane: usize) -> usize {
+        match self.columns.get(lane) {
+            Some(column) => *column,
+            None => 0,
+        }
     }
 }

@@ -127,8 +127,6 @@ struct Since {
 #[derive(Drop)]
 pub struct Svg<'r> {
     rows: &'r Rows,
-    /// The column at which each lane begins, and the one behind the last.
-    columns: Vec<usize>,
     lanes: Vec<Since>,
     text: Prose,
 }
@@ -143,24 +141,15 @@ impl<'r> Svg<'r> {
         }
         Ok(Svg {
             rows,
-            columns: rows.columns()?,
             lanes,
             text: Prose::new(rows.alloc),
         })
     }
 
-    /// The column at which a lane begins.
-    fn column(&self, lane: usize) -> usize {
-        match self.columns.get(lane) {
-            Some(column) => *column,
-            None => 0,
-        }
-    }
-
     /// The place of a lane at a height.
     fn at(&self, lane: usize, height: usize) -> Point {
         Point {
-            x: self.column(lane).saturating_mul(8),
+            x: self.rows.column(lane).saturating_mul(8),
             y: height,
         }
         .by(12, 0)
@@ -203,28 +192,29 @@ impl<'r> Svg<'r> {
         }
     }
 
-    /// The lanes become what a row makes of them.
-    fn pass(&mut self, row: &Row, height: usize) {
+    /// All lanes are empty from a height on.
+    fn empty_lanes(&mut self, height: usize) {
         for lane in 0..self.lanes.len() {
-            if let Some(state) = row.makes(lane) {
-                self.turn(lane, state, height);
-            }
+            self.turn(lane, State::Empty, height);
         }
     }
 
-    /// Draws the lanes beside a row.
+    /// A lane becomes what a row makes of it.
+    fn pass(&mut self, row: &Row, lane: usize, height: usize) {
+        if let Some(state) = row.makes(lane) {
+            self.turn(lane, state, height);
+        }
+    }
+
+    /// Draws the lanes as far as a row ends them.
     fn draw_beside(&mut self, row: &Row, height: usize) {
         if matches!(row.mark, Mark::Halts) {
             self.end_lanes(height);
+            return self.empty_lanes(height);
         }
-        self.pass(row, height);
-    }
-
-    /// Draws what is left of the lanes below all rows.
-    fn finish_lanes(&mut self) {
-        let height = height(self.rows.rows.len()).saturating_add(10);
-        for lane in 0..self.lanes.len() {
-            self.turn(lane, State::Empty, height);
+        self.pass(row, row.lane, height);
+        if let Some(arrow) = row.arrow {
+            self.pass(row, arrow.lane, height);
         }
     }
 
@@ -282,7 +272,7 @@ impl<'r> Svg<'r> {
     fn width(&self) -> usize {
         let mut width = 0;
         for (place, lane) in self.rows.lanes.iter().enumerate() {
-            width = width.max(self.column(place).saturating_add(lane.reach));
+            width = width.max(self.rows.column(place).saturating_add(lane.reach));
         }
         width
     }
@@ -314,7 +304,7 @@ impl<'r> Svg<'r> {
             self.draw_beside(row, height(place.saturating_add(1)));
             put_if_full(&mut self.text, out)?;
         }
-        self.finish_lanes();
+        self.empty_lanes(height(self.rows.rows.len()).saturating_add(10));
         Ok(())
     }
 

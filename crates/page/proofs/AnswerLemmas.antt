@@ -8,12 +8,14 @@ use Rattle.kernel.specs.Headline.{CutsShort}
 use Rattle.sink.specs.Sinks.{Seen}
 use Rattle.inputs.specs.declared.command_line.WordsFault.{WordsFault}
 use Rattle.inputs.specs.declared.command_line.WordsFault.TheVariants.{NotText, Memory}
+use Rattle.inputs.proofs.MeaningLemmas.{means_along as means_of_along}
 use Rattle.inputs.specs.Reads.{AreInFiles, Contents, Text}
-use Rattle.running.specs.Serving.{AskFor, AskForAudit, IsAccepted, IsFaulty, IsRefused, IsTraced, OfTexts, OfTrace, Words}
+use Rattle.running.specs.Serving.{AskFor, AskForAudit, IsAccepted, IsFaulty, IsRefused, IsTraced, Means, OfTexts, OfTrace, Words}
 use Rattle.running.specs.Words.{Asked, AsksAudit, AsksRun, request_of_words}
-use Rattle.commands.proofs.AlongLemmas.{as_along, means_along}
+use Rattle.exploring.specs.Serving.{Means as MeansOfExploring}
+use Rattle.exploring.specs.Words.{Asked as AskedOfExploring}
 use Rattle.commands.specs.Commands.{Draws, Explains, Explores, Helps, Names, Purpose, RunsOrAudits, ServesAs, Shows, TellsVersion, purpose_of}
-use Rattle.commands.specs.Named.{Place, ServesNamed, ServesOver, ServesTexts, named_in, place_in}
+use Rattle.commands.specs.Named.{Place, ServesNamed, named_in, place_in}
 use Rattle.commands.specs.Serving.{Serves, ServesWords}
 use Rattle.page.specs.Answers.{AreServed, BeginsTrace, IsAnswered, IsAudited, IsGiven, IsRun, IsTrace}
 use Rattle.page.specs.Files.{files_of}
@@ -21,22 +23,35 @@ use Rattle.page.specs.Words.{AreWordsOf, text_of, words_of, words_to_audit, word
 
 -- ---- a sink is known by what is read of it
 
-over_along : {S T : Type 0} (f : S → T) (contents : Contents) (texts : List Text) (old new : S) (before after : Seen) (status : ℕ)
-    → ServesOver contents texts old new before after status → ServesOver contents texts (f old) (f new) before after status
-over_along f contents texts old new before after status h = record { words = h.words; are = h.are; serves = as_along f contents (Ok h.words) old new before after status (purpose_of texts) h.serves }
+means_along : {S T : Type 0} (f : S → T) (contents : Contents) (words : Words) (old new : S) (before after : Seen) (status : ℕ)
+    → Means contents words old new before after status → Means contents words (f old) (f new) before after status
+means_along f contents words old new before after status h = record {
+  done = h.done;
+  refused = λ e. elim (h.refused e) [ inl r ↦ inl (r.0, ap f r.1) | inr r ↦ inr r ];
+  other_words = λ e. let r = h.other_words e in (r.0, ap f r.1);
+  cut_short = λ e. elim (h.cut_short e) [ inl same ↦ inl (ap f same) | inr r ↦ inr r ];
+}
 
-texts_along : {S T : Type 0} (f : S → T) (contents : Contents) (command : Text) (options : List Text) (old new : S) (before after : Seen) (status : ℕ)
-    → ServesTexts contents command options old new before after status → ServesTexts contents command options (f old) (f new) before after status
-texts_along f contents command options old new before after status (inl h) = inl (h.0, over_along f contents _ old new before after status h.1)
-texts_along f contents command options old new before after status (inr h) = inr (
-  h.0,
-  record {
-    trace = h.1.trace;
-    code = h.1.code;
-    ran = h.1.ran;
-    served = elim h.1.served [ inl r ↦ inl (r.0, over_along f _ _ old new before after status r.1) | inr r ↦ inr (r.0, r.1, ap f r.2) ];
-  },
-)
+exploring_along : {S T : Type 0} (f : S → T) (contents : Contents) (asked : Option AskedOfExploring) (old new : S) (before after : Seen) (status : ℕ)
+    → MeansOfExploring contents asked old new before after status → MeansOfExploring contents asked (f old) (f new) before after status
+exploring_along f contents asked old new before after status h = record {
+  done = h.done;
+  told = h.told;
+  refused = λ e. let r = h.refused e in (r.0, ap f r.1);
+  other_words = λ e. let r = h.other_words e in (r.0, ap f r.1);
+  cut_short = λ e. elim (h.cut_short e) [ inl same ↦ inl (ap f same) | inr r ↦ inr r ];
+}
+
+as_along : {S T : Type 0} (f : S → T) (contents : Contents) (words : Words) (old new : S) (before after : Seen) (status : ℕ) (purpose : Purpose)
+    → ServesAs contents words old new before after status purpose → ServesAs contents words (f old) (f new) before after status purpose
+as_along f contents words old new before after status Helps h = h
+as_along f contents words old new before after status TellsVersion h = h
+as_along f contents words old new before after status (Explores more) h = (exploring_along f contents _ old new before after status h.0, h.1)
+as_along f contents words old new before after status (Shows more) h = h
+as_along f contents words old new before after status (Explains more) h = (means_of_along f _ _ _ _ _ old new status (λ d. d) h.0, h.1)
+as_along f contents words old new before after status (Draws more) h = (means_of_along f _ _ _ _ _ old new status (λ d. d) h.0, h.1)
+as_along f contents words old new before after status (Names more) h = (means_of_along f _ _ _ _ _ old new status (λ d. d) h.0, h.1)
+as_along f contents words old new before after status RunsOrAudits h = (means_along f contents words old new before after status h.0, h.1)
 
 named_along : {S T : Type 0} (f : S → T) (contents : Contents) (command : Text) (place : Option Place) (old new : S) (before after : Seen) (status : ℕ)
     → ServesNamed contents command place old new before after status → ServesNamed contents command place (f old) (f new) before after status
@@ -49,7 +64,7 @@ named_along f contents command (Some place) old new before after status (inl h) 
   events_name = h.events_name;
   of_world = h.of_world;
   of_events = h.of_events;
-  served = texts_along f _ command _ old new before after status h.served;
+  served = record { words = h.served.words; are = h.served.are; serves = as_along f _ (Ok h.served.words) old new before after status _ h.served.serves };
 })
 
 words_along : {S T : Type 0} (f : S → T) (contents : Contents) (words : Words) (texts : List Text) (old new : S) (before after : Seen) (status : ℕ) (named : Option (Text × List Text))
@@ -89,21 +104,10 @@ as_most contents words old new before after status (Draws more) h = omega (arith
 as_most contents words old new before after status (Names more) h = omega (arith, h.1)
 as_most contents words old new before after status RunsOrAudits h = omega (arith, h.1)
 
-over_most : {S : Type 0} (contents : Contents) (texts : List Text) (old new : S) (before after : Seen) (status : ℕ) → ServesOver contents texts old new before after status → status ≤ 4
-over_most contents texts old new before after status h = as_most contents (Ok h.words) old new before after status _ h.serves
-
-texts_most : {S : Type 0} (contents : Contents) (command : Text) (options : List Text) (old new : S) (before after : Seen) (status : ℕ)
-    → ServesTexts contents command options old new before after status → status ≤ 4
-texts_most contents command options old new before after status (inl h) = over_most contents _ old new before after status h.1
-texts_most contents command options old new before after status (inr h) = elim h.1.served [
-  | inl r ↦ over_most _ _ old new before after status r.1
-  | inr r ↦ omega (arith, r.0, over_most _ _ _ _ h.1.ran.before h.1.ran.after h.1.code h.1.ran.ran)
-]
-
 named_most : {S : Type 0} (contents : Contents) (command : Text) (place : Option Place) (old new : S) (before after : Seen) (status : ℕ)
     → ServesNamed contents command place old new before after status → status ≤ 4
 named_most contents command None old new before after status h = omega (arith, h.0)
-named_most contents command (Some place) old new before after status (inl h) = texts_most _ command _ old new before after status h.served
+named_most contents command (Some place) old new before after status (inl h) = as_most _ (Ok h.served.words) old new before after status _ h.served.serves
 named_most contents command (Some place) old new before after status (inr h) = omega (arith, h.0)
 
 words_most : {S : Type 0} (contents : Contents) (words : Words) (texts : List Text) (old new : S) (before after : Seen) (status : ℕ) (named : Option (Text × List Text))

@@ -1,2 +1,0 @@
-pub mod AlongLemmas
-mod TraceLemmas
