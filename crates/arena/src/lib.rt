@@ -18,8 +18,7 @@ pub struct Shared<B> {
 /// A handle of an arena that several owners share.
 pub type Arena = Shared<Bump>;
 
-/// How many bytes an arena has room for at first: so many that the C library maps a chunk by itself, and keeps no list of
-/// others behind it from growing in place.
+/// How many bytes an arena has room for at first: about two dozen processes take as much.
 const FIRST_CHUNK: usize = 1 << 17;
 
 /// The first handle of a new arena; an error where the host has no memory for it. What is taken of its room costs

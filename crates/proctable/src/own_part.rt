@@ -12,6 +12,7 @@ ghost use Rattle.posix.specs.Programs.{executed};
 ghost use Rattle.proctable.specs.Records.{own_of, give_own, forked};
 
 use crate::spare::Spare;
+use arena::new_arena;
 use posix::{Blocked, Gid, PendingSignal, Pid, Register, SigSet, Status, Uid, WaitCall};
 use signal::{Creds, FramesFull, NoFrame, Signals, leave_call, mask_before};
 use std::alloc::{AllocError, Global};
@@ -40,13 +41,14 @@ impl OwnPart {
     pub fn first(alloc: Global) -> Result<OwnPart, AllocError>
         ensures { IfOk result (λ o. o ≡ own_of first_process) }
     {
+        let arena = new_arena(alloc)?;
         Ok(OwnPart {
             creds: Creds::root(),
-            signals: Signals::initial(alloc)?,
+            signals: Signals::initial(alloc, arena.clone()?)?,
             ran_exec: false,
             blocked: None,
             program: 0,
-            cpu: Cpu::new(alloc)?,
+            cpu: Cpu::new(arena)?,
         })
     }
 

@@ -15,6 +15,7 @@ ghost use Rattle.posix.specs.SignalCalls.{pending_set};
 use crate::actions::{does_nothing, is_caught, is_stop_signal};
 use crate::realtime_pool::RealtimePool;
 use crate::tables::{FramesFull, LazyTables, NoFrame};
+use arena::Arena;
 use bitflags::Flags;
 use posix::{
     Action, Carried, Effect, Errno, Handler, How, Life, PendingSignal, Pid, Register, SaFlags, Sig,
@@ -50,13 +51,13 @@ impl Model for Signals {
 impl Signals {
     /// Those of process 1 at boot: none is blocked or pending, the actions are the defaults. An error where
     /// the host has no memory for them.
-    pub fn initial(alloc: Global) -> Result<Signals, AllocError>
+    pub fn initial(alloc: Global, frames: Arena) -> Result<Signals, AllocError>
         ensures { IfOk result (λ s. s ≡ initial_signals) }
     {
         Ok(Signals {
             mask: SigSet::EMPTY,
             pending: SigSet::EMPTY,
-            tables: LazyTables::new(alloc)?,
+            tables: LazyTables::new(alloc, frames)?,
         })
     }
 

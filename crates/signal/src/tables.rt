@@ -21,9 +21,9 @@ use std::marker::Model;
 /// The actions of a process for signals, what its pending standard signals came with (XSH 2.4.1), the queue of
 /// its pending real-time signals (XSH 2.4.2), and the frames of its handlers that haven't returned.
 ///
-/// Its memory is taken at once, of an arena for each kind, and written to as it is needed: until the first change all is
-/// as at boot, and only frames that are in use are kept. A page that is written to so holds tables of several processes.
-/// That of the queue comes with the first real-time signal.
+/// Its memory is taken at once, and written to as it is needed: until the first change all is as at boot, and only frames
+/// that are in use are kept. Actions and what came with signals have arenas of their own, so that a page which is written
+/// to holds those of several processes. The memory of the queue comes with the first real-time signal.
 #[derive(Drop)]
 pub struct LazyTables {
     /// At most one item, with room for it: without it they are the default ones.
@@ -70,11 +70,12 @@ impl LazyTables {
         })
     }
 
-    /// As at boot, with room of new arenas. An error where the host has no memory for them.
-    pub fn new(alloc: Global) -> Result<LazyTables, AllocError>
+    /// As at boot, with room of an arena for frames, and of new ones for the others. An error where the host has no
+    /// memory for them.
+    pub fn new(alloc: Global, frames: Arena) -> Result<LazyTables, AllocError>
         ensures { IfOk result (λ t. t ≡ initial_tables) }
     {
-        LazyTables::with_room_of(new_arena(alloc)?, new_arena(alloc)?, new_arena(alloc)?)
+        LazyTables::with_room_of(new_arena(alloc)?, new_arena(alloc)?, frames)
     }
 
     /// Those of a child that is born now: the same, but nothing came with anything, and nothing is queued. They are

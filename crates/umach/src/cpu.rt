@@ -9,8 +9,9 @@ ghost use Rattle.umach.specs.Bursts.{exec_until, IsWithin};
 
 use crate::memory::UserMem;
 use crate::program::Program;
+use arena::Arena;
 use posix::{Bytes, Condition, Frame, Instr, Operator, Register, Sig, SigSet, Span, Trap};
-use std::alloc::{AllocError, Global};
+use std::alloc::AllocError;
 use std::marker::Model;
 
 /// The code address of a program's first instruction.
@@ -36,13 +37,13 @@ impl Cpu {
     /// A processor at the start of a program: registers and memory are 0. An error where the host has no
     /// memory for it.
     #[tactic(auto, unfolding(posix::specs::Processes::zero_registers))]
-    pub fn new(alloc: Global) -> Result<Cpu, AllocError>
+    pub fn new(arena: Arena) -> Result<Cpu, AllocError>
         ensures { IfOk result (λ c. c ≡ fresh_cpu) }
     {
         Ok(Cpu {
             pc: FIRST_ADDRESS,
             registers: [0; 8],
-            memory: UserMem::zeroed(alloc)?,
+            memory: UserMem::zeroed(arena)?,
         })
     }
 

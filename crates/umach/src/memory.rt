@@ -5,9 +5,9 @@ ghost use Rattle.posix.specs.Processes.{zero_memory};
 ghost use Rattle.posix.specs.Transfers.{stored, low_byte, bytes_in};
 ghost use Rattle.umach.specs.Memories.{words_of};
 
-use arena::{Arena, new_arena, refill};
+use arena::{Arena, refill};
 use posix::{Bytes, Span};
-use std::alloc::{AllocError, Global};
+use std::alloc::AllocError;
 use std::marker::Model;
 
 /// The 256 words of a process, at the addresses 0 to 255.
@@ -32,11 +32,11 @@ impl Model for UserMem {
 impl UserMem {
     /// A memory of zeros; an error where the host has no memory for it.
     #[tactic(auto, unfolding(posix::specs::Processes::zero_memory))]
-    pub fn zeroed(alloc: Global) -> Result<UserMem, AllocError>
+    pub fn zeroed(arena: Arena) -> Result<UserMem, AllocError>
         ensures { IfOk result (λ m. m ≡ zero_memory) }
     {
         Ok(UserMem {
-            words: Vec::with_capacity(new_arena(alloc)?, 256)?,
+            words: Vec::with_capacity(arena, 256)?,
         })
     }
 
