@@ -33,9 +33,9 @@ pub record IsFirstOther (text : List ℕ) (number : ℕ) : Type 0 where
   pub other : BeginsOther rest
 
 -- The whole is a trace, or else this line is the first other one.
-abbrev pub Lined : List ℕ → Option ℕ → Type 0
-Lined text None = IsTrace text
-Lined text (Some number) = IsFirstOther text number
+abbrev pub IsTraceUpTo : List ℕ → Option ℕ → Type 0
+IsTraceUpTo text None = IsTrace text
+IsTraceUpTo text (Some number) = IsFirstOther text number
 
 -- ---- what is drawn
 
@@ -53,8 +53,8 @@ drawing_asked words = unless_refused (fault_of command_line words) (asked_in (ma
 -- ---- what a status means
 
 -- A file is read, as far as it is known what it holds, and its text is a trace up to there.
-abbrev pub FileIsLined : Contents → Option ℕ → Text × Bool → Type 0
-FileIsLined contents other asked = (trace : List ℕ) × IfSome (contents asked.0) (λ known. trace ≡ known) × Lined trace other
+abbrev pub FileIsTraceUpTo : Contents → Option ℕ → Text × Bool → Type 0
+FileIsTraceUpTo contents other asked = (trace : List ℕ) × IfSome (contents asked.0) (λ known. trace ≡ known) × IsTraceUpTo trace other
 
 -- A drawing ends without one: not for its words.
 abbrev pub IsCutOff : FileFailure → Type 0
@@ -72,11 +72,11 @@ status_of_drawing (Err why) = status_of why
 -- What a status means, with what is asked for, if something is: the file holds a trace, or another line.
 abbrev pub MeansOfDrawing : {S : Type 0} → Contents → Option (Text × Bool) → S → S → ℕ → Type 0
 MeansOfDrawing contents asked old new status =
-    MeansOf (IsSomeAnd asked (FileIsLined contents None)) ((number : ℕ) × IsSomeAnd asked (FileIsLined contents (Some number))) (Unit {0}) asked old new status
+    MeansOf (IsSomeAnd asked (FileIsTraceUpTo contents None)) ((number : ℕ) × IsSomeAnd asked (FileIsTraceUpTo contents (Some number))) (Unit {0}) asked old new status
 
 -- How it ends where words are served.
 abbrev pub Draws : {S : Type 0} → Contents → Option (Text × Bool) → S → S → Result (Option ℕ) FileFailure → Type 0
-Draws contents asked old new (Ok other) = IsSomeAnd asked (FileIsLined contents other)
+Draws contents asked old new (Ok other) = IsSomeAnd asked (FileIsTraceUpTo contents other)
 Draws contents asked old new (Err Usage) = (asked ≡ None) × (new ≡ old)
 Draws contents asked old new (Err (CannotRead name)) = Unit {0}
 Draws contents asked old new (Err Memory) = Unit {0}

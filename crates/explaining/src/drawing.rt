@@ -1,7 +1,7 @@
 //! A trace that is drawn.
 
 ghost use Rattle.std.specs.Prelude.{IfErr, IfOk};
-ghost use Rattle.explaining.specs.Drawings.{IsCutOff, Lined};
+ghost use Rattle.explaining.specs.Drawings.{IsCutOff, IsTraceUpTo};
 
 use crate::known::Known;
 use crate::picture::put_picture;
@@ -14,7 +14,7 @@ use trace::{next_line, read_line};
 
 /// Adds a row for each line of a trace, up to the first line that is none. The number of that line, if there is one.
 fn read_rows(alloc: Global, rows: &mut Rows, trace: &[u8]) -> Result<Option<u64>, AllocError>
-    ensures { IfOk result (λ other. Lined trace.now other) }
+    ensures { IfOk result (λ other. IsTraceUpTo trace.now other) }
 {
     let mut known = Known::new(alloc)?;
     let mut number: u64 = 1;
@@ -41,7 +41,7 @@ pub fn draw_trace<'a, O: Sink>(
     is_svg: bool,
     out: &mut O,
 ) -> Result<Option<u64>, FileFailure<'a>>
-    ensures ok { IfOk result (λ other. Lined trace.now other) }
+    ensures ok { IfOk result (λ other. IsTraceUpTo trace.now other) }
     ensures err { IfErr result IsCutOff }
 {
     let mut rows = Rows::new(alloc)?;

@@ -2,7 +2,7 @@
 
 ghost use Rattle.std.specs.Prelude.{◌≡◌, ◌≤◌, Err, IfOk, IfErr, Some, map};
 ghost use Rattle.inputs.specs.declared.command_line.WordsFault.{WordsFault};
-ghost use Rattle.explaining.specs.Drawings.{Draws, FileIsLined, IsCutOff, MeansOfDrawing, drawing_asked, status_of_drawing};
+ghost use Rattle.explaining.specs.Drawings.{Draws, FileIsTraceUpTo, IsCutOff, MeansOfDrawing, drawing_asked, status_of_drawing};
 ghost use Rattle.explaining.specs.Serving.{Means, answer_of, asked_by, trace_in_words};
 
 use crate::drawing::draw_trace;
@@ -79,7 +79,7 @@ fn draw_file<'a, F: ReadFiles, O: Sink>(
     is_svg: bool,
     out: &mut O,
 ) -> Result<Option<u64>, FileFailure<'a>>
-    ensures ok { IfOk result (λ other. FileIsLined (F.contents files.now) other (name.entry.now, is_svg)) }
+    ensures ok { IfOk result (λ other. FileIsTraceUpTo (F.contents files.now) other (name.entry.now, is_svg)) }
     ensures err { IfErr result IsCutOff }
 {
     let text = read_file(files, name)?;

@@ -1,4 +1,4 @@
-//! A picture of a trace as SVG, in which a column of the text is 8 wide and a row 20 high.
+//! A picture of a trace as SVG, in which each column of the text takes 8 pixels, and each of its lines takes 20.
 
 ghost use Rattle.std.specs.Prelude.{IfErr};
 ghost use Rattle.explaining.specs.Drawings.{IsCutOff};
@@ -111,7 +111,7 @@ fn put_number(text: &mut Prose, place: Point, number: u64) {
     text.push_str("</text>\n");
 }
 
-/// How low a row stands below the heads of the lanes, which are row 0; half a row below that where a lane begins or ends.
+/// How low a row stands: the heads of the lanes count as the one before the first, and a lane begins half a row below them.
 fn height(row: usize) -> usize {
     row.saturating_mul(20).saturating_add(18)
 }
