@@ -12,14 +12,16 @@ use text::{EventList, World, read_events, read_world};
 #[derive(Drop)]
 struct Heard {
     times: u64,
-    last: (u64, u64),
+    last: (u128, u128),
 }
 
 impl Progress for Heard {
-    fn update(&mut self, done: u64, size: u64) {
+    fn run(&mut self, done: u128, size: u128) {
         self.times = self.times.wrapping_add(1);
         self.last = (done, size);
     }
+
+    fn reach(&mut self, _place: u64, _upto: u64, _states: u64) {}
 }
 
 /// What is heard of the ten schedules of two ticks before three events.

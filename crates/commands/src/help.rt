@@ -9,11 +9,11 @@ pub const HELP: &[u8] =
     jobk explain TRACE         prints a trace, and behind each line what its numbers say
     jobk lanes TRACE [--svg]   draws a trace, with a lane for each process
     jobk explore WORLD EVENTS  runs all schedules: the events with a few ticks put in; no other choice is varied
-        --ticks K              at most K of them, 0 to 8; 2 if not named
+        --ticks K              at most K of them, 0 to 32; 2 if not named
         --upto N               before the first N events alone
         --find TEXT            counts the schedules that have a line with TEXT
         --must-halt            status 4 where a schedule doesn't halt
-        --all                  runs more than 10000000 schedules, too
+        --all                  runs each by itself, also more than 10000000
     jobk show WORLD EVENTS     shows the state after the last event
         --at E                 after event E
         --calls                each event up to it, and what it did

@@ -1,10 +1,10 @@
 -- What is told of the texts that are looked for.
-use Rattle.std.proofs.Common.{Bor, Result, Ok, Err, OnOk, ◌≡◌, ℕ, ◌+◌, ◌<◌, ◌≤◌, Bool, true, false, ◌||◌, List, [], ◌∷◌, ◌++◌, length, map, take, get_or, refl, ap, ap₂, sym, ◌∙◌, arith}
+use Rattle.std.proofs.Common.{Bor, Result, Ok, Err, OnOk, ◌≡◌, ℕ, ◌+◌, ◌-◌, ◌^◌, ◌<◌, ◌≤◌, Bool, true, false, ◌||◌, List, [], ◌∷◌, ◌++◌, length, map, take, get_or, refl, ap, ap₂, sym, ◌∙◌, arith}
 use Rattle.std.proofs.Math.Bool.{or-false}
 use Rattle.std.specs.List.{All, AllByRecursion, list_any}
 use Rattle.std.specs.List.Sorted.{IsPermutation}
 use Rattle.std.proofs.lemmas.List.{take_more, take_all, take-append-le}
-use Rattle.std.proofs.lemmas.List.Elements.{All-from_recursion, recursion_from_All}
+use Rattle.std.proofs.lemmas.List.Elements.{All-from_recursion, All-weaker, recursion_from_All}
 use Rattle.std.proofs.lemmas.List.Folds.{list_any-append}
 use Rattle.std.proofs.lemmas.List.Sorted.{list_any-IsPermutation}
 use Rattle.posix.specs.Entries.{Line}
@@ -15,6 +15,7 @@ use Rattle.exploring.specs.declared.ending.Endings.{Endings}
 use Rattle.exploring.specs.Tallies.{TallyView, with_schedule_if}
 use Rattle.exploring.specs.Texts.{FindView, has_text, shown, looked_at, saw, tally_of, after_run}
 use Rattle.exploring.specs.Endings.{no_endings, with_ending}
+use Rattle.exploring.specs.Merging.{with_many_endings, with_marked}
 use Rattle.exploring.specs.Books.{AreCounted, BookView, empty_book, unseen, with_run}
 
 or_more : (a b c : Bool) → ((a || b) || c) ≡ (a || (b || (c || false)))
@@ -100,6 +101,56 @@ ending_counted AtRest ps e finds n c next a = record { halted = omega (arith, c.
 ending_counted AwaitsAlarm ps e finds n c next a = record { halted = omega (arith, c.halted); at_rest = omega (arith, c.at_rest); alarmed = omega (arith, c.alarmed); going = omega (arith, c.going); each = a }
 ending_counted Going ps e finds n c next a = record { halted = omega (arith, c.halted); at_rest = omega (arith, c.at_rest); alarmed = omega (arith, c.alarmed); going = omega (arith, c.going); each = a }
 
+-- at most more
+pub counted_within : (e : Endings) (finds : List FindView) (n limit : ℕ) → n ≤ limit → AreCounted e finds n → AreCounted e finds limit
+counted_within e finds n limit l c = record {
+  halted = omega (arith, l, c.halted);
+  at_rest = omega (arith, l, c.at_rest);
+  alarmed = omega (arith, l, c.alarmed);
+  going = omega (arith, l, c.going);
+  each = All-weaker (λ (t : TallyView). t.count ≤ n) (λ (t : TallyView). t.count ≤ limit) (λ t b. omega (arith, l, b)) (map tally_of finds) c.each;
+}
+
+-- with so many more each
+all_below_with : (finds : List FindView) (n count limit : ℕ) → n + count < limit → AllByRecursion (λ (t : TallyView). t.count ≤ n) (map tally_of finds)
+    → AllByRecursion (λ (f : FindView). f.tally.count + count < limit) finds
+all_below_with [] n count limit l h = tt
+all_below_with (f ∷ fs) n count limit l h = (omega (arith, l, h.0), all_below_with fs n count limit l h.1)
+
+pub counts_below_with : (finds : List FindView) (n count limit : ℕ) → n + count < limit → All (λ (t : TallyView). t.count ≤ n) (map tally_of finds)
+    → All (λ (f : FindView). f.tally.count + count < limit) finds
+counts_below_with finds n count limit l h =
+    All-from_recursion (λ (f : FindView). f.tally.count + count < limit) finds (all_below_with finds n count limit l (recursion_from_All (λ (t : TallyView). t.count ≤ n) (map tally_of finds) h))
+
+still_below : (finds : List FindView) (n more : ℕ) → AllByRecursion (λ (t : TallyView). t.count ≤ n) (map tally_of finds) → AllByRecursion (λ (t : TallyView). t.count ≤ n + more) (map tally_of finds)
+still_below [] n more h = tt
+still_below (f ∷ fs) n more h = (omega (arith, h.0), still_below fs n more h.1)
+
+marked_below : (t : TallyView) (marks : List Bool) (finds : List FindView) (n : ℕ) → AllByRecursion (λ (x : TallyView). x.count ≤ n) (map tally_of finds)
+    → AllByRecursion (λ (x : TallyView). x.count ≤ n + t.count) (map tally_of (with_marked t marks finds))
+marked_below t marks [] n h = tt
+marked_below t [] (f ∷ fs) n h = still_below (f ∷ fs) n t.count h
+marked_below t (true ∷ marks) (f ∷ fs) n h = (omega (arith, h.0), marked_below t marks fs n h.1)
+marked_below t (false ∷ marks) (f ∷ fs) n h = (omega (arith, h.0), marked_below t marks fs n h.1)
+
+many_each : (t : TallyView) (marks : List Bool) (finds : List FindView) (n : ℕ) → All (λ (x : TallyView). x.count ≤ n) (map tally_of finds)
+    → All (λ (x : TallyView). x.count ≤ n + t.count) (map tally_of (with_marked t marks finds))
+many_each t marks finds n h =
+    All-from_recursion (λ (x : TallyView). x.count ≤ n + t.count) (map tally_of (with_marked t marks finds))
+    (marked_below t marks finds n (recursion_from_All (λ (x : TallyView). x.count ≤ n) (map tally_of finds) h))
+
+many_endings : (ending : Ending) (t : TallyView) (e : Endings) (finds next : List FindView) (n : ℕ) → AreCounted e finds n → All (λ (x : TallyView). x.count ≤ n + t.count) (map tally_of next)
+    → AreCounted (with_many_endings ending t e) next (n + t.count)
+many_endings Halted t e finds next n c a = record { halted = omega (arith, c.halted); at_rest = omega (arith, c.at_rest); alarmed = omega (arith, c.alarmed); going = omega (arith, c.going); each = a }
+many_endings AtRest t e finds next n c a = record { halted = omega (arith, c.halted); at_rest = omega (arith, c.at_rest); alarmed = omega (arith, c.alarmed); going = omega (arith, c.going); each = a }
+many_endings AwaitsAlarm t e finds next n c a = record { halted = omega (arith, c.halted); at_rest = omega (arith, c.at_rest); alarmed = omega (arith, c.alarmed); going = omega (arith, c.going); each = a }
+many_endings Going t e finds next n c a = record { halted = omega (arith, c.halted); at_rest = omega (arith, c.at_rest); alarmed = omega (arith, c.alarmed); going = omega (arith, c.going); each = a }
+
+pub many_counted : (ending : Ending) (marks : List Bool) (t : TallyView) (e : Endings) (finds : List FindView) (n : ℕ) → AreCounted e finds n
+    → (later : Endings) (next : List FindView) (total : ℕ) → later ≡ with_many_endings ending t e → next ≡ with_marked t marks finds → total ≡ n + t.count → AreCounted later next total
+many_counted ending marks t e finds n c later next total ends finds_are more =
+    rw (ends, finds_are, more) (many_endings ending t e finds (with_marked t marks finds) n c (many_each t marks finds n c.each))
+
 -- ---- a book
 
 pub book_counted : (lines : List Line) (ending : Ending) (ps : Places) (e : Endings) (finds : List FindView) (n : ℕ) → AreCounted e finds n
@@ -121,6 +172,12 @@ pub book_with_run : (lines sorted : List Line) (ending : Ending) (ps : Places) (
     → record { endings = later; finds = finds; total = total } ≡ with_run lines ending ps b
 book_with_run lines sorted ending ps b later next finds total p ends finds_are one same =
     rw (ends, same, finds_are, one, saw_sorted lines sorted b.finds p) refl
+
+pub most_before : (new met total : ℕ) → new + met ≡ total → total < 2 ^ 64 - 1 → new + met ≤ 2 ^ 64 - 2
+most_before new met total e l = omega (arith, e, l)
+
+pub one_more_with : (old new met : ℕ) → new ≡ old + 1 → new + met ≡ old + met + 1
+one_more_with old new met e = omega (arith, e)
 
 pub unseen_texts : (texts : List (Bor (List ℕ))) → map (λ t. unseen t.now) texts ≡ map unseen (map (λ t. t.now) texts)
 unseen_texts [] = refl

@@ -188,14 +188,15 @@ pub adds_idle : (n k : ℕ) (s : State) (x : Event) (lines : List Line) → next
 adds_idle n k s x lines idle = record { shows = []; added = sym (append-nil lines); grants = grants_idle n k s x idle }
 
 -- what is added to no lines from a world's start on is its course
-pub adds_course : {E : Type 0} (r : Result Ending E) (world : World) (old last : State) (events : List Event) (lines : List Line) → old ≡ boot world →
-    OnOk r (Adds 1 old events last [] lines) → IfOk r (λ ending. ending ≡ ending_of last) → IfOk r (λ ending. IsCourse world events lines ending)
-adds_course (Ok ending) world old last events lines booted adds ends = record {
+pub adds_course : {E : Type 0} (r : Result Ending E) (world : World) (k : ℕ) (old last : State) (events : List Event) (lines : List Line) → k ≡ 1 → old ≡ boot world →
+    OnOk r (Adds k old events last [] lines) → IfOk r (λ ending. ending ≡ ending_of last) → IfOk r (λ ending. IsCourse world events lines ending)
+adds_course (Ok ending) world k old last events lines first booted adds ends = record {
   last = last;
-  grants = subst (λ (s : State). RunsGranted 1 s events lines last) booted (subst (λ (ls : List Line). RunsGranted 1 old events ls last) (sym adds.added) adds.grants);
+  grants = subst (λ (s : State). RunsGranted 1 s events lines last) booted
+      (subst (λ (n : ℕ). RunsGranted n old events lines last) first (subst (λ (ls : List Line). RunsGranted k old events ls last) (sym adds.added) adds.grants));
   ends = ends;
 }
-adds_course (Err e) world old last events lines booted adds ends = tt
+adds_course (Err e) world k old last events lines first booted adds ends = tt
 
 -- two facts of a success give a third
 pub on_ok_both : {T E : Type 0} (r : Result T E) (A B C : Type 0) → OnOk r A → OnOk r B → (A → B → C) → OnOk r C

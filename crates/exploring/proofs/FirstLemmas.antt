@@ -14,7 +14,7 @@ use Rattle.exploring.specs.Endings.{is_at_rest, is_going}
 use Rattle.exploring.specs.Reports.{AreOfFamily, IsFirstOf}
 
 -- what holds of each schedule holds of the one that is found
-first_found : (P : Places → Type 0) (p : Places → Bool) (xs : List Places) → All P xs → IfSome (find p xs) P
+pub first_found : (P : Places → Type 0) (p : Places → Bool) (xs : List Places) → All P xs → IfSome (find p xs) P
 first_found P p [] h = tt
 first_found P p (x ∷ xs) h = by (p x) (h 0 x (omega arith)) (first_found P p xs (λ k d l. h (suc k) d (omega (arith, l))))
   where
@@ -22,7 +22,7 @@ first_found P p (x ∷ xs) h = by (p x) (h 0 x (omega arith)) (first_found P p x
     by true here later = here
     by false here later = later
 
-members : (upto ticks : ℕ) → All (IsSchedule upto ticks) (family upto ticks)
+pub members : (upto ticks : ℕ) → All (IsSchedule upto ticks) (family upto ticks)
 members upto ticks = λ k d l. schedule_of upto ticks (get_or (family upto ticks) k d) (k, l, get_or_default (family upto ticks) k (get_or (family upto ticks) k d) d l)
 
 pub of_family : (world : World) (events : List Event) (texts : List (List ℕ)) (upto ticks : ℕ) (book : BookView) → book ≡ book_over world events texts (family upto ticks) → AreOfFamily upto ticks book

@@ -9,3 +9,13 @@ mod ReportLemmas
 mod FirstLemmas
 mod WordLemmas
 mod ServingLemmas
+mod TallyLemmas
+mod MergeLemmas
+mod MarkLemmas
+mod CountedLemmas
+mod SpreadLemmas
+mod WorldLemmas
+mod NodeLemmas
+mod LayerLemmas
+mod CountingLemmas
+mod MergedLemmas

@@ -35,13 +35,13 @@ pub means_unwritten : {S : Type 0} (contents : Contents) (a : Asked) (old new : 
 means_unwritten contents a old new before after told (Ok other) h explored = absurd h
 means_unwritten contents a old new before after told (Err why) h explored = rw h (means_cut_short contents (Some a) old new before after 3 refl (inr (told, explored)))
 
-in_range : (a : Asked) (n upto ticks : ℕ) → ticks_asked a.ticks ≡ Some ticks → upto_asked n a.upto ≡ Some upto → are_run a.all (length (family upto ticks)) (n + ticks) ≡ true → family_asked a n ≡ Some (upto, ticks)
+in_range : (a : Asked) (n upto ticks : ℕ) → ticks_asked a.ticks ≡ Some ticks → upto_asked n a.upto ≡ Some upto → are_run (length (family upto ticks)) (n + ticks) ≡ true → family_asked a n ≡ Some (upto, ticks)
 in_range a n upto ticks ticks_are upto_is run = rw (ticks_are, upto_is, run) refl
 
 -- all schedules of the family were run, and a text that tells of them was put
 pub explored : (contents : Contents) (a : Asked) (world : World) (events : List Event) (upto ticks size : ℕ) (book : BookView) (told : Bool) (text : List ℕ) (IsPut : List ℕ → Type 0)
     → AreRead contents (a.world, a.events) world events → ticks_asked a.ticks ≡ Some ticks → upto_asked (length events) a.upto ≡ Some upto
-    → are_run a.all (length (family upto ticks)) (length events + ticks) ≡ true → size ≡ length (family upto ticks) → book ≡ book_over world events a.finds (family upto ticks)
+    → are_run (length (family upto ticks)) (length events + ticks) ≡ true → size ≡ length (family upto ticks) → book ≡ book_over world events a.finds (family upto ticks)
     → told ≡ is_told a.must_halt book → Reports events size upto ticks book text → IsPut text → IsExplored contents a told IsPut
 explored contents a world events upto ticks size book told text IsPut read ticks_are upto_is run counted is answer reports put = record {
   world = world;

@@ -8,3 +8,4 @@ pub mod Walks
 pub mod Reports
 pub mod Words
 pub mod Serving
+pub mod Merging

@@ -1,4 +1,4 @@
--- What is printed of a family whose schedules were run.
+-- What is printed of a family whose schedules were counted.
 use Rattle.std.specs.Prelude.{◌≡◌, ℕ, ◌-◌, ◌==◌, List, [], ◌∷◌, ◌++◌, length, replicate, decimal, codes, Option, Some, None, IfSome, if◌then◌else◌}
 use Rattle.std.specs.List.{All, concat}
 use Rattle.posix.specs.declared.event.Event.{Event}

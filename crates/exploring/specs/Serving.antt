@@ -11,8 +11,10 @@ use Rattle.inputs.specs.Reads.{AreRead, AreRefused, Contents, Text}
 use Rattle.inputs.specs.Statuses.{status_of as status_of_input}
 use Rattle.inputs.specs.declared.words.NoRequest.{NoRequest}
 use Rattle.inputs.specs.declared.words.NoRequest.TheVariants as no_request
+use Rattle.exploring.specs.declared.merging.Stop.{Stop}
+use Rattle.exploring.specs.declared.merging.Stop.TheVariants as stop
 use Rattle.exploring.specs.declared.serving.Failure.{Failure}
-use Rattle.exploring.specs.declared.serving.Failure.TheVariants.{Usage, Ticks, Upto, UptoAbove, ManySchedules, TooManySchedules, ManyEvents, TooManyEvents, Input, Memory, Write}
+use Rattle.exploring.specs.declared.serving.Failure.TheVariants.{Usage, Ticks, Upto, UptoAbove, TooManySchedules, TooManyEvents, ManyStates, Input, Memory, Write}
 use Rattle.exploring.specs.Books.{BookView}
 use Rattle.exploring.specs.Counts.{book_over}
 use Rattle.exploring.specs.Reports.{Reports}
@@ -27,10 +29,9 @@ status_of Usage = 2
 status_of Ticks = 2
 status_of Upto = 2
 status_of (UptoAbove upto events) = 2
-status_of (ManySchedules size most) = 2
 status_of (TooManySchedules most) = 2
-status_of (ManyEvents size longest most) = 2
 status_of (TooManyEvents longest most) = 2
+status_of (ManyStates most place) = 3
 status_of Memory = 3
 status_of Write = 3
 
@@ -43,6 +44,10 @@ answer_of (Err why) = status_of why
 abbrev pub failure_of : NoRequest → Failure
 failure_of no_request.Usage = Usage
 failure_of no_request.Memory = Memory
+
+abbrev pub failure_at : Stop → Failure
+failure_at stop.Memory = Memory
+failure_at (stop.States most place) = ManyStates most place
 
 -- ---- what is told
 
@@ -57,7 +62,7 @@ all_halt b = b.endings.at_rest.count == 0 && b.endings.going.count == 0
 abbrev pub is_told : Bool → BookView → Bool
 is_told must_halt b = is_found b || must_halt && not (all_halt b)
 
--- What is asked for was explored, with this answer: the files are a world and events for it, all schedules of the family were run, and a text
+-- What is asked for was explored, with this answer: the files are a world and events for it, all schedules of the family were counted, and a text
 -- that tells of them was put.
 pub record IsExplored (contents : Contents) (a : Asked) (told : Bool) (IsPut : List ℕ → Type 0) : Type 0 where
   pub world : World
@@ -95,5 +100,5 @@ pub record Means {S : Type 0} (contents : Contents) (asked : Option Asked) (old 
   pub refused : status ≡ 1 → IsSomeAnd asked (λ a. AreRefused contents (a.world, a.events)) × (new ≡ old)
   -- other words, or a number out of range
   pub other_words : status ≡ 2 → IfSome asked (IsOutOfRange contents) × (new ≡ old)
-  -- nothing was put, or a beginning of the text after all schedules were run
+  -- nothing was put, or a beginning of the text after all schedules were counted
   pub cut_short : status ≡ 3 → (new ≡ old) ⊎ IsSomeAnd asked (λ a. (told : Bool) × IsExplored contents a told (BreaksOff before after))

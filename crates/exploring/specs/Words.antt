@@ -1,5 +1,5 @@
 -- The words of the command line, and what they ask for.
-use Rattle.std.specs.Prelude.{ℕ, ◌+◌, ◌*◌, ◌^◌, ◌-◌, ◌&&◌, ◌||◌, Bool, List, [], ◌∷◌, ◌++◌, length, map, fold, nat_le, Option, None, Some, codes, option_and_then, option_map, if◌then◌else◌}
+use Rattle.std.specs.Prelude.{ℕ, ◌+◌, ◌^◌, ◌-◌, ◌&&◌, Bool, List, [], ◌∷◌, ◌++◌, length, map, fold, nat_le, Option, None, Some, codes, option_and_then, option_map, if◌then◌else◌}
 use Rattle.std.specs.Str.{bytes_eq}
 use Rattle.clap.specs.Lexer.{name_and_value}
 use Rattle.clap.specs.Words.{App, Row, Text, fault_of, first_of, matches_of}
@@ -128,21 +128,21 @@ up_to most number = option_and_then (λ n. if nat_le n most then Some n else Non
 -- at most so many ticks: 2, if not named
 abbrev pub ticks_asked : Option Text → Option ℕ
 ticks_asked None = Some 2
-ticks_asked (Some word) = up_to 8 (number_of word)
+ticks_asked (Some word) = up_to 32 (number_of word)
 
 -- before the first so many events: all, if not named
 abbrev pub upto_asked : ℕ → Option Text → Option ℕ
 upto_asked events None = Some events
 upto_asked events (Some word) = up_to events (number_of word)
 
--- So many schedules are run, the longest of so many events: not more than can be at all, nor more than by `--all` alone.
-abbrev pub are_run : Bool → ℕ → ℕ → Bool
-are_run all size longest = nat_le size (2 ^ 64 - 1) && (nat_le longest 1000000000000 && (all || (nat_le size 10000000 && nat_le (size * longest) 10000000000)))
+-- So many schedules are told of, the longest of so many events: not more than can be at all.
+abbrev pub are_run : ℕ → ℕ → Bool
+are_run size longest = nat_le size (2 ^ 128 - 1) && nat_le longest 1000000000000
 
-abbrev pub if_run : Bool → ℕ → ℕ → ℕ → Option (ℕ × ℕ)
-if_run all events upto ticks = if are_run all (length (family upto ticks)) (events + ticks) then Some (upto, ticks) else None
+abbrev pub if_run : ℕ → ℕ → ℕ → Option (ℕ × ℕ)
+if_run events upto ticks = if are_run (length (family upto ticks)) (events + ticks) then Some (upto, ticks) else None
 
 -- Of so many events: before how many of them ticks are put in, and how many at most. None where a number is out of range, or there are too
 -- many schedules.
 abbrev pub family_asked : Asked → ℕ → Option (ℕ × ℕ)
-family_asked a events = option_and_then (λ ticks. option_and_then (λ upto. if_run a.all events upto ticks) (upto_asked events a.upto)) (ticks_asked a.ticks)
+family_asked a events = option_and_then (λ ticks. option_and_then (λ upto. if_run events upto ticks) (upto_asked events a.upto)) (ticks_asked a.ticks)

@@ -1,12 +1,13 @@
 //! What is kept of the runs of schedules.
 
-ghost use Rattle.std.specs.Prelude.{◌≡◌, ◌+◌, ◌<◌, ◌≤◌, ◌^◌, ◌-◌, length, map, IfOk, OnOk};
+ghost use Rattle.std.specs.Prelude.{◌≡◌, ◌+◌, ◌<◌, ◌≤◌, ◌^◌, ◌-◌, ℕ, length, map, IfOk, OnOk, Some};
 ghost use Rattle.exploring.specs.Endings.{with_ending};
 ghost use Rattle.exploring.specs.Texts.{after_run, saw, tally_of};
 ghost use Rattle.exploring.specs.Books.{AreCounted, empty_book, with_run, unseen};
+ghost use Rattle.exploring.specs.Merging.{with_many_runs};
 
 use crate::ending::{Ending, Endings};
-use crate::finds::{Find, end_run_all, look_all};
+use crate::finds::{Find, add_to_marked, end_run_all, look_all};
 use crate::lines::{Line, process_number, shown};
 use crate::outcomes::Outcomes;
 use std::alloc::{AllocError, Global};
@@ -49,10 +50,11 @@ fn count_run(
     outcomes: &mut Outcomes,
     endings: &mut Endings,
 ) -> Result<(), AllocError>
-    requires few { length places.now ≤ 8 }
+    requires few { length places.now ≤ 32 }
     requires total { outcomes.old < 2 ^ 64 - 1 }
-    requires counted { AreCounted endings.old finds.old outcomes.old }
-    ensures counted { AreCounted endings.new finds.new outcomes.new }
+    requires counted { AreCounted endings.old finds.old (2 ^ 64 - 2) }
+    ensures counted { (met : ℕ) → AreCounted endings.old finds.old (outcomes.old + met) → AreCounted endings.new finds.new (outcomes.new + met) }
+    ensures most { outcomes.new ≤ outcomes.old + 1 }
     ensures endings { OnOk result (endings.new ≡ with_ending ending places.now endings.old) }
     ensures finds { OnOk result (finds.new ≡ map (after_run places.now) (map (saw lines.now) finds.old)) }
     ensures total { OnOk result (outcomes.new ≡ outcomes.old + 1) }
@@ -70,18 +72,23 @@ pub struct Book<'a> {
     endings: Endings,
     finds: Vec<Find<'a>>,
     outcomes: Outcomes,
+    /// How many schedules were counted by the states in which they meet.
+    met: u128,
+    /// How many states these were in behind the last tick.
+    states: u64,
     /// Room for the lines of a run.
     text: Vec<u8>,
 }
 
 impl<'a> Model for Book<'a> {
+    ghost use Rattle.std.specs.Prelude.{◌+◌, ◌<◌, ◌^◌};
     ghost use Rattle.exploring.specs.Books.{AreCounted, BookView};
 
     ghost Value = { BookView };
 
-    ghost view = { λ b. record { endings = b.endings; finds = b.finds.items; total = b.outcomes } };
+    ghost view = { λ b. record { endings = b.endings; finds = b.finds.items; total = b.outcomes + b.met } };
 
-    ghost invariant = { λ b. AreCounted b.endings b.finds.items b.outcomes };
+    ghost invariant = { λ b. AreCounted b.endings b.finds.items (b.outcomes + b.met) × (b.outcomes + b.met < 2 ^ 128) };
 }
 
 impl<'a> Book<'a> {
@@ -93,6 +100,8 @@ impl<'a> Book<'a> {
             endings: Endings::new(),
             finds: finds_of(alloc, texts)?,
             outcomes: Outcomes::new(alloc),
+            met: 0,
+            states: 0,
             text: Vec::new(alloc),
         })
     }
@@ -104,7 +113,7 @@ impl<'a> Book<'a> {
         ending: Ending,
         places: &[u64],
     ) -> Result<(), AllocError>
-        requires few { length places.now ≤ 8 }
+        requires few { length places.now ≤ 32 }
         requires total { self.old.total < 2 ^ 64 - 1 }
         ensures { OnOk result (self.new ≡ with_run lines.old.items ending places.now self.old) }
     {
@@ -122,10 +131,34 @@ impl<'a> Book<'a> {
     }
 
     /// How many schedules were counted.
-    pub fn total(&self) -> u64
+    pub fn total(&self) -> u128
         ensures { result ≡ self.now.total }
     {
-        self.outcomes.total()
+        u128::from(self.outcomes.total()) + self.met
+    }
+
+    /// Counts so many schedules that end so, and whose lines have the texts that are marked. The first of them has these
+    /// places.
+    pub fn add_many(&mut self, ending: Ending, marks: &[bool], places: &[u64], count: u128)
+        requires few { length places.now ≤ 32 }
+        requires total { self.old.total + count < 2 ^ 128 }
+        ensures { self.new ≡ with_many_runs ending marks.now (record { count = count; first = Some places.now }) self.old }
+    {
+        self.endings.add_many(ending, places, count);
+        add_to_marked(self.finds.as_mut_slice(), marks, places, count);
+        self.met += count;
+    }
+
+    /// Notes that schedules are counted by so many states.
+    pub fn tell_states(&mut self, states: u64)
+        ensures { self.new ≡ self.old }
+    {
+        self.states = states;
+    }
+
+    /// By how many states schedules are counted; 0 where they are run one after another.
+    pub fn states(&self) -> u64 {
+        self.states
     }
 
     /// The schedules that end in each way.

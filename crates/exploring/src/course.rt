@@ -1,6 +1,6 @@
 //! The run of a list of events in a world.
 
-ghost use Rattle.std.specs.Prelude.{◌≡◌, ◌+◌, ◌-◌, ◌<◌, ◌≤◌, ◌^◌, ◌++◌, [], All, IsTrue, length, IfOk, OnOk, false, true, replicate};
+ghost use Rattle.std.specs.Prelude.{◌≡◌, ◌+◌, ◌-◌, ◌<◌, ◌≤◌, ◌^◌, ◌++◌, [], ◌∷◌, All, IsTrue, length, IfOk, OnOk, false, true, replicate};
 ghost use Rattle.posix.specs.Entries.{numbered};
 ghost use Rattle.posix.specs.Outcomes.{silent};
 ghost use Rattle.posix.specs.Regular.{IsRegular};
@@ -111,6 +111,7 @@ fn run_many(
     requires settled { IsSettled kernel.old.state }
     ensures ok { OnOk result (Adds (left_out + (kernel.old.events + 1)) kernel.old.state (replicate run.count run.event) kernel.new.state lines.old.items lines.new.items) }
     ensures left { IfOk result (λ left. left + kernel.new.events ≡ left_out + kernel.old.events + run.count) }
+    ensures within { kernel.new.events ≤ kernel.old.events + run.count }
     ensures regular { IsRegular kernel.new.state }
     ensures settled { IsSettled kernel.new.state }
 {
@@ -121,20 +122,38 @@ fn run_many(
     Ok(left_out + (last - kernel.events()))
 }
 
-/// Gives all events of a list to a kernel that was given none, and adds what they show to lines, of which there are
-/// none. How it stands with the machine then.
-fn run_all(
+/// Gives one event, and adds what it shows.
+pub(crate) fn run_one(
+    kernel: &mut Kernel,
+    event: Event,
+    lines: &mut Vec<Line>,
+) -> Result<(), AllocError>
+    requires { kernel.old.events < most_events }
+    ensures adds { OnOk result (Adds (kernel.old.events + 1) kernel.old.state (event ∷ []) kernel.new.state lines.old.items lines.new.items) }
+    ensures events { kernel.new.events ≡ kernel.old.events + 1 }
+    ensures regular { IsRegular kernel.new.state }
+    ensures settled { IsSettled kernel.new.state }
+{
+    let last = kernel.events() + 1;
+    run_some(kernel, event, last, 0, lines)
+}
+
+/// Gives all events of a list, and adds what they show to lines, of which there are none. How it stands with the machine
+/// then.
+pub(crate) fn run_all(
     kernel: &mut Kernel,
     events: &EventList,
     lines: &mut Vec<Line>,
 ) -> Result<Ending, AllocError>
-    requires few { length events.now ≤ most_events }
-    requires first { kernel.old.events ≡ 0 }
+    requires few { kernel.old.events + length events.now ≤ most_events }
     requires regular { IsRegular kernel.old.state }
     requires settled { IsSettled kernel.old.state }
     requires none { lines.old.items ≡ [] }
-    ensures adds { OnOk result (Adds 1 kernel.old.state events.now kernel.new.state [] lines.new.items) }
+    ensures adds { OnOk result (Adds (kernel.old.events + 1) kernel.old.state events.now kernel.new.state [] lines.new.items) }
     ensures ending { IfOk result (λ ending. ending ≡ ending_in kernel.new.state) }
+    ensures few { kernel.new.events ≤ kernel.old.events + length events.now }
+    ensures regular { IsRegular kernel.new.state }
+    ensures settled { IsSettled kernel.new.state }
 {
     let mut left_out = 0;
     for run in events.runs() {

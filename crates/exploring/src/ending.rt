@@ -1,7 +1,8 @@
 //! How a run ends.
 
-ghost use Rattle.std.specs.Prelude.{◌≡◌, ◌<◌, ◌≤◌, ◌^◌, ◌-◌, length};
+ghost use Rattle.std.specs.Prelude.{◌≡◌, ◌<◌, ◌≤◌, ◌^◌, ◌-◌, ◌+◌, Some, length};
 ghost use Rattle.exploring.specs.Endings.{no_endings, with_ending};
+ghost use Rattle.exploring.specs.Merging.{with_many_endings};
 
 use crate::tally::Tally;
 
@@ -44,7 +45,7 @@ impl Endings {
 
     /// Counts a schedule that ends so.
     pub fn add(&mut self, ending: Ending, places: &[u64])
-        requires few { length places.now ≤ 8 }
+        requires few { length places.now ≤ 32 }
         requires halted { self.old.halted.count < 2 ^ 64 - 1 }
         requires at_rest { self.old.at_rest.count < 2 ^ 64 - 1 }
         requires alarmed { self.old.alarmed.count < 2 ^ 64 - 1 }
@@ -59,6 +60,26 @@ impl Endings {
                 self.alarmed.add(places);
             }
             Ending::Going => self.going.add(places),
+        }
+    }
+
+    /// Counts so many schedules that end so, the first of which has these places.
+    pub fn add_many(&mut self, ending: Ending, places: &[u64], count: u128)
+        requires few { length places.now ≤ 32 }
+        requires halted { self.old.halted.count + count < 2 ^ 128 }
+        requires at_rest { self.old.at_rest.count + count < 2 ^ 128 }
+        requires alarmed { self.old.alarmed.count + count < 2 ^ 128 }
+        requires going { self.old.going.count + count < 2 ^ 128 }
+        ensures { self.new ≡ with_many_endings ending (record { count = count; first = Some places.now }) self.old }
+    {
+        match ending {
+            Ending::Halted => self.halted.add_many(places, count),
+            Ending::AtRest => self.at_rest.add_many(places, count),
+            Ending::AwaitsAlarm => {
+                self.at_rest.add_many(places, count);
+                self.alarmed.add_many(places, count);
+            }
+            Ending::Going => self.going.add_many(places, count),
         }
     }
 }

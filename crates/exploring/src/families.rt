@@ -1,6 +1,6 @@
-//! All schedules of a family are run, one after another, and counted.
+//! All schedules of a family, run one after another, and counted.
 
-ghost use Rattle.std.specs.Prelude.{◌≡◌, ◌≤◌, ◌<◌, ◌+◌, All, length, map, IsTrue, IfOk};
+ghost use Rattle.std.specs.Prelude.{◌≡◌, ◌≤◌, ◌<◌, ◌+◌, ◌^◌, All, length, map, IsTrue, IfOk};
 ghost use Rattle.std.specs.List.Sorted.{IsNonDecreasing};
 ghost use Rattle.text.specs.EventTexts.{most_events};
 ghost use Rattle.schedules.specs.Families.{IsSchedule, family as family_of};
@@ -20,7 +20,10 @@ use text::{EventList, World};
 /// Hears how far the schedules have come.
 pub trait Progress {
     /// So many of them have been run, of so many.
-    fn update(&mut self, done: u64, size: u64);
+    fn run(&mut self, done: u128, size: u128);
+
+    /// So many events were gone through, of so many, and so many states are there.
+    fn reach(&mut self, events: u64, upto: u64, states: u64);
 }
 
 /// What is explored: the schedules of a world, by its events and the places that ticks may have.
@@ -33,9 +36,9 @@ pub struct Family<'a> {
     /// At most so many ticks are put in.
     pub ticks: usize,
     /// How many schedules these are.
-    pub size: u64,
+    pub size: u128,
     ghost within: { upto ≤ length events.now },
-    ghost few: { ticks ≤ 8 },
+    ghost few: { ticks ≤ 32 },
     ghost short: { length events.now + ticks ≤ most_events },
     ghost counted: { size ≡ length (family_of upto ticks) },
 }
@@ -99,6 +102,7 @@ pub fn explore<'a, P: Progress>(
     texts: &[&'a str],
     progress: &mut P,
 ) -> Result<Book<'a>, AllocError>
+    requires { family.now.size < 2 ^ 64 }
     ensures { IfOk result (λ book. book ≡ book_over family.now.world.now family.now.events.now (map (λ t. t.now) texts.now) (family_of family.now.upto family.now.ticks)) }
 {
     let mut book = Book::new(alloc, texts)?;
@@ -109,7 +113,7 @@ pub fn explore<'a, P: Progress>(
     while is_more {
         let ending = run_schedule(alloc, family, schedule.places(), &mut lines)?;
         book.add(&mut lines, ending, schedule.places())?;
-        progress.update(book.total(), size);
+        progress.run(book.total(), size);
         is_more = schedule.next();
     }
     Ok(book)

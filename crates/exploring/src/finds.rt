@@ -1,8 +1,9 @@
 //! Texts that are looked for in the lines of runs.
 
-ghost use Rattle.std.specs.Prelude.{◌≡◌, ◌<◌, ◌≤◌, ◌^◌, ◌-◌, false, length, map, All};
+ghost use Rattle.std.specs.Prelude.{◌≡◌, ◌<◌, ◌≤◌, ◌^◌, ◌-◌, ◌+◌, false, length, map, All, Some};
 ghost use Rattle.exploring.specs.Tallies.{no_schedules};
 ghost use Rattle.exploring.specs.Texts.{FindView, has_text, looked_at, after_run};
+ghost use Rattle.exploring.specs.Merging.{with_many, with_marked};
 
 use crate::tally::Tally;
 use memchr::memmem;
@@ -26,7 +27,7 @@ impl<'a> Model for Find<'a> {
 }
 
 /// Whether a text stands in a line.
-fn stands_in(text: &str, line: &[u8]) -> bool
+pub fn stands_in(text: &str, line: &[u8]) -> bool
     ensures { result ≡ has_text text.now line.now }
 {
     memmem::find(line, text.as_bytes()).is_some()
@@ -69,7 +70,7 @@ impl<'a> Find<'a> {
 
     /// Counts the schedule whose run was looked at.
     fn end_run(&mut self, places: &[u64])
-        requires few { length places.now ≤ 8 }
+        requires few { length places.now ≤ 32 }
         requires count { self.old.tally.count < 2 ^ 64 - 1 }
         ensures { self.new ≡ after_run places.now self.old }
     {
@@ -77,6 +78,15 @@ impl<'a> Find<'a> {
             self.tally.add(places);
         }
         self.is_there = false;
+    }
+
+    /// Counts so many schedules that have it, the first of which has these places.
+    fn add_many(&mut self, places: &[u64], count: u128)
+        requires few { length places.now ≤ 32 }
+        requires count { self.old.tally.count + count < 2 ^ 128 }
+        ensures { self.new ≡ with_many (record { count = count; first = Some places.now }) self.old }
+    {
+        self.tally.add_many(places, count);
     }
 }
 
@@ -91,11 +101,24 @@ pub fn look_all(finds: &mut [Find<'_>], line: &[u8])
 
 /// Counts the schedule whose run was looked at with each text.
 pub fn end_run_all(finds: &mut [Find<'_>], places: &[u64])
-    requires few { length places.now ≤ 8 }
+    requires few { length places.now ≤ 32 }
     requires counts { All (λ f. f.tally.count < 2 ^ 64 - 1) finds.old }
     ensures { finds.new ≡ map (after_run places.now) finds.old }
 {
     for find in finds.iter_mut() {
         find.end_run(places);
+    }
+}
+
+/// Counts so many schedules with each text that is marked; the first of them has these places.
+pub fn add_to_marked(finds: &mut [Find<'_>], marks: &[bool], places: &[u64], count: u128)
+    requires few { length places.now ≤ 32 }
+    requires counts { All (λ f. f.tally.count + count < 2 ^ 128) finds.old }
+    ensures { finds.new ≡ with_marked (record { count = count; first = Some places.now }) marks.now finds.old }
+{
+    for (number, mark) in marks.iter().enumerate() {
+        if *mark && number < finds.len() {
+            finds[number].add_many(places, count);
+        }
     }
 }

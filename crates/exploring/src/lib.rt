@@ -1,13 +1,16 @@
-//! What `explore` does: all schedules of a family are run, and counted by how they end and by texts that their lines
-//! have. The program adds the host alone.
+//! What `explore` does: all schedules of a family are counted, by how they end and by texts that their lines have. They
+//! are run one after another, or those that meet in one state are gone on with once. The program adds the host alone.
 #![tactic(auto)]
 
 pub mod book;
 pub mod course;
+mod digest;
 pub mod ending;
 pub mod families;
 pub mod finds;
 pub mod lines;
+mod merging;
+mod node;
 pub mod outcomes;
 pub mod placing;
 mod report;

@@ -10,7 +10,7 @@ use std::marker::Model;
 
 /// Counts a schedule to the outcome that has this number.
 fn add_to(outcomes: &mut [Tally], number: usize, places: &[u64])
-    requires few { length places.now ≤ 8 }
+    requires few { length places.now ≤ 32 }
     requires there { number < length outcomes.old }
     requires total { total_of outcomes.old < 2 ^ 64 - 1 }
     ensures { total_of outcomes.new ≡ total_of outcomes.old + 1 }
@@ -56,7 +56,7 @@ impl Outcomes {
     /// Counts a schedule whose run has these lines: those of each process after those of the processes with lesser
     /// numbers.
     pub fn add(&mut self, lines: &[u8], places: &[u64]) -> Result<(), AllocError>
-        requires few { length places.now ≤ 8 }
+        requires few { length places.now ≤ 32 }
         requires total { self.old < 2 ^ 64 - 1 }
         ensures ok { OnOk result (self.new ≡ self.old + 1) }
         ensures err { OnErr result (self.new ≡ self.old) }
@@ -89,7 +89,7 @@ impl Outcomes {
         ensures { IfOk result (λ sorted. total_of (map (λ t. t.now) sorted.items) ≡ self.now) }
     {
         let mut sorted: Vec<&Tally> = self.outcomes.iter().collect(self.alloc)?;
-        sorted.sort_by_key(|outcome| u64::MAX - outcome.count())?;
+        sorted.sort_by_key(|outcome| u128::MAX - outcome.count())?;
         Ok(sorted)
     }
 }

@@ -1,4 +1,4 @@
-//! What is told of a family whose schedules were run.
+//! What is told of a family whose schedules were counted.
 
 ghost use Rattle.std.specs.Prelude.{◌≡◌, ◌++◌, All, IfOk, OnOk};
 ghost use Rattle.std.specs.String.{string_bytes};
@@ -21,7 +21,7 @@ const MOST_SHOWN: usize = 20;
 const LAST_LINES: usize = 6;
 
 /// `s`, or nothing behind one.
-pub fn plural(count: u64) -> &'static str
+pub fn plural(count: u128) -> &'static str
     ensures { result.now ≡ plural_of count }
 {
     if count == 1 { "" } else { "s" }
@@ -54,7 +54,11 @@ fn write_size(text: &mut String, family: &Family<'_>) -> Result<(), AllocError>
     ensures { OnOk result (string_bytes text.new ≡ string_bytes text.old ++ size_line family.now.size family.now.upto family.now.ticks) }
 {
     let (size, upto, ticks) = (family.size, family.upto, family.ticks);
-    let (s, t, e) = (plural(size), plural(ticks as u64), plural(upto));
+    let (s, t, e) = (
+        plural(size),
+        plural(ticks as u128),
+        plural(u128::from(upto)),
+    );
     writeln!(
         text,
         "{size} schedule{s}: at most {ticks} tick{t}, each before one of the first {upto} event{e}"
@@ -62,7 +66,7 @@ fn write_size(text: &mut String, family: &Family<'_>) -> Result<(), AllocError>
 }
 
 /// Writes how many of them end so.
-fn write_ending(text: &mut String, count: u64, words: &str) -> Result<(), AllocError>
+fn write_ending(text: &mut String, count: u128, words: &str) -> Result<(), AllocError>
     ensures { OnOk result (string_bytes text.new ≡ string_bytes text.old ++ ending_line count words.now) }
 {
     writeln!(text, "{count:>8} {words}")
@@ -212,9 +216,18 @@ fn write_some(
 /// What is told of the outcomes.
 fn outcomes_of(alloc: Global, family: &Family<'_>, book: &Book<'_>) -> Result<String, AllocError> {
     let mut text = String::new(alloc);
+    let states = book.states();
+    if states > 0 {
+        let s = plural(u128::from(states));
+        writeln!(
+            text,
+            "\ntold apart by {states} state{s} behind the last tick"
+        )?;
+        return Ok(text);
+    }
     let outcomes = book.outcomes().by_count()?;
     let count = outcomes.len();
-    let s = plural(count as u64);
+    let s = plural(count as u128);
     writeln!(text, "\n{count} outcome{s}")?;
     let shown = count.min(MOST_SHOWN);
     write_some(alloc, &mut text, family, &outcomes.as_slice()[..shown])?;

@@ -1,13 +1,15 @@
 //! What the program does: its texts and its statuses.
 
-ghost use Rattle.std.specs.Prelude.{◌≡◌, ◌+◌, ◌≤◌, false, true, length, Err, MatchResult, None, OnOk, Some, map, option_map};
+ghost use Rattle.std.specs.Prelude.{◌≡◌, ◌+◌, ◌≤◌, false, true, length, Err, MatchResult, None, OnOk, Some, map, option_map, ◌<◌, ◌^◌};
 ghost use Rattle.inputs.specs.declared.command_line.WordsFault.{WordsFault};
 ghost use Rattle.text.specs.EventTexts.{most_events};
-ghost use Rattle.schedules.specs.Families.{family};
+ghost use Rattle.schedules.specs.Families.{family as family_of};
+ghost use Rattle.exploring.specs.Counts.{book_over};
 ghost use Rattle.exploring.specs.Serving.{Means, answer_of, asked_by, is_found as has_found, all_halt as have_halted, is_told as told_by, status_of};
 ghost use Rattle.exploring.specs.Words.{are_run, asked_by_parts, parted_as, request_of_words, said, ticks_asked, upto_asked};
 
-use crate::report::{plural, report};
+use crate::merging::{Stop, merge};
+use crate::report::report;
 use crate::words::{Parts, Request, parts_of, requested};
 use crate::{Book, Family, Progress, explore};
 use arrayvec::ArrayString;
@@ -23,18 +25,16 @@ use thiserror::Error;
 enum Failure<'a> {
     #[error("usage: jobk explore WORLD EVENTS [--ticks K] [--upto N] [--find TEXT].. [--must-halt] [--all]")]
     Usage,
-    #[error("jobk: --ticks takes a number from 0 to 8")]
+    #[error("jobk: --ticks takes a number from 0 to 32")]
     Ticks,
     #[error("jobk: --upto takes a number")]
     Upto,
     #[error("jobk: --upto {0} is above the number of events, which is {1}")]
     UptoAbove(u64, u64),
-    #[error("jobk: {0} schedules: more than {1} are run with --all alone; say fewer by --ticks or --upto")]
-    ManySchedules(u64, u64),
     #[error("jobk: more than {0} schedules: say fewer by --ticks or --upto")]
-    TooManySchedules(u64),
-    #[error("jobk: {0} schedule{s} of up to {1} events: more than {2} events in all are run with --all alone; say fewer by --ticks or --upto", s = plural(*.0))]
-    ManyEvents(u64, u64, u64),
+    TooManySchedules(u128),
+    #[error("jobk: more than {0} states before event {1}: say fewer ticks or places by --ticks or --upto")]
+    ManyStates(usize, u64),
     #[error("jobk: schedules of up to {0} events: a run has at most {1}; say fewer by --ticks")]
     TooManyEvents(u64, u64),
     #[error("jobk: {0}")]
@@ -46,13 +46,13 @@ enum Failure<'a> {
 }
 
 /// A schedule has at most so many ticks.
-const MOST_TICKS: u64 = 8;
+const MOST_TICKS: u64 = 32;
 
-/// More schedules than this are run with `--all` alone.
-const MOST_SCHEDULES: u64 = 10_000_000;
+/// More schedules than this are run one after another with `--all` alone.
+const MOST_SCHEDULES: u128 = 10_000_000;
 
-/// More events of all schedules than this are given with `--all` alone.
-const MOST_GIVEN: u64 = 10_000_000_000;
+/// More events of all schedules than this are given one after another with `--all` alone.
+const MOST_GIVEN: u128 = 10_000_000_000;
 
 /// A run has at most so many events.
 const MOST_EVENTS: u64 = 1_000_000_000_000;
@@ -90,6 +90,19 @@ impl From<NoRequest> for Failure<'_> {
     }
 }
 
+impl From<Stop> for Failure<'_> {
+    ghost use Rattle.exploring.specs.Serving.{failure_at};
+
+    ghost from_gives = { λ why failure. failure ≡ failure_at why };
+
+    fn from(why: Stop) -> Self {
+        match why {
+            Stop::Memory => Failure::Memory,
+            Stop::States(most, place) => Failure::ManyStates(most, place),
+        }
+    }
+}
+
 impl<'a> From<InputFault<'a>> for Failure<'a> {
     ghost use Rattle.exploring.specs.declared.serving.Failure.TheVariants.{Input};
 
@@ -113,11 +126,9 @@ impl Failure<'_> {
             | Failure::Ticks
             | Failure::Upto
             | Failure::UptoAbove(_, _)
-            | Failure::ManySchedules(_, _)
             | Failure::TooManySchedules(_)
-            | Failure::ManyEvents(_, _, _)
             | Failure::TooManyEvents(_, _) => 2,
-            Failure::Memory | Failure::Write => 3,
+            Failure::ManyStates(_, _) | Failure::Memory | Failure::Write => 3,
         }
     }
 }
@@ -125,7 +136,7 @@ impl Failure<'_> {
 /// How many ticks are put in at most: 2, if not named.
 fn ticks_of<'a>(word: Option<&str>) -> Result<usize, Failure<'a>>
     ensures { MatchResult result
-        (λ ticks. (ticks ≤ 8) × (ticks_asked (option_map (λ w. w.now) word.entry) ≡ Some ticks))
+        (λ ticks. (ticks ≤ 32) × (ticks_asked (option_map (λ w. w.now) word.entry) ≡ Some ticks))
         (λ why. (status_of why ≡ 2) × (ticks_asked (option_map (λ w. w.now) word.entry) ≡ None)) }
 {
     let Some(word) = word else {
@@ -153,31 +164,52 @@ fn upto_of<'a>(word: Option<&str>, events: u64) -> Result<u64, Failure<'a>>
     Ok(upto)
 }
 
-/// How many schedules there are, unless they are too many to be run.
-fn size_of<'a>(upto: u64, ticks: usize, events: u64, all: bool) -> Result<u64, Failure<'a>>
-    requires ticks { ticks ≤ 8 }
+/// How many schedules there are, unless they are too many to be counted, or one of them is too long.
+fn size_of<'a>(upto: u64, ticks: usize, events: u64) -> Result<u128, Failure<'a>>
+    requires ticks { ticks ≤ 32 }
     requires events { events ≤ most_events }
     ensures size { MatchResult result
-        (λ size. (size ≡ length (family upto ticks)) × (are_run all (length (family upto ticks)) (events + ticks) ≡ true))
-        (λ why. (status_of why ≡ 2) × (are_run all (length (family upto ticks)) (events + ticks) ≡ false)) }
+        (λ size. (size ≡ length (family_of upto ticks)) × (are_run (length (family_of upto ticks)) (events + ticks) ≡ true))
+        (λ why. (status_of why ≡ 2) × (are_run (length (family_of upto ticks)) (events + ticks) ≡ false)) }
     ensures short { OnOk result (events + ticks ≤ most_events) }
 {
-    let most = u64::MAX;
+    let most = u128::MAX;
     let longest = events + ticks as u64;
     let size = family_size(upto, ticks, most).ok_or(Failure::TooManySchedules(most))?;
     if longest > MOST_EVENTS {
         return Err(Failure::TooManyEvents(longest, MOST_EVENTS));
     }
-    if all {
-        return Ok(size);
-    }
-    if size > MOST_SCHEDULES {
-        return Err(Failure::ManySchedules(size, MOST_SCHEDULES));
-    }
-    if size * longest > MOST_GIVEN {
-        return Err(Failure::ManyEvents(size, longest, MOST_GIVEN));
-    }
     Ok(size)
+}
+
+/// Whether so many schedules, the longest of so many events, are run one after another: all that can be counted so, or those
+/// that take little time.
+fn are_run_each(size: u128, longest: u64, all: bool) -> bool
+    ensures { result ≡ true → size < 2 ^ 64 }
+{
+    if size > u128::from(u64::MAX) {
+        return false;
+    }
+    all || (size <= MOST_SCHEDULES && size * u128::from(longest) <= MOST_GIVEN)
+}
+
+/// The book of a family, by its schedules one after another, or by the states in which they meet.
+fn book_of<'w, P: Progress>(
+    alloc: Global,
+    family: &Family<'_>,
+    request: &Request<'_, 'w>,
+    progress: &mut P,
+) -> Result<Book<'w>, Failure<'w>>
+    ensures { MatchResult result
+        (λ book. book ≡ book_over family.now.world.now family.now.events.now (said request.now).finds (family_of family.now.upto family.now.ticks))
+        (λ why. status_of why ≡ 3) }
+{
+    let longest = family.events.len() + family.ticks as u64;
+    if are_run_each(family.size, longest, request.all) {
+        Ok(explore(alloc, family, request.finds, progress)?)
+    } else {
+        Ok(merge(alloc, family, request.finds, progress)?)
+    }
 }
 
 /// Whether a schedule has a text that is looked for.
@@ -219,9 +251,9 @@ fn serve_request<'a, 'w, F: ReadFiles, O: Sink, P: Progress>(
         events: &inputs.events,
         upto,
         ticks,
-        size: size_of(upto, ticks, inputs.events.len(), request.all)?,
+        size: size_of(upto, ticks, inputs.events.len())?,
     };
-    let book = explore(alloc, &family, request.finds, progress)?;
+    let book = book_of(alloc, &family, request, progress)?;
     let reported = report(alloc, &family, &book);
     let is_told = is_told(request.must_halt, &book);
     // What is large is dropped by its name, by one function whose proof is short.

@@ -1,17 +1,19 @@
 //! How many schedules have a property, and which is the first.
 
-ghost use Rattle.std.specs.Prelude.{◌≡◌, ◌<◌, ◌≤◌, ◌^◌, ◌-◌, length, option_map};
+ghost use Rattle.std.specs.Prelude.{◌≡◌, ◌<◌, ◌≤◌, ◌^◌, ◌-◌, length, option_map, ◌+◌, Some};
+ghost use Rattle.exploring.specs.Merging.{both};
 ghost use Rattle.exploring.specs.Tallies.{no_schedules, with_schedule};
 
+use crate::node::is_before;
 use arrayvec::ArrayVec;
 use std::marker::Model;
 
 /// The places of a schedule's ticks.
-pub type Places = ArrayVec<u64, 8>;
+pub type Places = ArrayVec<u64, 32>;
 
 /// The places, copied.
-fn copied(places: &[u64]) -> Places
-    requires { length places.now ≤ 8 }
+pub fn copied(places: &[u64]) -> Places
+    requires { length places.now ≤ 32 }
     ensures { result.items ≡ places.now }
 {
     let mut copy = Places::new();
@@ -22,7 +24,7 @@ fn copied(places: &[u64]) -> Places
 /// How many schedules have a property, and the first of them.
 #[derive(Drop)]
 pub struct Tally {
-    count: u64,
+    count: u128,
     first: Option<Places>,
 }
 
@@ -47,7 +49,7 @@ impl Tally {
     }
 
     /// How many schedules have the property.
-    pub fn count(&self) -> u64
+    pub fn count(&self) -> u128
         ensures { result ≡ self.now.count }
     {
         self.count
@@ -65,12 +67,28 @@ impl Tally {
 
     /// Counts a schedule that has the property.
     pub fn add(&mut self, places: &[u64])
-        requires few { length places.now ≤ 8 }
-        requires count { self.old.count < 2 ^ 64 - 1 }
+        requires few { length places.now ≤ 32 }
+        requires count { self.old.count < 2 ^ 128 - 1 }
         ensures { self.new ≡ with_schedule places.now self.old }
     {
         self.count += 1;
         if self.first.is_none() {
+            self.first = Some(copied(places));
+        }
+    }
+
+    /// Counts so many schedules that have the property, the first of which has these places.
+    pub fn add_many(&mut self, places: &[u64], count: u128)
+        requires few { length places.now ≤ 32 }
+        requires count { self.old.count + count < 2 ^ 128 }
+        ensures { self.new ≡ both self.old (record { count = count; first = Some places.now }) }
+    {
+        self.count += count;
+        let is_first = match &self.first {
+            Some(first) => is_before(places, first.as_slice()),
+            None => true,
+        };
+        if is_first {
             self.first = Some(copied(places));
         }
     }

@@ -33,27 +33,41 @@ impl<'a> Person<'a> {
 }
 
 /// How many seconds the other schedules take, where so many took so long.
-fn seconds_left(passed: Duration, done: u64, size: u64) -> u64 {
+fn seconds_left(passed: Duration, done: u128, size: u128) -> u128 {
     let left = size.saturating_sub(done);
-    let all = passed.as_secs().saturating_mul(left);
+    let all = u128::from(passed.as_secs()).saturating_mul(left);
     all.checked_div(done).unwrap_or(0)
 }
 
-impl Progress for Person<'_> {
-    fn update(&mut self, done: u64, size: u64) {
-        let Some((began, told)) = self.times else {
-            return;
-        };
+impl Person<'_> {
+    /// How long the program runs, if it is time to tell something.
+    fn passed(&mut self) -> Option<Duration> {
+        let (began, told) = self.times?;
         let Ok(now) = Instant::now(self.rt) else {
             self.times = None;
-            return;
+            return None;
         };
-        if now.duration_since(told) >= self.every {
-            self.times = Some((began, now));
-            let left = seconds_left(now.duration_since(began), done, size);
+        if now.duration_since(told) < self.every {
+            return None;
+        }
+        self.times = Some((began, now));
+        Some(now.duration_since(began))
+    }
+}
+
+impl Progress for Person<'_> {
+    fn run(&mut self, done: u128, size: u128) {
+        if let Some(passed) = self.passed() {
+            let left = seconds_left(passed, done, size);
             let _ = eprintln!(self.rt;
                 "jobk: {done} of {size} schedules, some {left} seconds left"
             );
+        }
+    }
+
+    fn reach(&mut self, events: u64, upto: u64, states: u64) {
+        if self.passed().is_some() {
+            let _ = eprintln!(self.rt; "jobk: {events} of {upto} events, {states} states");
         }
     }
 }

@@ -321,6 +321,17 @@ impl<K: ProcessTable> KernelOn<K> {
     {
         self.machine.census()
     }
+
+    /// Whether another kernel of the same world is in the same state, also after another number of events. `false`
+    /// promises nothing. No state changes.
+    pub fn is_same(&mut self, other: &mut KernelOn<K>) -> bool
+        requires world { self.old.state.world ≡ other.old.state.world }
+        ensures same { result ≡ true → self.old.state ≡ other.old.state }
+        ensures mine { (self.new.state ≡ self.old.state) × (self.new.events ≡ self.old.events) }
+        ensures others { (other.new.state ≡ other.old.state) × (other.new.events ≡ other.old.events) }
+    {
+        self.machine.is_same(&mut other.machine)
+    }
 }
 
 /// One `Step`, as [`KernelOn::event`] gives it, over the table that counts each slot it reads: a step of a process counts

@@ -30,3 +30,4 @@ pub mod NewsLemmas
 pub mod TakingLemmas
 pub mod AdoptionLemmas
 pub mod DepartureLemmas
+pub mod SamenessLemmas

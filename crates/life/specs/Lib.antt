@@ -10,3 +10,4 @@ pub mod NotedBursts
 pub mod Changes
 pub mod Ends
 pub mod Queues
+pub mod Sameness

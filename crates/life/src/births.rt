@@ -36,9 +36,10 @@ fn make_room(
 }
 
 impl<K: ProcessTable> Machine<K> {
-    /// The number that the next child gets, if there is one.
-    pub fn next_pid(&self) -> Option<Pid>
-        ensures { result ≡ next_pid_of self.now.state }
+    /// The number that the next child gets, if there is one (XSH fork).
+    pub fn next_pid(&mut self) -> Option<Pid>
+        ensures value { result ≡ next_pid_of self.old.state }
+        ensures same { self.new ≡ self.old }
     {
         self.pids.next()
     }

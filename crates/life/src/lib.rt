@@ -19,6 +19,7 @@ pub mod noted_bursts;
 mod orphans;
 pub mod programs;
 mod rechecks;
+mod sameness;
 pub mod sends;
 pub mod signals;
 pub mod stops;

@@ -4,3 +4,4 @@ pub mod TallyLemmas
 pub mod BagLemmas
 pub mod MoveLemmas
 pub mod PageLemmas
+pub mod BoundLemmas

@@ -157,8 +157,8 @@ rows_size pidmax pages = length-map-range_with_len (row_in pages) 0 (pidmax + 1)
 abbrev pub pids_in : ℕ → ℕ → List (List Row) → Option (List Row) → Pids
 pids_in pidmax last pages spare = record { pidmax = pidmax; last = last; rows = rows_in pidmax pages; ready = is_ready pidmax pages spare }
 
-pub pids_of : (pidmax last : ℕ) (pages : List (List Row)) (spare : Option (List Row)) → IsTable pidmax last spare → IsPids (pids_in pidmax last pages spare)
-pids_of pidmax last pages spare t = record { size = rows_size pidmax pages; given = t.given; least = t.least; limit = t.limit }
+pub pids_of : (pidmax last : ℕ) (pages : List (List Row)) (spare : Option (List Row)) (borne_below borne_from : ℕ) → IsTable pidmax last pages spare borne_below borne_from → IsPids (pids_in pidmax last pages spare)
+pids_of pidmax last pages spare borne_below borne_from t = record { size = rows_size pidmax pages; given = t.given; least = t.least; limit = t.limit }
 
 -- the row of a number in a page that is there
 in_page : (pages : List (List Row)) (page : List Row) (a n : ℕ) → page_at pages (a / 1024) ≡ page → n / 1024 ≡ a / 1024 → row_in pages n ≡ row_at page (n % 1024)

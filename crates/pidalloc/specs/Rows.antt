@@ -1,5 +1,5 @@
 -- How often each number is borne as what.
-use Rattle.std.specs.Prelude.{◌≡◌, ℕ, ◌+◌, ◌-◌, ◌≤◌, ◌/◌, ◌%◌, ◌⊎◌, Bool, true, false, not, if◌then◌else◌, ◌&&◌, ◌==◌, nat_lt, List, [], Option, None, is_some, IfSome, length, map, replicate, count_by, slice_index_or, slice_set}
+use Rattle.std.specs.Prelude.{◌≡◌, ℕ, ◌+◌, ◌-◌, ◌<◌, ◌≤◌, ◌/◌, ◌%◌, ◌⊎◌, Bool, true, false, not, if◌then◌else◌, ◌&&◌, ◌==◌, nat_lt, List, [], Option, None, is_some, IfSome, length, map, replicate, count_by, slice_index_or, slice_set}
 use Rattle.std.specs.List.{range_with_len}
 pub use Rattle.pidalloc.specs.declared.row.Row.{Row}
 pub use Rattle.pidalloc.specs.declared.row.Role.{Role}
@@ -108,12 +108,20 @@ rows_in pidmax pages = map (row_in pages) (range_with_len 0 (pidmax + 1))
 abbrev pub is_ready : ℕ → List (List Row) → Option (List Row) → Bool
 is_ready pidmax pages spare = is_some spare && nat_lt (pidmax / 1024) (length pages)
 
--- what holds of a table: its numbers are in range, and nobody bears a number of the spare page
-pub record IsTable (pidmax last : ℕ) (spare : Option (List Row)) : Type 0 where
+-- each number from one on and below another is borne
+abbrev pub AreAllBorne : List (List Row) → ℕ → ℕ → Type 0
+AreAllBorne pages from end = (k : ℕ) → from ≤ k → k < end → is_free_row (row_in pages k) ≡ false
+
+-- what holds of a table: its numbers are in range, nobody bears a number of the spare page, and the numbers from 2 on
+-- below borne_below and those from borne_from on are borne
+pub record IsTable (pidmax last : ℕ) (pages : List (List Row)) (spare : Option (List Row)) (borne_below borne_from : ℕ) : Type 0 where
   pub given : last ≤ pidmax
   pub least : 2 ≤ pidmax
   pub limit : pidmax ≤ 4194304
   pub unused : IfSome spare (λ page. page ≡ replicate 1024 unborne)
+  pub bound : borne_below ≤ pidmax + 1
+  pub low : AreAllBorne pages 2 borne_below
+  pub high : AreAllBorne pages borne_from (pidmax + 1)
 
 -- the rows are the same
 abbrev pub AreSame : List (List Row) → List (List Row) → Type 0

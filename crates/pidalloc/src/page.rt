@@ -93,15 +93,18 @@ impl Page {
         self.rows[at].bear(role);
     }
 
-    /// One process less bears a number in this role.
-    pub fn give_up(&mut self, at: usize, role: Role)
+    /// One process less bears a number in this role; whether nobody bears it any more.
+    pub fn give_up(&mut self, at: usize, role: Role) -> bool
         requires inside { at < length self.old }
         requires count { 1 ≤ count_of role (row_at self.old at) }
-        ensures { self.new ≡ slice_set self.old at (one_less role (row_at self.old at)) }
+        ensures rows { self.new ≡ slice_set self.old at (one_less role (row_at self.old at)) }
+        ensures free { result ≡ is_free_row (row_at self.new at) }
     {
         self.rows[at].give_up(role);
-        if self.rows[at].is_free() {
+        let is_free = self.rows[at].is_free();
+        if is_free {
             self.borne -= 1;
         }
+        is_free
     }
 }

@@ -24,6 +24,10 @@ pub struct PidTable {
     pages: Vec<Page>,
     /// A page for a number that nobody bears yet.
     spare: Option<Page>,
+    /// All numbers from 2 on that are below this one are borne.
+    borne_below: u32,
+    /// All numbers from this one on are borne.
+    borne_from: u32,
 }
 
 impl Model for PidTable {
@@ -33,7 +37,7 @@ impl Model for PidTable {
 
     ghost view = { λ t. record { pidmax = t.pidmax; last = t.last; rows = rows_in t.pidmax t.pages.items; ready = is_ready t.pidmax t.pages.items t.spare } };
 
-    ghost invariant = { λ t. IsTable t.pidmax t.last t.spare };
+    ghost invariant = { λ t. IsTable t.pidmax t.last t.pages.items t.spare t.borne_below t.borne_from };
 }
 
 /// In which page the row of a number stands.
@@ -129,15 +133,16 @@ fn bear_in(pages: &mut Vec<Page>, spare: &mut Option<Page>, number: u32, role: R
     pages[page_of(number)].bear(place_of(number), role);
 }
 
-/// One process less bears a number in this role.
-fn give_up_in(pages: &mut Vec<Page>, number: u32, role: Role)
+/// One process less bears a number in this role; whether nobody bears it any more.
+fn give_up_in(pages: &mut Vec<Page>, number: u32, role: Role) -> bool
     requires { 1 ≤ count_of role (row_in pages.old.items number) }
     ensures rows { IsRowChanged number (one_less role) pages.old.items pages.new.items }
     ensures size { length pages.new.items ≡ length pages.old.items }
     ensures inside { number / 1024 < length pages.new.items }
     ensures there { number % 1024 < length (page_at pages.new.items (number / 1024)) }
+    ensures free { result ≡ is_free_row (row_in pages.new.items number) }
 {
-    pages[page_of(number)].give_up(place_of(number), role);
+    pages[page_of(number)].give_up(place_of(number), role)
 }
 
 /// Rows of numbers that nobody bears go, of a page that has rows.
@@ -177,6 +182,8 @@ impl PidTable {
             last: 1,
             pages: Vec::new(alloc),
             spare: None,
+            borne_below: 2,
+            borne_from: pidmax + 1,
         }
     }
 
@@ -198,6 +205,13 @@ impl PidTable {
         ensures kept { IsPids self.now }
     {
         self.pidmax
+    }
+
+    /// The number given last.
+    pub fn last(&self) -> Pid
+        ensures { result ≡ self.now.last }
+    {
+        Pid::new(self.last).unwrap_or(Pid::NONE)
     }
 
     /// The least free number from `from` on in its page, and whether there is one; else the first of the next page.
@@ -237,17 +251,47 @@ impl PidTable {
         None
     }
 
+    /// The least free number above the one given last. If there is none, the next search needn't look there.
+    fn first_above_last(&mut self) -> Option<Pid>
+        ensures value { result ≡ first_free (is_free_in self.old.rows) (self.old.last + 1) (self.old.pidmax - self.old.last) }
+        ensures same { self.new ≡ self.old }
+    {
+        let from = self.last + 1;
+        if self.borne_from <= from {
+            return None;
+        }
+        let pid = self.first_free(from);
+        if pid.is_none() {
+            self.borne_from = from;
+        }
+        pid
+    }
+
+    /// The least free number from 2 on. The next search begins there.
+    fn first_of_all(&mut self) -> Option<Pid>
+        ensures value { result ≡ first_free (is_free_in self.old.rows) 2 (self.old.pidmax - 1) }
+        ensures same { self.new ≡ self.old }
+    {
+        let pid = self.first_free(self.borne_below.max(2));
+        self.borne_below = match pid {
+            Some(pid) => pid.number(),
+            None => self.pidmax + 1,
+        };
+        pid
+    }
+
     /// The number of the next process: the least that nobody bears above the one given last, else the
     /// least from 2 on; none where all are borne (own). A number that still names a process group or a
-    /// session isn't given (XSH fork).
+    /// session isn't given (XSH fork). Where one number alone is free, it is found at once from the second time on.
     #[tactic(auto, unfolding(posix::specs::NextPid::next_free))]
-    pub fn next(&self) -> Option<Pid>
-        ensures { result ≡ next_free (is_free_in self.now.rows) self.now.last self.now.pidmax }
+    pub fn next(&mut self) -> Option<Pid>
+        ensures value { result ≡ next_free (is_free_in self.old.rows) self.old.last self.old.pidmax }
+        ensures same { self.new ≡ self.old }
     {
-        if let Some(pid) = self.first_free(self.last + 1) {
+        if let Some(pid) = self.first_above_last() {
             return Some(pid);
         }
-        self.first_free(2)
+        self.first_of_all()
     }
 
     /// One process more bears `pid` in this role. As a process's own number it is also the one given
@@ -278,7 +322,11 @@ impl PidTable {
         ensures kept { IsPids self.new }
     {
         let number = pid.number();
-        give_up_in(&mut self.pages, number, role);
+        if !give_up_in(&mut self.pages, number, role) {
+            return;
+        }
+        self.borne_below = self.borne_below.min(number);
+        self.borne_from = self.borne_from.max(number + 1);
         tidy(
             &mut self.pages,
             &mut self.spare,

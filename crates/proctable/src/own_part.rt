@@ -14,6 +14,7 @@ ghost use Rattle.proctable.specs.Records.{own_of, give_own, forked};
 use crate::spare::Spare;
 use arena::new_arena;
 use posix::{Blocked, Gid, PendingSignal, Pid, Register, SigSet, Status, Uid, WaitCall};
+use signal::sameness::are_same_calls;
 use signal::{Creds, FramesFull, NoFrame, Signals, leave_call, mask_before};
 use std::alloc::{AllocError, Global};
 use umach::Cpu;
@@ -72,6 +73,18 @@ impl OwnPart {
             program: self.program,
             cpu,
         })
+    }
+
+    /// Whether two processes have the same of it.
+    pub fn is_same(&self, other: &OwnPart) -> bool
+        ensures { result ≡ true → self.now ≡ other.now }
+    {
+        self.program == other.program
+            && self.ran_exec == other.ran_exec
+            && are_same_calls(self.blocked, other.blocked)
+            && self.creds.is_same(&other.creds)
+            && self.cpu.is_same(&other.cpu)
+            && self.signals.is_same(&other.signals)
     }
 
     /// What a process that was taken out leaves behind.

@@ -78,6 +78,20 @@ impl Record {
         })
     }
 
+    /// Whether two processes are the same but for their numbers and their parents'.
+    pub fn is_same(&self, other: &Record) -> bool
+        ensures { result ≡ true → (p q : ℕ) → process_of p q self.now ≡ process_of p q other.now }
+    {
+        self.birth == other.birth
+            && self.group == other.group
+            && self.session == other.session
+            && self.life == other.life
+            && self.news == other.news
+            && self.alarm == other.alarm
+            && self.is_subreaper == other.is_subreaper
+            && self.own.is_same(&other.own)
+    }
+
     /// The small fields of the process with this number and this parent.
     pub fn snapshot(&self, pid: Pid, parent: Pid) -> Snapshot
         ensures { result ≡ snapshot_of (process_of pid parent self.now) }

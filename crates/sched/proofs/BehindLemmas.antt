@@ -1,7 +1,8 @@
 -- Who comes after a number in a list that is linked.
-use Rattle.std.proofs.Common.{◌≡◌, ◌≢◌, ℕ, true, false, cond, refl, ap, sym, ◌∙◌, List, [], ◌∷◌, Some, None, slice_get, get_or, ◌==◌}
+use Rattle.std.proofs.Common.{◌≡◌, ◌≢◌, ℕ, zero, suc, true, false, cond, refl, ap, sym, ◌∙◌, List, [], ◌∷◌, Some, None, slice_get, get_or, take, ◌==◌}
 use Rattle.std.proofs.lemmas.Bool.{eqb-true, eqb-false, eq-eqb, ne_eqb}
 use Rattle.posix.specs.States.{is_in}
+use Rattle.posix.specs.Regular.{IsDistinct}
 use Rattle.posix.proofs.MemberLemmas.{in_first, in_rest, in_none}
 use Rattle.sched.specs.declared.links.Node.{Node}
 use Rattle.sched.specs.Links.{Linked, next_of, read_off, IsLinked, IsKept}
@@ -50,3 +51,32 @@ node_says ns n p v node kept view there read =
     ap (λ (l : Linked). next_behind p l.numbers) (sym view)
     ∙ behind_linked ns 0 (read_off n ns 0) 0 p kept.ring.linked at.there (root_out kept.ring)
     ∙ ap (λ k. cond (k == 0) None (Some k)) (sym next)
+
+-- ---- one after another
+
+-- who stands at a place of a list is in it
+in_at : (i p : ℕ) (ps : List ℕ) → slice_get ps i ≡ Some p → is_in p ps ≡ true
+in_at i p [] e = absurd (cc)
+in_at zero p (q ∷ qs) e = let same : q ≡ p = cc in ap (λ n. is_in p (n ∷ qs)) same ∙ in_first p qs
+in_at (suc i) p (q ∷ qs) e = in_longer p q qs (in_at i p qs e)
+
+-- behind the one at a place comes the one at the next place
+pub behind_at : (i p : ℕ) (ps : List ℕ) → IsDistinct ps → slice_get ps i ≡ Some p → next_behind p ps ≡ slice_get ps (suc i)
+unfolding next_behind IsDistinct
+behind_at i p [] d e = absurd (cc)
+behind_at zero p (q ∷ qs) d e =
+    let same : q ≡ p = cc in
+    ap (λ b. cond b (slice_get qs 0) (next_behind p qs)) (eq-eqb q p same)
+behind_at (suc i) p (q ∷ qs) d e =
+    let apart : q ≢ p = λ s. differ p q qs (in_at i p qs e) d.0 (sym s) in
+    ap (λ b. cond b (slice_get qs 0) (next_behind p qs)) (ne_eqb q p apart) ∙ behind_at i p qs d.1 e
+
+-- two lists that are the same up to a place, and there, are the same up to the next place
+pub same_longer : (i p : ℕ) (ps qs : List ℕ) → take i ps ≡ take i qs → slice_get ps i ≡ Some p → slice_get qs i ≡ Some p → take (suc i) ps ≡ take (suc i) qs
+same_longer i p [] qs e h k = absurd (cc)
+same_longer i p (x ∷ xs) [] e h k = absurd (cc)
+same_longer zero p (x ∷ xs) (y ∷ ys) e h k = let first : x ≡ y = cc in ap (λ n. n ∷ []) first
+same_longer (suc i) p (x ∷ xs) (y ∷ ys) e h k =
+    let first : x ≡ y = cc in
+    let rest : take i xs ≡ take i ys = cc in
+    (λ j. first j ∷ same_longer i p xs ys rest h k j)

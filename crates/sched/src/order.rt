@@ -80,6 +80,29 @@ impl Order {
         }
     }
 
+    /// Whether the same processes have a place in another order, one after another as here.
+    pub fn is_same(&self, other: &Order) -> bool
+        ensures { result ≡ true → self.now.pids ≡ other.now.pids }
+    {
+        let len = self.len();
+        if other.len() != len {
+            return false;
+        }
+        let mut here = self.current();
+        let mut there = other.current();
+        for index in 0..len {
+            let (Some(mine), Some(theirs)) = (here, there) else {
+                return false;
+            };
+            if mine != theirs {
+                return false;
+            }
+            here = self.behind(mine);
+            there = other.behind(theirs);
+        }
+        true
+    }
+
     /// Whether a process has a place.
     #[inline]
     pub fn has(&self, pid: Pid) -> bool

@@ -1,5 +1,5 @@
 -- How many schedules a family has.
-use Rattle.std.proofs.Common.{◌≡◌, ℕ, zero, suc, ◌+◌, ◌*◌, ◌/◌, ◌^◌, ◌<◌, ◌≤◌, refl, ap, sym, ◌∙◌, arith, ⊎_elim, List, [], ◌∷◌, length, map}
+use Rattle.std.proofs.Common.{◌≡◌, ℕ, zero, suc, ◌+◌, ◌-◌, ◌*◌, ◌/◌, ◌%◌, ◌^◌, ◌<◌, ◌≤◌, refl, ap, sym, ◌∙◌, arith, div-add-mod', ⊎_elim, inl, inr, List, [], ◌∷◌, length, map}
 use Rattle.std.proofs.Math.Nat.{mul-div_cancel_left, mul-le-mul_right}
 use Rattle.std.proofs.lemmas.Bool.{cases_lt}
 use Rattle.std.proofs.lemmas.List.{length-append, length-map}
@@ -101,18 +101,38 @@ grows upto ticks (suc more) l =
 
 -- ---- what the code computes
 
--- the size with a tick more is a quotient
-pub quotient_is : (upto ticks size product : ℕ) → size ≡ length (family upto ticks) → product ≡ size * (upto + (ticks + 1)) → product / (ticks + 1) ≡ length (family upto (ticks + 1))
-quotient_is upto ticks size product is made =
-    let step : size * (upto + (ticks + 1)) ≡ (upto + ticks + 1) * size = omega arith in
-    let whole : product ≡ (ticks + 1) * length (family upto (ticks + 1)) = made ∙ step ∙ ap (λ n. (upto + ticks + 1) * n) is ∙ sym (one_tick_more upto ticks) in
-    ap (λ n. n / (ticks + 1)) whole ∙ mul-div_cancel_left (length (family upto (ticks + 1))) (omega arith)
+-- a quotient in two parts
+parts_are : (size places more whole next : ℕ) → 1 ≤ more → size * places ≡ more * next → whole ≡ size / more * places → whole + size % more * places / more ≡ next
+parts_are size places more whole next some is whole_is =
+    let split : size / more * more + size % more ≡ size = div-add-mod' size more in
+    let product : (size / more * more + size % more) * places ≡ more * next = ap (λ n. n * places) split ∙ is in
+    let sum : more * (size / more * places) + size % more * places ≡ more * next = omega (arith, product) in
+    let within : size / more * places ≤ next = elim (cases_lt next (size / more * places)) [
+      | inl more_than ↦ let much : (next + 1) * more ≤ size / more * places * more = mul-le-mul_right more (omega (arith, more_than)) in absurd (omega (arith, much, sum, some))
+      | inr l ↦ l
+    ] in
+    let behind : size / more * places + (next - size / more * places) ≡ next = omega (arith, within) in
+    let rest : size % more * places ≡ more * (next - size / more * places) = omega (arith, sum, ap (λ n. more * n) behind) in
+    let part : size % more * places / more ≡ next - size / more * places = ap (λ n. n / more) rest ∙ mul-div_cancel_left (next - size / more * places) some in
+    omega (arith, whole_is, within, part)
 
--- where the product is too large for a word of 128 bits, the size is above each of 64
-pub product_is_over : (upto ticks size limit : ℕ) → size ≡ length (family upto ticks) → ticks < 8 → limit < 2 ^ 64 → (size * (upto + (ticks + 1)) < 2 ^ 128 → ⊥)
-    → length (family upto (ticks + 1)) ≤ limit → ⊥
-product_is_over upto ticks size limit is few low large within =
+-- the size with a tick more, in two parts
+pub next_is : (upto ticks size whole : ℕ) → size ≡ length (family upto ticks) → whole ≡ size / (ticks + 1) * (upto + (ticks + 1))
+    → whole + size % (ticks + 1) * (upto + (ticks + 1)) / (ticks + 1) ≡ length (family upto (ticks + 1))
+next_is upto ticks size whole is made =
     let step : size * (upto + (ticks + 1)) ≡ (upto + ticks + 1) * size = omega arith in
-    let whole : size * (upto + (ticks + 1)) ≡ (ticks + 1) * length (family upto (ticks + 1)) = step ∙ ap (λ n. (upto + ticks + 1) * n) is ∙ sym (one_tick_more upto ticks) in
-    let bound : (ticks + 1) * length (family upto (ticks + 1)) ≤ 8 * length (family upto (ticks + 1)) = mul-le-mul_right (length (family upto (ticks + 1))) (omega arith) in
-    large (omega (arith, whole, bound))
+    let product : size * (upto + (ticks + 1)) ≡ (ticks + 1) * length (family upto (ticks + 1)) = step ∙ ap (λ n. (upto + ticks + 1) * n) is ∙ sym (one_tick_more upto ticks) in
+    parts_are size (upto + (ticks + 1)) (ticks + 1) whole (length (family upto (ticks + 1))) (omega arith) product made
+
+-- where a part is too large for a word of 128 bits, so is the size
+pub whole_is_over : (upto ticks size limit : ℕ) → size ≡ length (family upto ticks) → limit < 2 ^ 128 → (size / (ticks + 1) * (upto + (ticks + 1)) < 2 ^ 128 → ⊥)
+    → length (family upto (ticks + 1)) ≤ limit → ⊥
+whole_is_over upto ticks size limit is low large within =
+    let next = next_is upto ticks size (size / (ticks + 1) * (upto + (ticks + 1))) is refl in
+    large (omega (arith, next, low, within))
+
+pub sum_is_over : (upto ticks size whole limit : ℕ) → size ≡ length (family upto ticks) → limit < 2 ^ 128 → whole ≡ size / (ticks + 1) * (upto + (ticks + 1))
+    → (whole + size % (ticks + 1) * (upto + (ticks + 1)) / (ticks + 1) < 2 ^ 128 → ⊥) → length (family upto (ticks + 1)) ≤ limit → ⊥
+sum_is_over upto ticks size whole limit is low made large within =
+    let next = next_is upto ticks size whole is made in
+    large (omega (arith, next, low, within))

@@ -18,7 +18,7 @@ pub use schedule::Schedule;
 pub use sizes::family_size;
 
 /// The most ticks that a schedule has.
-pub const MOST_TICKS: usize = 8;
+pub const MOST_TICKS: usize = 32;
 
 /// A family has all schedules of its kind, each once, in the order said.
 ///

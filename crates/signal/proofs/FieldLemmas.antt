@@ -34,7 +34,16 @@ module _ {X : Type 0} where
     | inr ne ↦ get_or-set_other _ i k (g i) d ne ∙ made_at f n k d low ∙ others k low ne
   ])
 
+  -- the same is made of each place
+  pub made_same : (f g : ℕ → X) (n : ℕ) (d : X) → ((k : ℕ) → k < n → f k ≡ g k) → map f (range_with_len 0 n) ≡ map g (range_with_len 0 n)
+  made_same f g n d same = fill_by_all g (map f (range_with_len 0 n)) n d (length-map-range_with_len f 0 n) (λ k l. made_at f n k d l ∙ same k l)
+
 -- ---- actions
+
+-- all are the same, row by row
+pub actions_same : (a b : Actions) → ((k : ℕ) → k < 64 → action_at a k ≡ action_at b k) → actions_of a ≡ actions_of b
+unfolding actions_of
+actions_same a b same = made_same (action_at a) (action_at b) 64 initial_action same
 
 pub blank_defaults : actions_of blank_actions ≡ default_actions
 unfolding actions_of blank_actions default_actions

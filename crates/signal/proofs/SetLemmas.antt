@@ -17,7 +17,7 @@ use Rattle.posix.specs.Generation.{has_sig, is_pending}
 use Rattle.posix.specs.SignalCalls.{set_of, bit_of}
 use Rattle.posix.specs.Choice.{all_signals, carried_by, first_carried, from_kernel, is_ready}
 use Rattle.signal.specs.SignalTables.{TablesView, MarksQueued, pending_at, signals_of, standard_of}
-use Rattle.signal.proofs.FieldLemmas.{made_at, set_made}
+use Rattle.signal.proofs.FieldLemmas.{made_at, made_same, set_made}
 
 bit_below : (b : Bool) → bit_of b < 2
 bit_below false = omega arith
@@ -66,6 +66,11 @@ pending_there p cs i l = made_at (pending_at p cs) 31 i None l
 
 pending_by : (n m : ℕ) (c d : Carried) → n ≡ m → c ≡ d → (if n == 1 then Some c else None) ≡ (if m == 1 then Some d else None)
 pending_by n m c d e f = cc
+
+-- all of them came with the same, row by row
+pub standard_same : (p : ℕ) (cs ds : List Carried) → ((k : ℕ) → k < 31 → pending_at p cs k ≡ pending_at p ds k) → standard_of p cs ≡ standard_of p ds
+unfolding standard_of
+standard_same p cs ds same = made_same (pending_at p cs) (pending_at p ds) 31 None same
 
 -- without a signal nothing is
 pub none_pending : (cs : List Carried) → standard_of 0 cs ≡ nothing_pending

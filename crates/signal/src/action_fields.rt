@@ -1,10 +1,11 @@
 //! The actions of a process for signals, by field.
 
-ghost use Rattle.std.specs.Prelude.{◌≡◌, ◌-◌, ◌<◌, ◌≤◌, length, map, slice_index_or, slice_set, vec_capacity};
+ghost use Rattle.std.specs.Prelude.{◌≡◌, ◌-◌, ◌<◌, ◌≤◌, true, length, map, slice_index_or, slice_set, vec_capacity};
 ghost use Rattle.posix.specs.Processes.{initial_action};
 ghost use Rattle.posix.specs.Programs.{action_on_exec};
-ghost use Rattle.signal.specs.ActionFields.{AreFields, actions_of, actions_or_blank, handler_from, disposition_on_exec};
+ghost use Rattle.signal.specs.ActionFields.{AreFields, action_at, actions_of, actions_or_blank, blank_actions, handler_from, disposition_on_exec};
 
+use crate::sameness::{are_same_handlers, are_same_sets};
 use arena::Arena;
 use bitflags::Flags;
 use posix::{Action, Handler, SaFlags, Sig, SigSet};
@@ -42,6 +43,49 @@ impl Actions {
             mask: self.masks[row],
             flags: self.flags[row],
         }
+    }
+
+    /// Whether the action in a row, the first at 0, is the same as another's there: the address counts where the
+    /// signal is caught.
+    fn is_same_at(&self, other: &Actions, row: usize) -> bool
+        requires row { row < 64 }
+        requires mine { AreFields self.now }
+        requires other { AreFields other.now }
+        ensures { result ≡ true → action_at self.now row ≡ action_at other.now row }
+    {
+        let mine = handler(self.dispositions[row], self.addresses[row]);
+        let others = handler(other.dispositions[row], other.addresses[row]);
+        are_same_handlers(mine, others)
+            && are_same_sets(self.masks[row], other.masks[row])
+            && self.flags[row] == other.flags[row]
+    }
+
+    /// Whether all actions are the same as another's.
+    fn is_same(&self, other: &Actions) -> bool
+        requires mine { AreFields self.now }
+        requires other { AreFields other.now }
+        ensures { result ≡ true → actions_of self.now ≡ actions_of other.now }
+    {
+        for row in 0..64 {
+            if !self.is_same_at(other, row) {
+                return false;
+            }
+        }
+        true
+    }
+
+    /// Whether all actions are the default ones.
+    #[tactic(auto, unfolding(crate::specs::ActionFields::blank_actions))]
+    fn are_default(&self) -> bool
+        requires { AreFields self.now }
+        ensures { result ≡ true → actions_of self.now ≡ actions_of blank_actions }
+    {
+        self.is_same(&Actions {
+            dispositions: [Disposition::Default; 64],
+            addresses: [0; 64],
+            masks: [SigSet::EMPTY; 64],
+            flags: [SaFlags::empty(); 64],
+        })
     }
 
     /// Sets the action for a signal.
@@ -88,6 +132,21 @@ pub fn keep_actions(kept: &mut Vec<Actions, Arena>)
             flags: [SaFlags::empty(); 64],
         });
     }
+}
+
+/// Whether kept actions are the same; without one they are the default ones.
+pub fn are_same_actions(mine: &[Actions], others: &[Actions]) -> bool
+    requires mine { AreFields (actions_or_blank mine.now) }
+    requires others { AreFields (actions_or_blank others.now) }
+    ensures { result ≡ true → actions_of (actions_or_blank mine.now) ≡ actions_of (actions_or_blank others.now) }
+{
+    if mine.is_empty() {
+        return others.is_empty() || others[0].are_default();
+    }
+    if others.is_empty() {
+        return mine[0].are_default();
+    }
+    mine[0].is_same(&others[0])
 }
 
 /// Where a signal stands in a table.

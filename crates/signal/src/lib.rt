@@ -7,6 +7,7 @@ mod actions;
 pub mod creds;
 pub mod interrupts;
 pub mod realtime_pool;
+pub mod sameness;
 pub mod signals;
 mod tables;
 

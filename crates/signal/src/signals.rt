@@ -14,6 +14,7 @@ ghost use Rattle.posix.specs.SignalCalls.{pending_set};
 
 use crate::actions::{does_nothing, is_caught, is_stop_signal};
 use crate::realtime_pool::RealtimePool;
+use crate::sameness::are_same_sets;
 use crate::tables::{FramesFull, LazyTables, NoFrame};
 use arena::Arena;
 use bitflags::Flags;
@@ -71,6 +72,16 @@ impl Signals {
             pending: SigSet::EMPTY,
             tables: self.tables.fork(spare)?,
         })
+    }
+
+    /// Whether two processes have the same signal mask, pending signals, actions and frames.
+    pub fn is_same(&self, other: &Signals) -> bool
+        ensures { result ≡ true → self.now ≡ other.now }
+    {
+        are_same_sets(self.mask, other.mask)
+            && are_same_sets(self.pending, other.pending)
+            && self.tables.has_same_carried(&other.tables, self.pending)
+            && self.tables.is_same_but_carried(&other.tables)
     }
 
     /// The tables of signals that are needed no more.

@@ -8,10 +8,11 @@ ghost use Rattle.posix.specs.Choice.{from_kernel, first_carried, without_first};
 ghost use Rattle.posix.specs.Sends.{most_queued};
 ghost use Rattle.posix.specs.Handlers.{most_frames};
 ghost use Rattle.posix.specs.Programs.{action_on_exec};
-ghost use Rattle.signal.specs.SignalTables.{initial_tables, nothing_carried, carried_or_blank, queue_in};
+ghost use Rattle.signal.specs.SignalTables.{initial_tables, nothing_carried, carried_or_blank, pending_at, queue_in, standard_of};
 
-use crate::action_fields::{Actions, keep_actions, row_of};
+use crate::action_fields::{Actions, are_same_actions, keep_actions, row_of};
 use crate::realtime_pool::RealtimePool;
+use crate::sameness::{are_all_same_frames, are_same_carried, are_same_queues};
 use arena::{Arena, new_arena, refill};
 use bitflags::Flags;
 use posix::{Action, Carried, Frame, Handler, PendingSignal, SaFlags, Sig, SigSet};
@@ -155,6 +156,28 @@ impl LazyTables {
         }
     }
 
+    /// Whether a standard signal came with the same as in other tables, or isn't in a set of pending signals.
+    fn has_same_carried_at(&self, other: &LazyTables, pending: SigSet, sig: Sig) -> bool
+        ensures { result ≡ true → pending_at pending self.now.carried (sig - 1) ≡ pending_at pending other.now.carried (sig - 1) }
+    {
+        !pending.contains(sig) || are_same_carried(self.carried(sig), other.carried(sig))
+    }
+
+    /// Whether the standard signals in a set of pending signals came with the same as in other tables.
+    pub fn has_same_carried(&self, other: &LazyTables, pending: SigSet) -> bool
+        ensures { result ≡ true → standard_of pending self.now.carried ≡ standard_of pending other.now.carried }
+    {
+        for row in 0..31 {
+            let Some(sig) = Sig::new(row + 1) else {
+                return false; // all of them are signals
+            };
+            if !self.has_same_carried_at(other, pending, sig) {
+                return false;
+            }
+        }
+        true
+    }
+
     /// Sets what a standard signal comes with.
     pub fn set_carried(&mut self, sig: Sig, carried: Carried)
         requires { sig ≤ 31 }
@@ -260,6 +283,19 @@ impl LazyTables {
         ensures rest { self.new ≡ record self.old { frames = take (length self.old.frames - 1) self.old.frames } }
     {
         self.frames.pop()
+    }
+
+    // ---- all of them
+
+    /// Whether the actions, the queue and the frames are the same as in other tables.
+    pub fn is_same_but_carried(&self, other: &LazyTables) -> bool
+        ensures actions { result ≡ true → self.now.actions ≡ other.now.actions }
+        ensures queue { result ≡ true → self.now.queue ≡ other.now.queue }
+        ensures frames { result ≡ true → self.now.frames ≡ other.now.frames }
+    {
+        are_same_actions(&self.actions, &other.actions)
+            && are_same_queues(self.queue(), other.queue())
+            && are_all_same_frames(&self.frames, &other.frames)
     }
 
     /// Drops all frames, and all that is queued.

@@ -1,6 +1,6 @@
 //! A console: the keys that are typed at it, the lines that they make, and whose terminal it is.
 
-ghost use Rattle.std.specs.Prelude.{◌≡◌, ◌≤◌, ◌==◌, ◌||◌, ◌++◌, not, length, IfOk};
+ghost use Rattle.std.specs.Prelude.{◌≡◌, ◌≤◌, ◌==◌, ◌||◌, ◌++◌, not, length, true, IfOk};
 ghost use Rattle.posix.specs.Consoles.{unused_console, keyed, keyed_by, key_signal, signal_typed, disconnected, session_told, edit as edited_by, finishes, ends_edited, finish_line, has_room, flushed, erased, with_byte, line_taken, acquired, released, with_foreground, with_tostop};
 ghost use Rattle.tty.specs.Limits.{IsWithinLimits};
 ghost use Rattle.tty.specs.Lines.{Takes};
@@ -144,6 +144,18 @@ impl Console {
         ensures limits { IsWithinLimits self.now }
     {
         self.hung_up
+    }
+
+    /// Whether another console is the same: whose it is, what was typed, and its settings.
+    pub fn is_same(&self, other: &Console) -> bool
+        ensures { result ≡ true → self.now ≡ other.now }
+    {
+        self.session == other.session
+            && self.foreground == other.foreground
+            && self.tostop == other.tostop
+            && self.hung_up == other.hung_up
+            && self.lines.is_same(&other.lines)
+            && self.edited() == other.edited()
     }
 
     /// It becomes the controlling terminal of a session, with a foreground process group (XBD 11.1.3). What was typed

@@ -1,6 +1,6 @@
 //! Finished lines of a console, which wait to be read.
 
-ghost use Rattle.std.specs.Prelude.{◌≡◌, ◌+◌, ◌≤◌, ◌==◌, ◌&&◌, nat_lt, nat_le, [], ◌∷◌, ◌++◌, length, if◌then◌else◌, IfOk};
+ghost use Rattle.std.specs.Prelude.{◌≡◌, ◌+◌, ◌≤◌, ◌==◌, ◌&&◌, nat_lt, nat_le, [], ◌∷◌, ◌++◌, length, true, if◌then◌else◌, IfOk};
 ghost use Rattle.posix.specs.Consoles.{has_room, lines_left, waiting, most_lines, most_waiting};
 ghost use Rattle.tty.specs.Limits.{AreFew};
 ghost use Rattle.tty.specs.Lines.{Takes};
@@ -59,6 +59,13 @@ impl LineQueue {
         ensures { result ≡ length self.now }
     {
         self.lengths.len()
+    }
+
+    /// Whether another queue has the same lines, in the same order.
+    pub fn is_same(&self, other: &LineQueue) -> bool
+        ensures { result ≡ true → self.now ≡ other.now }
+    {
+        self.lengths.iter().eq(other.lengths.iter()) && self.bytes.iter().eq(other.bytes.iter())
     }
 
     /// Drops all lines.

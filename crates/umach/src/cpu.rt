@@ -1,13 +1,13 @@
 //! The processor of a process, and the run of one instruction.
 
-ghost use Rattle.std.specs.Prelude.{◌≡◌, ◌+◌, ◌<◌, ◌≤◌, length, IfOk, IfSome, if◌then◌else◌, pos, slice_index_or};
+ghost use Rattle.std.specs.Prelude.{◌≡◌, ◌+◌, ◌<◌, ◌≤◌, true, length, IfOk, IfSome, if◌then◌else◌, pos, slice_index_or};
 ghost use Rattle.posix.specs.Processes.{fresh_cpu};
 ghost use Rattle.posix.specs.Execute.{exec_one as executed, execute as execute_instr, set_register, register as register_of, move_on, put_result, load_from, store_at, address_of, jump, computed, passes as passed, fetched, StaysUnlessRun};
 ghost use Rattle.posix.specs.Handlers.{frame_of, restore};
 ghost use Rattle.posix.specs.Transfers.{stored, bytes_in};
 ghost use Rattle.umach.specs.Bursts.{exec_until, IsWithin};
 
-use crate::memory::UserMem;
+use crate::memory::{UserMem, are_equal};
 use crate::program::Program;
 use arena::Arena;
 use posix::{Bytes, Condition, Frame, Instr, Operator, Register, Sig, SigSet, Span, Trap};
@@ -57,6 +57,15 @@ impl Cpu {
             registers: self.registers,
             memory: self.memory.try_clone(spare)?,
         })
+    }
+
+    /// Whether two processors are in the same state.
+    pub fn is_same(&self, other: &Cpu) -> bool
+        ensures { result ≡ true → self.now ≡ other.now }
+    {
+        self.pc == other.pc
+            && are_equal(&self.registers, &other.registers)
+            && self.memory.is_same(&other.memory)
     }
 
     /// The memory of a processor that is needed no more.

@@ -1,6 +1,6 @@
 //! The memory of a process.
 
-ghost use Rattle.std.specs.Prelude.{◌≡◌, ◌+◌, ◌-◌, ◌<◌, ◌≤◌, ◌++◌, IfOk, pos, length, map, replicate, vec_capacity, slice_index_or, slice_set};
+ghost use Rattle.std.specs.Prelude.{◌≡◌, ◌+◌, ◌-◌, ◌<◌, ◌≤◌, ◌++◌, true, EachIndex, IfOk, pos, length, map, replicate, vec_capacity, slice_index_or, slice_set};
 ghost use Rattle.posix.specs.Processes.{zero_memory};
 ghost use Rattle.posix.specs.Transfers.{stored, low_byte, bytes_in};
 ghost use Rattle.umach.specs.Memories.{words_of};
@@ -109,6 +109,41 @@ impl UserMem {
         refill(&mut words, self.words.as_slice())?;
         Ok(UserMem { words })
     }
+
+    /// Whether two memories have the same words; how many of them are kept may differ.
+    pub fn is_same(&self, other: &UserMem) -> bool
+        ensures { result ≡ true → self.now ≡ other.now }
+    {
+        mean_the_same(&self.words, &other.words)
+    }
+}
+
+/// Whether memories of which these words are kept, at most 256 of each, have the same words: those that both keep
+/// are equal, and those behind them 0.
+#[tactic(auto, using(crate::proofs::MemoryLemmas::same_words))]
+fn mean_the_same(mine: &[i64], others: &[i64]) -> bool
+    requires mine { length mine.now ≤ 256 }
+    requires others { length others.now ≤ 256 }
+    ensures { result ≡ true → words_of mine.now ≡ words_of others.now }
+{
+    let common = mine.len().min(others.len());
+    are_equal(&mine[..common], &others[..common])
+        && are_zero(&mine[common..])
+        && are_zero(&others[common..])
+}
+
+/// Whether words are equal, one by one, and as many.
+pub fn are_equal(mine: &[i64], others: &[i64]) -> bool
+    ensures { result ≡ true → mine.now ≡ others.now }
+{
+    mine == others
+}
+
+/// Whether all words are 0.
+fn are_zero(words: &[i64]) -> bool
+    ensures { result ≡ true → EachIndex words.now (λ k. slice_index_or words.now k (pos 0) ≡ pos 0) }
+{
+    words.iter().all(|word| *word == 0)
 }
 
 /// Keeps the word at an address below 256 from now on.

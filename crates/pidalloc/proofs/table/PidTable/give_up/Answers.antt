@@ -10,6 +10,16 @@ give_up_in-requires c =
     subst (λ n. 1 ≤ count_of c.args.role (row_in i.pages.items n)) (sym c.number-number.ensures.value)
     (subst P c.self.view_is (λ l m. subst (λ r. 1 ≤ count_of c.args.role r) (row_of i.pidmax i.pages.items c.args.pid l) m) c.requires.range c.requires.count)
 
+pub returns-then-not-give_up_in-clause-value : goal.returns-then-not-give_up_in-clause-value
+returns-then-not-give_up_in-clause-value c =
+    let i = c.self.inside in
+    let l = subst (λ (t : Pids). c.args.pid ≤ t.pidmax) (sym c.self.view_is) c.requires.range in
+    let change = subst (λ n. IsRowChanged n (one_less c.args.role) i.pages.items c.give_up_in.new.pages.items) c.number-number.ensures.value c.give_up_in.ensures.rows in
+    pids_given_up i.pidmax i.last c.args.pid c.args.role i.pages.items c.give_up_in.new.pages.items i.spare i.spare c.args.self.now c.self.view_is l change
+
+pub returns-then-not-give_up_in-clause-kept : goal.returns-then-not-give_up_in-clause-kept
+returns-then-not-give_up_in-clause-kept c = let i = c.self.invariant in record { size = rows_size c.self.inside.pidmax c.give_up_in.new.pages.items; given = i.given; least = i.least; limit = i.limit }
+
 pub returns-clause-value : goal.returns-clause-value
 returns-clause-value c =
     let i = c.self.inside in

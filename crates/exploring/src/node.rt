@@ -1,0 +1,284 @@
+//! States, and the beginnings of schedules that lead to them.
+
+ghost use Rattle.std.specs.Prelude.{◌≡◌, ◌+◌, ◌<◌, ◌≤◌, ◌^◌, ◌++◌, [], ◌∷◌, List, ℕ, true, length, map, IfOk, OnOk};
+ghost use Rattle.posix.specs.States.{World as WorldValue, boot};
+ghost use Rattle.posix.specs.Regular.{IsRegular};
+ghost use Rattle.posix.specs.Settle.{IsSettled};
+ghost use Rattle.posix.specs.declared.event.Event.TheVariants.{Tick};
+ghost use Rattle.text.specs.EventTexts.{most_events};
+ghost use Rattle.exploring.specs.Courses.{course_from};
+ghost use Rattle.exploring.specs.Merging.{IsAt, IsNode, IsOne, IsSameNode, Outlook, both, is_before as comes_before, is_earlier as has_earlier, marked, marks_after, state_after, tally_of_node, unmarked};
+ghost use Rattle.exploring.specs.Texts.{have_text};
+
+use crate::course::{run_all, run_one};
+use crate::finds::stands_in;
+use crate::lines::{Line, shown};
+use crate::tally::{Places, copied};
+use kernel::Kernel;
+use posix::Event;
+use std::alloc::{AllocError, Global};
+use std::mem::swap;
+use text::{EventList, World};
+
+/// A state of a machine, and the beginnings of schedules that lead to it.
+#[derive(Drop)]
+pub struct Node {
+    /// In this state.
+    pub kernel: Kernel,
+    /// How many they are.
+    pub count: u128,
+    /// The places of the first of them.
+    pub places: Places,
+    /// The events of the first of them.
+    pub given: EventList,
+    /// Of each text, whether a line has it.
+    pub marks: Vec<bool>,
+}
+
+/// Whether the one list, of as many places, has the earlier place where they first differ.
+fn is_earlier(places: &[u64], others: &[u64]) -> bool
+    ensures { result ≡ has_earlier places.now others.now }
+{
+    let (Some((place, places)), Some((other, others))) = (
+        places.split_first(),
+        others.split_first(),
+    ) else {
+        return false;
+    };
+    place < other || (place == other && is_earlier(places, others))
+}
+
+/// Whether a schedule comes before another in a family.
+pub fn is_before(places: &[u64], others: &[u64]) -> bool
+    ensures { result ≡ comes_before places.now others.now }
+{
+    places.len() < others.len() || (places.len() == others.len() && is_earlier(places, others))
+}
+
+/// Whether one of the lines has a text.
+fn has_text(text: &str, lines: &[Line]) -> bool
+    ensures { result ≡ have_text text.now lines.now }
+{
+    for line in lines {
+        let mut room = [0; 128];
+        if stands_in(text, shown(line.entry(), &mut room)) {
+            return true;
+        }
+    }
+    false
+}
+
+/// Marks each text that one of the lines has.
+pub fn mark(texts: &[&str], lines: &[Line], marks: &mut [bool])
+    ensures marks { marks.new ≡ marked (map (λ t. t.now) texts.now) lines.now marks.old }
+{
+    let Some((text, texts)) = texts.split_first() else {
+        return;
+    };
+    let Some((first, marks)) = marks.split_first_mut() else {
+        return;
+    };
+    *first = *first || has_text(text, lines);
+    mark(texts, lines, marks);
+}
+
+/// The events once more.
+fn copied_list(alloc: Global, events: &EventList) -> Result<EventList, AllocError>
+    requires { length events.now ≤ most_events }
+    ensures { IfOk result (λ copy. copy ≡ events.now) }
+{
+    let mut copy = EventList::new(alloc);
+    for run in events.runs() {
+        copy.push(run.event(), run.count())?;
+    }
+    Ok(copy)
+}
+
+/// A kernel after these events, from the start of its world on. An error where there is no memory for it, or for what a
+/// process of the world asks.
+fn kernel_after(
+    alloc: Global,
+    world: &World,
+    events: &EventList,
+    lines: &mut Vec<Line>,
+) -> Result<Kernel, AllocError>
+    requires { length events.now ≤ most_events }
+    ensures state { IfOk result (λ kernel. kernel.state ≡ (course_from 1 (boot world.now) events.now).last) }
+    ensures events { IfOk result (λ kernel. kernel.events ≤ length events.now) }
+    ensures regular { IfOk result (λ kernel. IsRegular kernel.state) }
+    ensures settled { IfOk result (λ kernel. IsSettled kernel.state) }
+{
+    lines.clear();
+    let mut kernel = Kernel::boot(alloc, world)?;
+    match run_all(&mut kernel, events, lines) {
+        Ok(_) => Ok(kernel),
+        Err(e) => {
+            drop(kernel);
+            Err(e)
+        }
+    }
+}
+
+/// Gives an event to a kernel, and marks the texts that its lines have.
+fn give(
+    kernel: &mut Kernel,
+    event: Event,
+    texts: &[&str],
+    marks: &mut [bool],
+    lines: &mut Vec<Line>,
+) -> Result<(), AllocError>
+    requires few { kernel.old.events < most_events }
+    ensures state { OnOk result (kernel.new.state ≡ state_after event kernel.old.state) }
+    ensures events { OnOk result (kernel.new.events ≡ kernel.old.events + 1) }
+    ensures marks { OnOk result (marks.new ≡ marks_after (map (λ t. t.now) texts.now) event kernel.old.state marks.old) }
+    ensures regular { OnOk result (IsRegular kernel.new.state) }
+    ensures settled { OnOk result (IsSettled kernel.new.state) }
+{
+    lines.clear();
+    run_one(kernel, event, lines)?;
+    mark(texts, lines.as_slice(), marks);
+    Ok(())
+}
+
+impl Node {
+    /// The start of a world, where no schedule has begun.
+    pub fn first(alloc: Global, world: &World, texts: &[&str]) -> Result<Node, AllocError>
+        ensures node { (ticks : ℕ) → IfOk result (IsNode world.now (map (λ t. t.now) texts.now) ticks) }
+        ensures state { IfOk result (λ n. n.kernel.state ≡ boot world.now) }
+        ensures one { IfOk result (λ n. n.count ≡ 1) }
+        ensures places { IfOk result (λ n. n.places.items ≡ []) }
+        ensures at { IfOk result (IsAt 0) }
+        ensures marks { IfOk result (λ n. n.marks.items ≡ unmarked (map (λ t. t.now) texts.now)) }
+    {
+        let marks = vec![in alloc; false; texts.len()]?;
+        Ok(Node {
+            kernel: Kernel::boot(alloc, world)?,
+            count: 1,
+            places: Places::new(),
+            given: EventList::new(alloc),
+            marks,
+        })
+    }
+
+    /// One more event is given.
+    pub fn give(
+        &mut self,
+        event: Event,
+        texts: &[&str],
+        lines: &mut Vec<Line>,
+    ) -> Result<(), AllocError>
+        requires few { self.old.kernel.events ≤ length self.old.given }
+        requires given { length self.old.given < most_events }
+        ensures node { (world : WorldValue) (ticks : ℕ) → IsNode world (map (λ t. t.now) texts.now) ticks self.old → OnOk result (IsNode world (map (λ t. t.now) texts.now) ticks self.new) }
+        ensures state { OnOk result (self.new.kernel.state ≡ state_after event self.old.kernel.state) }
+        ensures marks { OnOk result (self.new.marks.items ≡ marks_after (map (λ t. t.now) texts.now) event self.old.kernel.state self.old.marks.items) }
+        ensures given { OnOk result (self.new.given ≡ self.old.given ++ event ∷ []) }
+        ensures count { self.new.count ≡ self.old.count }
+        ensures places { self.new.places ≡ self.old.places }
+        ensures at { (place : ℕ) → IsAt place self.old → OnOk result (IsAt (place + 1) self.new) }
+    {
+        give(
+            &mut self.kernel,
+            event,
+            texts,
+            self.marks.as_mut_slice(),
+            lines,
+        )?;
+        self.given.push(event, 1)?;
+        Ok(())
+    }
+
+    /// The same beginnings, with a kernel of their own.
+    fn again(&self, alloc: Global, world: &World, lines: &mut Vec<Line>) -> Result<Node, AllocError>
+        requires few { length self.now.given ≤ most_events }
+        requires ticks { length self.now.places.items ≤ 32 }
+        requires reached { self.now.kernel.state ≡ (course_from 1 (boot world.now) self.now.given).last }
+        ensures state { IfOk result (λ n. n.kernel.state ≡ self.now.kernel.state) }
+        ensures events { IfOk result (λ n. n.kernel.events ≤ length self.now.given) }
+        ensures regular { IfOk result (λ n. IsRegular n.kernel.state) }
+        ensures settled { IfOk result (λ n. IsSettled n.kernel.state) }
+        ensures count { IfOk result (λ n. n.count ≡ self.now.count) }
+        ensures places { IfOk result (λ n. n.places.items ≡ self.now.places.items) }
+        ensures given { IfOk result (λ n. n.given ≡ self.now.given) }
+        ensures marks { IfOk result (λ n. n.marks.items ≡ self.now.marks.items) }
+    {
+        let given = copied_list(alloc, &self.given)?;
+        let marks = Vec::from_slice(alloc, self.marks.as_slice())?;
+        Ok(Node {
+            kernel: kernel_after(alloc, world, &self.given, lines)?,
+            count: self.count,
+            places: copied(self.places.as_slice()),
+            given,
+            marks,
+        })
+    }
+
+    /// The beginnings with one more tick, which stands before the event with this place.
+    pub fn ticked(
+        &self,
+        alloc: Global,
+        world: &World,
+        place: u64,
+        texts: &[&str],
+        lines: &mut Vec<Line>,
+    ) -> Result<Node, AllocError>
+        requires few { length self.now.given < most_events }
+        requires ticks { length self.now.places.items < 32 }
+        requires node { (ticks : ℕ) × IsNode world.now (map (λ t. t.now) texts.now) ticks self.now }
+        ensures node { (ticks : ℕ) → IsNode world.now (map (λ t. t.now) texts.now) ticks self.now → length self.now.places.items < ticks → IfOk result (IsNode world.now (map (λ t. t.now) texts.now) ticks) }
+        ensures state { IfOk result (λ n. n.kernel.state ≡ state_after Tick self.now.kernel.state) }
+        ensures marks { IfOk result (λ n. n.marks.items ≡ marks_after (map (λ t. t.now) texts.now) Tick self.now.kernel.state self.now.marks.items) }
+        ensures count { IfOk result (λ n. n.count ≡ self.now.count) }
+        ensures places { IfOk result (λ n. n.places.items ≡ self.now.places.items ++ place ∷ []) }
+        ensures at { (given : ℕ) → IsAt given self.now → IfOk result (IsAt given) }
+    {
+        let mut node = self.again(alloc, world, lines)?;
+        node.places.push(place);
+        match node.give(Event::Tick, texts, lines) {
+            Ok(()) => Ok(node),
+            Err(e) => {
+                drop(node);
+                Err(e)
+            }
+        }
+    }
+
+    /// Whether two nodes are one: the same state of a world, led to by as many ticks, with the same marks.
+    pub fn is_one(&mut self, other: &mut Node) -> bool
+        requires world { self.old.kernel.state.world ≡ other.old.kernel.state.world }
+        ensures one { result ≡ true → IsOne self.old other.old }
+        ensures same { IsSameNode self.old self.new }
+        ensures other { IsSameNode other.old other.new }
+    {
+        self.places.len() == other.places.len()
+            && self.marks.as_slice() == other.marks.as_slice()
+            && self.kernel.is_same(&mut other.kernel)
+    }
+
+    /// The beginnings of another node that is one with this are counted with its own, of which the first stay.
+    fn join_first(&mut self, other: &mut Node)
+        requires count { self.old.count + other.old.count < 2 ^ 128 }
+        requires one { IsOne self.old other.old }
+        ensures tally { (go_on : Outlook) (ticks : ℕ) → tally_of_node go_on ticks self.new ≡ both (tally_of_node go_on ticks self.old) (tally_of_node go_on ticks other.old) }
+        ensures node { (world : WorldValue) (texts : List (List ℕ)) (ticks : ℕ) → IsNode world texts ticks self.old → IsNode world texts ticks other.old → IsNode world texts ticks self.new }
+        ensures at { (place : ℕ) → IsAt place self.old → IsAt place other.old → IsAt place self.new }
+    {
+        let count = self.count + other.count;
+        if is_before(other.places.as_slice(), self.places.as_slice()) {
+            swap(self, other);
+        }
+        self.count = count;
+    }
+
+    /// The beginnings of another node that is one with this come to its own.
+    pub fn join(&mut self, mut other: Node)
+        requires count { self.old.count + other.count < 2 ^ 128 }
+        requires one { IsOne self.old other }
+        ensures tally { (go_on : Outlook) (ticks : ℕ) → tally_of_node go_on ticks self.new ≡ both (tally_of_node go_on ticks self.old) (tally_of_node go_on ticks other) }
+        ensures node { (world : WorldValue) (texts : List (List ℕ)) (ticks : ℕ) → IsNode world texts ticks self.old → IsNode world texts ticks other → IsNode world texts ticks self.new }
+        ensures at { (place : ℕ) → IsAt place self.old → IsAt place other → IsAt place self.new }
+    {
+        self.join_first(&mut other);
+        drop(other);
+    }
+}

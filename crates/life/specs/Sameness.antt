@@ -1,0 +1,12 @@
+-- What of two states is compared at once.
+use Rattle.std.specs.Prelude.{◌≡◌}
+use Rattle.posix.specs.States.{State}
+
+-- all but the processes, the consoles and the world is the same
+pub record HaveSameCounts (s t : State) : Type 0 where
+  pub last_pid : s.last_pid ≡ t.last_pid
+  pub births : s.births ≡ t.births
+  pub ticks : s.ticks ≡ t.ticks
+  pub order : s.order ≡ t.order
+  pub dropped : s.dropped ≡ t.dropped
+  pub halted : s.halted ≡ t.halted

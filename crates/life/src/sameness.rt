@@ -1,0 +1,90 @@
+//! Whether two machines are in the same state.
+
+ghost use Rattle.std.specs.Prelude.{◌≡◌, ◌+◌, ◌*◌, length, true};
+ghost use Rattle.posix.specs.States.{process};
+ghost use Rattle.life.specs.Machines.{IsThere, Looks};
+ghost use Rattle.life.specs.Sameness.{HaveSameCounts};
+
+use crate::machine::Machine;
+use posix::Pid;
+use proctable::ProcessTable;
+use tty::Console;
+
+impl<K: ProcessTable> Machine<K> {
+    /// Whether another machine of the same world is in the same state. `false` promises nothing. Nothing changes in either
+    /// but how many slots have been read.
+    pub fn is_same(&mut self, other: &mut Machine<K>) -> bool
+        requires world { self.old.state.world ≡ other.old.state.world }
+        ensures same { result ≡ true → self.old.state ≡ other.old.state }
+        ensures mine { Looks (1 + 3 * length self.old.state.processes) self.old self.new }
+        ensures others { Looks (1 + 3 * length other.old.state.processes) other.old other.new }
+    {
+        if !self.has_same_counts(other) || !are_same(&self.consoles, &other.consoles) {
+            return false;
+        }
+        self.has_same_processes(other)
+    }
+
+    /// Whether it is the same in both machines how many ticks passed and processes were born and dropped, whether they
+    /// halted, the number given last, and who has a place.
+    fn has_same_counts(&self, other: &Machine<K>) -> bool
+        ensures { result ≡ true → HaveSameCounts self.now.state other.now.state }
+    {
+        self.ticks == other.ticks
+            && self.births == other.births
+            && self.dropped == other.dropped
+            && self.halted == other.halted
+            && self.pids.last() == other.pids.last()
+            && self.order.is_same(&other.order)
+    }
+
+    /// Whether both machines have the same processes: these are compared one by one, from the least number on.
+    fn has_same_processes(&mut self, other: &mut Machine<K>) -> bool
+        ensures same { result ≡ true → self.old.state.processes ≡ other.old.state.processes }
+        ensures mine { Looks (1 + 3 * length self.old.state.processes) self.old self.new }
+        ensures others { Looks (1 + 3 * length other.old.state.processes) other.old other.new }
+    {
+        let mut next = self.next_after(Pid::NONE);
+        let mut their_next = other.next_after(Pid::NONE);
+        while let Some(pid) = next {
+            let Some(their_pid) = their_next else {
+                return false;
+            };
+            if pid != their_pid || !self.has_same_process(other, pid) {
+                return false;
+            }
+            next = self.next_after(pid);
+            their_next = other.next_after(pid);
+        }
+        their_next.is_none()
+    }
+
+    /// Whether a process that is there in both machines is the same in both.
+    fn has_same_process(&mut self, other: &mut Machine<K>, pid: Pid) -> bool
+        requires here { IsThere pid self.old }
+        requires there { IsThere pid other.old }
+        ensures same { result ≡ true → process self.old.state pid ≡ process other.old.state pid }
+        ensures mine { Looks 2 self.old self.new }
+        ensures others { Looks 2 other.old other.new }
+    {
+        if self.parent(pid) != other.parent(pid) {
+            return false;
+        }
+        self.table.look(pid).is_same(other.table.look(pid))
+    }
+}
+
+/// Whether the consoles of two rows are the same, one after another.
+fn are_same(consoles: &[Console], others: &[Console]) -> bool
+    ensures { result ≡ true → consoles.now ≡ others.now }
+{
+    if consoles.len() != others.len() {
+        return false;
+    }
+    for index in 0..consoles.len() {
+        if !consoles[index].is_same(&others[index]) {
+            return false;
+        }
+    }
+    true
+}

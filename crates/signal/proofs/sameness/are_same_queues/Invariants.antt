@@ -1,0 +1,6 @@
+use Rattle.std.proofs.Common.{◌≡◌, take}
+use Rattle.signal.proofs.sameness.are_same_queues.Given as goal
+
+-- the signals so far are the same
+abbrev pub invariant-loop-place : goal.invariant-loop-place
+invariant-loop-place l = take l.place l.mine ≡ take l.place l.others
