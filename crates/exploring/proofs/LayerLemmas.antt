@@ -33,7 +33,7 @@ put_there [] i m l = absurd (omega arith)
 put_there (k ∷ ns) zero m l = refl
 put_there (k ∷ ns) (suc i) m l = put_there ns i m (omega arith)
 
--- two that are one are still
+-- two nodes that are one still are
 pub one_still : (n m k l : Node) → IsSameNode n m → IsSameNode k l → IsOne n k → IsOne m l
 one_still n m k l a b one = record {
   state = a.state ∙ one.state ∙ sym b.state;

@@ -11,11 +11,11 @@ use Rattle.exploring.proofs.CountedLemmas.{all_counted, is_open, once_within}
 use Rattle.exploring.proofs.MergeLemmas.{merged_tally}
 use Rattle.exploring.proofs.TallyLemmas.{behind_nothing, none_and}
 
--- nothing holds of none but what holds of all
+-- of no nodes everything holds
 pub of_none : (P : Node → Type 0) (none : List Node) → none ≡ [] → All P none
 of_none P none empty = subst (All P) (sym empty) (λ k d l. absurd (omega (arith, l)))
 
--- from the first node all schedules go on
+-- all schedules go on from the first node
 pub begun : (go_on : Outlook) (ticks : ℕ) (world : World) (texts : List (List ℕ)) (none nodes : List Node) (n : Node) → none ≡ [] → n.count ≡ 1 → n.places.items ≡ [] → n.kernel.state ≡ boot world → n.marks.items ≡ unmarked texts
     → tally_of_nodes go_on ticks nodes ≡ both (tally_of_nodes go_on ticks none) (tally_of_node go_on ticks n) → tally_of_nodes go_on ticks nodes ≡ go_on ticks (boot world) (unmarked texts)
 begun go_on ticks world texts none nodes n empty one places state marks came =

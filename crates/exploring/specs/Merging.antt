@@ -103,16 +103,16 @@ tally_from has texts (suc places) p (x ∷ events) k s marks = tally_at_place (t
 abbrev pub Outlook : Type 0
 Outlook = ℕ → State → List Bool → TallyView
 
--- of the schedules that begin so
+-- of the schedules of a node
 abbrev pub tally_of_node : Outlook → ℕ → Node → TallyView
 tally_of_node go_on ticks n = behind n.count n.places.items (go_on (ticks - length n.places.items) n.kernel.state n.marks.items)
 
--- of all that begin in one of these ways
+-- of the schedules of all nodes
 abbrev pub tally_of_nodes : Outlook → ℕ → List Node → TallyView
 tally_of_nodes go_on ticks [] = no_schedules
 tally_of_nodes go_on ticks (n ∷ ns) = both (tally_of_node go_on ticks n) (tally_of_nodes go_on ticks ns)
 
--- one schedule goes on from each
+-- one schedule goes on from each state
 abbrev pub goes_on_once : Outlook
 goes_on_once k s marks = one_if true
 
@@ -120,7 +120,8 @@ goes_on_once k s marks = one_if true
 abbrev pub always : Property
 always ending marks = true
 
--- What is known of a node of a world and so many texts: so it is led to, by at most so many ticks.
+-- The events of a node lead to its state in a world. Its kernel was given no more than these, there is a mark for each text, and a place for
+-- each of at most so many ticks.
 pub record IsNode (world : World) (texts : List (List ℕ)) (ticks : ℕ) (n : Node) : Type 0 where
   pub reached : n.kernel.state ≡ (course_from 1 (boot world) n.given).last
   pub regular : IsRegular n.kernel.state
@@ -129,7 +130,7 @@ pub record IsNode (world : World) (texts : List (List ℕ)) (ticks : ℕ) (n : N
   pub marks : length n.marks.items ≡ length texts
   pub few : length n.places.items ≤ ticks
 
--- so many events were given, and one more for each tick
+-- The node stands before the event with this place: it was given all events before it, and its ticks.
 abbrev pub IsAt : ℕ → Node → Type 0
 IsAt place n = length n.given ≡ place + length n.places.items
 
@@ -154,26 +155,26 @@ AreSameNodes [] new = new ≡ []
 AreSameNodes (n ∷ ns) [] = ⊥
 AreSameNodes (n ∷ ns) (m ∷ ms) = IsSameNode n m × AreSameNodes ns ms
 
--- The schedules that begin in one of these ways, or so, aren't too many to be counted.
+-- The schedules of some nodes and of one more can be counted in 128 bits, if one goes on from each.
 abbrev pub AreCountable : ℕ → List Node → Node → Type 0
 AreCountable ticks nodes n = (tally_of_nodes goes_on_once ticks nodes).count + n.count < 2 ^ 128
 
--- All go on from here, before an event, or went on already: they aren't too many to be counted, either.
+-- So can all schedules of nodes before an event, and of others that were given it.
 abbrev pub AreAllCountable : List (List ℕ) → ℕ → ℕ → Event → List Node → List Node → Type 0
 AreAllCountable texts ticks place x given nodes = (left : ℕ) × (xs : List Event)
     × ((both (tally_of_nodes (tally_from always texts left (place + 1) xs) ticks given) (tally_of_nodes (tally_from always texts (suc left) place (x ∷ xs)) ticks nodes)).count < 2 ^ 128)
 
--- What went on is told of with the rest of it.
+-- Nodes were given an event, with more ticks before it or none, and came to others: all schedules are those of the new nodes.
 abbrev pub GoOn : List (List ℕ) → ℕ → ℕ → Event → List Node → List Node → List Node → Type 0
 GoOn texts ticks place x given nodes new = (has : Property) (left : ℕ) (xs : List Event) →
     tally_of_nodes (tally_from has texts left (place + 1) xs) ticks new
     ≡ both (tally_of_nodes (tally_from has texts left (place + 1) xs) ticks given) (tally_of_nodes (tally_from has texts (suc left) place (x ∷ xs)) ticks nodes)
 
--- what a node comes to that is given the event
+-- of the schedules of a node once it is given the event
 abbrev pub given_event : Outlook → ℕ → List (List ℕ) → Event → Node → TallyView
 given_event go_on ticks texts x n = behind n.count n.places.items (go_on (ticks - length n.places.items) (state_after x n.kernel.state) (marks_after texts x n.kernel.state n.marks.items))
 
--- Of the nodes that go to a layer these are left, and the layer is so now.
+-- Some nodes were given an event and came to others, and some are left over: together they have the same schedules.
 abbrev pub IsLeft : List (List ℕ) → ℕ → ℕ → Event → List Node → List Node → List Node → List Node → Type 0
 IsLeft texts ticks place x given nodes now left_over = (has : Property) (left : ℕ) (xs : List Event) →
     both (tally_of_nodes (tally_from has texts left (place + 1) xs) ticks now) (tally_of_nodes (tally_from has texts (suc left) place (x ∷ xs)) ticks left_over)
@@ -204,13 +205,13 @@ with_many_runs ending marks t b = record {
   total = b.total + t.count;
 }
 
--- the schedules that begin so were counted, of which these events are left
+-- with the schedules of a node that has these events left, and no more ticks
 abbrev pub counted : List (List ℕ) → List Event → Node → BookView → BookView
 counted texts events n b =
     let c = course_from 1 n.kernel.state events in
     with_many_runs (ending_of c.last) (marked texts c.lines n.marks.items) (record { count = n.count; first = Some n.places.items }) b
 
--- of all nodes, the last one first
+-- with those of all nodes, the last node first
 abbrev pub counted_all : List (List ℕ) → List Event → List Node → BookView → BookView
 counted_all texts events [] b = b
 counted_all texts events (n ∷ ns) b = counted texts events n (counted_all texts events ns b)

@@ -21,7 +21,7 @@ use std::alloc::{AllocError, Global};
 use std::collections::HashMap;
 use text::{EventList, World};
 
-/// More states than this at one place aren't kept.
+/// More states than this before one event aren't kept.
 const MOST_STATES: usize = 50_000;
 
 /// Why schedules aren't gone on with.
@@ -43,7 +43,7 @@ impl From<AllocError> for Stop {
     }
 }
 
-/// What schedules are looked for in.
+/// What is searched: a world, for schedules of so many ticks, and for texts in their lines.
 #[derive(Clone, Copy)]
 pub struct Search<'a, 't> {
     pub alloc: Global,
@@ -61,7 +61,8 @@ fn digest(node: &mut Node) -> u64
     digest_of(node.places.len(), node.marks.as_slice(), &mut node.kernel)
 }
 
-/// The states at one place of a list of events, each once as far as that is seen.
+/// The states before one event of a list. One can stand there twice where another state has its digest: then less is
+/// merged, and all counts are the same.
 #[derive(Drop)]
 pub struct Layer {
     pub nodes: Vec<Node>,
