@@ -12,10 +12,10 @@ mod ServingLemmas
 mod TallyLemmas
 mod MergeLemmas
 mod MarkLemmas
-mod CountedLemmas
+mod NodeBookLemmas
 mod SpreadLemmas
 mod WorldLemmas
 mod NodeLemmas
 mod LayerLemmas
-mod CountingLemmas
+mod NodeCountLemmas
 mod MergedLemmas

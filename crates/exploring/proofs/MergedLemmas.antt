@@ -7,7 +7,7 @@ use Rattle.schedules.specs.Families.{family}
 use Rattle.exploring.specs.declared.node.Node.{Node}
 use Rattle.exploring.specs.Merging.{Outlook, always, behind, both, goes_on_once, tally_from, tally_of_node, tally_of_nodes, unmarked}
 use Rattle.exploring.specs.Tallies.{TallyView}
-use Rattle.exploring.proofs.CountedLemmas.{all_counted, is_open, once_within}
+use Rattle.exploring.proofs.NodeBookLemmas.{all_counted, is_open, once_within}
 use Rattle.exploring.proofs.MergeLemmas.{merged_tally}
 use Rattle.exploring.proofs.TallyLemmas.{behind_nothing, none_and}
 

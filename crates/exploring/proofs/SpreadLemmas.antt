@@ -7,7 +7,7 @@ use Rattle.posix.specs.declared.event.Event.TheVariants.{Tick}
 use Rattle.exploring.specs.declared.node.Node.{Node}
 use Rattle.exploring.specs.Merging.{AreAllCountable, AreCountable, GoOn, IsLeft, Outlook, Property, always, behind, both, from_place, given_event, marks_after, state_after, tally_from, tally_of_node, tally_of_nodes}
 use Rattle.exploring.specs.Tallies.{TallyView}
-use Rattle.exploring.proofs.CountedLemmas.{is_open, once_within}
+use Rattle.exploring.proofs.NodeBookLemmas.{is_open, once_within}
 use Rattle.exploring.proofs.LayerLemmas.{tallies_more}
 use Rattle.exploring.proofs.MergeLemmas.{tally_event, tally_tick_or_event}
 use Rattle.exploring.proofs.TallyLemmas.{and_none, behind_both, behind_place, both_regrouped, both_swapped, none_and}

@@ -11,6 +11,7 @@ use Rattle.schedules.specs.Families.{Places}
 use Rattle.exploring.specs.declared.ending.Ending.{Ending}
 use Rattle.exploring.specs.declared.ending.Ending.TheVariants.{Halted, AtRest, AwaitsAlarm, Going}
 use Rattle.exploring.specs.declared.ending.Endings.{Endings}
+use Rattle.exploring.specs.declared.merging.Search.{Search}
 use Rattle.exploring.specs.declared.node.Node.{Node}
 use Rattle.exploring.specs.Courses.{course_from}
 use Rattle.exploring.specs.Endings.{ending_of}
@@ -129,6 +130,13 @@ pub record IsNode (world : World) (texts : List (List ℕ)) (ticks : ℕ) (n : N
   pub given : n.kernel.events ≤ length n.given
   pub marks : length n.marks.items ≡ length texts
   pub few : length n.places.items ≤ ticks
+
+-- the texts of a search
+abbrev pub texts_of : Search → List (List ℕ)
+texts_of s = map (λ t. t.now) s.texts.now
+
+abbrev pub IsNodeOf : Search → Node → Type 0
+IsNodeOf s n = IsNode s.world.now (texts_of s) s.ticks n
 
 -- The node stands before the event with this place: it was given all events before it, and its ticks.
 abbrev pub IsAt : ℕ → Node → Type 0

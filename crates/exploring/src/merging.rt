@@ -8,7 +8,7 @@ ghost use Rattle.schedules.specs.Families.{family as family_of};
 ghost use Rattle.exploring.specs.Counts.{book_over};
 ghost use Rattle.text.specs.EventTexts.{most_events};
 ghost use Rattle.exploring.specs.declared.node.Node.{Node as NodeValue};
-ghost use Rattle.exploring.specs.Merging.{AreAllCountable, AreCountable, AreSameNodes, GoOn, IsAt, IsLeft, IsNode, IsOne, IsSameNode, Outlook, Property, always, behind, both, counted, counted_all, given_event, goes_on_once, marks_after, state_after, tally_from, tally_of_node, tally_of_nodes};
+ghost use Rattle.exploring.specs.Merging.{AreAllCountable, AreCountable, AreSameNodes, GoOn, IsAt, IsLeft, IsNode, IsNodeOf, IsOne, IsSameNode, Outlook, Property, always, behind, both, counted, counted_all, given_event, goes_on_once, marks_after, state_after, tally_from, tally_of_node, tally_of_nodes, texts_of};
 
 use crate::book::Book;
 use crate::course::run_all;
@@ -140,11 +140,11 @@ fn give_to(
     lines: &mut Vec<Line>,
 ) -> Result<(), AllocError>
     requires few { length node.given < most_events }
-    requires node { IsNode search.now.world.now (map (λ t. t.now) search.now.texts.now) search.now.ticks node }
-    requires nodes { All (IsNode search.now.world.now (map (λ t. t.now) search.now.texts.now) search.now.ticks) layer.old.nodes.items }
+    requires node { IsNodeOf search.now node }
+    requires nodes { All (IsNodeOf search.now) layer.old.nodes.items }
     requires countable { AreCountable search.now.ticks layer.old.nodes.items node }
-    ensures nodes { OnOk result (All (IsNode search.now.world.now (map (λ t. t.now) search.now.texts.now) search.now.ticks) layer.new.nodes.items) }
-    ensures tally { OnOk result ((go_on : Outlook) → tally_of_nodes go_on search.now.ticks layer.new.nodes.items ≡ both (tally_of_nodes go_on search.now.ticks layer.old.nodes.items) (given_event go_on search.now.ticks (map (λ t. t.now) search.now.texts.now) event node)) }
+    ensures nodes { OnOk result (All (IsNodeOf search.now) layer.new.nodes.items) }
+    ensures tally { OnOk result ((go_on : Outlook) → tally_of_nodes go_on search.now.ticks layer.new.nodes.items ≡ both (tally_of_nodes go_on search.now.ticks layer.old.nodes.items) (given_event go_on search.now.ticks (texts_of search.now) event node)) }
     ensures at { (place : ℕ) → All (IsAt (place + 1)) layer.old.nodes.items → IsAt place node → OnOk result (All (IsAt (place + 1)) layer.new.nodes.items) }
 {
     let mut node = node;
@@ -171,15 +171,15 @@ fn tick_one(
     requires few { place + search.now.ticks < most_events }
     requires at { IsAt place node }
     requires all_at { All (IsAt (place + 1)) layer.old.nodes.items }
-    requires node { IsNode search.now.world.now (map (λ t. t.now) search.now.texts.now) search.now.ticks node }
-    requires nodes { All (IsNode search.now.world.now (map (λ t. t.now) search.now.texts.now) search.now.ticks) layer.old.nodes.items }
-    requires countable { AreAllCountable (map (λ t. t.now) search.now.texts.now) search.now.ticks place event layer.old.nodes.items (node ∷ []) }
-    ensures node { IfOk result (IsNode search.now.world.now (map (λ t. t.now) search.now.texts.now) search.now.ticks) }
+    requires node { IsNodeOf search.now node }
+    requires nodes { All (IsNodeOf search.now) layer.old.nodes.items }
+    requires countable { AreAllCountable (texts_of search.now) search.now.ticks place event layer.old.nodes.items (node ∷ []) }
+    ensures node { IfOk result (IsNodeOf search.now) }
     ensures at { IfOk result (IsAt place) }
     ensures longer { IfOk result (λ ticked. length ticked.places.items ≡ length node.places.items + 1) }
-    ensures nodes { OnOk result (All (IsNode search.now.world.now (map (λ t. t.now) search.now.texts.now) search.now.ticks) layer.new.nodes.items) }
+    ensures nodes { OnOk result (All (IsNodeOf search.now) layer.new.nodes.items) }
     ensures all_at { OnOk result (All (IsAt (place + 1)) layer.new.nodes.items) }
-    ensures left { IfOk result (λ ticked. IsLeft (map (λ t. t.now) search.now.texts.now) search.now.ticks place event layer.old.nodes.items (node ∷ []) layer.new.nodes.items (ticked ∷ [])) }
+    ensures left { IfOk result (λ ticked. IsLeft (texts_of search.now) search.now.ticks place event layer.old.nodes.items (node ∷ []) layer.new.nodes.items (ticked ∷ [])) }
 {
     match node.ticked(search.alloc, search.world, place, search.texts, lines) {
         Ok(ticked) => match give_to(layer, node, event, search, lines) {
@@ -209,12 +209,12 @@ fn spread(
     requires few { place + search.now.ticks < most_events }
     requires at { IsAt place node }
     requires all_at { All (IsAt (place + 1)) layer.old.nodes.items }
-    requires node { IsNode search.now.world.now (map (λ t. t.now) search.now.texts.now) search.now.ticks node }
-    requires nodes { All (IsNode search.now.world.now (map (λ t. t.now) search.now.texts.now) search.now.ticks) layer.old.nodes.items }
-    requires countable { AreAllCountable (map (λ t. t.now) search.now.texts.now) search.now.ticks place event layer.old.nodes.items (node ∷ []) }
-    ensures nodes { OnOk result (All (IsNode search.now.world.now (map (λ t. t.now) search.now.texts.now) search.now.ticks) layer.new.nodes.items) }
+    requires node { IsNodeOf search.now node }
+    requires nodes { All (IsNodeOf search.now) layer.old.nodes.items }
+    requires countable { AreAllCountable (texts_of search.now) search.now.ticks place event layer.old.nodes.items (node ∷ []) }
+    ensures nodes { OnOk result (All (IsNodeOf search.now) layer.new.nodes.items) }
     ensures all_at { OnOk result (All (IsAt (place + 1)) layer.new.nodes.items) }
-    ensures tally { OnOk result (GoOn (map (λ t. t.now) search.now.texts.now) search.now.ticks place event layer.old.nodes.items (node ∷ []) layer.new.nodes.items) }
+    ensures tally { OnOk result (GoOn (texts_of search.now) search.now.ticks place event layer.old.nodes.items (node ∷ []) layer.new.nodes.items) }
 {
     let mut node = node;
     while node.places.len() < search.ticks {
@@ -236,12 +236,12 @@ fn spread_all(
     requires few { place + search.now.ticks < most_events }
     requires at { All (IsAt place) nodes.old.items }
     requires all_at { All (IsAt (place + 1)) layer.old.nodes.items }
-    requires nodes { All (IsNode search.now.world.now (map (λ t. t.now) search.now.texts.now) search.now.ticks) nodes.old.items }
-    requires layer { All (IsNode search.now.world.now (map (λ t. t.now) search.now.texts.now) search.now.ticks) layer.old.nodes.items }
-    requires countable { AreAllCountable (map (λ t. t.now) search.now.texts.now) search.now.ticks place event layer.old.nodes.items nodes.old.items }
-    ensures nodes { OnOk result (All (IsNode search.now.world.now (map (λ t. t.now) search.now.texts.now) search.now.ticks) layer.new.nodes.items) }
+    requires nodes { All (IsNodeOf search.now) nodes.old.items }
+    requires layer { All (IsNodeOf search.now) layer.old.nodes.items }
+    requires countable { AreAllCountable (texts_of search.now) search.now.ticks place event layer.old.nodes.items nodes.old.items }
+    ensures nodes { OnOk result (All (IsNodeOf search.now) layer.new.nodes.items) }
     ensures all_at { OnOk result (All (IsAt (place + 1)) layer.new.nodes.items) }
-    ensures tally { OnOk result (GoOn (map (λ t. t.now) search.now.texts.now) search.now.ticks place event layer.old.nodes.items nodes.old.items layer.new.nodes.items) }
+    ensures tally { OnOk result (GoOn (texts_of search.now) search.now.ticks place event layer.old.nodes.items nodes.old.items layer.new.nodes.items) }
 {
     while let Some(node) = nodes.pop() {
         if layer.nodes.len() > MOST_STATES {
@@ -342,9 +342,9 @@ fn count_all(
 ) -> Result<(), AllocError>
     requires ticks { search.now.ticks ≤ 32 }
     requires at { (place : ℕ) × All (IsAt place) nodes.old.items × (place + search.now.ticks + length events.now ≤ most_events) }
-    requires nodes { All (IsNode search.now.world.now (map (λ t. t.now) search.now.texts.now) search.now.ticks) nodes.old.items }
+    requires nodes { All (IsNodeOf search.now) nodes.old.items }
     requires total { book.old.total + (tally_of_nodes goes_on_once search.now.ticks nodes.old.items).count < 2 ^ 128 }
-    ensures { OnOk result (book.new ≡ counted_all (map (λ t. t.now) search.now.texts.now) events.now nodes.old.items book.old) }
+    ensures { OnOk result (book.new ≡ counted_all (texts_of search.now) events.now nodes.old.items book.old) }
 {
     while let Some(node) = nodes.pop() {
         count_node(node, events, search.texts, book, lines)?;
@@ -363,11 +363,11 @@ fn layer_behind(
     requires ticks { search.now.ticks ≤ 32 }
     requires few { place + search.now.ticks < most_events }
     requires at { All (IsAt place) layer.nodes.items }
-    requires nodes { All (IsNode search.now.world.now (map (λ t. t.now) search.now.texts.now) search.now.ticks) layer.nodes.items }
-    requires countable { AreAllCountable (map (λ t. t.now) search.now.texts.now) search.now.ticks place event [] layer.nodes.items }
+    requires nodes { All (IsNodeOf search.now) layer.nodes.items }
+    requires countable { AreAllCountable (texts_of search.now) search.now.ticks place event [] layer.nodes.items }
     ensures at { IfOk result (λ next. All (IsAt (place + 1)) next.nodes.items) }
-    ensures nodes { IfOk result (λ next. All (IsNode search.now.world.now (map (λ t. t.now) search.now.texts.now) search.now.ticks) next.nodes.items) }
-    ensures tally { IfOk result (λ next. GoOn (map (λ t. t.now) search.now.texts.now) search.now.ticks place event [] layer.nodes.items next.nodes.items) }
+    ensures nodes { IfOk result (λ next. All (IsNodeOf search.now) next.nodes.items) }
+    ensures tally { IfOk result (λ next. GoOn (texts_of search.now) search.now.ticks place event [] layer.nodes.items next.nodes.items) }
 {
     let mut layer = layer;
     let mut next = Layer::new(search.alloc);
@@ -395,12 +395,12 @@ fn reach<P: Progress>(
     requires within { upto ≤ length events.now }
     requires few { length events.now + search.now.ticks ≤ most_events }
     requires at { All (IsAt 0) layer.nodes.items }
-    requires nodes { All (IsNode search.now.world.now (map (λ t. t.now) search.now.texts.now) search.now.ticks) layer.nodes.items }
-    requires countable { (tally_of_nodes (tally_from always (map (λ t. t.now) search.now.texts.now) upto 0 events.now) search.now.ticks layer.nodes.items).count < 2 ^ 128 }
+    requires nodes { All (IsNodeOf search.now) layer.nodes.items }
+    requires countable { (tally_of_nodes (tally_from always (texts_of search.now) upto 0 events.now) search.now.ticks layer.nodes.items).count < 2 ^ 128 }
     ensures at { IfOk result (λ last. All (IsAt upto) last.nodes.items) }
-    ensures nodes { IfOk result (λ last. All (IsNode search.now.world.now (map (λ t. t.now) search.now.texts.now) search.now.ticks) last.nodes.items) }
-    ensures tally { (has : Property) → IfOk result (λ last. tally_of_nodes (tally_from has (map (λ t. t.now) search.now.texts.now) 0 upto (drop upto events.now)) search.now.ticks last.nodes.items
-        ≡ tally_of_nodes (tally_from has (map (λ t. t.now) search.now.texts.now) upto 0 events.now) search.now.ticks layer.nodes.items) }
+    ensures nodes { IfOk result (λ last. All (IsNodeOf search.now) last.nodes.items) }
+    ensures tally { (has : Property) → IfOk result (λ last. tally_of_nodes (tally_from has (texts_of search.now) 0 upto (drop upto events.now)) search.now.ticks last.nodes.items
+        ≡ tally_of_nodes (tally_from has (texts_of search.now) upto 0 events.now) search.now.ticks layer.nodes.items) }
 {
     let mut layer = layer;
     for place in 0..upto {

@@ -1,6 +1,6 @@
 use Rattle.std.proofs.Common.{◌^◌, List, ℕ, length, map, refl}
 use Rattle.exploring.specs.Merging.{IsAt, IsNode, counted_all}
-use Rattle.exploring.proofs.CountingLemmas.{counted_more, events_fit, last_fits, left_fit, of_last, of_others}
+use Rattle.exploring.proofs.NodeCountLemmas.{counted_more, events_fit, last_fits, left_fit, of_last, of_others}
 use Rattle.exploring.proofs.merging.count_all.Goals as goal
 
 pub loop-node-init : goal.loop-node-init

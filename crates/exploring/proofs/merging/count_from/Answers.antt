@@ -2,7 +2,7 @@ use Rattle.std.proofs.Common.{◌+◌, ◌∙◌, ap₂, map, drop, length, List
 use Rattle.schedules.specs.Families.{Places}
 use Rattle.exploring.specs.Merging.{marked, with_many_runs}
 use Rattle.exploring.proofs.BookLemmas.{written}
-use Rattle.exploring.proofs.CountingLemmas.{counted_is}
+use Rattle.exploring.proofs.NodeCountLemmas.{counted_is}
 use Rattle.exploring.proofs.merging.count_from.Goals as goal
 
 pub returns : goal.returns

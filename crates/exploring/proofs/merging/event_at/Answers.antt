@@ -1,6 +1,6 @@
 use Rattle.std.proofs.Common.{arith, sym}
 use Rattle.std.proofs.lemmas.Option.{slice_get_past}
-use Rattle.exploring.proofs.CountingLemmas.{event_in_run}
+use Rattle.exploring.proofs.NodeCountLemmas.{event_in_run}
 use Rattle.exploring.proofs.PlacingLemmas.{all_runs, one_more_run}
 use Rattle.exploring.proofs.merging.event_at.Goals as goal
 

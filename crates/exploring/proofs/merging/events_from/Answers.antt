@@ -1,7 +1,7 @@
 use Rattle.std.proofs.Common.{arith, ◌+◌, ◌-◌, take, ◌∙◌, ap, ◌++◌, replicate}
 use Rattle.posix.specs.declared.event.Event.{Event}
 use Rattle.text.specs.EventLists.{expanded}
-use Rattle.exploring.proofs.CountingLemmas.{rest_all, rest_fits, rest_more, rest_same}
+use Rattle.exploring.proofs.NodeCountLemmas.{rest_all, rest_fits, rest_more, rest_same}
 use Rattle.exploring.proofs.PlacingLemmas.{ends_within, one_more_run}
 use Rattle.exploring.proofs.merging.events_from.Goals.{then-place-end+in_ok-push, else-place-end}
 use Rattle.exploring.proofs.merging.events_from.Goals as goal

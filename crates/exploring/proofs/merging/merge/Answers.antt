@@ -2,7 +2,7 @@ use Rattle.std.proofs.Common.{◌≡◌, ◌∙◌, ℕ, List, ap, drop, map, re
 use Rattle.posix.specs.States.{boot}
 use Rattle.exploring.specs.Books.{empty_book}
 use Rattle.exploring.specs.Merging.{IsAt, IsNode, Property, always, counted_all, tally_from, tally_of_nodes, unmarked}
-use Rattle.exploring.proofs.CountedLemmas.{counted_book}
+use Rattle.exploring.proofs.NodeBookLemmas.{counted_book}
 use Rattle.exploring.proofs.MergedLemmas.{begun, family_countable, last_countable, of_none}
 use Rattle.exploring.proofs.merging.merge.Goals as goal
 

@@ -1,6 +1,6 @@
 use Rattle.std.proofs.Common.{map}
 use Rattle.exploring.specs.Merging.{IsAt, IsNode}
-use Rattle.exploring.proofs.CountingLemmas.{of_last, of_others}
+use Rattle.exploring.proofs.NodeCountLemmas.{of_last, of_others}
 use Rattle.exploring.proofs.SpreadLemmas.{first_countable, left_countable, one_less_left}
 use Rattle.exploring.proofs.merging.spread_all.Goals as goal
 
