@@ -3,12 +3,12 @@
 ghost use Rattle.std.specs.Prelude.{◌≡◌, ◌+◌, ◌-◌, ◌<◌, ◌≤◌, ◌^◌, ◌++◌, List, ℕ, [], ◌∷◌, length, map, All, IfOk, IfSome, OnOk, drop, slice_get, Some};
 ghost use Rattle.posix.specs.Regular.{IsRegular};
 ghost use Rattle.posix.specs.Settle.{IsSettled};
-ghost use Rattle.posix.specs.States.{World as WorldValue};
+ghost use Rattle.posix.specs.States.{World as WorldValue, boot};
 ghost use Rattle.schedules.specs.Families.{family as family_of};
 ghost use Rattle.exploring.specs.Counts.{book_over};
 ghost use Rattle.text.specs.EventTexts.{most_events};
 ghost use Rattle.exploring.specs.declared.node.Node.{Node as NodeValue};
-ghost use Rattle.exploring.specs.Merging.{AreAllCountable, AreCountable, AreSameNodes, GoOn, IsAt, IsLeft, IsNode, IsNodeOf, IsOne, IsSameNode, Outlook, Property, always, behind, both, counted, counted_all, given_event, goes_on_once, marks_after, state_after, tally_from, tally_of_node, tally_of_nodes, texts_of};
+ghost use Rattle.exploring.specs.Merging.{AreAllCountable, AreCountable, AreSameNodes, GoOn, IsAt, IsLeft, IsNode, IsNodeOf, IsOne, IsSameNode, Outlook, Property, always, behind, both, counted, counted_all, given_event, goes_on_once, marks_after, state_after, tally_from, tally_of_node, tally_of_nodes, texts_of, unmarked};
 
 use crate::book::Book;
 use crate::course::run_all;
@@ -413,6 +413,23 @@ fn reach<P: Progress>(
     Ok(layer)
 }
 
+/// The state at the start of a world, from which all schedules go on.
+fn start(search: &Search<'_, '_>) -> Result<Layer, AllocError>
+    ensures at { IfOk result (λ layer. All (IsAt 0) layer.nodes.items) }
+    ensures nodes { IfOk result (λ layer. All (IsNodeOf search.now) layer.nodes.items) }
+    ensures tally { (go_on : Outlook) → IfOk result (λ layer. tally_of_nodes go_on search.now.ticks layer.nodes.items ≡ go_on search.now.ticks (boot search.now.world.now) (unmarked (texts_of search.now))) }
+{
+    let node = Node::first(search.alloc, search.world, search.texts)?;
+    let mut layer = Layer::new(search.alloc);
+    match layer.insert(node) {
+        Ok(()) => Ok(layer),
+        Err(e) => {
+            drop(layer);
+            Err(e)
+        }
+    }
+}
+
 /// Counts all schedules of a family, with texts that are looked for in their lines; those that meet in one state are gone on
 /// with once. The book tells of all of them.
 pub fn merge<'a, P: Progress>(
@@ -431,8 +448,7 @@ pub fn merge<'a, P: Progress>(
         ticks: family.ticks,
     };
     let mut lines = Vec::new(alloc);
-    let mut first = Layer::new(alloc);
-    first.insert(Node::first(alloc, family.world, texts)?)?;
+    let first = start(&search)?;
     let mut last = reach(
         first,
         family.events,
