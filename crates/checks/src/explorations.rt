@@ -38,6 +38,7 @@ fn heard_of(alloc: Global, world: &World, events: &EventList) -> Result<Heard, A
             events,
             upto: 3,
             ticks: 2,
+            states: 10,
             size,
         };
         drop(explore(alloc, &family, &[], &mut heard)?);

@@ -11,6 +11,7 @@ pub const HELP: &[u8] =
     jobk explore WORLD EVENTS  runs all schedules: the events with a few ticks put in; no other choice is varied
         --ticks K              at most K of them, 0 to 32; 2 if not named
         --upto N               before the first N events alone
+        --states N             keeps up to N states before one event; 50000 if not named
         --find TEXT            counts the schedules that have a line with TEXT
         --must-halt            status 4 where a schedule doesn't halt
         --all                  runs each by itself, also more than 10000000

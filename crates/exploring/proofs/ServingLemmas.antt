@@ -12,7 +12,7 @@ use Rattle.exploring.specs.Counts.{book_over}
 use Rattle.sink.specs.Sinks.{BreaksOff, Seen, TakesAll}
 use Rattle.exploring.specs.Reports.{Reports}
 use Rattle.exploring.specs.Serving.{IsExplored, Means, answer_of, is_told}
-use Rattle.exploring.specs.Words.{Asked, are_run, family_asked, ticks_asked, upto_asked}
+use Rattle.exploring.specs.Words.{Asked, are_run, family_asked, states_asked, ticks_asked, upto_asked}
 
 pub means_explored : {S : Type 0} (contents : Contents) (a : Asked) (old new : S) (before after : Seen) (told : Bool) → IsExplored contents a told (TakesAll before after)
     → Means contents (Some a) old new before after (answer_of (Ok told))
@@ -35,21 +35,21 @@ pub means_unwritten : {S : Type 0} (contents : Contents) (a : Asked) (old new : 
 means_unwritten contents a old new before after told (Ok other) h explored = absurd h
 means_unwritten contents a old new before after told (Err why) h explored = rw h (means_cut_short contents (Some a) old new before after 3 refl (inr (told, explored)))
 
-in_range : (a : Asked) (n upto ticks : ℕ) → ticks_asked a.ticks ≡ Some ticks → upto_asked n a.upto ≡ Some upto → are_run (length (family upto ticks)) (n + ticks) ≡ true → family_asked a n ≡ Some (upto, ticks)
-in_range a n upto ticks ticks_are upto_is run = rw (ticks_are, upto_is, run) refl
+in_range : (a : Asked) (n upto ticks states : ℕ) → ticks_asked a.ticks ≡ Some ticks → upto_asked n a.upto ≡ Some upto → states_asked a.states ≡ Some states → are_run (length (family upto ticks)) (n + ticks) ≡ true → family_asked a n ≡ Some (upto, ticks)
+in_range a n upto ticks states ticks_are upto_is states_are run = rw (ticks_are, upto_is, states_are, run) refl
 
 -- all schedules of the family were run, and a text that tells of them was put
-pub explored : (contents : Contents) (a : Asked) (world : World) (events : List Event) (upto ticks size : ℕ) (book : BookView) (told : Bool) (text : List ℕ) (IsPut : List ℕ → Type 0)
-    → AreRead contents (a.world, a.events) world events → ticks_asked a.ticks ≡ Some ticks → upto_asked (length events) a.upto ≡ Some upto
+pub explored : (contents : Contents) (a : Asked) (world : World) (events : List Event) (upto ticks states size : ℕ) (book : BookView) (told : Bool) (text : List ℕ) (IsPut : List ℕ → Type 0)
+    → AreRead contents (a.world, a.events) world events → ticks_asked a.ticks ≡ Some ticks → upto_asked (length events) a.upto ≡ Some upto → states_asked a.states ≡ Some states
     → are_run (length (family upto ticks)) (length events + ticks) ≡ true → size ≡ length (family upto ticks) → book ≡ book_over world events a.finds (family upto ticks)
     → told ≡ is_told a.must_halt book → Reports events size upto ticks book text → IsPut text → IsExplored contents a told IsPut
-explored contents a world events upto ticks size book told text IsPut read ticks_are upto_is run counted is answer reports put = record {
+explored contents a world events upto ticks states size book told text IsPut read ticks_are upto_is states_are run counted is answer reports put = record {
   world = world;
   events = events;
   upto = upto;
   ticks = ticks;
   read = read;
-  in_range = in_range a (length events) upto ticks ticks_are upto_is run;
+  in_range = in_range a (length events) upto ticks states ticks_are upto_is states_are run;
   answer = answer ∙ ap (is_told a.must_halt) is;
   text = text;
   reports = subst (λ n. Reports events n upto ticks (book_over world events a.finds (family upto ticks)) text) counted (subst (λ b. Reports events size upto ticks b text) is reports);

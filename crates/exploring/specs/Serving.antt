@@ -14,7 +14,7 @@ use Rattle.inputs.specs.declared.words.NoRequest.TheVariants as no_request
 use Rattle.exploring.specs.declared.merging.Stop.{Stop}
 use Rattle.exploring.specs.declared.merging.Stop.TheVariants as stop
 use Rattle.exploring.specs.declared.serving.Failure.{Failure}
-use Rattle.exploring.specs.declared.serving.Failure.TheVariants.{Usage, Ticks, Upto, UptoAbove, TooManySchedules, TooManyEvents, ManyStates, Input, Memory, Write}
+use Rattle.exploring.specs.declared.serving.Failure.TheVariants.{Usage, Ticks, Upto, States, UptoAbove, TooManySchedules, TooManyEvents, ManyStates, Input, Memory, Write}
 use Rattle.exploring.specs.Books.{BookView}
 use Rattle.exploring.specs.Counts.{book_over}
 use Rattle.exploring.specs.Reports.{Reports}
@@ -28,6 +28,7 @@ status_of (Input why) = status_of_input why
 status_of Usage = 2
 status_of Ticks = 2
 status_of Upto = 2
+status_of (States most) = 2
 status_of (UptoAbove upto events) = 2
 status_of (TooManySchedules most) = 2
 status_of (TooManyEvents longest most) = 2

@@ -18,6 +18,7 @@ pub record Asked : Type 0 where
   pub events : Text
   pub ticks : Option Text  -- the word behind `--ticks`
   pub upto : Option Text
+  pub states : Option Text
   pub finds : List Text
   pub must_halt : Bool
   pub all : Bool
@@ -66,10 +67,10 @@ parted words = fold with_word nothing_parted words
 
 -- ---- what they ask for
 
--- `explore WORLD EVENTS [--ticks K] [--upto N] [--find].. [--must-halt] [--all]`
+-- `explore WORLD EVENTS [--ticks K] [--upto N] [--states N] [--find].. [--must-halt] [--all]`
 abbrev pub command_line : App
 command_line = command_of (codes "explore")
-    ((codes "ticks", Set) ∷ (codes "upto", Set) ∷ (codes "find", Count) ∷ (codes "must-halt", SetTrue) ∷ (codes "all", SetTrue) ∷ [])
+    ((codes "ticks", Set) ∷ (codes "upto", Set) ∷ (codes "states", Set) ∷ (codes "find", Count) ∷ (codes "must-halt", SetTrue) ∷ (codes "all", SetTrue) ∷ [])
 
 -- what the files, the texts and the other words' matches ask for
 abbrev pub asked_with : List Text → List Row → Text × Text → Asked
@@ -78,6 +79,7 @@ asked_with finds rows (world, events) = record {
   events = events;
   ticks = first_of (codes "ticks") rows;
   upto = first_of (codes "upto") rows;
+  states = first_of (codes "states") rows;
   finds = finds;
   must_halt = is_used (codes "must-halt") rows;
   all = is_used (codes "all") rows;
@@ -110,6 +112,7 @@ said r = record {
   events = r.events.now;
   ticks = option_map (λ t. t.now) r.ticks;
   upto = option_map (λ u. u.now) r.upto;
+  states = option_map (λ n. n.now) r.states;
   finds = map (λ t. t.now) r.finds.now;
   must_halt = r.must_halt;
   all = r.all;
@@ -135,6 +138,11 @@ abbrev pub upto_asked : ℕ → Option Text → Option ℕ
 upto_asked events None = Some events
 upto_asked events (Some word) = up_to events (number_of word)
 
+-- so many states are kept before one event: 50,000, if not named
+abbrev pub states_asked : Option Text → Option ℕ
+states_asked None = Some 50000
+states_asked (Some word) = up_to 10000000 (number_of word)
+
 -- So many schedules are told of, the longest of so many events: not more than can be at all.
 abbrev pub are_run : ℕ → ℕ → Bool
 are_run size longest = nat_le size (2 ^ 128 - 1) && nat_le longest 1000000000000
@@ -142,7 +150,11 @@ are_run size longest = nat_le size (2 ^ 128 - 1) && nat_le longest 1000000000000
 abbrev pub if_run : ℕ → ℕ → ℕ → Option (ℕ × ℕ)
 if_run events upto ticks = if are_run (length (family upto ticks)) (events + ticks) then Some (upto, ticks) else None
 
+-- where so many states can be kept
+abbrev pub if_kept : Option Text → Option (ℕ × ℕ) → Option (ℕ × ℕ)
+if_kept word family = option_and_then (λ states. family) (states_asked word)
+
 -- Of so many events: before how many of them ticks are put in, and how many at most. None where a number is out of range, or there are too
 -- many schedules.
 abbrev pub family_asked : Asked → ℕ → Option (ℕ × ℕ)
-family_asked a events = option_and_then (λ ticks. option_and_then (λ upto. if_run events upto ticks) (upto_asked events a.upto)) (ticks_asked a.ticks)
+family_asked a events = option_and_then (λ ticks. option_and_then (λ upto. if_kept a.states (if_run events upto ticks)) (upto_asked events a.upto)) (ticks_asked a.ticks)

@@ -35,6 +35,8 @@ pub struct Family<'a> {
     pub upto: u64,
     /// At most so many ticks are put in.
     pub ticks: usize,
+    /// At most so many states are kept before one event.
+    pub states: usize,
     /// How many schedules these are.
     pub size: u128,
     ghost within: { upto ≤ length events.now },

@@ -21,15 +21,12 @@ use std::alloc::{AllocError, Global};
 use std::collections::HashMap;
 use text::{EventList, World};
 
-/// More states than this before one event aren't kept.
-const MOST_STATES: usize = 50_000;
-
 /// Why schedules aren't gone on with.
 #[derive(Clone, Copy)]
 pub enum Stop {
     /// There is no memory.
     Memory,
-    /// There are more than so many states before the event with this place.
+    /// There are more than so many states behind the event with this number.
     States(usize, u64),
 }
 
@@ -52,6 +49,8 @@ pub struct Search<'a, 't> {
     pub texts: &'a [&'t str],
     /// At most so many ticks are put in.
     pub ticks: usize,
+    /// At most so many states are kept before one event.
+    pub states: usize,
 }
 
 /// What is nearly never the same of nodes that aren't one.
@@ -244,8 +243,8 @@ fn spread_all(
     ensures tally { OnOk result (GoOn (texts_of search.now) search.now.ticks place event layer.old.nodes.items nodes.old.items layer.new.nodes.items) }
 {
     while let Some(node) = nodes.pop() {
-        if layer.nodes.len() > MOST_STATES {
-            return Err(Stop::States(MOST_STATES, place));
+        if layer.nodes.len() > search.states {
+            return Err(Stop::States(search.states, place + 1));
         }
         spread(layer, node, place, event, search, lines)?;
     }
@@ -446,6 +445,7 @@ pub fn merge<'a, P: Progress>(
         world: family.world,
         texts,
         ticks: family.ticks,
+        states: family.states,
     };
     let mut lines = Vec::new(alloc);
     let first = start(&search)?;

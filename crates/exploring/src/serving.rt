@@ -6,7 +6,7 @@ ghost use Rattle.text.specs.EventTexts.{most_events};
 ghost use Rattle.schedules.specs.Families.{family as family_of};
 ghost use Rattle.exploring.specs.Counts.{book_over};
 ghost use Rattle.exploring.specs.Serving.{Means, answer_of, asked_by, is_found as has_found, all_halt as have_halted, is_told as told_by, status_of};
-ghost use Rattle.exploring.specs.Words.{are_run, asked_by_parts, parted_as, request_of_words, said, ticks_asked, upto_asked};
+ghost use Rattle.exploring.specs.Words.{are_run, asked_by_parts, parted_as, request_of_words, said, states_asked, ticks_asked, upto_asked};
 
 use crate::merging::{Stop, merge};
 use crate::report::report;
@@ -23,17 +23,19 @@ use thiserror::Error;
 /// Why the program doesn't end with status 0.
 #[derive(Clone, Copy, Debug, Error)]
 enum Failure<'a> {
-    #[error("usage: jobk explore WORLD EVENTS [--ticks K] [--upto N] [--find TEXT].. [--must-halt] [--all]")]
+    #[error("usage: jobk explore WORLD EVENTS [--ticks K] [--upto N] [--states N] [--find TEXT].. [--must-halt] [--all]")]
     Usage,
     #[error("jobk: --ticks takes a number from 0 to 32")]
     Ticks,
     #[error("jobk: --upto takes a number")]
     Upto,
+    #[error("jobk: --states takes a number up to {0}")]
+    States(u64),
     #[error("jobk: --upto {0} is above the number of events, which is {1}")]
     UptoAbove(u64, u64),
     #[error("jobk: more than {0} schedules: say fewer by --ticks or --upto")]
     TooManySchedules(u128),
-    #[error("jobk: more than {0} states before event {1}: say fewer ticks or places by --ticks or --upto")]
+    #[error("jobk: more than {0} states behind event {1}: say more by --states, or fewer ticks or places by --ticks or --upto")]
     ManyStates(usize, u64),
     #[error("jobk: schedules of up to {0} events: a run has at most {1}; say fewer by --ticks")]
     TooManyEvents(u64, u64),
@@ -47,6 +49,9 @@ enum Failure<'a> {
 
 /// A schedule has at most so many ticks.
 const MOST_TICKS: u64 = 32;
+
+/// No more states than this can be kept before one event.
+const MOST_STATES: u64 = 10_000_000;
 
 /// More schedules than this are run one after another with `--all` alone.
 const MOST_SCHEDULES: u128 = 10_000_000;
@@ -125,6 +130,7 @@ impl Failure<'_> {
             Failure::Usage
             | Failure::Ticks
             | Failure::Upto
+            | Failure::States(_)
             | Failure::UptoAbove(_, _)
             | Failure::TooManySchedules(_)
             | Failure::TooManyEvents(_, _) => 2,
@@ -162,6 +168,21 @@ fn upto_of<'a>(word: Option<&str>, events: u64) -> Result<u64, Failure<'a>>
         return Err(Failure::UptoAbove(upto, events));
     }
     Ok(upto)
+}
+
+/// How many states are kept before one event: 50,000, if not named.
+fn states_of<'a>(word: Option<&str>) -> Result<usize, Failure<'a>>
+    ensures { MatchResult result
+        (λ states. states_asked (option_map (λ w. w.now) word.entry) ≡ Some states)
+        (λ why. (status_of why ≡ 2) × (states_asked (option_map (λ w. w.now) word.entry) ≡ None)) }
+{
+    let Some(word) = word else {
+        return Ok(50_000);
+    };
+    match number(word) {
+        Some(states) if states <= MOST_STATES => Ok(states as usize),
+        _ => Err(Failure::States(MOST_STATES)),
+    }
 }
 
 /// How many schedules there are, unless they are too many to be counted, or one of them is too long.
@@ -251,6 +272,7 @@ fn serve_request<'a, 'w, F: ReadFiles, O: Sink, P: Progress>(
         events: &inputs.events,
         upto,
         ticks,
+        states: states_of(request.states)?,
         size: size_of(upto, ticks, inputs.events.len())?,
     };
     let book = book_of(alloc, &family, request, progress)?;

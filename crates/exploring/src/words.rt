@@ -116,6 +116,8 @@ pub struct Request<'a, 'w> {
     pub ticks: Option<&'a str>,
     /// What stands behind `--upto`, as a word.
     pub upto: Option<&'a str>,
+    /// What stands behind `--states`, as a word.
+    pub states: Option<&'a str>,
     /// What stands behind each `--find`.
     pub finds: &'a [&'w str],
     pub must_halt: bool,
@@ -123,9 +125,10 @@ pub struct Request<'a, 'w> {
 }
 
 /// The program's options, each with what its use does.
-const OPTIONS: [(&str, ArgAction); 5] = [
+const OPTIONS: [(&str, ArgAction); 6] = [
     ("ticks", ArgAction::Set),
     ("upto", ArgAction::Set),
+    ("states", ArgAction::Set),
     ("find", ArgAction::Count),
     ("must-halt", ArgAction::SetTrue),
     ("all", ArgAction::SetTrue),
@@ -153,6 +156,7 @@ fn request_of<'a, 'w>(
         events,
         ticks: value_of(matches, "ticks"),
         upto: value_of(matches, "upto"),
+        states: value_of(matches, "states"),
         finds,
         must_halt: is_used(matches, "must-halt"),
         all: is_used(matches, "all"),

@@ -17,14 +17,14 @@ returns-in_err-put_all g c =
     let a = said c.args.request.now in
     let told = is_told a.must_halt c.in_ok-book.book in
     means_unwritten _ a _ _ _ _ told c.from_residual-in_err-put_all.result c.from_residual-in_err-put_all.ensures.1
-    (explored _ a c.in_ok-inputs.inputs.world c.in_ok-inputs.inputs.events c.in_ok-upto.upto c.in_ok-ticks.ticks _ c.in_ok-book.book told _ _
-    c.in_ok-inputs.ensures.reads c.in_ok-ticks.ensures.1 (rw c.len.ensures at c.in_ok-upto.ensures.1) (rw c.len-2.ensures at c.in_ok-size_of.ensures.size.1) c.in_ok-size_of.ensures.size.0
+    (explored _ a c.in_ok-inputs.inputs.world c.in_ok-inputs.inputs.events c.in_ok-upto.upto c.in_ok-ticks.ticks _ _ c.in_ok-book.book told _ _
+    c.in_ok-inputs.ensures.reads c.in_ok-ticks.ensures.1 (rw c.len.ensures at c.in_ok-upto.ensures.1) c.in_ok-states_of.ensures (rw c.len-2.ensures at c.in_ok-size_of.ensures.size.1) c.in_ok-size_of.ensures.size.0
     c.in_ok-book.ensures refl c.in_ok-text.ensures (rw (c.as_bytes.ensures.value, c.as_str.ensures.value) at c.in_err-put_all.ensures.err))
 
 pub returns : goal.returns
 returns g c =
     let a = said c.args.request.now in
     means_explored _ a _ _ _ _ c.is_told-is_told.result
-    (explored _ a c.in_ok-inputs.inputs.world c.in_ok-inputs.inputs.events c.in_ok-upto.upto c.in_ok-ticks.ticks _ c.in_ok-book.book c.is_told-is_told.result _ _
-    c.in_ok-inputs.ensures.reads c.in_ok-ticks.ensures.1 (rw c.len.ensures at c.in_ok-upto.ensures.1) (rw c.len-2.ensures at c.in_ok-size_of.ensures.size.1) c.in_ok-size_of.ensures.size.0
+    (explored _ a c.in_ok-inputs.inputs.world c.in_ok-inputs.inputs.events c.in_ok-upto.upto c.in_ok-ticks.ticks _ _ c.in_ok-book.book c.is_told-is_told.result _ _
+    c.in_ok-inputs.ensures.reads c.in_ok-ticks.ensures.1 (rw c.len.ensures at c.in_ok-upto.ensures.1) c.in_ok-states_of.ensures (rw c.len-2.ensures at c.in_ok-size_of.ensures.size.1) c.in_ok-size_of.ensures.size.0
     c.in_ok-book.ensures c.is_told-is_told.ensures c.in_ok-text.ensures (rw (c.as_bytes.ensures.value, c.as_str.ensures.value) at c.in_ok-put_all.ensures.ok))
