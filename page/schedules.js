@@ -1,13 +1,16 @@
 // What `explore` prints, taken apart: the counts, the schedules that it found, and the outcomes.
 
-const isEvents = line => /^ {4}(step|tick|key|type) /.test(line);
+const isEvents = line => /^ {4}(step|tick|key|type|hangup) /.test(line);
 
-// A part of the text: its head, the events of its first schedule, and the last lines of its trace.
+const last = '  with the last lines';
+
+// A part of the text: its head, the events of its first schedule, what sets its trace apart, and the last lines of that.
 function partOf(text) {
   const [head, ...more] = text.split('\n');
-  const middle = more.findIndex(it => it === '  with the last lines');
+  const middle = more.findIndex(it => /^ {2}\S/.test(it));
   const events = (middle < 0 ? more : more.slice(0, middle)).filter(isEvents).map(it => it.trim());
-  const others = middle < 0 ? more.filter(it => !isEvents(it)) : more.slice(middle + 1).map(it => it.trim());
+  const behind = more.slice(more[middle] === last ? middle + 1 : middle);
+  const others = middle < 0 ? more.filter(it => !isEvents(it)) : behind.map(it => it.trim());
   return { head, events, others };
 }
 

@@ -1,12 +1,14 @@
 //! Schedules that are explored.
 
-use crate::runs::NOTE_AND_EXIT;
 use exploring::{Family, Progress, explore};
 use schedules::family_size;
 use std::alloc::{AllocError, Global};
 use std::process::Abort;
 use std::test::Fail;
 use text::{EventList, World, read_events, read_world};
+
+const NOTE_AND_EXIT: &[u8] =
+    b"pidmax 40\nconsoles 1\nprogram init\nset r1, 7\nnote r1\nsys exit\nend\n";
 
 /// Of how many schedules it heard, and how many it was told there are.
 #[derive(Drop)]
@@ -31,11 +33,12 @@ fn heard_of(alloc: Global, world: &World, events: &EventList) -> Result<Heard, A
         last: (0, 0),
     };
     if events.len() == 3
-        && let Some(size) = family_size(3, 2, 10)
+        && let Some(size) = family_size(3, 2, 0, 10)
     {
         let family = Family {
             world,
             events,
+            loose: &[],
             upto: 3,
             ticks: 2,
             states: 10,
@@ -48,7 +51,7 @@ fn heard_of(alloc: Global, world: &World, events: &EventList) -> Result<Heard, A
 
 #[test]
 fn each_schedule_is_heard_of(rt: HostRuntime) -> Result<(), Fail> {
-    let world = read_world(rt.alloc(), NOTE_AND_EXIT.world)?;
+    let world = read_world(rt.alloc(), NOTE_AND_EXIT)?;
     let events = read_events(rt.alloc(), world.consoles(), b"step 3\n")?;
     let heard = heard_of(rt.alloc(), &world, &events)?;
     assert!(rt; heard.times == 10 && heard.last == (10, 10));

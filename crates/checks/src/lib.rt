@@ -1,4 +1,4 @@
-//! Tests that no program can show by bytes: slots that are read, texts in pieces, the table that scans, refused growths.
+//! Tests that no program can show by bytes: slots that are read, texts in pieces, refused growths.
 #![tactic(auto)]
 
 #[cfg(test)]
@@ -11,5 +11,3 @@ mod pieces;
 mod refusals;
 #[cfg(test)]
 mod refusing_table;
-#[cfg(test)]
-mod runs;

@@ -1,9 +1,30 @@
 //! Runs in which the host has no memory for a process or a queue.
 
 use crate::refusing_table::RefusingTable;
-use crate::runs::{NOTHING, Run, comes_out, run_over};
-use kernel::{RunError, Summary};
+use kernel::{RunError, Summary, WriteSink, run_on};
+use proctable::ProcessTable;
+use std::alloc::Global;
 use std::process::Abort;
+
+/// The texts of a run, and what it comes to.
+#[derive(Clone, Copy)]
+struct Run {
+    world: &'static [u8],
+    events: &'static [u8],
+    trace: &'static [u8],
+    summary: Summary,
+}
+
+/// A summary that counts nothing.
+const NOTHING: Summary = Summary {
+    events: 0,
+    births: 0,
+    living: 0,
+    zombies: 0,
+    reported: 0,
+    dropped: 0,
+    halted: false,
+};
 
 const TWO_FORKS: &[u8] = b"pidmax 40\nconsoles 1\nprogram init\nsys fork\nsys fork\nend\n";
 
@@ -102,6 +123,23 @@ end
         ..NOTHING
     },
 };
+
+/// What a run over this table of processes answers, and what is put.
+fn run_over<K: ProcessTable>(
+    alloc: Global,
+    world: &[u8],
+    events: &[u8],
+) -> (Result<Summary, RunError>, Vec<u8>) {
+    let mut out = WriteSink::new(Vec::<u8>::new(alloc));
+    let answer = run_on::<K, _>(alloc, world, events, &mut out);
+    (answer, out.into_writer())
+}
+
+/// Whether a run over this table of processes comes to what it should.
+fn comes_out<K: ProcessTable>(alloc: Global, run: &Run) -> bool {
+    let (answer, put) = run_over::<K>(alloc, run.world, run.events);
+    answer == Ok(run.summary) && put.as_slice() == run.trace
+}
 
 #[test]
 fn a_fork_without_memory_changes_only_its_result(rt: HostRuntime) {

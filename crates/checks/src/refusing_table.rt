@@ -2,16 +2,17 @@
 
 ghost use Rattle.std.specs.Prelude.{◌≡◌, refl};
 ghost use Rattle.std.proofs.Common.{arith};
-ghost use Rattle.proctable.specs.Tables.{scan_with_record};
+ghost use Rattle.proctable.specs.Slots.{one_more};
+ghost use Rattle.proctable.specs.Tables.{slab_with_record};
 
 use posix::Pid;
-use proctable::{GrantedPools, ProcessTable, Record, ScanTable, Snapshot, Spare};
+use proctable::{GrantedPools, ProcessTable, Record, SlabTable, Snapshot, Spare};
 use std::alloc::{AllocError, Global};
 
-/// A table that scans, whose attempt number `REFUSED` to make room, from 1, finds no memory.
+/// The program's table, whose attempt number `REFUSED` to make room, from 1, finds no memory.
 #[derive(Drop)]
 pub(crate) struct RefusingTable<const REFUSED: usize> {
-    table: ScanTable,
+    table: SlabTable,
     attempts: usize,
 }
 
@@ -30,11 +31,11 @@ impl<const REFUSED: usize> ProcessTable for RefusingTable<REFUSED> {
 
     ghost room = { λ t. t.table.room };
 
-    ghost visits = { λ t. 0 };
+    ghost visits = { λ t. t.table.visits };
 
-    ghost one_more = { λ n. n };
+    ghost one_more = { one_more };
 
-    ghost put = { λ t p b. record t { table = scan_with_record t.table p b } };
+    ghost put = { λ t p b. record t { table = slab_with_record t.table p b } };
 
     ghost puts = { λ t p b. refl };
 
@@ -48,7 +49,7 @@ impl<const REFUSED: usize> ProcessTable for RefusingTable<REFUSED> {
 
     fn empty(alloc: Global) -> Self {
         RefusingTable {
-            table: ScanTable::empty(alloc),
+            table: SlabTable::empty(alloc),
             attempts: 0,
         }
     }
@@ -66,7 +67,7 @@ impl<const REFUSED: usize> ProcessTable for RefusingTable<REFUSED> {
         granted_pools: &mut GrantedPools,
         count: usize,
     ) -> Result<(), AllocError> {
-        let made = granted_pools.reserve(count);
+        let made = self.table.reserve_pools(granted_pools, count);
         if self.is_refused() {
             return Err(AllocError);
         }
@@ -102,6 +103,6 @@ impl<const REFUSED: usize> ProcessTable for RefusingTable<REFUSED> {
     }
 
     fn visits(&self) -> u128 {
-        0
+        self.table.visits()
     }
 }

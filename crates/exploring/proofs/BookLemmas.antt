@@ -8,7 +8,7 @@ use Rattle.std.proofs.lemmas.List.Elements.{All-from_recursion, All-weaker, recu
 use Rattle.std.proofs.lemmas.List.Folds.{list_any-append}
 use Rattle.std.proofs.lemmas.List.Sorted.{list_any-IsPermutation}
 use Rattle.posix.specs.Entries.{Line}
-use Rattle.schedules.specs.Families.{Places}
+use Rattle.schedules.specs.Families.{Spots}
 use Rattle.exploring.specs.declared.ending.Ending.{Ending}
 use Rattle.exploring.specs.declared.ending.Ending.TheVariants.{Halted, AtRest, AwaitsAlarm, Going}
 use Rattle.exploring.specs.declared.ending.Endings.{Endings}
@@ -67,16 +67,16 @@ saw_sorted lines sorted (f ∷ fs) p =
 
 -- ---- counts
 
-one_more : (b : Bool) (ps : Places) (t : TallyView) (n : ℕ) → t.count ≤ n → (with_schedule_if b ps t).count ≤ n + 1
+one_more : (b : Bool) (ps : Spots) (t : TallyView) (n : ℕ) → t.count ≤ n → (with_schedule_if b ps t).count ≤ n + 1
 one_more true ps t n l = omega (arith, l)
 one_more false ps t n l = omega (arith, l)
 
-below_more : (lines : List Line) (ps : Places) (finds : List FindView) (n : ℕ) → AllByRecursion (λ (t : TallyView). t.count ≤ n) (map tally_of finds)
+below_more : (lines : List Line) (ps : Spots) (finds : List FindView) (n : ℕ) → AllByRecursion (λ (t : TallyView). t.count ≤ n) (map tally_of finds)
     → AllByRecursion (λ (t : TallyView). t.count ≤ n + 1) (map tally_of (map (after_run ps) (map (saw lines) finds)))
 below_more lines ps [] n h = tt
 below_more lines ps (f ∷ fs) n h = (one_more (saw lines f).is_there ps f.tally n h.0, below_more lines ps fs n h.1)
 
-pub counts_more : (lines : List Line) (ps : Places) (finds : List FindView) (n : ℕ) → All (λ (t : TallyView). t.count ≤ n) (map tally_of finds)
+pub counts_more : (lines : List Line) (ps : Spots) (finds : List FindView) (n : ℕ) → All (λ (t : TallyView). t.count ≤ n) (map tally_of finds)
     → All (λ (t : TallyView). t.count ≤ n + 1) (map tally_of (map (after_run ps) (map (saw lines) finds)))
 counts_more lines ps finds n h =
     All-from_recursion (λ (t : TallyView). t.count ≤ n + 1) (map tally_of (map (after_run ps) (map (saw lines) finds)))
@@ -94,7 +94,7 @@ none_counted : (texts : List (List ℕ)) → AllByRecursion (λ (t : TallyView).
 none_counted [] = tt
 none_counted (t ∷ ts) = (omega arith, none_counted ts)
 
-ending_counted : (ending : Ending) (ps : Places) (e : Endings) (finds : List FindView) (n : ℕ) → AreCounted e finds n → (next : List FindView) → All (λ (t : TallyView). t.count ≤ n + 1) (map tally_of next)
+ending_counted : (ending : Ending) (ps : Spots) (e : Endings) (finds : List FindView) (n : ℕ) → AreCounted e finds n → (next : List FindView) → All (λ (t : TallyView). t.count ≤ n + 1) (map tally_of next)
     → AreCounted (with_ending ending ps e) next (n + 1)
 ending_counted Halted ps e finds n c next a = record { halted = omega (arith, c.halted); at_rest = omega (arith, c.at_rest); alarmed = omega (arith, c.alarmed); going = omega (arith, c.going); each = a }
 ending_counted AtRest ps e finds n c next a = record { halted = omega (arith, c.halted); at_rest = omega (arith, c.at_rest); alarmed = omega (arith, c.alarmed); going = omega (arith, c.going); each = a }
@@ -153,7 +153,7 @@ many_counted ending marks t e finds n c later next total ends finds_are more =
 
 -- ---- a book
 
-pub book_counted : (lines : List Line) (ending : Ending) (ps : Places) (e : Endings) (finds : List FindView) (n : ℕ) → AreCounted e finds n
+pub book_counted : (lines : List Line) (ending : Ending) (ps : Spots) (e : Endings) (finds : List FindView) (n : ℕ) → AreCounted e finds n
     → (later : Endings) (next : List FindView) (total : ℕ) → later ≡ with_ending ending ps e → next ≡ map (after_run ps) (map (saw lines) finds) → total ≡ n + 1 → AreCounted later next total
 book_counted lines ending ps e finds n c later next total ends finds_are one =
     rw (ends, finds_are, one) (ending_counted ending ps e finds n c (map (after_run ps) (map (saw lines) finds)) (counts_more lines ps finds n c.each))
@@ -167,7 +167,7 @@ empty_counted texts = record {
   each = All-from_recursion (λ (t : TallyView). t.count ≤ 0) (map tally_of (map unseen texts)) (none_counted texts);
 }
 
-pub book_with_run : (lines sorted : List Line) (ending : Ending) (ps : Places) (b : BookView) (later : Endings) (next finds : List FindView) (total : ℕ) → IsPermutation lines sorted
+pub book_with_run : (lines sorted : List Line) (ending : Ending) (ps : Spots) (b : BookView) (later : Endings) (next finds : List FindView) (total : ℕ) → IsPermutation lines sorted
     → later ≡ with_ending ending ps b.endings → next ≡ map (after_run ps) (map (saw sorted) b.finds) → total ≡ b.total + 1 → finds ≡ next
     → record { endings = later; finds = finds; total = total } ≡ with_run lines ending ps b
 book_with_run lines sorted ending ps b later next finds total p ends finds_are one same =

@@ -7,7 +7,7 @@ use Rattle.std.proofs.lemmas.List.Folds.{find-append}
 use Rattle.posix.specs.declared.event.Event.{Event}
 use Rattle.posix.specs.States.{World}
 use Rattle.posix.specs.Entries.{Line}
-use Rattle.schedules.specs.Families.{Places}
+use Rattle.schedules.specs.Families.{Spots}
 use Rattle.schedules.specs.Schedules.{scheduled}
 use Rattle.exploring.specs.declared.ending.Ending.{Ending}
 use Rattle.exploring.specs.declared.ending.Ending.TheVariants.{Halted, AtRest, AwaitsAlarm, Going}
@@ -22,35 +22,35 @@ use Rattle.exploring.proofs.CourseLemmas.{is_course}
 
 -- ---- one property
 
-one_counts : (has : Places → Bool) (ps : Places) (b : Bool) → has ps ≡ b → count_by has (ps ∷ []) ≡ cond b 1 0
+one_counts : (has : Spots → Bool) (ps : Spots) (b : Bool) → has ps ≡ b → count_by has (ps ∷ []) ≡ cond b 1 0
 one_counts has ps b is = ap (λ c. 0 + cond c 1 0) is ∙ zero-add (cond b 1 0)
 
-one_found : (has : Places → Bool) (ps : Places) (b : Bool) → has ps ≡ b → find has (ps ∷ []) ≡ cond b (Some ps) None
+one_found : (has : Spots → Bool) (ps : Spots) (b : Bool) → has ps ≡ b → find has (ps ∷ []) ≡ cond b (Some ps) None
 one_found has ps b is = ap (λ c. cond c (Some ps) None) is
 
-first_more : (o : Option Places) (b : Bool) (ps : Places) (n : ℕ) → record { count = n + cond b 1 0; first = option_or o (cond b (Some ps) None) } ≡ with_schedule_if b ps (record { count = n; first = o })
+first_more : (o : Option Spots) (b : Bool) (ps : Spots) (n : ℕ) → record { count = n + cond b 1 0; first = option_or o (cond b (Some ps) None) } ≡ with_schedule_if b ps (record { count = n; first = o })
 first_more (Some p) true ps n = refl
 first_more None true ps n = refl
 first_more (Some p) false ps n = ap (λ m. record { count = m; first = Some p }) (add-zero n)
 first_more None false ps n = ap (λ m. record { count = m; first = None }) (add-zero n)
 
-pub tally_more : (has : Places → Bool) (done : List Places) (ps : Places) (b : Bool) → has ps ≡ b → tally_over has (done ++ ps ∷ []) ≡ with_schedule_if b ps (tally_over has done)
+pub tally_more : (has : Spots → Bool) (done : List Spots) (ps : Spots) (b : Bool) → has ps ≡ b → tally_over has (done ++ ps ∷ []) ≡ with_schedule_if b ps (tally_over has done)
 tally_more has done ps b is =
     ap₂ (λ n o. record { count = n; first = o })
-    (sum_by-append (λ (qs : Places). cond (has qs) 1 0) done (ps ∷ []) ∙ ap (λ n. count_by has done + n) (one_counts has ps b is))
+    (sum_by-append (λ (qs : Spots). cond (has qs) 1 0) done (ps ∷ []) ∙ ap (λ n. count_by has done + n) (one_counts has ps b is))
     (find-append has done (ps ∷ []) ∙ ap (λ o. option_or (find has done) o) (one_found has ps b is))
     ∙ first_more (find has done) b ps (count_by has done)
 
 -- ---- all
 
-endings_more : (world : World) (events : List Event) (done : List Places) (ps : Places) (e : Ending) → e ≡ ending_of (course_of world events ps).last
-    → endings_over world events (done ++ ps ∷ []) ≡ with_ending e ps (endings_over world events done)
-endings_more world events done ps e is =
-    let halted = tally_more (ends_so is_halted world events) done ps (is_halted e) (ap is_halted (sym is)) in
-    let at_rest = tally_more (ends_so is_at_rest world events) done ps (is_at_rest e) (ap is_at_rest (sym is)) in
-    let alarmed = tally_more (ends_so is_alarmed world events) done ps (is_alarmed e) (ap is_alarmed (sym is)) in
-    let going = tally_more (ends_so is_going world events) done ps (is_going e) (ap is_going (sym is)) in
-    rw (halted, at_rest, alarmed, going) (counted e (endings_over world events done))
+endings_more : (world : World) (loose events : List Event) (done : List Spots) (ps : Spots) (e : Ending) → e ≡ ending_of (course_of world loose events ps).last
+    → endings_over world loose events (done ++ ps ∷ []) ≡ with_ending e ps (endings_over world loose events done)
+endings_more world loose events done ps e is =
+    let halted = tally_more (ends_so is_halted world loose events) done ps (is_halted e) (ap is_halted (sym is)) in
+    let at_rest = tally_more (ends_so is_at_rest world loose events) done ps (is_at_rest e) (ap is_at_rest (sym is)) in
+    let alarmed = tally_more (ends_so is_alarmed world loose events) done ps (is_alarmed e) (ap is_alarmed (sym is)) in
+    let going = tally_more (ends_so is_going world loose events) done ps (is_going e) (ap is_going (sym is)) in
+    rw (halted, at_rest, alarmed, going) (counted e (endings_over world loose events done))
   where
     counted : (e : Ending) (o : Endings) → record { halted = with_schedule_if (is_halted e) ps o.halted; at_rest = with_schedule_if (is_at_rest e) ps o.at_rest; alarmed = with_schedule_if (is_alarmed e) ps o.alarmed; going = with_schedule_if (is_going e) ps o.going } ≡ with_ending e ps o
     counted Halted o = refl
@@ -58,16 +58,16 @@ endings_more world events done ps e is =
     counted AwaitsAlarm o = refl
     counted Going o = refl
 
-finds_more : (world : World) (events : List Event) (done : List Places) (ps : Places) (lines : List Line) → lines ≡ (course_of world events ps).lines → (texts : List (List ℕ))
-    → map (find_over world events (done ++ ps ∷ [])) texts ≡ map (after_run ps) (map (saw lines) (map (find_over world events done) texts))
-finds_more world events done ps lines is [] = refl
-finds_more world events done ps lines is (text ∷ texts) =
+finds_more : (world : World) (loose events : List Event) (done : List Spots) (ps : Spots) (lines : List Line) → lines ≡ (course_of world loose events ps).lines → (texts : List (List ℕ))
+    → map (find_over world loose events (done ++ ps ∷ [])) texts ≡ map (after_run ps) (map (saw lines) (map (find_over world loose events done) texts))
+finds_more world loose events done ps lines is [] = refl
+finds_more world loose events done ps lines is (text ∷ texts) =
     ap₂ (λ f fs. f ∷ fs)
-    (ap (λ t. record { text = text; is_there = false; tally = t }) (tally_more (shows text world events) done ps (have_text text lines) (ap (have_text text) (sym is))))
-    (finds_more world events done ps lines is texts)
+    (ap (λ t. record { text = text; is_there = false; tally = t }) (tally_more (shows text world loose events) done ps (have_text text lines) (ap (have_text text) (sym is))))
+    (finds_more world loose events done ps lines is texts)
 
-pub book_more : (world : World) (events : List Event) (texts : List (List ℕ)) (done : List Places) (ps : Places) (lines : List Line) (e : Ending) → IsCourse world (scheduled events ps) lines e
-    → book_over world events texts (done ++ ps ∷ []) ≡ with_run lines e ps (book_over world events texts done)
-book_more world events texts done ps lines e c =
-    let same = is_course world events ps lines e c in
-    rw (endings_more world events done ps e same.1, finds_more world events done ps lines same.0 texts, length-append done (ps ∷ [])) refl
+pub book_more : (world : World) (loose events : List Event) (texts : List (List ℕ)) (done : List Spots) (ps : Spots) (lines : List Line) (e : Ending) → IsCourse world (scheduled loose events ps) lines e
+    → book_over world loose events texts (done ++ ps ∷ []) ≡ with_run lines e ps (book_over world loose events texts done)
+book_more world loose events texts done ps lines e c =
+    let same = is_course world loose events ps lines e c in
+    rw (endings_more world loose events done ps e same.1, finds_more world loose events done ps lines same.0 texts, length-append done (ps ∷ [])) refl

@@ -23,7 +23,7 @@ use Rattle.posix.specs.Settle.{settle, IsSettled}
 use Rattle.laws.specs.Memory.{EntriesGrantAll}
 use Rattle.laws.proofs.MemoryLemmas.{step_determined, true_grants}
 use Rattle.posix.proofs.UnseenLemmas.{covers_none, settle_none}
-use Rattle.schedules.specs.Families.{Places}
+use Rattle.schedules.specs.Families.{Spots}
 use Rattle.schedules.specs.Schedules.{scheduled}
 use Rattle.exploring.specs.declared.ending.Ending.{Ending}
 use Rattle.life.specs.declared.noted_bursts.Note.{Note}
@@ -104,11 +104,11 @@ granted_course k s last (x ∷ xs) lines (mid, entries, rest, step, is, p) all =
     ∙ ap (λ (c : Course). record { lines = numbered k entries ++ c.lines; last = c.last }) (granted_course (k + 1) mid last xs rest p parts.1)
     ∙ ap (λ (ls : List Line). record { lines = ls; last = last }) (sym is)
 
-pub is_course : (world : World) (events : List Event) (places : Places) (lines : List Line) (ending : Ending) → IsCourse world (scheduled events places) lines ending
-    → (lines ≡ (course_of world events places).lines) × (ending ≡ ending_of (course_of world events places).last)
+pub is_course : (world : World) (loose events : List Event) (spots : Spots) (lines : List Line) (ending : Ending) → IsCourse world (scheduled loose events spots) lines ending
+    → (lines ≡ (course_of world loose events spots).lines) × (ending ≡ ending_of (course_of world loose events spots).last)
 unfolding course_of
-is_course world events places lines ending c =
-    let same = granted_course 1 (boot world) c.last (scheduled events places) lines c.grants.runs c.grants.all in
+is_course world loose events spots lines ending c =
+    let same = granted_course 1 (boot world) c.last (scheduled loose events spots) lines c.grants.runs c.grants.all in
     (ap (λ (x : Course). x.lines) (sym same), c.ends ∙ ap (λ (x : Course). ending_of x.last) (sym same))
 
 -- ---- events that change and show nothing

@@ -8,8 +8,10 @@ mod TellingLemmas
 mod ReportLemmas
 mod FirstLemmas
 mod WordLemmas
+mod LooseLemmas
 mod ServingLemmas
 mod TallyLemmas
+mod OutlookLemmas
 mod MergeLemmas
 mod MarkLemmas
 mod NodeBookLemmas
@@ -19,3 +21,4 @@ mod NodeLemmas
 mod LayerLemmas
 mod NodeCountLemmas
 mod MergedLemmas
+mod RowLemmas

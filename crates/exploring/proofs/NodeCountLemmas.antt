@@ -1,4 +1,4 @@
--- Schedules that begin as nodes say are counted, node by node, and the events of a list are found by their places.
+-- Schedules that begin as nodes say are counted, node by node, and the events of a list are found by their spots.
 use Rattle.std.proofs.Common.{◌≡◌, ℕ, zero, suc, ◌+◌, ◌-◌, ◌<◌, ◌≤◌, Bool, List, [], ◌∷◌, ◌++◌, length, map, replicate, take, drop, get_or, Some, refl, ap, ap₂, sym, subst, ◌∙◌, arith, slice_get, length-append, ◌⊎◌, inl, inr}
 use Rattle.std.specs.List.{All}
 use Rattle.std.proofs.Math.Seq.{drop-append-add}
@@ -7,16 +7,17 @@ use Rattle.std.proofs.lemmas.List.{drop-append-le, drop-replicate, length-drop, 
 use Rattle.std.proofs.lemmas.List.Elements.{All-cons, All-head, All-nil, All-tail}
 use Rattle.posix.specs.declared.event.Event.{Event}
 use Rattle.posix.specs.Entries.{Line}
-use Rattle.posix.specs.States.{State, World}
+use Rattle.posix.specs.States.{State}
 use Rattle.text.specs.EventLists.{CountedEvent, expanded}
 use Rattle.text.specs.EventTexts.{most_events}
 use Rattle.kernel.proofs.EventLemmas.{expanded_more}
 use Rattle.exploring.specs.declared.ending.Ending.{Ending}
 use Rattle.exploring.specs.declared.node.Node.{Node}
+use Rattle.exploring.specs.declared.search.Search.{Search}
 use Rattle.exploring.specs.Books.{BookView}
 use Rattle.exploring.specs.Courses.{Adds, Course, course_from}
 use Rattle.exploring.specs.Endings.{ending_of}
-use Rattle.exploring.specs.Merging.{IsAt, IsNode, counted, counted_all, goes_on_once, marked, tally_of_nodes, with_many_runs}
+use Rattle.exploring.specs.Merging.{IsNode, counted, counted_all, goes_on_once, list_of, marked, most_of, tally_of_nodes, with_many_runs}
 use Rattle.exploring.specs.Tallies.{TallyView}
 use Rattle.exploring.proofs.CourseLemmas.{granted_course}
 use Rattle.exploring.proofs.LayerLemmas.{tallies_more}
@@ -28,7 +29,7 @@ use Rattle.exploring.proofs.PlacingLemmas.{around_run}
 -- by how its run ends, and the texts that its lines have
 pub counted_is : (texts : List (List ℕ)) (k : ℕ) (n : Node) (events : List Event) (last : State) (lines : List Line) (ending : Ending) (marks : List Bool) (old new : BookView)
     → Adds k n.kernel.state events last [] lines → ending ≡ ending_of last → marks ≡ marked texts lines n.marks.items
-    → new ≡ with_many_runs ending marks (record { count = n.count; first = Some n.places.items }) old → new ≡ counted texts events n old
+    → new ≡ with_many_runs ending marks (record { count = n.count; first = Some n.spots.items }) old → new ≡ counted texts events n old
 counted_is texts k n events last lines ending marks old new adds ends are is =
     let s = n.kernel.state in
     let same = granted_course k s last events adds.shows adds.grants.runs adds.grants.all in
@@ -36,7 +37,7 @@ counted_is texts k n events last lines ending marks old new adds ends are is =
     let entries : map (λ (l : Line). l.entry) lines ≡ map (λ (l : Line). l.entry) (course_from 1 s events).lines =
     ap (map (λ (l : Line). l.entry)) adds.added ∙ sym (entries_alike 1 k s events ∙ ap (λ (c : Course). map (λ (l : Line). l.entry) c.lines) same) in
     is
-    ∙ ap₂ (λ (e : Ending) (ms : List Bool). with_many_runs e ms (record { count = n.count; first = Some n.places.items }) old)
+    ∙ ap₂ (λ (e : Ending) (ms : List Bool). with_many_runs e ms (record { count = n.count; first = Some n.spots.items }) old)
     (ends ∙ ap ending_of lasts)
     (are ∙ marked_by_entries texts lines (course_from 1 s events).lines n.marks.items entries)
 
@@ -53,17 +54,17 @@ counted_more texts events before rest n old new whole is one all =
     ap (counted_all texts events rest) one ∙ sym (counted_behind texts events rest n old) ∙ ap (λ (ns : List Node). counted_all texts events ns old) (sym is) ∙ all
 
 -- so many schedules are left
-pub left_fit : (texts : List (List ℕ)) (events : List Event) (ticks most : ℕ) (before rest : List Node) (n : Node) (old new : BookView) → before ≡ rest ++ n ∷ [] → new ≡ counted texts events n old
-    → old.total + (tally_of_nodes goes_on_once ticks before).count < most → new.total + (tally_of_nodes goes_on_once ticks rest).count < most
-left_fit texts events ticks most before rest n old new is one fits =
+pub left_fit : (texts : List (List ℕ)) (events : List Event) (most limit : ℕ) (before rest : List Node) (n : Node) (old new : BookView) → before ≡ rest ++ n ∷ [] → new ≡ counted texts events n old
+    → old.total + (tally_of_nodes goes_on_once most before).count < limit → new.total + (tally_of_nodes goes_on_once most rest).count < limit
+left_fit texts events most limit before rest n old new is one fits =
     let total = ap (λ (b : BookView). b.total) one in
-    let all = ap (λ (t : TallyView). t.count) (ap (tally_of_nodes goes_on_once ticks) is ∙ tallies_more rest n goes_on_once ticks) in
+    let all = ap (λ (t : TallyView). t.count) (ap (tally_of_nodes goes_on_once most) is ∙ tallies_more rest n goes_on_once most) in
     omega (arith, total, all, fits)
 
 -- the last one fits
-pub last_fits : (ticks total most : ℕ) (before rest : List Node) (n : Node) → before ≡ rest ++ n ∷ [] → total + (tally_of_nodes goes_on_once ticks before).count < most → total + n.count < most
-last_fits ticks total most before rest n is fits =
-    let all = ap (λ (t : TallyView). t.count) (ap (tally_of_nodes goes_on_once ticks) is ∙ tallies_more rest n goes_on_once ticks) in
+pub last_fits : (most total limit : ℕ) (before rest : List Node) (n : Node) → before ≡ rest ++ n ∷ [] → total + (tally_of_nodes goes_on_once most before).count < limit → total + n.count < limit
+last_fits most total limit before rest n is fits =
+    let all = ap (λ (t : TallyView). t.count) (ap (tally_of_nodes goes_on_once most) is ∙ tallies_more rest n goes_on_once most) in
     omega (arith, all, fits)
 
 -- what holds of all holds of the last, and of the others
@@ -82,11 +83,13 @@ of_others P before rest n is all = others rest (subst (All P) is all)
     others (m ∷ ns) h = All-cons P m ns (All-head P m (ns ++ n ∷ []) h) (others ns (All-tail P m (ns ++ n ∷ []) h))
 
 -- the events of a node, and those that are left, are few
-pub events_fit : (world : World) (texts : List (List ℕ)) (ticks place left : ℕ) (n : Node) → IsNode world texts ticks n → IsAt place n → place + ticks + left ≤ most_events → n.kernel.events + left ≤ most_events
-events_fit world texts ticks place left n is at fits =
+pub events_fit : (search : Search) (place least left : ℕ) (n : Node) → IsNode search place least n → place + left ≤ length (list_of search) → length (list_of search) + most_of search ≤ most_events
+    → n.kernel.events + left ≤ most_events
+events_fit search place least left n is rest fits =
+    let events = is.events in
     let given = is.given in
     let few = is.few in
-    omega (arith, given, few, at, fits)
+    omega (arith, events, given, few, rest, fits)
 
 -- ---- the event with a place
 

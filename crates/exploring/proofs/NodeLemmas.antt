@@ -1,18 +1,18 @@
 -- Kernels that are given events, and the marks of the texts that their lines have.
-use Rattle.std.proofs.Common.{◌≡◌, ℕ, suc, ◌+◌, ◌-◌, ◌≤◌, Bool, true, false, cond, inl, inr, ◌⊎◌, List, [], ◌∷◌, ◌++◌, length, length-append, map, take, drop, refl, ap, ap₂, sym, subst, ◌∙◌, append-nil, arith}
+use Rattle.std.proofs.Common.{◌≡◌, ℕ, zero, suc, ◌+◌, ◌-◌, ◌<◌, ◌≤◌, Bool, true, false, cond, inl, inr, ◌⊎◌, List, [], ◌∷◌, ◌++◌, length, length-append, map, take, drop, refl, ap, ap₂, sym, subst, ◌∙◌, add-one, append-nil, arith}
 use Rattle.std.specs.Prelude.{replicate}
 use Rattle.std.proofs.lemmas.List.{drop_all, take_all}
 use Rattle.posix.specs.declared.event.Event.{Event}
 use Rattle.posix.specs.Entries.{Line, numbered}
-use Rattle.posix.specs.States.{State, World, boot}
+use Rattle.posix.specs.States.{State, boot}
 use Rattle.posix.specs.Step.{next}
 use Rattle.posix.specs.Regular.{IsRegular}
 use Rattle.posix.specs.Settle.{IsSettled}
-use Rattle.arrayvec.specs.ArrayVec.{ArrayVec}
-use Rattle.schedules.specs.Families.{Places}
+use Rattle.schedules.specs.Families.{Spots, kinds_of}
 use Rattle.exploring.specs.Courses.{Adds, Course, course_from}
 use Rattle.exploring.specs.declared.node.Node.{Node}
-use Rattle.exploring.specs.Merging.{IsAt, IsNode, IsOne, Outlook, behind, tally_of_node, both, is_before, marked, marks_after, state_after}
+use Rattle.exploring.specs.declared.search.Search.{Search}
+use Rattle.exploring.specs.Merging.{IsNode, IsOne, Outlook, behind, both, is_before, marked, marks_after, most_of, state_after, tally_of_node, texts_of, world_of}
 use Rattle.exploring.specs.Tallies.{TallyView}
 use Rattle.exploring.proofs.CourseLemmas.{granted_course}
 use Rattle.exploring.proofs.MergeLemmas.{entries_numbered, marked_by_entries}
@@ -63,60 +63,71 @@ pub none_marked : {X : Type 0} (f : X → List ℕ) (xs : List X) → replicate 
 none_marked f [] = refl
 none_marked f (x ∷ xs) = ap (λ bs. false ∷ bs) (none_marked f xs)
 
+-- ---- kinds of loose events
+
+pub kinds_more : (n : ℕ) → kinds_of (n + 1) ≡ kinds_of n ++ (n + 1) ∷ []
+kinds_more n = ap kinds_of (add-one n) ∙ ap (λ m. kinds_of n ++ m ∷ []) (sym (add-one n))
+
 -- ---- nodes that are one
 
 -- the beginnings of both, of which those of the other come first, or not
-pub joined_before : (c d : ℕ) (q r : Places) (t : TallyView) → length q ≡ length r → is_before r q ≡ true → behind (c + d) r t ≡ both (behind c q t) (behind d r t)
+pub joined_before : (c d : ℕ) (q r : Spots) (t : TallyView) → length q ≡ length r → is_before r q ≡ true → behind (c + d) r t ≡ both (behind c q t) (behind d r t)
 joined_before c d q r t l first = ap (λ b. behind (c + d) (cond b r q) t) (sym first) ∙ sym (behind_meets c d q r t l)
 
-pub joined_behind : (c d : ℕ) (q r : Places) (t : TallyView) → length q ≡ length r → is_before r q ≡ false → behind (c + d) q t ≡ both (behind c q t) (behind d r t)
+pub joined_behind : (c d : ℕ) (q r : Spots) (t : TallyView) → length q ≡ length r → is_before r q ≡ false → behind (c + d) q t ≡ both (behind c q t) (behind d r t)
 joined_behind c d q r t l first = ap (λ b. behind (c + d) (cond b r q) t) (sym first) ∙ sym (behind_meets c d q r t l)
 
 -- what goes on from two nodes that are one
-goes_on_alike : (go_on : Outlook) (ticks : ℕ) (old other : Node) → IsOne old other
-    → go_on (ticks - length old.places.items) old.kernel.state old.marks.items ≡ go_on (ticks - length other.places.items) other.kernel.state other.marks.items
-goes_on_alike go_on ticks old other one =
-    ap (λ n. go_on (ticks - n) old.kernel.state old.marks.items) one.ticks
-    ∙ ap₂ (λ (s : State) bs. go_on (ticks - length other.places.items) s bs) one.state one.marks
+goes_on_alike : (go_on : Outlook) (most : ℕ) (old other : Node) → IsOne old other
+    → go_on (most - length old.spots.items) old.left.items old.kernel.state old.marks.items ≡ go_on (most - length other.spots.items) other.left.items other.kernel.state other.marks.items
+goes_on_alike go_on most old other one =
+    ap₂ (λ n kinds. go_on (most - n) kinds old.kernel.state old.marks.items) one.spots one.left
+    ∙ ap₂ (λ (s : State) bs. go_on (most - length other.spots.items) other.left.items s bs) one.state one.marks
 
 -- the one of the two whose beginnings come first
 abbrev pub IsFirstOf : Node → Node → Node → Type 0
 IsFirstOf old other mid =
-    ((mid ≡ other) × (is_before other.places.items old.places.items ≡ true)) ⊎ ((mid ≡ old) × (is_before other.places.items old.places.items ≡ false))
+    ((mid ≡ other) × (is_before other.spots.items old.spots.items ≡ true)) ⊎ ((mid ≡ old) × (is_before other.spots.items old.spots.items ≡ false))
 
 abbrev with_both : Node → Node → Node → Node
 with_both old other mid = record mid { count = old.count + other.count }
 
-pub joined_tally : (old other mid : Node) → IsOne old other → IsFirstOf old other mid → (go_on : Outlook) (ticks : ℕ)
-    → tally_of_node go_on ticks (with_both old other mid) ≡ both (tally_of_node go_on ticks old) (tally_of_node go_on ticks other)
-joined_tally old other mid one (inl (same, first)) go_on ticks =
-    let q = old.places.items in
-    let r = other.places.items in
-    let rest = go_on (ticks - length r) other.kernel.state other.marks.items in
-    ap (λ (n : Node). tally_of_node go_on ticks (with_both old other n)) same
-    ∙ joined_before old.count other.count q r rest one.ticks first
-    ∙ ap (λ t. both (behind old.count q t) (behind other.count r rest)) (sym (goes_on_alike go_on ticks old other one))
-joined_tally old other mid one (inr (same, first)) go_on ticks =
-    let q = old.places.items in
-    let r = other.places.items in
-    let rest = go_on (ticks - length q) old.kernel.state old.marks.items in
-    ap (λ (n : Node). tally_of_node go_on ticks (with_both old other n)) same
-    ∙ joined_behind old.count other.count q r rest one.ticks first
-    ∙ ap (λ t. both (behind old.count q rest) (behind other.count r t)) (goes_on_alike go_on ticks old other one)
+pub joined_tally : (old other mid : Node) → IsOne old other → IsFirstOf old other mid → (go_on : Outlook) (most : ℕ)
+    → tally_of_node go_on most (with_both old other mid) ≡ both (tally_of_node go_on most old) (tally_of_node go_on most other)
+joined_tally old other mid one (inl (same, first)) go_on most =
+    let q = old.spots.items in
+    let r = other.spots.items in
+    let rest = go_on (most - length r) other.left.items other.kernel.state other.marks.items in
+    ap (λ (n : Node). tally_of_node go_on most (with_both old other n)) same
+    ∙ joined_before old.count other.count q r rest one.spots first
+    ∙ ap (λ t. both (behind old.count q t) (behind other.count r rest)) (sym (goes_on_alike go_on most old other one))
+joined_tally old other mid one (inr (same, first)) go_on most =
+    let q = old.spots.items in
+    let r = other.spots.items in
+    let rest = go_on (most - length q) old.left.items old.kernel.state old.marks.items in
+    ap (λ (n : Node). tally_of_node go_on most (with_both old other n)) same
+    ∙ joined_behind old.count other.count q r rest one.spots first
+    ∙ ap (λ t. both (behind old.count q rest) (behind other.count r t)) (goes_on_alike go_on most old other one)
 
-recounted : (world : World) (texts : List (List ℕ)) (ticks count : ℕ) (n : Node) → IsNode world texts ticks n → IsNode world texts ticks (record n { count = count })
-recounted world texts ticks count n i = record { reached = i.reached; regular = i.regular; settled = i.settled; given = i.given; marks = i.marks; few = i.few }
+recounted : (search : Search) (place least count : ℕ) (n : Node) → IsNode search place least n → IsNode search place least (record n { count = count })
+recounted search place least count n i = record {
+  reached = i.reached;
+  regular = i.regular;
+  settled = i.settled;
+  events = i.events;
+  marks = i.marks;
+  given = i.given;
+  least = i.least;
+  few = i.few;
+  last = i.last;
+}
 
-pub joined_node : (old other mid : Node) → IsFirstOf old other mid → (world : World) (texts : List (List ℕ)) (ticks : ℕ) → IsNode world texts ticks old → IsNode world texts ticks other
-    → IsNode world texts ticks (with_both old other mid)
-joined_node old other mid (inl (same, first)) world texts ticks i j =
-    recounted world texts ticks (old.count + other.count) mid (subst (λ (n : Node). IsNode world texts ticks n) (sym same) j)
-joined_node old other mid (inr (same, first)) world texts ticks i j =
-    recounted world texts ticks (old.count + other.count) mid (subst (λ (n : Node). IsNode world texts ticks n) (sym same) i)
-
-pub joined_at : (old other mid : Node) → IsFirstOf old other mid → (place : ℕ) → IsAt place old → IsAt place other → IsAt place (with_both old other mid)
-joined_at old other mid (inl (same, first)) place i j = subst (λ (n : Node). IsAt place n) (sym same) j
-joined_at old other mid (inr (same, first)) place i j = subst (λ (n : Node). IsAt place n) (sym same) i
+pub joined_node : (old other mid : Node) → IsFirstOf old other mid → (search : Search) (place least : ℕ) → IsNode search place least old → IsNode search place least other
+    → IsNode search place least (with_both old other mid)
+joined_node old other mid (inl (same, first)) search place least i j =
+    recounted search place least (old.count + other.count) mid (subst (λ (n : Node). IsNode search place least n) (sym same) j)
+joined_node old other mid (inr (same, first)) search place least i j =
+    recounted search place least (old.count + other.count) mid (subst (λ (n : Node). IsNode search place least n) (sym same) i)
 
 -- ---- nodes that are given events
 
@@ -127,30 +138,45 @@ written len new old same all =
     ∙ ap (take len) (append-nil new)
     ∙ take_all len new (omega (arith, same, all))
 
-pub given_node : (world : World) (texts : List (List ℕ)) (ticks : ℕ) (x : Event) (old new : Node) → IsNode world texts ticks old → new.kernel.state ≡ state_after x old.kernel.state
-    → new.kernel.events ≡ old.kernel.events + 1 → IsRegular new.kernel.state → IsSettled new.kernel.state → new.given ≡ old.given ++ x ∷ []
-    → new.marks.items ≡ marks_after texts x old.kernel.state old.marks.items → new.places ≡ old.places → IsNode world texts ticks new
-given_node world texts ticks x old new i state events regular settled given marks places = record {
-  reached = reached_then (boot world) old.kernel.state new.kernel.state old.given x i.reached state ∙ ap (λ xs. (course_from 1 (boot world) xs).last) (sym given);
+-- with one more event, before the same event of the list or the next
+with_event : (search : Search) (place later least more : ℕ) (x : Event) (old new : Node) → IsNode search place least old → new.kernel.state ≡ state_after x old.kernel.state
+    → IsRegular new.kernel.state → IsSettled new.kernel.state → new.kernel.events ≤ length old.given + 1 → new.marks.items ≡ marks_after (texts_of search) x old.kernel.state old.marks.items
+    → new.given ≡ old.given ++ x ∷ [] → length new.given ≡ later + length new.spots.items → more ≤ length new.spots.items → length new.spots.items + length new.left.items ≤ most_of search
+    → (later ≡ search.family.now.upto → new.left.items ≡ []) → IsNode search later more new
+with_event search place later least more x old new i state regular settled events marks given longer most few last = record {
+  reached = reached_then (boot (world_of search)) old.kernel.state new.kernel.state old.given x i.reached state ∙ ap (λ xs. (course_from 1 (boot (world_of search)) xs).last) (sym given);
   regular = regular;
   settled = settled;
-  given = omega (arith, i.given, events, ap length given, length-append old.given (x ∷ []));
-  marks = ap length marks ∙ marked_length texts (numbered 1 (next true old.kernel.state x).entries) old.marks.items i.marks;
-  few = subst (λ (ps : ArrayVec ℕ). length ps.items ≤ ticks) (sym places) i.few;
-}
-
-pub one_longer : (place : ℕ) (given : List Event) (x : Event) (places : Places) → length given ≡ place + length places → length (given ++ x ∷ []) ≡ place + 1 + length places
-one_longer place given x places at = omega (arith, at, length-append given (x ∷ []))
-
--- the same beginnings with a kernel of their own, and with a tick
-pub again_node : (world : World) (texts : List (List ℕ)) (ticks : ℕ) (old new : Node) → IsNode world texts ticks old → new.kernel.state ≡ old.kernel.state
-    → new.kernel.events ≤ length old.given → IsRegular new.kernel.state → IsSettled new.kernel.state → new.given ≡ old.given → new.marks.items ≡ old.marks.items
-    → length new.places.items ≤ ticks → IsNode world texts ticks new
-again_node world texts ticks old new i state events regular settled given marks few = record {
-  reached = state ∙ i.reached ∙ ap (λ xs. (course_from 1 (boot world) xs).last) (sym given);
-  regular = regular;
-  settled = settled;
-  given = omega (arith, events, ap length given);
-  marks = ap length marks ∙ i.marks;
+  events = omega (arith, events, ap length given, length-append old.given (x ∷ []));
+  marks = ap length marks ∙ marked_length (texts_of search) (numbered 1 (next true old.kernel.state x).entries) old.marks.items i.marks;
+  given = longer;
+  least = most;
   few = few;
+  last = last;
 }
+
+-- the event of the list
+pub given_node : (search : Search) (place least : ℕ) (x : Event) (old new : Node) → IsNode search place least old → (place + 1 ≡ search.family.now.upto → old.left.items ≡ [])
+    → new.kernel.state ≡ state_after x old.kernel.state → IsRegular new.kernel.state → IsSettled new.kernel.state → new.kernel.events ≡ old.kernel.events + 1
+    → new.marks.items ≡ marks_after (texts_of search) x old.kernel.state old.marks.items → new.given ≡ old.given ++ x ∷ [] → new.spots.items ≡ old.spots.items → new.left.items ≡ old.left.items
+    → IsNode search (place + 1) least new
+given_node search place least x old new i none state regular settled events marks given spots left =
+    let had = i.events in
+    let long = i.given in
+    let least_was = i.least in
+    let few = i.few in
+    let same = ap length spots in
+    with_event search place (place + 1) least least x old new i state regular settled (omega (arith, events, had)) marks given
+    (omega (arith, long, same, ap length given, length-append old.given (x ∷ []))) (omega (arith, least_was, same)) (omega (arith, few, same, ap length left)) (λ end. left ∙ none end)
+
+-- a tick or a loose event before it, with as many left as still can be put in
+pub put_node : (search : Search) (place least q : ℕ) (x : Event) (n m : Node) → IsNode search place least n → place < search.family.now.upto
+    → m.kernel.state ≡ state_after x n.kernel.state → IsRegular m.kernel.state → IsSettled m.kernel.state → m.kernel.events ≤ length n.given + 1
+    → m.marks.items ≡ marks_after (texts_of search) x n.kernel.state n.marks.items → m.given ≡ n.given ++ x ∷ [] → m.spots.items ≡ n.spots.items ++ q ∷ []
+    → length n.spots.items + 1 + length m.left.items ≤ most_of search → IsNode search place (least + 1) m
+put_node search place least q x n m i before state regular settled events marks given spots few =
+    let long = i.given in
+    let least_was = i.least in
+    let more : length m.spots.items ≡ length n.spots.items + 1 = ap length spots ∙ length-append n.spots.items (q ∷ []) in
+    with_event search place place least (least + 1) x n m i state regular settled events marks given
+    (omega (arith, long, more, ap length given, length-append n.given (x ∷ []))) (omega (arith, least_was, more)) (omega (arith, few, more)) (λ end. absurd (omega (arith, before, end)))

@@ -1,18 +1,16 @@
 -- What a status means.
-use Rattle.std.proofs.Common.{◌≡◌, ◌⊎◌, ◌∙◌, ℕ, ◌+◌, Bool, true, false, Option, Some, List, length, refl, ap, subst, arith, inl, inr, Result, Ok, Err}
+use Rattle.std.proofs.Common.{◌≡◌, ◌⊎◌, ◌∙◌, ℕ, ◌+◌, Bool, true, false, Option, Some, None, List, length, refl, ap, sym, subst, arith, inl, inr, Result, Ok, Err}
 use Rattle.std.specs.Prelude.{IsErrAnd, IsSomeAnd}
 use Rattle.posix.specs.declared.event.Event.{Event}
 use Rattle.posix.specs.States.{World}
-use Rattle.schedules.specs.Families.{family}
 use Rattle.inputs.specs.Reads.{AreRead, Contents}
 use Rattle.exploring.specs.declared.serving.Failure.{Failure}
 use Rattle.exploring.specs.declared.serving.Failure.TheVariants as failure
 use Rattle.exploring.specs.Books.{BookView}
-use Rattle.exploring.specs.Counts.{book_over}
 use Rattle.sink.specs.Sinks.{BreaksOff, Seen, TakesAll}
 use Rattle.exploring.specs.Reports.{Reports}
-use Rattle.exploring.specs.Serving.{IsExplored, Means, answer_of, is_told}
-use Rattle.exploring.specs.Words.{Asked, are_run, family_asked, states_asked, ticks_asked, upto_asked}
+use Rattle.exploring.specs.Serving.{IsExplored, Means, answer_of, book_asked, is_told, schedules_of, status_of}
+use Rattle.exploring.specs.Words.{Asked, Parted, Put, are_run, asked_by_parts, can_be_put, family_asked, loose_asked, states_asked, ticks_asked, upto_asked}
 
 pub means_explored : {S : Type 0} (contents : Contents) (a : Asked) (old new : S) (before after : Seen) (told : Bool) → IsExplored contents a told (TakesAll before after)
     → Means contents (Some a) old new before after (answer_of (Ok told))
@@ -35,23 +33,66 @@ pub means_unwritten : {S : Type 0} (contents : Contents) (a : Asked) (old new : 
 means_unwritten contents a old new before after told (Ok other) h explored = absurd h
 means_unwritten contents a old new before after told (Err why) h explored = rw h (means_cut_short contents (Some a) old new before after 3 refl (inr (told, explored)))
 
-in_range : (a : Asked) (n upto ticks states : ℕ) → ticks_asked a.ticks ≡ Some ticks → upto_asked n a.upto ≡ Some upto → states_asked a.states ≡ Some states → are_run (length (family upto ticks)) (n + ticks) ≡ true → family_asked a n ≡ Some (upto, ticks)
-in_range a n upto ticks states ticks_are upto_is states_are run = rw (ticks_are, upto_is, states_are, run) refl
+-- the words' parts are known, and the status
+pub means_alike : {S : Type 0} (contents : Contents) (p q : Parted) (old new : S) (before after : Seen) (status known : ℕ) → p ≡ q → status ≡ known
+    → Means contents (asked_by_parts p) old new before after known → Means contents (asked_by_parts q) old new before after status
+means_alike contents p q old new before after status known same is h =
+    subst (λ n. Means contents (asked_by_parts q) old new before after n) (sym is) (subst (λ x. Means contents (asked_by_parts x) old new before after known) same h)
+
+-- ---- what is put in
+
+pub in_range : (a : Asked) (consoles n : ℕ) (p : Put) (states : ℕ) → ticks_asked a.ticks ≡ Some p.ticks → upto_asked n a.upto ≡ Some p.upto → states_asked a.states ≡ Some states
+    → loose_asked consoles a.anywhere ≡ Some p.loose → can_be_put a.all p.upto p.ticks (length p.loose) ≡ true
+    → are_run (length (schedules_of p)) (n + (p.ticks + length p.loose)) ≡ true → family_asked a consoles n ≡ Some p
+in_range a consoles n p states ticks_are upto_is states_are loose_are put run = rw (ticks_are, upto_is, states_are, loose_are, put, run) refl
+
+-- a word isn't an event
+pub no_event : (a : Asked) (consoles n ticks upto states : ℕ) → ticks_asked a.ticks ≡ Some ticks → upto_asked n a.upto ≡ Some upto → states_asked a.states ≡ Some states
+    → loose_asked consoles a.anywhere ≡ None → family_asked a consoles n ≡ None
+no_event a consoles n ticks upto states ticks_are upto_is states_are none = rw (ticks_are, upto_is, states_are, none) refl
+
+-- the loose events can't be put in
+pub no_place : (a : Asked) (consoles n : ℕ) (p : Put) (states : ℕ) → ticks_asked a.ticks ≡ Some p.ticks → upto_asked n a.upto ≡ Some p.upto → states_asked a.states ≡ Some states
+    → loose_asked consoles a.anywhere ≡ Some p.loose → can_be_put a.all p.upto p.ticks (length p.loose) ≡ false → family_asked a consoles n ≡ None
+no_place a consoles n p states ticks_are upto_is states_are loose_are put = rw (ticks_are, upto_is, states_are, loose_are, put) refl
+
+-- there are too many schedules
+pub too_many : (a : Asked) (consoles n : ℕ) (p : Put) (states : ℕ) → ticks_asked a.ticks ≡ Some p.ticks → upto_asked n a.upto ≡ Some p.upto → states_asked a.states ≡ Some states
+    → loose_asked consoles a.anywhere ≡ Some p.loose → can_be_put a.all p.upto p.ticks (length p.loose) ≡ true
+    → are_run (length (schedules_of p)) (n + (p.ticks + length p.loose)) ≡ false → family_asked a consoles n ≡ None
+too_many a consoles n p states ticks_are upto_is states_are loose_are put run = rw (ticks_are, upto_is, states_are, loose_are, put, run) refl
+
+-- words that are out of range, or memory was refused
+pub means_refused : {S : Type 0} (contents : Contents) (a : Asked) (old : S) (before after : Seen) (world : World) (events : List Event) (r : Result Bool Failure) (e : Failure) (A : Type 0)
+    → IsErrAnd r (λ why. why ≡ e) → AreRead contents (a.world, a.events) world events → (A → family_asked a world.consoles (length events) ≡ None) → (status_of e ≡ 3) ⊎ ((status_of e ≡ 2) × A)
+    → Means contents (Some a) old old before after (answer_of r)
+means_refused contents a old before after world events (Ok told) e A h read none why = absurd h
+means_refused contents a old before after world events (Err f) e A h read none (inl three) = means_cut_short contents (Some a) old old before after (status_of f) (ap status_of h ∙ three) (inl refl)
+means_refused contents a old before after world events (Err f) e A h read none (inr two) = by (status_of f) (ap status_of h ∙ two.0)
+  where
+    by : (status : ℕ) → status ≡ 2 → Means contents (Some a) old old before after status
+    by status is = record {
+      done = λ e. absurd (omega (arith, e, is));
+      told = λ e. absurd (omega (arith, e, is));
+      refused = λ e. absurd (omega (arith, e, is));
+      other_words = λ e. (inr (world, events, read, none two.1), refl);
+      cut_short = λ e. absurd (omega (arith, e, is));
+    }
 
 -- all schedules of the family were run, and a text that tells of them was put
-pub explored : (contents : Contents) (a : Asked) (world : World) (events : List Event) (upto ticks states size : ℕ) (book : BookView) (told : Bool) (text : List ℕ) (IsPut : List ℕ → Type 0)
-    → AreRead contents (a.world, a.events) world events → ticks_asked a.ticks ≡ Some ticks → upto_asked (length events) a.upto ≡ Some upto → states_asked a.states ≡ Some states
-    → are_run (length (family upto ticks)) (length events + ticks) ≡ true → size ≡ length (family upto ticks) → book ≡ book_over world events a.finds (family upto ticks)
-    → told ≡ is_told a.must_halt book → Reports events size upto ticks book text → IsPut text → IsExplored contents a told IsPut
-explored contents a world events upto ticks states size book told text IsPut read ticks_are upto_is states_are run counted is answer reports put = record {
+pub explored : (contents : Contents) (a : Asked) (world : World) (events : List Event) (p : Put) (states size : ℕ) (book : BookView) (told : Bool) (text : List ℕ) (IsPut : List ℕ → Type 0)
+    → AreRead contents (a.world, a.events) world events → ticks_asked a.ticks ≡ Some p.ticks → upto_asked (length events) a.upto ≡ Some p.upto → states_asked a.states ≡ Some states
+    → loose_asked world.consoles a.anywhere ≡ Some p.loose → can_be_put a.all p.upto p.ticks (length p.loose) ≡ true
+    → are_run (length (schedules_of p)) (length events + (p.ticks + length p.loose)) ≡ true → size ≡ length (schedules_of p) → book ≡ book_asked world events a.finds p
+    → told ≡ is_told a.must_halt book → Reports p.loose events size p.upto p.ticks book text → IsPut text → IsExplored contents a told IsPut
+explored contents a world events p states size book told text IsPut read ticks_are upto_is states_are loose_are put_in run counted is answer reports put = record {
   world = world;
   events = events;
-  upto = upto;
-  ticks = ticks;
+  put_in = p;
   read = read;
-  in_range = in_range a (length events) upto ticks states ticks_are upto_is states_are run;
+  in_range = in_range a world.consoles (length events) p states ticks_are upto_is states_are loose_are put_in run;
   answer = answer ∙ ap (is_told a.must_halt) is;
   text = text;
-  reports = subst (λ n. Reports events n upto ticks (book_over world events a.finds (family upto ticks)) text) counted (subst (λ b. Reports events size upto ticks b text) is reports);
+  reports = subst (λ n. Reports p.loose events n p.upto p.ticks (book_asked world events a.finds p) text) counted (subst (λ b. Reports p.loose events size p.upto p.ticks b text) is reports);
   put = put;
 }

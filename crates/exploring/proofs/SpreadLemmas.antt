@@ -1,165 +1,187 @@
--- What nodes that go on are told of: before an event, behind it, and over all events.
-use Rattle.std.proofs.Common.{◌≡◌, ℕ, zero, suc, ◌+◌, ◌-◌, ◌<◌, ◌≤◌, ◌^◌, List, [], ◌∷◌, ◌++◌, length, length-append, drop, refl, ap, ap₂, sym, ◌∙◌, arith, None, Some}
-use Rattle.std.specs.Prelude.{slice_get}
-use Rattle.std.proofs.Math.Nat.{mul-le-mul_left}
+-- Nodes that go on from before an event: with one more spot, and behind the event.
+use Rattle.std.proofs.Common.{◌≡◌, ℕ, zero, suc, ◌+◌, ◌-◌, ◌<◌, ◌≤◌, inl, inr, ◌⊎◌, cond, true, false, Some, List, [], ◌∷◌, ◌++◌, length, length-append, remove, slice_index_or, refl, ap, ap₂, sym, ◌∙◌, arith}
+use Rattle.std.specs.Prelude.{nat_lt, slice_get}
+use Rattle.std.proofs.lemmas.Bool.{cases_lt}
+use Rattle.std.proofs.lemmas.Bool.Decides.{nat_tests}
 use Rattle.posix.specs.declared.event.Event.{Event}
 use Rattle.posix.specs.declared.event.Event.TheVariants.{Tick}
+use Rattle.schedules.specs.Families.{Spots, spot}
+use Rattle.schedules.specs.Schedules.{event_of}
 use Rattle.exploring.specs.declared.node.Node.{Node}
-use Rattle.exploring.specs.Merging.{AreAllCountable, AreCountable, GoOn, IsLeft, Outlook, Property, always, behind, both, from_place, given_event, marks_after, state_after, tally_from, tally_of_node, tally_of_nodes}
-use Rattle.exploring.specs.Tallies.{TallyView}
-use Rattle.exploring.proofs.NodeBookLemmas.{is_open, once_within}
-use Rattle.exploring.proofs.LayerLemmas.{tallies_more}
-use Rattle.exploring.proofs.MergeLemmas.{tally_event, tally_tick_or_event}
-use Rattle.exploring.proofs.TallyLemmas.{and_none, behind_both, behind_place, both_regrouped, both_swapped, none_and}
+use Rattle.exploring.specs.declared.search.Search.{Search}
+use Rattle.exploring.specs.Merging.{IsNode, Outlook, Property, always, behind, both, each_left, from_spot, given_event, goes_on_once, kind_tally, list_of, loose_of, loose_tally, marks_after, most_of, outlook_of, put_in, state_after, tally_of_node, tally_of_nodes, texts_of, tick_tally}
+use Rattle.exploring.specs.Tallies.{TallyView, no_schedules}
+use Rattle.exploring.proofs.OutlookLemmas.{event_is_next, node_within, none_at_end, none_goes_on, spot_or_event_is_next}
+use Rattle.exploring.proofs.TallyLemmas.{and_none, behind_both, behind_none, behind_place, both_swapped}
 
--- ---- sums of three
+-- ---- each of the loose events that are left
 
-pub turned : (a b c : TallyView) → both (both a b) c ≡ both a (both c b)
-turned a b c = both_regrouped a b c ∙ ap (both a) (both_swapped b c)
+-- behind a beginning
+each_behind : (c : ℕ) (q : Spots) (f g : ℕ → List ℕ → TallyView) → ((kind : ℕ) (others : List ℕ) → behind c q (f kind others) ≡ g kind others)
+    → (i : ℕ) (left : List ℕ) → behind c q (each_left f i left) ≡ each_left g i left
+each_behind c q f g same zero left = behind_none c q
+each_behind c q f g same (suc i) left =
+    behind_both c q (each_left f i left) (f (slice_index_or left i 0) (remove left i))
+    ∙ ap₂ both (each_behind c q f g same i left) (same (slice_index_or left i 0) (remove left i))
 
-pub one_node : (go_on : Outlook) (ticks : ℕ) (n : Node) → tally_of_nodes go_on ticks (n ∷ []) ≡ tally_of_node go_on ticks n
-one_node go_on ticks n = and_none (tally_of_node go_on ticks n)
+-- with fewer of them there are no more schedules
+pub fewer_within : (f : ℕ → List ℕ → TallyView) (i j : ℕ) (left : List ℕ) → i ≤ j → (each_left f i left).count ≤ (each_left f j left).count
+fewer_within f i zero left l = let same : i ≡ zero = omega (arith, l) in let e = ap (λ k. (each_left f k left).count) same in omega (arith, e)
+fewer_within f i (suc j) left l = by (fewer_within f i j left) (cases_lt j i)
+  where
+    by : (i ≤ j → (each_left f i left).count ≤ (each_left f j left).count) → (j < i) ⊎ (i ≤ j) → (each_left f i left).count ≤ (each_left f (suc j) left).count
+    by fewer (inl above) = let same : i ≡ suc j = omega (arith, above, l) in let e = ap (λ k. (each_left f k left).count) same in omega (arith, e)
+    by fewer (inr below) = let within = fewer below in omega (arith, within)
+
+-- ---- a tick, where there may be one
+
+tells_below : (a b : ℕ) → a < b → nat_lt a b ≡ true
+tells_below a b l = grind (arith, nat_tests)
+
+tells_above : (a b : ℕ) → b ≤ a → nat_lt a b ≡ false
+tells_above a b l = grind (arith, nat_tests)
+
+tick_some : (has : Property) (s : Search) (place : ℕ) (n : Node) → length n.spots.items + length n.left.items < most_of s
+    → tick_tally has s place n ≡ put_in (outlook_of has s place) (most_of s) (texts_of s) (spot (length (loose_of s)) place 0) Tick n.left.items n
+tick_some has s place n few =
+    ap (λ b. cond b (put_in (outlook_of has s place) (most_of s) (texts_of s) (spot (length (loose_of s)) place 0) Tick n.left.items n) no_schedules)
+    (tells_below (length n.spots.items + length n.left.items) (most_of s) few)
+
+tick_none : (has : Property) (s : Search) (place : ℕ) (n : Node) → most_of s ≤ length n.spots.items + length n.left.items → tick_tally has s place n ≡ no_schedules
+tick_none has s place n many =
+    ap (λ b. cond b (put_in (outlook_of has s place) (most_of s) (texts_of s) (spot (length (loose_of s)) place 0) Tick n.left.items n) no_schedules)
+    (tells_above (length n.spots.items + length n.left.items) (most_of s) many)
 
 -- ---- one node before an event
 
--- no more ticks are left for it
-pub event_alone : (has : Property) (texts : List (List ℕ)) (left place : ℕ) (x : Event) (xs : List Event) (ticks : ℕ) (n : Node) → ticks - length n.places.items ≡ 0
-    → tally_of_node (tally_from has texts (suc left) place (x ∷ xs)) ticks n ≡ given_event (tally_from has texts left (place + 1) xs) ticks texts x n
-event_alone has texts left place x xs ticks n none =
-    let s = n.kernel.state in
+-- where there may be no spot more
+event_alone : (has : Property) (s : Search) (place : ℕ) (x : Event) (n : Node) → place < s.family.now.upto → slice_get (list_of s) place ≡ Some x → most_of s - length n.spots.items ≡ 0
+    → tally_of_node (outlook_of has s place) (most_of s) n ≡ given_event (outlook_of has s (place + 1)) (most_of s) (texts_of s) x n
+event_alone has s place x n below is none =
+    let st = n.kernel.state in
     let marks = n.marks.items in
-    ap (λ k. behind n.count n.places.items (tally_from has texts (suc left) place (x ∷ xs) k s marks)) none
-    ∙ ap (behind n.count n.places.items) (tally_event has texts left place x xs s marks)
-    ∙ ap (λ k. behind n.count n.places.items (tally_from has texts left (place + 1) xs k (state_after x s) (marks_after texts x s marks))) (sym none)
+    let q = n.spots.items in
+    let left = n.left.items in
+    ap (λ k. behind n.count q (outlook_of has s place k left st marks)) none
+    ∙ ap (behind n.count q) (event_is_next has s place x below is left st marks)
+    ∙ ap (λ k. behind n.count q (outlook_of has s (place + 1) k left (state_after x st) (marks_after (texts_of s) x st marks))) (sym none)
 
--- one more tick, or the event
-pub tick_or_event : (has : Property) (texts : List (List ℕ)) (left place : ℕ) (x : Event) (xs : List Event) (ticks : ℕ) (n m : Node) → length n.places.items < ticks
-    → m.kernel.state ≡ state_after Tick n.kernel.state → m.marks.items ≡ marks_after texts Tick n.kernel.state n.marks.items → m.count ≡ n.count → m.places.items ≡ n.places.items ++ place ∷ []
-    → tally_of_node (tally_from has texts (suc left) place (x ∷ xs)) ticks n
-    ≡ both (tally_of_node (tally_from has texts (suc left) place (x ∷ xs)) ticks m) (given_event (tally_from has texts left (place + 1) xs) ticks texts x n)
-tick_or_event has texts left place x xs ticks n m few state marks count places =
-    let s = n.kernel.state in
-    let ms = n.marks.items in
+none_before : (has : Property) (s : Search) (place : ℕ) (n : Node) → most_of s - length n.spots.items ≡ 0 → length n.spots.items + length n.left.items ≤ most_of s
+    → both (tick_tally has s place n) (loose_tally has s place n) ≡ no_schedules
+none_before has s place n none few =
+    let put_already : length n.left.items ≡ 0 = omega (arith, none, few) in
+    ap₂ both (tick_none has s place n (omega (arith, none))) (ap (λ i. each_left (kind_tally has s place n) i n.left.items) put_already)
+
+-- where there may be one
+put_is_next : (has : Property) (s : Search) (place k kind : ℕ) (x : Event) (others : List ℕ) (n : Node) → most_of s - length n.spots.items ≡ suc k
+    → behind n.count n.spots.items (from_spot (spot (length (loose_of s)) place kind) (outlook_of has s place k others (state_after x n.kernel.state) (marks_after (texts_of s) x n.kernel.state n.marks.items)))
+    ≡ put_in (outlook_of has s place) (most_of s) (texts_of s) (spot (length (loose_of s)) place kind) x others n
+put_is_next has s place k kind x others n some =
+    let q = n.spots.items in
+    let p = spot (length (loose_of s)) place kind in
+    let st = state_after x n.kernel.state in
+    let marks = marks_after (texts_of s) x n.kernel.state n.marks.items in
+    let fewer : k ≡ most_of s - (length q + 1) = omega (arith, some) in
+    behind_place n.count q p (outlook_of has s place k others st marks)
+    ∙ ap (λ j. behind n.count (q ++ p ∷ []) (outlook_of has s place j others st marks)) fewer
+
+tick_is_next : (has : Property) (s : Search) (place k : ℕ) (n : Node) → most_of s - length n.spots.items ≡ suc k
+    → behind n.count n.spots.items
+    (from_spot (spot (length (loose_of s)) place 0) (outlook_of has s place k n.left.items (state_after Tick n.kernel.state) (marks_after (texts_of s) Tick n.kernel.state n.marks.items)))
+    ≡ tick_tally has s place n
+tick_is_next has s place k n some = by (cases_lt (length n.spots.items + length n.left.items) (most_of s))
+  where
+    by : (length n.spots.items + length n.left.items < most_of s) ⊎ (most_of s ≤ length n.spots.items + length n.left.items)
+        → behind n.count n.spots.items
+        (from_spot (spot (length (loose_of s)) place 0) (outlook_of has s place k n.left.items (state_after Tick n.kernel.state) (marks_after (texts_of s) Tick n.kernel.state n.marks.items)))
+        ≡ tick_tally has s place n
+    by (inl few) = put_is_next has s place k 0 Tick n.left.items n some ∙ sym (tick_some has s place n few)
+    by (inr many) =
+        let none = none_goes_on has (texts_of s) (loose_of s) (s.family.now.upto - place) place _ k n.left.items (state_after Tick n.kernel.state) (marks_after (texts_of s) Tick n.kernel.state n.marks.items) (omega (arith, some, many)) in
+        ap (λ t. behind n.count n.spots.items (from_spot (spot (length (loose_of s)) place 0) t)) none
+        ∙ behind_none n.count n.spots.items
+        ∙ sym (tick_none has s place n many)
+
+spot_or_event : (has : Property) (s : Search) (place : ℕ) (x : Event) (k : ℕ) (n : Node) → place < s.family.now.upto → slice_get (list_of s) place ≡ Some x → most_of s - length n.spots.items ≡ suc k
+    → tally_of_node (outlook_of has s place) (most_of s) n
+    ≡ both (both (tick_tally has s place n) (loose_tally has s place n)) (given_event (outlook_of has s (place + 1)) (most_of s) (texts_of s) x n)
+spot_or_event has s place x k n below is some =
+    let st = n.kernel.state in
+    let marks = n.marks.items in
     let c = n.count in
-    let q = n.places.items in
-    let k = ticks - length q - 1 in
-    let some : ticks - length q ≡ suc k = omega (arith, few) in
-    let longer : length (q ++ place ∷ []) ≡ length q + 1 = length-append q (place ∷ []) in
-    let fewer : ticks - length (q ++ place ∷ []) ≡ k = omega (arith, few, longer) in
-    let go = tally_from has texts (suc left) place (x ∷ xs) in
-    let on = tally_from has texts left (place + 1) xs (suc k) (state_after x s) (marks_after texts x s ms) in
-    let ticked = go k (state_after Tick s) (marks_after texts Tick s ms) in
-    let same : tally_of_node go ticks m ≡ behind c (q ++ place ∷ []) ticked = rw (count, places, fewer, state, marks) refl in
-    ap (λ j. behind c q (go j s ms)) some
-    ∙ ap (behind c q) (tally_tick_or_event has texts left place x xs k s ms)
-    ∙ behind_both c q (from_place place ticked) on
-    ∙ ap₂ both (behind_place c q place ticked ∙ sym same) (ap (λ j. behind c q (tally_from has texts left (place + 1) xs j (state_after x s) (marks_after texts x s ms))) (sym some))
+    let q = n.spots.items in
+    let left = n.left.items in
+    let with_tick = from_spot (spot (length (loose_of s)) place 0) (outlook_of has s place k left (state_after Tick st) (marks_after (texts_of s) Tick st marks)) in
+    let with_loose = λ (kind : ℕ) (others : List ℕ). from_spot (spot (length (loose_of s)) place kind)
+    (outlook_of has s place k others (state_after (event_of (loose_of s) kind) st) (marks_after (texts_of s) (event_of (loose_of s) kind) st marks)) in
+    let all_loose = each_left with_loose (length left) left in
+    let later = outlook_of has s (place + 1) (suc k) left (state_after x st) (marks_after (texts_of s) x st marks) in
+    ap (λ j. behind c q (outlook_of has s place j left st marks)) some
+    ∙ ap (behind c q) (spot_or_event_is_next has s place x below is k left st marks)
+    ∙ behind_both c q (both with_tick all_loose) later
+    ∙ ap₂ both
+    (behind_both c q with_tick all_loose
+    ∙ ap₂ both (tick_is_next has s place k n some)
+    (each_behind c q with_loose (kind_tally has s place n) (λ kind others. put_is_next has s place k kind (event_of (loose_of s) kind) others n some) (length left) left))
+    (ap (λ j. behind c q (outlook_of has s (place + 1) j left (state_after x st) (marks_after (texts_of s) x st marks))) (sym some))
 
--- ---- a node goes to a layer
+-- A tick is put in, or a loose event, or the event is next.
+pub node_parts : (has : Property) (s : Search) (place least : ℕ) (x : Event) (n : Node) → IsNode s place least n → place < s.family.now.upto → slice_get (list_of s) place ≡ Some x
+    → tally_of_node (outlook_of has s place) (most_of s) n
+    ≡ both (both (tick_tally has s place n) (loose_tally has s place n)) (given_event (outlook_of has s (place + 1)) (most_of s) (texts_of s) x n)
+node_parts has s place least x n node below is = by (most_of s - length n.spots.items) refl
+  where
+    by : (k : ℕ) → most_of s - length n.spots.items ≡ k → tally_of_node (outlook_of has s place) (most_of s) n
+        ≡ both (both (tick_tally has s place n) (loose_tally has s place n)) (given_event (outlook_of has s (place + 1)) (most_of s) (texts_of s) x n)
+    by zero none =
+        let given = given_event (outlook_of has s (place + 1)) (most_of s) (texts_of s) x n in
+        event_alone has s place x n below is none
+        ∙ sym (and_none given)
+        ∙ both_swapped given no_schedules
+        ∙ ap (λ t. both t given) (sym (none_before has s place n none node.few))
+    by (suc k) some = spot_or_event has s place x k n below is some
 
--- with one more tick it waits, and without it comes to the layer
-pub spread_more : (has : Property) (texts : List (List ℕ)) (left place : ℕ) (x : Event) (xs : List Event) (ticks : ℕ) (n m : Node) (old new : List Node) (all : TallyView)
-    → tally_of_node (tally_from has texts (suc left) place (x ∷ xs)) ticks n
-    ≡ both (tally_of_node (tally_from has texts (suc left) place (x ∷ xs)) ticks m) (given_event (tally_from has texts left (place + 1) xs) ticks texts x n)
-    → tally_of_nodes (tally_from has texts left (place + 1) xs) ticks new ≡ both (tally_of_nodes (tally_from has texts left (place + 1) xs) ticks old) (given_event (tally_from has texts left (place + 1) xs) ticks texts x n)
-    → both (tally_of_nodes (tally_from has texts left (place + 1) xs) ticks old) (tally_of_nodes (tally_from has texts (suc left) place (x ∷ xs)) ticks (n ∷ [])) ≡ all
-    → both (tally_of_nodes (tally_from has texts left (place + 1) xs) ticks new) (tally_of_nodes (tally_from has texts (suc left) place (x ∷ xs)) ticks (m ∷ [])) ≡ all
-spread_more has texts left place x xs ticks n m old new all parts came was =
-    let before = tally_from has texts (suc left) place (x ∷ xs) in
-    let behind_it = tally_from has texts left (place + 1) xs in
-    let o = tally_of_nodes behind_it ticks old in
-    let given = given_event behind_it ticks texts x n in
-    ap₂ both came (one_node before ticks m) ∙ turned o given (tally_of_node before ticks m) ∙ ap (both o) (sym parts ∙ sym (one_node before ticks n)) ∙ was
+-- ---- one node with one more spot
 
--- the last of them comes to the layer
-pub spread_last : (has : Property) (texts : List (List ℕ)) (left place : ℕ) (x : Event) (xs : List Event) (ticks : ℕ) (n : Node) (old new : List Node) (all : TallyView) → ticks - length n.places.items ≡ 0
-    → tally_of_nodes (tally_from has texts left (place + 1) xs) ticks new ≡ both (tally_of_nodes (tally_from has texts left (place + 1) xs) ticks old) (given_event (tally_from has texts left (place + 1) xs) ticks texts x n)
-    → both (tally_of_nodes (tally_from has texts left (place + 1) xs) ticks old) (tally_of_nodes (tally_from has texts (suc left) place (x ∷ xs)) ticks (n ∷ [])) ≡ all
-    → tally_of_nodes (tally_from has texts left (place + 1) xs) ticks new ≡ all
-spread_last has texts left place x xs ticks n old new all none came was =
-    let before = tally_from has texts (suc left) place (x ∷ xs) in
-    let behind_it = tally_from has texts left (place + 1) xs in
-    came ∙ ap (both (tally_of_nodes behind_it ticks old)) (sym (event_alone has texts left place x xs ticks n none) ∙ sym (one_node before ticks n)) ∙ was
+put_is : (go_on : Outlook) (most q : ℕ) (texts : List (List ℕ)) (x : Event) (n m : Node) → m.kernel.state ≡ state_after x n.kernel.state → m.marks.items ≡ marks_after texts x n.kernel.state n.marks.items
+    → m.count ≡ n.count → m.spots.items ≡ n.spots.items ++ q ∷ [] → tally_of_node go_on most m ≡ put_in go_on most texts q x m.left.items n
+put_is go_on most q texts x n m state marks count spots =
+    let longer : length m.spots.items ≡ length n.spots.items + 1 = ap length spots ∙ length-append n.spots.items (q ∷ []) in
+    ap₂ (λ c (qs : Spots). behind c qs (go_on (most - length m.spots.items) m.left.items m.kernel.state m.marks.items)) count spots
+    ∙ ap (λ k. behind n.count (n.spots.items ++ q ∷ []) (go_on (most - k) m.left.items m.kernel.state m.marks.items)) longer
+    ∙ ap₂ (λ st ms. behind n.count (n.spots.items ++ q ∷ []) (go_on (most - (length n.spots.items + 1)) m.left.items st ms)) state marks
 
--- ---- all can be counted
+-- with a tick
+pub tick_is : (has : Property) (s : Search) (place q : ℕ) (n m : Node) → length n.spots.items + length n.left.items < most_of s → q ≡ spot (length (loose_of s)) place 0
+    → m.kernel.state ≡ state_after Tick n.kernel.state → m.marks.items ≡ marks_after (texts_of s) Tick n.kernel.state n.marks.items
+    → m.count ≡ n.count → m.spots.items ≡ n.spots.items ++ q ∷ [] → m.left.items ≡ n.left.items → tally_of_node (outlook_of has s place) (most_of s) m ≡ tick_tally has s place n
+tick_is has s place q n m few at state marks count spots left =
+    put_is (outlook_of has s place) (most_of s) q (texts_of s) Tick n m state marks count spots
+    ∙ ap₂ (λ p others. put_in (outlook_of has s place) (most_of s) (texts_of s) p Tick others n) at left
+    ∙ sym (tick_some has s place n few)
 
-count_within : (texts : List (List ℕ)) (left place : ℕ) (xs : List Event) (ticks : ℕ) (n : Node) → n.count ≤ (tally_of_node (tally_from always texts left place xs) ticks n).count
-count_within texts left place xs ticks n =
-    let each = mul-le-mul_left n.count (is_open texts left place xs (ticks - length n.places.items) n.kernel.state n.marks.items) in
-    omega (arith, each)
+-- The beginnings of one that comes to others can be counted with theirs.
+pub put_countable : (s : Search) (place least most : ℕ) (more : List Node) (m : Node) (t : TallyView) → IsNode s place least m → place ≤ s.family.now.upto
+    → tally_of_node (outlook_of always s place) (most_of s) m ≡ t → (tally_of_nodes goes_on_once (most_of s) more).count + t.count < most
+    → (tally_of_nodes goes_on_once (most_of s) more).count + m.count < most
+put_countable s place least most more m t is within same fits =
+    let one = node_within s place least m is within in
+    let counts = ap (λ (v : TallyView). v.count) same in
+    omega (arith, one, counts, fits)
 
-pub one_countable : (texts : List (List ℕ)) (ticks place : ℕ) (x : Event) (given : List Node) (n : Node) → AreAllCountable texts ticks place x given (n ∷ []) → AreCountable ticks given n
-one_countable texts ticks place x given n (left, xs, all) =
-    let once = once_within (tally_from always texts left (place + 1) xs) ticks given (is_open texts left (place + 1) xs) in
-    let one = count_within texts (suc left) place (x ∷ xs) ticks n in
-    omega (arith, once, one, all)
+-- ---- one node behind an event
 
--- ---- all nodes go to a layer
+pub given_is : (go_on : Outlook) (most : ℕ) (texts : List (List ℕ)) (x : Event) (n m : Node) → m.kernel.state ≡ state_after x n.kernel.state → m.marks.items ≡ marks_after texts x n.kernel.state n.marks.items
+    → m.count ≡ n.count → m.spots ≡ n.spots → m.left ≡ n.left → tally_of_node go_on most m ≡ given_event go_on most texts x n
+given_is go_on most texts x n m state marks count spots left =
+    ap₂ (λ c (qs : Spots). behind c qs (go_on (most - length qs) m.left.items m.kernel.state m.marks.items)) count (ap (λ v. v.items) spots)
+    ∙ ap (λ v. behind n.count n.spots.items (go_on (most - length n.spots.items) v.items m.kernel.state m.marks.items)) left
+    ∙ ap₂ (λ st ms. behind n.count n.spots.items (go_on (most - length n.spots.items) n.left.items st ms)) state marks
 
-pub left_countable : (texts : List (List ℕ)) (ticks place : ℕ) (x : Event) (given nodes now left_over : List Node) → IsLeft texts ticks place x given nodes now left_over
-    → AreAllCountable texts ticks place x given nodes → AreAllCountable texts ticks place x now left_over
-left_countable texts ticks place x given nodes now left_over h (left, xs, all) =
-    let same = ap (λ t. t.count) (h always left xs) in
-    (left, xs, omega (arith, same, all))
-
-pub first_countable : (texts : List (List ℕ)) (ticks place : ℕ) (x : Event) (now nodes rest : List Node) (n : Node) → nodes ≡ rest ++ n ∷ [] → AreAllCountable texts ticks place x now nodes → AreAllCountable texts ticks place x now (n ∷ [])
-first_countable texts ticks place x now nodes rest n is (left, xs, all) =
-    let before = tally_from always texts (suc left) place (x ∷ xs) in
-    let parts = ap (λ t. t.count) (ap (tally_of_nodes before ticks) is ∙ tallies_more rest n before ticks) in
-    let one = ap (λ t. t.count) (one_node before ticks n) in
-    (left, xs, omega (arith, parts, one, all))
-
-pub one_less_left : (texts : List (List ℕ)) (ticks place : ℕ) (x : Event) (given nodes now later rest : List Node) (n : Node) (left_over : List Node) → left_over ≡ rest ++ n ∷ []
-    → IsLeft texts ticks place x given nodes now left_over → GoOn texts ticks place x now (n ∷ []) later → IsLeft texts ticks place x given nodes later rest
-one_less_left texts ticks place x given nodes now later rest n left_over is h on = λ has left xs.
-    let before = tally_from has texts (suc left) place (x ∷ xs) in
-    let on_from = tally_from has texts left (place + 1) xs in
-    let l = tally_of_nodes on_from ticks now in
-    let m = tally_of_node before ticks n in
-    ap (λ t. both t (tally_of_nodes before ticks rest)) (on has left xs ∙ ap (both l) (one_node before ticks n))
-    ∙ turned l m (tally_of_nodes before ticks rest)
-    ∙ ap (both l) (sym (ap (tally_of_nodes before ticks) is ∙ tallies_more rest n before ticks))
-    ∙ h has left xs
-
--- ---- over all events
-
--- The nodes at a place tell what those at the start did.
-abbrev pub IsOnItsWay : List (List ℕ) → ℕ → List Event → ℕ → List Node → ℕ → List Node → Type 0
-IsOnItsWay texts upto events ticks first place nodes = (has : Property) →
-    tally_of_nodes (tally_from has texts (upto - place) place (drop place events)) ticks nodes ≡ tally_of_nodes (tally_from has texts upto 0 events) ticks first
-
-next_of : (events : List Event) (place : ℕ) (x : Event) → slice_get events place ≡ Some x → drop place events ≡ x ∷ drop (place + 1) events
-next_of [] place x is = absurd (let e : None ≡ Some x = is in cc)
-next_of (e ∷ es) zero x is = let same : Some e ≡ Some x = is in let one : e ≡ x = cc in ap (λ y. y ∷ es) one
-next_of (e ∷ es) (suc place) x is =
-    let more : suc (place + 1) ≡ suc place + 1 = omega arith in
-    next_of es place x is ∙ ap (λ n. x ∷ drop n (e ∷ es)) more
-
-pub way_goes_on : (texts : List (List ℕ)) (upto : ℕ) (events : List Event) (ticks : ℕ) (first : List Node) (place : ℕ) (x : Event) (nodes none next : List Node) → place < upto → slice_get events place ≡ Some x → none ≡ []
-    → IsOnItsWay texts upto events ticks first place nodes → GoOn texts ticks place x none nodes next → IsOnItsWay texts upto events ticks first (place + 1) next
-way_goes_on texts upto events ticks first place x nodes none next below is empty way on = λ has.
-    let left = upto - (place + 1) in
-    let xs = drop (place + 1) events in
-    let here : upto - place ≡ suc left = omega (arith, below) in
-    let before = tally_from has texts (suc left) place (x ∷ xs) in
-    on has left xs
-    ∙ ap (λ ns. both (tally_of_nodes (tally_from has texts left (place + 1) xs) ticks ns) (tally_of_nodes before ticks nodes)) empty
-    ∙ none_and (tally_of_nodes before ticks nodes)
-    ∙ ap (λ es. tally_of_nodes (tally_from has texts (suc left) place es) ticks nodes) (sym (next_of events place x is))
-    ∙ ap (λ n. tally_of_nodes (tally_from has texts n place (drop place events)) ticks nodes) (sym here)
-    ∙ way has
-
-pub way_countable : (texts : List (List ℕ)) (upto : ℕ) (events : List Event) (ticks : ℕ) (first : List Node) (place : ℕ) (x : Event) (nodes none : List Node) → place < upto → slice_get events place ≡ Some x → none ≡ []
-    → IsOnItsWay texts upto events ticks first place nodes → (tally_of_nodes (tally_from always texts upto 0 events) ticks first).count < 2 ^ 128 → AreAllCountable texts ticks place x none nodes
-way_countable texts upto events ticks first place x nodes none below is empty way few =
-    let left = upto - (place + 1) in
-    let xs = drop (place + 1) events in
-    let here : upto - place ≡ suc left = omega (arith, below) in
-    let before = tally_from always texts (suc left) place (x ∷ xs) in
-    let all = ap (λ t. t.count)
-    (ap (λ ns. both (tally_of_nodes (tally_from always texts left (place + 1) xs) ticks ns) (tally_of_nodes before ticks nodes)) empty
-    ∙ none_and (tally_of_nodes before ticks nodes)
-    ∙ ap (λ es. tally_of_nodes (tally_from always texts (suc left) place es) ticks nodes) (sym (next_of events place x is))
-    ∙ ap (λ n. tally_of_nodes (tally_from always texts n place (drop place events)) ticks nodes) (sym here)
-    ∙ way always) in
-    (left, xs, omega (arith, all, few))
+-- where it has a loose event left behind the last event before which it can be put in
+pub none_given : (has : Property) (s : Search) (place : ℕ) (x : Event) (n : Node) → place + 1 ≡ s.family.now.upto → 0 < length n.left.items
+    → given_event (outlook_of has s (place + 1)) (most_of s) (texts_of s) x n ≡ no_schedules
+none_given has s place x n end some =
+    ap (λ p. given_event (outlook_of has s p) (most_of s) (texts_of s) x n) end
+    ∙ ap (behind n.count n.spots.items) (none_at_end has s (most_of s - length n.spots.items) n.left.items (state_after x n.kernel.state) (marks_after (texts_of s) x n.kernel.state n.marks.items) some)
+    ∙ behind_none n.count n.spots.items

@@ -3,7 +3,7 @@ use Rattle.std.proofs.Common.{MatchBool, IsTrue, ◌≡◌, ℕ, ◌+◌, ◌<�
 use Rattle.posix.specs.declared.event.Event.{Event}
 use Rattle.posix.specs.States.{World}
 use Rattle.posix.specs.Entries.{Line}
-use Rattle.schedules.specs.Families.{Places}
+use Rattle.schedules.specs.Families.{Spots}
 use Rattle.schedules.specs.Schedules.{scheduled}
 use Rattle.schedules.specs.Walks.{Comes}
 use Rattle.exploring.specs.declared.ending.Ending.{Ending}
@@ -13,22 +13,22 @@ use Rattle.exploring.specs.Courses.{IsCourse}
 use Rattle.exploring.specs.Walks.{HasCome, IsOnItsWay}
 use Rattle.exploring.proofs.CountLemmas.{book_more}
 
-pub has_come : (b : Bool) (all : List Places) (ps : Places) (told : List Places → BookView) (book : BookView) → b ≡ true → IsOnItsWay b all ps told book → HasCome all ps told book
+pub has_come : (b : Bool) (all : List Spots) (ps : Spots) (told : List Spots → BookView) (book : BookView) → b ≡ true → IsOnItsWay b all ps told book → HasCome all ps told book
 has_come true all ps told book e h = h
 has_come false all ps told book e h = cc
 
 -- before the last schedule there are fewer told of than there are
-pub fewer_told : (world : World) (events : List Event) (texts : List (List ℕ)) (all : List Places) (ps : Places) (book : BookView) → HasCome all ps (book_over world events texts) book → book.total < length all
-fewer_told world events texts all ps book h =
+pub fewer_told : (world : World) (loose events : List Event) (texts : List (List ℕ)) (all : List Spots) (ps : Spots) (book : BookView) → HasCome all ps (book_over world loose events texts) book → book.total < length all
+fewer_told world loose events texts all ps book h =
     let told : book.total ≡ length h.done = ap (λ (b : BookView). b.total) h.tells in
     let size : length all ≡ length h.done + length (ps ∷ h.late) = ap length h.whole ∙ length-append h.done (ps ∷ h.late) in
     omega (arith, told, size)
 
-pub first_come : (world : World) (events : List Event) (texts : List (List ℕ)) (all : List Places) (ps : Places) (book : BookView) → (rest : List Places) × (all ≡ ps ∷ rest) → book ≡ empty_book texts
-    → HasCome all ps (book_over world events texts) book
-first_come world events texts all ps book begins is = record { done = []; late = begins.0; whole = begins.1; tells = is }
+pub first_come : (world : World) (loose events : List Event) (texts : List (List ℕ)) (all : List Spots) (ps : Spots) (book : BookView) → (rest : List Spots) × (all ≡ ps ∷ rest) → book ≡ empty_book texts
+    → HasCome all ps (book_over world loose events texts) book
+first_come world loose events texts all ps book begins is = record { done = []; late = begins.0; whole = begins.1; tells = is }
 
-comes_on : (more : Bool) (all : List Places) (ps next : Places) (told : List Places → BookView) (new : BookView) (done late : List Places) → all ≡ done ++ ps ∷ late → new ≡ told (done ++ ps ∷ []) → Comes more next late
+comes_on : (more : Bool) (all : List Spots) (ps next : Spots) (told : List Spots → BookView) (new : BookView) (done late : List Spots) → all ≡ done ++ ps ∷ late → new ≡ told (done ++ ps ∷ []) → Comes more next late
     → IsOnItsWay more all next told new
 comes_on true all ps next told new done late whole is comes = record {
   done = done ++ ps ∷ [];
@@ -39,12 +39,12 @@ comes_on true all ps next told new done late whole is comes = record {
 comes_on false all ps next told new done late whole is none = is ∙ ap told (sym (whole ∙ ap (λ xs. done ++ ps ∷ xs) none))
 
 -- to the next schedule, after one was run
-pub goes_on : (world : World) (events : List Event) (texts : List (List ℕ)) (all : List Places) (ps next : Places) (book new : BookView) (lines : List Line) (ending : Ending) (more : Bool)
-    → HasCome all ps (book_over world events texts) book → IsCourse world (scheduled events ps) lines ending → new ≡ with_run lines ending ps book
-    → ((done late : List Places) → all ≡ done ++ ps ∷ late → Comes more next late) → IsOnItsWay more all next (book_over world events texts) new
-goes_on world events texts all ps next book new lines ending more h course is comes =
-    comes_on more all ps next (book_over world events texts) new h.done h.late h.whole
-    (is ∙ ap (with_run lines ending ps) h.tells ∙ sym (book_more world events texts h.done ps lines ending course))
+pub goes_on : (world : World) (loose events : List Event) (texts : List (List ℕ)) (all : List Spots) (ps next : Spots) (book new : BookView) (lines : List Line) (ending : Ending) (more : Bool)
+    → HasCome all ps (book_over world loose events texts) book → IsCourse world (scheduled loose events ps) lines ending → new ≡ with_run lines ending ps book
+    → ((done late : List Spots) → all ≡ done ++ ps ∷ late → Comes more next late) → IsOnItsWay more all next (book_over world loose events texts) new
+goes_on world loose events texts all ps next book new lines ending more h course is comes =
+    comes_on more all ps next (book_over world loose events texts) new h.done h.late h.whole
+    (is ∙ ap (with_run lines ending ps) h.tells ∙ sym (book_more world loose events texts h.done ps lines ending course))
     (comes h.done h.late h.whole)
 
 pub where_true : (b : Bool) (A B : Type 0) → MatchBool b A B → IsTrue b → A

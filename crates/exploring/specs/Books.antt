@@ -2,7 +2,7 @@
 use Rattle.std.specs.Prelude.{ℕ, ◌+◌, ◌≤◌, false, List, map}
 use Rattle.std.specs.List.{All}
 use Rattle.posix.specs.Entries.{Line}
-use Rattle.schedules.specs.Families.{Places}
+use Rattle.schedules.specs.Families.{Spots}
 use Rattle.exploring.specs.declared.ending.Ending.{Ending}
 use Rattle.exploring.specs.declared.ending.Endings.{Endings}
 use Rattle.exploring.specs.Tallies.{no_schedules}
@@ -22,7 +22,7 @@ abbrev pub empty_book : List (List ℕ) → BookView
 empty_book texts = record { endings = no_endings; finds = map unseen texts; total = 0 }
 
 -- with one more schedule, whose run shows these lines and ends so
-abbrev pub with_run : List Line → Ending → Places → BookView → BookView
+abbrev pub with_run : List Line → Ending → Spots → BookView → BookView
 with_run lines ending ps b = record {
   endings = with_ending ending ps b.endings;
   finds = map (after_run ps) (map (saw lines) b.finds);

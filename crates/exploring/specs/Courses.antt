@@ -8,7 +8,7 @@ use Rattle.posix.specs.Entries.{Line, line, numbered}
 use Rattle.posix.specs.States.{State, World, boot}
 use Rattle.posix.specs.Step.{next}
 use Rattle.posix.specs.Runs.{RunsFrom}
-use Rattle.schedules.specs.Families.{Places}
+use Rattle.schedules.specs.Families.{Spots}
 use Rattle.schedules.specs.Schedules.{scheduled}
 use Rattle.exploring.specs.declared.ending.Ending.{Ending}
 use Rattle.exploring.specs.Endings.{ending_of}
@@ -28,9 +28,9 @@ course_from k s (event ∷ events) =
     let rest = course_from (k + 1) one.state events in
     record { lines = numbered k one.entries ++ rest.lines; last = rest.last }
 
--- The run of a schedule: of a list of events with ticks put in.
-unfoldable pub course_of : World → List Event → Places → Course
-course_of world events places = course_from 1 (boot world) (scheduled events places)
+-- The run of a schedule: of a list of events with ticks and loose events put in.
+unfoldable pub course_of : World → List Event → List Event → Spots → Course
+course_of world loose events ps = course_from 1 (boot world) (scheduled loose events ps)
 
 -- ---- how it is told
 

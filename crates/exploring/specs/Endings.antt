@@ -2,7 +2,7 @@
 use Rattle.std.specs.Prelude.{Bool, true, false, Option, Some, None, if◌then◌else◌, ℕ}
 use Rattle.posix.specs.States.{State, current}
 use Rattle.posix.specs.Alarms.{has_alarms}
-use Rattle.schedules.specs.Families.{Places}
+use Rattle.schedules.specs.Families.{Spots}
 use Rattle.exploring.specs.declared.ending.Ending.{Ending}
 use Rattle.exploring.specs.declared.ending.Ending.TheVariants.{Halted, AtRest, AwaitsAlarm, Going}
 use Rattle.exploring.specs.declared.ending.Endings.{Endings}
@@ -45,7 +45,7 @@ abbrev pub no_endings : Endings
 no_endings = record { halted = no_schedules; at_rest = no_schedules; alarmed = no_schedules; going = no_schedules }
 
 -- with one more schedule, which ends so
-abbrev pub with_ending : Ending → Places → Endings → Endings
+abbrev pub with_ending : Ending → Spots → Endings → Endings
 with_ending Halted ps e = record e { halted = with_schedule ps e.halted }
 with_ending AtRest ps e = record e { at_rest = with_schedule ps e.at_rest }
 with_ending AwaitsAlarm ps e = record e { at_rest = with_schedule ps e.at_rest; alarmed = with_schedule ps e.alarmed }

@@ -1,5 +1,6 @@
 -- Schedules that meet in one state: how many of those that go on from there have a property, and which is the first.
-use Rattle.std.specs.Prelude.{◌≡◌, ◌<◌, ◌^◌, ◌≤◌, ◌-◌, ℕ, zero, suc, ◌+◌, ◌*◌, ◌==◌, ◌&&◌, ◌||◌, Bool, true, false, List, [], ◌∷◌, ◌++◌, length, map, nat_lt, Option, Some, None, option_map, if◌then◌else◌}
+use Rattle.std.specs.Prelude.{◌≡◌, ◌<◌, ◌^◌, ◌≤◌, ◌-◌, ℕ, zero, suc, ◌+◌, ◌*◌, ◌==◌, ◌&&◌, ◌||◌, Bool, true, false, List, [], ◌∷◌, ◌++◌, length, map, drop, nat_lt, remove, slice_index_or, Option, Some, None, option_map, if◌then◌else◌}
+use Rattle.std.specs.List.{All}
 use Rattle.posix.specs.declared.event.Event.{Event}
 use Rattle.posix.specs.declared.event.Event.TheVariants.{Tick}
 use Rattle.posix.specs.Entries.{Line, numbered}
@@ -7,11 +8,13 @@ use Rattle.posix.specs.States.{State, World, boot}
 use Rattle.posix.specs.Step.{next}
 use Rattle.posix.specs.Regular.{IsRegular}
 use Rattle.posix.specs.Settle.{IsSettled}
-use Rattle.schedules.specs.Families.{Places}
+use Rattle.schedules.specs.Families.{Spots, spot}
+use Rattle.schedules.specs.Schedules.{event_of}
 use Rattle.exploring.specs.declared.ending.Ending.{Ending}
 use Rattle.exploring.specs.declared.ending.Ending.TheVariants.{Halted, AtRest, AwaitsAlarm, Going}
 use Rattle.exploring.specs.declared.ending.Endings.{Endings}
-use Rattle.exploring.specs.declared.merging.Search.{Search}
+use Rattle.exploring.specs.declared.layer.Layer.{Layer}
+use Rattle.exploring.specs.declared.search.Search.{Search}
 use Rattle.exploring.specs.declared.node.Node.{Node}
 use Rattle.exploring.specs.Courses.{course_from}
 use Rattle.exploring.specs.Endings.{ending_of}
@@ -34,20 +37,20 @@ unmarked texts = map (λ t. false) texts
 
 -- ---- which comes first
 
--- of two lists of as many places, where they first differ the one has the earlier place
-abbrev pub is_earlier : Places → Places → Bool
+-- of two lists of as many spots, where they first differ the one has the earlier spot
+abbrev pub is_earlier : Spots → Spots → Bool
 is_earlier [] qs = false
 is_earlier (p ∷ ps) [] = false
 is_earlier (p ∷ ps) (q ∷ qs) = nat_lt p q || (p == q && is_earlier ps qs)
 
 -- a schedule comes before another in the family
-abbrev pub is_before : Places → Places → Bool
+abbrev pub is_before : Spots → Spots → Bool
 is_before ps qs = nat_lt (length ps) (length qs) || (length ps == length qs && is_earlier ps qs)
 
-abbrev pub first_of_two : Places → Places → Places
+abbrev pub first_of_two : Spots → Spots → Spots
 first_of_two ps qs = if is_before qs ps then qs else ps
 
-abbrev pub first_of : Option Places → Option Places → Option Places
+abbrev pub first_of : Option Spots → Option Spots → Option Spots
 first_of None b = b
 first_of (Some ps) None = Some ps
 first_of (Some ps) (Some qs) = Some (first_of_two ps qs)
@@ -58,19 +61,24 @@ first_of (Some ps) (Some qs) = Some (first_of_two ps qs)
 abbrev pub both : TallyView → TallyView → TallyView
 both a b = record { count = a.count + b.count; first = first_of a.first b.first }
 
--- of one schedule that has no more ticks
+-- of one schedule in which no more is put in
 abbrev pub one_if : Bool → TallyView
 one_if has = if has then record { count = 1; first = Some [] } else no_schedules
 
--- with a tick at place p before all others
-abbrev pub from_place : ℕ → TallyView → TallyView
-from_place p t = record { count = t.count; first = option_map (λ ps. p ∷ ps) t.first }
+-- with this spot before all others
+abbrev pub from_spot : ℕ → TallyView → TallyView
+from_spot q t = record { count = t.count; first = option_map (λ ps. q ∷ ps) t.first }
 
--- behind each of so many beginnings, of which these are the places of the first
-abbrev pub behind : ℕ → Places → TallyView → TallyView
+-- behind each of so many beginnings, of which these are the spots of the first
+abbrev pub behind : ℕ → Spots → TallyView → TallyView
 behind count begun t = record { count = count * t.count; first = option_map (λ ps. begun ++ ps) t.first }
 
 -- ---- what goes on from a state
+
+-- How many of the schedules that go on from a state have a property, and which is the first, by how many spots more there may be, the kinds of
+-- the loose events that are left, the state and the marks.
+abbrev pub Outlook : Type 0
+Outlook = ℕ → List ℕ → State → List Bool → TallyView
 
 abbrev pub state_after : Event → State → State
 state_after x s = (next true s x).state
@@ -78,84 +86,121 @@ state_after x s = (next true s x).state
 abbrev pub marks_after : List (List ℕ) → Event → State → List Bool → List Bool
 marks_after texts x s marks = marked texts (numbered 1 (next true s x).entries) marks
 
--- no more ticks, and these events
+-- nothing more is put in, and these events are left
 unfoldable pub tally_of_rest : Property → List (List ℕ) → List Event → State → List Bool → TallyView
 tally_of_rest has texts events s marks =
     let c = course_from 1 s events in
     one_if (has (ending_of c.last) (marked texts c.lines marks))
 
--- at most k ticks at place p, then the event x, and then what goes on
-unfoldable pub tally_at_place : (ℕ → State → List Bool → TallyView) → List (List ℕ) → Event → ℕ → ℕ → State → List Bool → TallyView
-tally_at_place go_on texts x p zero s marks = go_on zero (state_after x s) (marks_after texts x s marks)
-tally_at_place go_on texts x p (suc k) s marks =
-    both (from_place p (tally_at_place go_on texts x p k (state_after Tick s) (marks_after texts Tick s marks)))
-    (go_on (suc k) (state_after x s) (marks_after texts x s marks))
+-- where no loose event is left
+abbrev pub if_none_left : List ℕ → TallyView → TallyView
+if_none_left [] t = t
+if_none_left (kind ∷ left) t = no_schedules
 
--- These events, of which the first has place p, with at most k ticks put in, each before one of the next so many events.
-unfoldable pub tally_from : Property → List (List ℕ) → ℕ → ℕ → List Event → ℕ → State → List Bool → TallyView
-tally_from has texts zero p events k s marks = tally_of_rest has texts events s marks
-tally_from has texts (suc places) p [] k s marks = tally_of_rest has texts [] s marks
-tally_from has texts (suc places) p (x ∷ events) k s marks = tally_at_place (tally_from has texts places (p + 1) events) texts x p k s marks
+-- with each of the first so many kinds that are left, and the others
+abbrev pub each_left : (ℕ → List ℕ → TallyView) → ℕ → List ℕ → TallyView
+each_left f zero left = no_schedules
+each_left f (suc i) left = both (each_left f i left) (f (slice_index_or left i 0) (remove left i))
+
+-- Before the event x with place p: a tick or a loose event, and on from there; or x, and what goes on behind it.
+unfoldable pub tally_at_place : Outlook → List (List ℕ) → List Event → Event → ℕ → Outlook
+tally_at_place go_on texts loose x p zero left s marks = go_on zero left (state_after x s) (marks_after texts x s marks)
+tally_at_place go_on texts loose x p (suc n) left s marks =
+    both
+    (both
+    (from_spot (spot (length loose) p 0) (tally_at_place go_on texts loose x p n left (state_after Tick s) (marks_after texts Tick s marks)))
+    (each_left (λ kind others. from_spot (spot (length loose) p kind)
+    (tally_at_place go_on texts loose x p n others (state_after (event_of loose kind) s) (marks_after texts (event_of loose kind) s marks))) (length left) left))
+    (go_on (suc n) left (state_after x s) (marks_after texts x s marks))
+
+-- These events, of which the first has place p, with ticks and what is left of the loose events put in before the next so many of them.
+unfoldable pub tally_from : Property → List (List ℕ) → List Event → ℕ → ℕ → List Event → Outlook
+tally_from has texts loose zero p events n left s marks = if_none_left left (tally_of_rest has texts events s marks)
+tally_from has texts loose (suc places) p [] n left s marks = if_none_left left (tally_of_rest has texts [] s marks)
+tally_from has texts loose (suc places) p (x ∷ events) n left s marks =
+    tally_at_place (tally_from has texts loose places (p + 1) events) texts loose x p n left s marks
+
+-- ---- what is searched
+
+abbrev pub world_of : Search → World
+world_of s = s.family.now.world.now
+
+abbrev pub list_of : Search → List Event
+list_of s = s.family.now.events.now
+
+abbrev pub loose_of : Search → List Event
+loose_of s = s.family.now.loose.now
+
+abbrev pub texts_of : Search → List (List ℕ)
+texts_of s = map (λ t. t.now) s.texts.now
+
+-- so many spots a schedule has at most
+abbrev pub most_of : Search → ℕ
+most_of s = s.family.now.ticks + length (loose_of s)
+
+-- what goes on before the event with this place
+abbrev pub outlook_of : Property → Search → ℕ → Outlook
+outlook_of has s place = tally_from has (texts_of s) (loose_of s) (s.family.now.upto - place) place (drop place (list_of s))
 
 -- ---- states, and the beginnings of schedules that lead to them
 
--- How many of the schedules that go on from a state have a property, and which is the first, by how many ticks more may be put in, the state
--- and the marks.
-abbrev pub Outlook : Type 0
-Outlook = ℕ → State → List Bool → TallyView
-
 -- of the schedules of a node
 abbrev pub tally_of_node : Outlook → ℕ → Node → TallyView
-tally_of_node go_on ticks n = behind n.count n.places.items (go_on (ticks - length n.places.items) n.kernel.state n.marks.items)
+tally_of_node go_on most n = behind n.count n.spots.items (go_on (most - length n.spots.items) n.left.items n.kernel.state n.marks.items)
 
 -- of the schedules of all nodes
 abbrev pub tally_of_nodes : Outlook → ℕ → List Node → TallyView
-tally_of_nodes go_on ticks [] = no_schedules
-tally_of_nodes go_on ticks (n ∷ ns) = both (tally_of_node go_on ticks n) (tally_of_nodes go_on ticks ns)
+tally_of_nodes go_on most [] = no_schedules
+tally_of_nodes go_on most (n ∷ ns) = both (tally_of_node go_on most n) (tally_of_nodes go_on most ns)
+
+-- of the schedules of the nodes of all layers
+abbrev pub tally_of_rows : Outlook → ℕ → List Layer → TallyView
+tally_of_rows go_on most [] = no_schedules
+tally_of_rows go_on most (row ∷ rows) = both (tally_of_nodes go_on most row.nodes.items) (tally_of_rows go_on most rows)
 
 -- one schedule goes on from each state
 abbrev pub goes_on_once : Outlook
-goes_on_once k s marks = one_if true
+goes_on_once n left s marks = one_if true
 
 -- each schedule has it
 abbrev pub always : Property
 always ending marks = true
 
--- The events of a node lead to its state in a world. Its kernel was given no more than these, there is a mark for each text, and a place for
--- each of at most so many ticks.
-pub record IsNode (world : World) (texts : List (List ℕ)) (ticks : ℕ) (n : Node) : Type 0 where
-  pub reached : n.kernel.state ≡ (course_from 1 (boot world) n.given).last
+-- A node stands before the event with this place: it was given all events before it, and what it put in, at so many spots at least. Its events
+-- lead to its state in the world of the search. Its kernel was given no more than these, there is a mark for each text, and what is left can
+-- still be put in.
+pub record IsNode (s : Search) (place fewest : ℕ) (n : Node) : Type 0 where
+  pub reached : n.kernel.state ≡ (course_from 1 (boot (world_of s)) n.given).last
   pub regular : IsRegular n.kernel.state
   pub settled : IsSettled n.kernel.state
-  pub given : n.kernel.events ≤ length n.given
-  pub marks : length n.marks.items ≡ length texts
-  pub few : length n.places.items ≤ ticks
+  pub events : n.kernel.events ≤ length n.given
+  pub marks : length n.marks.items ≡ length (texts_of s)
+  pub given : length n.given ≡ place + length n.spots.items
+  pub least : fewest ≤ length n.spots.items
+  pub few : length n.spots.items + length n.left.items ≤ most_of s
+  pub last : place ≡ s.family.now.upto → n.left.items ≡ []
 
--- the texts of a search
-abbrev pub texts_of : Search → List (List ℕ)
-texts_of s = map (λ t. t.now) s.texts.now
-
-abbrev pub IsNodeOf : Search → Node → Type 0
-IsNodeOf s n = IsNode s.world.now (texts_of s) s.ticks n
-
--- The node stands before the event with this place: it was given all events before it, and its ticks.
-abbrev pub IsAt : ℕ → Node → Type 0
-IsAt place n = length n.given ≡ place + length n.places.items
+-- Before the event with this place stand rows of nodes, each with one spot more at least than the row before.
+abbrev pub AreRows : Search → ℕ → ℕ → List Layer → Type 0
+AreRows s place least [] = Unit {0}
+AreRows s place least (row ∷ rows) = All (IsNode s place least) row.nodes.items × AreRows s place (least + 1) rows
 
 -- But for the count of reads a node is as it was.
 pub record IsSameNode (old new : Node) : Type 0 where
   pub state : new.kernel.state ≡ old.kernel.state
   pub events : new.kernel.events ≡ old.kernel.events
   pub count : new.count ≡ old.count
-  pub places : new.places ≡ old.places
+  pub spots : new.spots ≡ old.spots
+  pub left : new.left ≡ old.left
   pub given : new.given ≡ old.given
   pub marks : new.marks ≡ old.marks
 
--- Two nodes are the same state, led to by as many ticks, with the same marks.
+-- Two nodes are the same state, led to by as many spots, with the same loose events left and the same marks.
 pub record IsOne (node other : Node) : Type 0 where
   pub state : node.kernel.state ≡ other.kernel.state
   pub marks : node.marks.items ≡ other.marks.items
-  pub ticks : length node.places.items ≡ length other.places.items
+  pub spots : length node.spots.items ≡ length other.spots.items
+  pub left : node.left.items ≡ other.left.items
 
 -- But for the counts of reads these nodes are as they were.
 abbrev pub AreSameNodes : List Node → List Node → Type 0
@@ -165,28 +210,50 @@ AreSameNodes (n ∷ ns) (m ∷ ms) = IsSameNode n m × AreSameNodes ns ms
 
 -- The schedules of some nodes and of one more can be counted in 128 bits, if one goes on from each.
 abbrev pub AreCountable : ℕ → List Node → Node → Type 0
-AreCountable ticks nodes n = (tally_of_nodes goes_on_once ticks nodes).count + n.count < 2 ^ 128
+AreCountable most nodes n = (tally_of_nodes goes_on_once most nodes).count + n.count < 2 ^ 128
 
--- So can all schedules of nodes before an event, and of others that were given it.
-abbrev pub AreAllCountable : List (List ℕ) → ℕ → ℕ → Event → List Node → List Node → Type 0
-AreAllCountable texts ticks place x given nodes = (left : ℕ) × (xs : List Event)
-    × ((both (tally_of_nodes (tally_from always texts left (place + 1) xs) ticks given) (tally_of_nodes (tally_from always texts (suc left) place (x ∷ xs)) ticks nodes)).count < 2 ^ 128)
+-- of the schedules of nodes before the event with this place, and of nodes behind it
+abbrev pub tally_around : Property → Search → ℕ → List Node → List Node → TallyView
+tally_around has s place nodes next = both (tally_of_nodes (outlook_of has s place) (most_of s) nodes) (tally_of_nodes (outlook_of has s (place + 1)) (most_of s) next)
 
--- Nodes were given an event, with more ticks before it or none, and came to others: all schedules are those of the new nodes.
-abbrev pub GoOn : List (List ℕ) → ℕ → ℕ → Event → List Node → List Node → List Node → Type 0
-GoOn texts ticks place x given nodes new = (has : Property) (left : ℕ) (xs : List Event) →
-    tally_of_nodes (tally_from has texts left (place + 1) xs) ticks new
-    ≡ both (tally_of_nodes (tally_from has texts left (place + 1) xs) ticks given) (tally_of_nodes (tally_from has texts (suc left) place (x ∷ xs)) ticks nodes)
+-- with those of one more node before it
+abbrev pub tally_with : Property → Search → ℕ → List Node → List Node → Node → TallyView
+tally_with has s place nodes next n = both (tally_around has s place nodes next) (tally_of_node (outlook_of has s place) (most_of s) n)
+
+-- of the schedules of the nodes of a row, of the rows above it, and of those behind the event
+abbrev pub tally_of_all : Property → Search → ℕ → List Node → List Layer → List Layer → TallyView
+tally_of_all has s place nodes rows next =
+    both (both (tally_of_nodes (outlook_of has s place) (most_of s) nodes) (tally_of_rows (outlook_of has s place) (most_of s) rows)) (tally_of_rows (outlook_of has s (place + 1)) (most_of s) next)
 
 -- of the schedules of a node once it is given the event
 abbrev pub given_event : Outlook → ℕ → List (List ℕ) → Event → Node → TallyView
-given_event go_on ticks texts x n = behind n.count n.places.items (go_on (ticks - length n.places.items) (state_after x n.kernel.state) (marks_after texts x n.kernel.state n.marks.items))
+given_event go_on most texts x n =
+    behind n.count n.spots.items (go_on (most - length n.spots.items) n.left.items (state_after x n.kernel.state) (marks_after texts x n.kernel.state n.marks.items))
 
--- Some nodes were given an event and came to others, and some are left over: together they have the same schedules.
-abbrev pub IsLeft : List (List ℕ) → ℕ → ℕ → Event → List Node → List Node → List Node → List Node → Type 0
-IsLeft texts ticks place x given nodes now left_over = (has : Property) (left : ℕ) (xs : List Event) →
-    both (tally_of_nodes (tally_from has texts left (place + 1) xs) ticks now) (tally_of_nodes (tally_from has texts (suc left) place (x ∷ xs)) ticks left_over)
-    ≡ both (tally_of_nodes (tally_from has texts left (place + 1) xs) ticks given) (tally_of_nodes (tally_from has texts (suc left) place (x ∷ xs)) ticks nodes)
+-- of the schedules of a node once this is put in at this spot, with these loose events left
+abbrev pub put_in : Outlook → ℕ → List (List ℕ) → ℕ → Event → List ℕ → Node → TallyView
+put_in go_on most texts q x left n =
+    behind n.count (n.spots.items ++ q ∷ []) (go_on (most - (length n.spots.items + 1)) left (state_after x n.kernel.state) (marks_after texts x n.kernel.state n.marks.items))
+
+-- with a tick put in before the event with this place, if there may be one more
+abbrev pub tick_tally : Property → Search → ℕ → Node → TallyView
+tick_tally has s place n =
+    if nat_lt (length n.spots.items + length n.left.items) (most_of s)
+    then put_in (outlook_of has s place) (most_of s) (texts_of s) (spot (length (loose_of s)) place 0) Tick n.left.items n
+    else no_schedules
+
+-- with a loose event of this kind put in, so that these others are left
+abbrev pub kind_tally : Property → Search → ℕ → Node → ℕ → List ℕ → TallyView
+kind_tally has s place n kind others =
+    put_in (outlook_of has s place) (most_of s) (texts_of s) (spot (length (loose_of s)) place kind) (event_of (loose_of s) kind) others n
+
+-- with the loose event of this number put in
+abbrev pub with_kind : Property → Search → ℕ → Node → ℕ → TallyView
+with_kind has s place n i = kind_tally has s place n (slice_index_or n.left.items i 0) (remove n.left.items i)
+
+-- with each of the loose events put in that are left
+abbrev pub loose_tally : Property → Search → ℕ → Node → TallyView
+loose_tally has s place n = each_left (kind_tally has s place n) (length n.left.items) n.left.items
 
 -- ---- the book of many schedules
 
@@ -217,7 +284,7 @@ with_many_runs ending marks t b = record {
 abbrev pub counted : List (List ℕ) → List Event → Node → BookView → BookView
 counted texts events n b =
     let c = course_from 1 n.kernel.state events in
-    with_many_runs (ending_of c.last) (marked texts c.lines n.marks.items) (record { count = n.count; first = Some n.places.items }) b
+    with_many_runs (ending_of c.last) (marked texts c.lines n.marks.items) (record { count = n.count; first = Some n.spots.items }) b
 
 -- with those of all nodes, the last node first
 abbrev pub counted_all : List (List ℕ) → List Event → List Node → BookView → BookView

@@ -2,7 +2,7 @@
 use Rattle.std.specs.Prelude.{◌≡◌, ℕ, ◌-◌, ◌==◌, List, [], ◌∷◌, ◌++◌, length, replicate, decimal, codes, Option, Some, None, IfSome, if◌then◌else◌}
 use Rattle.std.specs.List.{All, concat}
 use Rattle.posix.specs.declared.event.Event.{Event}
-use Rattle.schedules.specs.Families.{IsSchedule, Places}
+use Rattle.schedules.specs.Families.{IsSchedule, Spots}
 use Rattle.schedules.specs.Schedules.{scheduled}
 use Rattle.schedules.specs.EventLines.{StandsFor}
 use Rattle.exploring.specs.declared.ending.Endings.{Endings}
@@ -20,10 +20,14 @@ plural count = if count == 1 then [] else codes "s"
 abbrev pub to_the_right : ℕ → List ℕ
 to_the_right number = replicate (8 - length (decimal number)) 32 ++ decimal number
 
+-- the parts of a line, behind so many loose events, if there are any
+abbrev pub with_loose : ℕ → List (List ℕ) → List (List ℕ)
+with_loose loose parts = if loose == 0 then parts else codes " and " ∷ decimal loose ∷ codes " event" ∷ plural loose ∷ codes " anywhere" ∷ parts
+
 -- how many schedules there are
-abbrev pub size_line : ℕ → ℕ → ℕ → List ℕ
-size_line size upto ticks = concat (decimal size ∷ codes " schedule" ∷ plural size ∷ codes ": at most " ∷ decimal ticks ∷ codes " tick" ∷ plural ticks
-    ∷ codes ", each before one of the first " ∷ decimal upto ∷ codes " event" ∷ plural upto ∷ codes "\n" ∷ [])
+abbrev pub size_line : ℕ → ℕ → ℕ → ℕ → List ℕ
+size_line size upto ticks loose = concat (decimal size ∷ codes " schedule" ∷ plural size ∷ codes ": at most " ∷ decimal ticks ∷ codes " tick" ∷ plural ticks
+    ∷ with_loose loose (codes ", each before one of the first " ∷ decimal upto ∷ codes " event" ∷ plural upto ∷ codes "\n" ∷ []))
 
 -- how many of them end so
 abbrev pub ending_line : ℕ → List ℕ → List ℕ
@@ -37,8 +41,8 @@ abbrev pub at_rest_lines : Endings → List ℕ
 at_rest_lines e = ending_line e.at_rest.count (codes "come to rest: no process can act") ++ alarmed_line e.alarmed.count
 
 -- the first lines, four or five
-abbrev pub first_lines : ℕ → ℕ → ℕ → Endings → List ℕ
-first_lines size upto ticks e = size_line size upto ticks
+abbrev pub first_lines : ℕ → ℕ → ℕ → ℕ → Endings → List ℕ
+first_lines size upto ticks loose e = size_line size upto ticks loose
     ++ (ending_line e.halted.count (codes "halt")
     ++ (at_rest_lines e
     ++ ending_line e.going.count (codes "are still going")))
@@ -54,9 +58,9 @@ abbrev pub Adds : List ℕ → (List ℕ → Type 0) → List ℕ → Type 0
 Adds old Is new = (added : List ℕ) × (new ≡ old ++ added) × Is added
 
 -- The text is a heading, and lines that stand for the events of the first schedule; nothing, where there is none.
-abbrev pub ShowsFirst : List Event → List ℕ → Option Places → List ℕ → Type 0
-ShowsFirst events heading None text = text ≡ []
-ShowsFirst events heading (Some ps) text = (lines : List ℕ) × (text ≡ heading ++ lines) × StandsFor lines (scheduled events ps)
+abbrev pub ShowsFirst : List Event → List Event → List ℕ → Option Spots → List ℕ → Type 0
+ShowsFirst loose events heading None text = text ≡ []
+ShowsFirst loose events heading (Some ps) text = (lines : List ℕ) × (text ≡ heading ++ lines) × StandsFor lines (scheduled loose events ps)
 
 abbrev pub first_that : List ℕ → List ℕ
 first_that what = concat (codes "\nthe first that " ∷ what ∷ codes "\n" ∷ [])
@@ -65,33 +69,33 @@ abbrev pub first_that_has_it : List ℕ
 first_that_has_it = codes "the first that has it\n"
 
 -- The text tells of a text that is looked for.
-pub record ShowsFind (events : List Event) (f : FindView) (text : List ℕ) : Type 0 where
+pub record ShowsFind (loose events : List Event) (f : FindView) (text : List ℕ) : Type 0 where
   pub first : List ℕ
   pub whole : text ≡ find_line f.text f.tally.count ++ first
-  pub shows : ShowsFirst events first_that_has_it f.tally.first first
+  pub shows : ShowsFirst loose events first_that_has_it f.tally.first first
 
-abbrev pub ShowsFinds : List Event → List FindView → List ℕ → Type 0
-ShowsFinds events [] text = text ≡ []
-ShowsFinds events (f ∷ fs) text = (this : List ℕ) × (more : List ℕ) × (text ≡ this ++ more) × ShowsFind events f this × ShowsFinds events fs more
+abbrev pub ShowsFinds : List Event → List Event → List FindView → List ℕ → Type 0
+ShowsFinds loose events [] text = text ≡ []
+ShowsFinds loose events (f ∷ fs) text = (this : List ℕ) × (more : List ℕ) × (text ≡ this ++ more) × ShowsFind loose events f this × ShowsFinds loose events fs more
 
 -- ---- all of it
 
 -- The first schedule that is counted, if one is, is one of the family.
-abbrev pub IsFirstOf : ℕ → ℕ → TallyView → Type 0
-IsFirstOf upto ticks t = IfSome t.first (IsSchedule upto ticks)
+abbrev pub IsFirstOf : ℕ → ℕ → ℕ → TallyView → Type 0
+IsFirstOf upto ticks loose t = IfSome t.first (IsSchedule upto ticks loose)
 
-pub record AreOfFamily (upto ticks : ℕ) (b : BookView) : Type 0 where
-  pub at_rest : IsFirstOf upto ticks b.endings.at_rest
-  pub going : IsFirstOf upto ticks b.endings.going
-  pub finds : All (λ f. IsFirstOf upto ticks f.tally) b.finds
+pub record AreOfFamily (upto ticks loose : ℕ) (b : BookView) : Type 0 where
+  pub at_rest : IsFirstOf upto ticks loose b.endings.at_rest
+  pub going : IsFirstOf upto ticks loose b.endings.going
+  pub finds : All (λ f. IsFirstOf upto ticks loose f.tally) b.finds
 
 -- The text tells of the schedules of a family what the book does, and then of their outcomes, of which nothing is said.
-pub record Reports (events : List Event) (size upto ticks : ℕ) (b : BookView) (text : List ℕ) : Type 0 where
+pub record Reports (loose events : List Event) (size upto ticks : ℕ) (b : BookView) (text : List ℕ) : Type 0 where
   pub at_rest : List ℕ
   pub going : List ℕ
   pub finds : List ℕ
   pub outcomes : List ℕ
-  pub whole : text ≡ first_lines size upto ticks b.endings ++ (at_rest ++ (going ++ (finds ++ outcomes)))
-  pub shows_at_rest : ShowsFirst events (first_that (codes "comes to rest")) b.endings.at_rest.first at_rest
-  pub shows_going : ShowsFirst events (first_that (codes "is still going")) b.endings.going.first going
-  pub shows_finds : ShowsFinds events b.finds finds
+  pub whole : text ≡ first_lines size upto ticks (length loose) b.endings ++ (at_rest ++ (going ++ (finds ++ outcomes)))
+  pub shows_at_rest : ShowsFirst loose events (first_that (codes "comes to rest")) b.endings.at_rest.first at_rest
+  pub shows_going : ShowsFirst loose events (first_that (codes "is still going")) b.endings.going.first going
+  pub shows_finds : ShowsFinds loose events b.finds finds

@@ -4,21 +4,21 @@ use Rattle.std.specs.Borrow.{Bor}
 use Rattle.std.specs.List.{list_any}
 use Rattle.posix.specs.declared.event.Event.{Event}
 use Rattle.posix.specs.States.{World}
-use Rattle.schedules.specs.Families.{family}
+use Rattle.schedules.specs.Families.{Spots, family}
 use Rattle.inputs.specs.declared.command_line.WordsFault.{WordsFault}
 use Rattle.sink.specs.Sinks.{BreaksOff, Seen, TakesAll}
 use Rattle.inputs.specs.Reads.{AreRead, AreRefused, Contents, Text}
 use Rattle.inputs.specs.Statuses.{status_of as status_of_input}
 use Rattle.inputs.specs.declared.words.NoRequest.{NoRequest}
 use Rattle.inputs.specs.declared.words.NoRequest.TheVariants as no_request
-use Rattle.exploring.specs.declared.merging.Stop.{Stop}
-use Rattle.exploring.specs.declared.merging.Stop.TheVariants as stop
+use Rattle.exploring.specs.declared.search.Stop.{Stop}
+use Rattle.exploring.specs.declared.search.Stop.TheVariants as stop
 use Rattle.exploring.specs.declared.serving.Failure.{Failure}
-use Rattle.exploring.specs.declared.serving.Failure.TheVariants.{Usage, Ticks, Upto, States, UptoAbove, TooManySchedules, TooManyEvents, ManyStates, Input, Memory, Write}
+use Rattle.exploring.specs.declared.serving.Failure.TheVariants.{Usage, Ticks, Upto, States, UptoAbove, NotOneEvent, TooMuchPutIn, NoEventBehind, AllAnywhere, TooManySchedules, TooManyEvents, ManyStates, Input, Memory, Write}
 use Rattle.exploring.specs.Books.{BookView}
 use Rattle.exploring.specs.Counts.{book_over}
 use Rattle.exploring.specs.Reports.{Reports}
-use Rattle.exploring.specs.Words.{Asked, family_asked, request_of_words, ticks_asked}
+use Rattle.exploring.specs.Words.{Asked, Put, family_asked, request_of_words, ticks_asked}
 
 -- ---- statuses
 
@@ -30,6 +30,10 @@ status_of Ticks = 2
 status_of Upto = 2
 status_of (States most) = 2
 status_of (UptoAbove upto events) = 2
+status_of NotOneEvent = 2
+status_of (TooMuchPutIn most) = 2
+status_of NoEventBehind = 2
+status_of AllAnywhere = 2
 status_of (TooManySchedules most) = 2
 status_of (TooManyEvents longest most) = 2
 status_of (ManyStates most place) = 3
@@ -63,24 +67,30 @@ all_halt b = b.endings.at_rest.count == 0 && b.endings.going.count == 0
 abbrev pub is_told : Bool → BookView → Bool
 is_told must_halt b = is_found b || must_halt && not (all_halt b)
 
+-- what is put in, in all ways
+abbrev pub schedules_of : Put → List Spots
+schedules_of p = family p.upto p.ticks (length p.loose)
+
+abbrev pub book_asked : World → List Event → List Text → Put → BookView
+book_asked world events texts p = book_over world p.loose events texts (schedules_of p)
+
 -- What is asked for was explored, with this answer: the files are a world and events for it, all schedules of the family were counted, and a text
 -- that tells of them was put.
 pub record IsExplored (contents : Contents) (a : Asked) (told : Bool) (IsPut : List ℕ → Type 0) : Type 0 where
   pub world : World
   pub events : List Event
-  pub upto : ℕ
-  pub ticks : ℕ
+  pub put_in : Put
   pub read : AreRead contents (a.world, a.events) world events
-  pub in_range : family_asked a (length events) ≡ Some (upto, ticks)
-  pub answer : told ≡ is_told a.must_halt (book_over world events a.finds (family upto ticks))
+  pub in_range : family_asked a world.consoles (length events) ≡ Some put_in
+  pub answer : told ≡ is_told a.must_halt (book_asked world events a.finds put_in)
   pub text : List ℕ
-  pub reports : Reports events (length (family upto ticks)) upto ticks (book_over world events a.finds (family upto ticks)) text
+  pub reports : Reports put_in.loose events (length (schedules_of put_in)) put_in.upto put_in.ticks (book_asked world events a.finds put_in) text
   pub put : IsPut text
 
--- A number that is asked for is out of range, or there are too many schedules.
+-- A number that is asked for is out of range, a word isn't an event, or there are too many schedules.
 abbrev pub IsOutOfRange : Contents → Asked → Type 0
 IsOutOfRange contents a = (ticks_asked a.ticks ≡ None)
-    ⊎ ((world : World) × (events : List Event) × AreRead contents (a.world, a.events) world events × (family_asked a (length events) ≡ None))
+    ⊎ ((world : World) × (events : List Event) × AreRead contents (a.world, a.events) world events × (family_asked a world.consoles (length events) ≡ None))
 
 -- ---- what a status means
 

@@ -4,7 +4,7 @@ use Rattle.std.specs.List.{join_with_byte, list_any}
 use Rattle.posix.specs.declared.entry.Entry.{Entry}
 use Rattle.posix.specs.Entries.{Line}
 use Rattle.posix.specs.Printing.{words_of}
-use Rattle.schedules.specs.Families.{Places}
+use Rattle.schedules.specs.Families.{Spots}
 use Rattle.exploring.specs.Tallies.{TallyView, with_schedule_if}
 
 -- what stands in a line behind the number of the event and the space
@@ -39,7 +39,7 @@ abbrev pub looked_at : List ℕ → FindView → FindView
 looked_at line f = record f { is_there = f.is_there || has_text f.text line }
 
 -- after the last line of the run of a schedule
-abbrev pub after_run : Places → FindView → FindView
+abbrev pub after_run : Spots → FindView → FindView
 after_run ps f = record f { is_there = false; tally = with_schedule_if f.is_there ps f.tally }
 
 -- after the lines of a run were looked at

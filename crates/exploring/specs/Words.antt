@@ -1,16 +1,21 @@
 -- The words of the command line, and what they ask for.
-use Rattle.std.specs.Prelude.{ℕ, ◌+◌, ◌^◌, ◌-◌, ◌&&◌, Bool, List, [], ◌∷◌, ◌++◌, length, map, fold, nat_le, Option, None, Some, codes, option_and_then, option_map, if◌then◌else◌}
+use Rattle.std.specs.Prelude.{ℕ, ◌+◌, ◌^◌, ◌-◌, ◌==◌, ◌&&◌, ◌||◌, not, Bool, true, false, List, [], ◌∷◌, ◌++◌, length, map, fold, nat_le, Option, None, Some, Result, Ok, Err, codes, option_and_then, option_map, if◌then◌else◌}
 use Rattle.std.specs.Str.{bytes_eq}
 use Rattle.clap.specs.Lexer.{name_and_value}
 use Rattle.clap.specs.Words.{App, Row, Text, fault_of, first_of, matches_of}
 use Rattle.clap.specs.declared.builder.action.ArgAction.TheVariants.{Set, SetTrue, Count}
+use Rattle.posix.specs.declared.event.Event.{Event}
+use Rattle.text.specs.declared.fault.TextFault.{TextFault}
+use Rattle.text.specs.EventTexts.{event_text}
 use Rattle.inputs.specs.Numbers.{number_of}
 use Rattle.inputs.specs.Words.{command_of, files_in, is_used, unless_refused}
 use Rattle.schedules.specs.Families.{family}
 use Rattle.exploring.specs.declared.words.Next.{Next}
-use Rattle.exploring.specs.declared.words.Next.TheVariants.{Any, Sought, File}
+use Rattle.exploring.specs.declared.words.Next.TheVariants.{Any, Behind, File}
 use Rattle.exploring.specs.declared.words.Parts.{Parts}
 use Rattle.exploring.specs.declared.words.Request.{Request}
+use Rattle.exploring.specs.declared.words.Texted.{Texted}
+use Rattle.exploring.specs.declared.words.Texted.TheVariants.{Find, Anywhere}
 
 -- what words ask for
 pub record Asked : Type 0 where
@@ -20,86 +25,108 @@ pub record Asked : Type 0 where
   pub upto : Option Text
   pub states : Option Text
   pub finds : List Text
+  pub anywhere : List Text  -- the words behind each `--anywhere`
   pub must_halt : Bool
   pub all : Bool
 
--- ---- the texts behind `--find`, which may begin with a hyphen, and all other words
+-- ---- the texts behind `--find` and `--anywhere`, which may begin with a hyphen, and all other words
 
--- The words so far: the texts, the others, where each use of `--find` is left as a flag, and what the next word is: any, a text, or, behind
--- `--`, the name of a file.
+-- The words so far: the texts of each, the others, where each use of these options is left as a flag, and what the next word is: any, a text of an
+-- option, or, behind `--`, the name of a file.
 pub record Parted : Type 0 where
   pub finds : List Text
+  pub anywhere : List Text
   pub others : List Text
   pub next : Next
+
+abbrev pub word_of : Texted → Text
+word_of Find = codes "--find"
+word_of Anywhere = codes "--anywhere"
+
+abbrev pub option_named : Text → Option Texted
+option_named name = if bytes_eq name (codes "--find") then Some Find else if bytes_eq name (codes "--anywhere") then Some Anywhere else None
 
 abbrev pub with_other : Parted → Text → Parted
 with_other p word = record p { others = p.others ++ word ∷ [] }
 
--- a use of `--find`, with its text if that stands in the same word
-abbrev pub with_find : Parted → Option Text → Parted
-with_find p None = record (with_other p (codes "--find")) { next = Sought }
-with_find p (Some text) = record (with_other p (codes "--find")) { finds = p.finds ++ text ∷ [] }
+-- a text of an option
+abbrev pub with_text : Texted → Parted → Text → Parted
+with_text Find p text = record p { finds = p.finds ++ text ∷ [] }
+with_text Anywhere p text = record p { anywhere = p.anywhere ++ text ∷ [] }
+
+-- a use of an option, with its text if that stands in the same word
+abbrev pub with_use : Parted → Texted → Option Text → Parted
+with_use p option None = record (with_other p (word_of option)) { next = Behind option }
+with_use p option (Some text) = with_text option (with_other p (word_of option)) text
 
 -- another option, its value, or the name of a file; or `--`
-abbrev pub with_no_find : Parted → Text → Parted
-with_no_find p word = record (with_other p word) { next = if bytes_eq word (codes "--") then File else p.next }
+abbrev pub with_no_text : Parted → Text → Parted
+with_no_text p word = record (with_other p word) { next = if bytes_eq word (codes "--") then File else p.next }
+
+-- a word, by the option that it uses, and the text in it
+abbrev pub with_option : Parted → Text → Option Text → Option Texted → Parted
+with_option p word text (Some option) = with_use p option text
+with_option p word text None = with_no_text p word
 
 -- a word that is cut at its first `=`
 abbrev pub with_cut : Parted → Text → Text × Option Text → Parted
-with_cut p word (name, text) = if bytes_eq name (codes "--find") then with_find p text else with_no_find p word
+with_cut p word (name, text) = with_option p word text (option_named name)
 
 abbrev pub with_any : Parted → Text → Parted
 with_any p word = with_cut p word (name_and_value word)
 
 abbrev pub with_word_at : Next → Parted → Text → Parted
 with_word_at Any p word = with_any p word
-with_word_at Sought p word = record p { finds = p.finds ++ word ∷ []; next = Any }
+with_word_at (Behind option) p word = with_text option (record p { next = Any }) word
 with_word_at File p word = with_other p word
 
 abbrev pub with_word : Parted → Text → Parted
 with_word p word = with_word_at p.next p word
 
 abbrev pub nothing_parted : Parted
-nothing_parted = record { finds = []; others = []; next = Any }
+nothing_parted = record { finds = []; anywhere = []; others = []; next = Any }
 
 abbrev pub parted : List Text → Parted
 parted words = fold with_word nothing_parted words
 
 -- ---- what they ask for
 
--- `explore WORLD EVENTS [--ticks K] [--upto N] [--states N] [--find].. [--must-halt] [--all]`
+-- `explore WORLD EVENTS [--ticks K] [--upto N] [--states N] [--anywhere].. [--find].. [--must-halt] [--all]`
 abbrev pub command_line : App
 command_line = command_of (codes "explore")
-    ((codes "ticks", Set) ∷ (codes "upto", Set) ∷ (codes "states", Set) ∷ (codes "find", Count) ∷ (codes "must-halt", SetTrue) ∷ (codes "all", SetTrue) ∷ [])
+    ((codes "ticks", Set) ∷ (codes "upto", Set) ∷ (codes "states", Set) ∷ (codes "anywhere", Count) ∷ (codes "find", Count) ∷ (codes "must-halt", SetTrue)
+    ∷ (codes "all", SetTrue) ∷ [])
 
 -- what the files, the texts and the other words' matches ask for
-abbrev pub asked_with : List Text → List Row → Text × Text → Asked
-asked_with finds rows (world, events) = record {
+abbrev pub asked_with : List Text → List Text → List Row → Text × Text → Asked
+asked_with finds anywhere rows (world, events) = record {
   world = world;
   events = events;
   ticks = first_of (codes "ticks") rows;
   upto = first_of (codes "upto") rows;
   states = first_of (codes "states") rows;
   finds = finds;
+  anywhere = anywhere;
   must_halt = is_used (codes "must-halt") rows;
   all = is_used (codes "all") rows;
 }
 
-abbrev pub asked_in : List Text → List Row → Option Asked
-asked_in finds rows = option_map (asked_with finds rows) (files_in rows)
+abbrev pub asked_in : List Text → List Text → List Row → Option Asked
+asked_in finds anywhere rows = option_map (asked_with finds anywhere rows) (files_in rows)
 
 -- what they ask for, where the other words aren't refused
-abbrev pub asked_of : List Text → List Text → Option Asked
-asked_of finds others = unless_refused (fault_of command_line others) (asked_in finds (matches_of command_line others))
+abbrev pub asked_of : List Text → List Text → List Text → Option Asked
+asked_of finds anywhere others = unless_refused (fault_of command_line others) (asked_in finds anywhere (matches_of command_line others))
+
+-- a text of an option comes next
+abbrev pub awaits_text : Next → Bool
+awaits_text Any = false
+awaits_text (Behind option) = true
+awaits_text File = false
 
 -- A text is missing where one is awaited behind the last word.
-abbrev pub asked_if_whole : Next → List Text → List Text → Option Asked
-asked_if_whole Any finds others = asked_of finds others
-asked_if_whole Sought finds others = None
-asked_if_whole File finds others = asked_of finds others
-
 abbrev pub asked_by_parts : Parted → Option Asked
-asked_by_parts p = asked_if_whole p.next p.finds p.others
+asked_by_parts p = if awaits_text p.next then None else asked_of p.finds p.anywhere p.others
 
 -- What words ask for, if they aren't refused.
 abbrev pub request_of_words : List Text → Option Asked
@@ -114,13 +141,14 @@ said r = record {
   upto = option_map (λ u. u.now) r.upto;
   states = option_map (λ n. n.now) r.states;
   finds = map (λ t. t.now) r.finds.now;
+  anywhere = map (λ t. t.now) r.anywhere.now;
   must_halt = r.must_halt;
   all = r.all;
 }
 
 -- the words that were told apart
 abbrev pub parted_as : Parts → Parted
-parted_as p = record { finds = map (λ t. t.now) p.finds.items; others = map (λ w. w.now) p.others.items; next = p.next }
+parted_as p = record { finds = map (λ t. t.now) p.finds.items; anywhere = map (λ t. t.now) p.anywhere.items; others = map (λ w. w.now) p.others.items; next = p.next }
 
 -- ---- the numbers in it
 
@@ -147,14 +175,43 @@ states_asked (Some word) = up_to 10000000 (number_of word)
 abbrev pub are_run : ℕ → ℕ → Bool
 are_run size longest = nat_le size (2 ^ 128 - 1) && nat_le longest 1000000000000
 
-abbrev pub if_run : ℕ → ℕ → ℕ → Option (ℕ × ℕ)
-if_run events upto ticks = if are_run (length (family upto ticks)) (events + ticks) then Some (upto, ticks) else None
+-- what is put in: before how many events, how many ticks at most, and which events once each
+pub record Put : Type 0 where
+  pub upto : ℕ
+  pub ticks : ℕ
+  pub loose : List Event
+
+-- the event of a text, where it is one
+abbrev pub only : Result (List Event) TextFault → Option Event
+only (Ok []) = None
+only (Ok (event ∷ [])) = Some event
+only (Ok (event ∷ other ∷ more)) = None
+only (Err fault) = None
+
+-- the events of words, each of which is the text of one, in a world of so many consoles
+abbrev pub loose_asked : ℕ → List Text → Option (List Event)
+loose_asked consoles [] = Some []
+loose_asked consoles (word ∷ words) = option_and_then (λ event. option_map (λ events. event ∷ events) (loose_asked consoles words)) (only (event_text consoles word))
+
+-- So many ticks and loose events can be put in: there is an event that the loose ones stand before, and schedules aren't to be run one after another.
+abbrev pub can_be_put : Bool → ℕ → ℕ → ℕ → Bool
+can_be_put all upto ticks loose = nat_le (ticks + loose) 32 && (loose == 0 || not (upto == 0) && not all)
+
+-- So many of so many events are put in, and the schedules can be told of.
+abbrev pub fits : Bool → ℕ → Put → Bool
+fits all events p = can_be_put all p.upto p.ticks (length p.loose)
+    && are_run (length (family p.upto p.ticks (length p.loose))) (events + (p.ticks + length p.loose))
+
+abbrev pub if_fits : Bool → ℕ → Put → Option Put
+if_fits all events p = if fits all events p then Some p else None
 
 -- where so many states can be kept
-abbrev pub if_kept : Option Text → Option (ℕ × ℕ) → Option (ℕ × ℕ)
-if_kept word family = option_and_then (λ states. family) (states_asked word)
+abbrev pub if_kept : Option Text → Option Put → Option Put
+if_kept word put = option_and_then (λ states. put) (states_asked word)
 
--- Of so many events: before how many of them ticks are put in, and how many at most. None where a number is out of range, or there are too
+-- What is put in before so many events, in a world of so many consoles. None where a number is out of range, a word isn't an event, or there are too
 -- many schedules.
-abbrev pub family_asked : Asked → ℕ → Option (ℕ × ℕ)
-family_asked a events = option_and_then (λ ticks. option_and_then (λ upto. if_kept a.states (if_run events upto ticks)) (upto_asked events a.upto)) (ticks_asked a.ticks)
+abbrev pub family_asked : Asked → ℕ → ℕ → Option Put
+family_asked a consoles events = option_and_then (λ ticks. option_and_then (λ upto. if_kept a.states (option_and_then (λ loose.
+    if_fits a.all events (record { upto = upto; ticks = ticks; loose = loose }))
+    (loose_asked consoles a.anywhere))) (upto_asked events a.upto)) (ticks_asked a.ticks)

@@ -44,25 +44,25 @@ fn finds_of<'a>(alloc: Global, texts: &[&'a str]) -> Result<Vec<Find<'a>>, Alloc
 fn count_run(
     lines: &[Line],
     ending: Ending,
-    places: &[u64],
+    spots: &[u64],
     finds: &mut [Find<'_>],
     text: &mut Vec<u8>,
     outcomes: &mut Outcomes,
     endings: &mut Endings,
 ) -> Result<(), AllocError>
-    requires few { length places.now ≤ 32 }
+    requires few { length spots.now ≤ 32 }
     requires total { outcomes.old < 2 ^ 64 - 1 }
     requires counted { AreCounted endings.old finds.old (2 ^ 64 - 2) }
     ensures counted { (met : ℕ) → AreCounted endings.old finds.old (outcomes.old + met) → AreCounted endings.new finds.new (outcomes.new + met) }
     ensures most { outcomes.new ≤ outcomes.old + 1 }
-    ensures endings { OnOk result (endings.new ≡ with_ending ending places.now endings.old) }
-    ensures finds { OnOk result (finds.new ≡ map (after_run places.now) (map (saw lines.now) finds.old)) }
+    ensures endings { OnOk result (endings.new ≡ with_ending ending spots.now endings.old) }
+    ensures finds { OnOk result (finds.new ≡ map (after_run spots.now) (map (saw lines.now) finds.old)) }
     ensures total { OnOk result (outcomes.new ≡ outcomes.old + 1) }
 {
     look_at(lines, finds, text)?;
-    outcomes.add(text.as_slice(), places)?;
-    endings.add(ending, places);
-    end_run_all(finds, places);
+    outcomes.add(text.as_slice(), spots)?;
+    endings.add(ending, spots);
+    end_run_all(finds, spots);
     Ok(())
 }
 
@@ -111,18 +111,18 @@ impl<'a> Book<'a> {
         &mut self,
         lines: &mut Vec<Line>,
         ending: Ending,
-        places: &[u64],
+        spots: &[u64],
     ) -> Result<(), AllocError>
-        requires few { length places.now ≤ 32 }
+        requires few { length spots.now ≤ 32 }
         requires total { self.old.total < 2 ^ 64 - 1 }
-        ensures { OnOk result (self.new ≡ with_run lines.old.items ending places.now self.old) }
+        ensures { OnOk result (self.new ≡ with_run lines.old.items ending spots.now self.old) }
     {
         self.text.clear();
         lines.sort_by_key(process_number)?;
         count_run(
             lines.as_slice(),
             ending,
-            places,
+            spots,
             self.finds.as_mut_slice(),
             &mut self.text,
             &mut self.outcomes,
@@ -138,14 +138,14 @@ impl<'a> Book<'a> {
     }
 
     /// Counts so many schedules that end so, and whose lines have the texts that are marked. The first of them has these
-    /// places.
-    pub fn add_many(&mut self, ending: Ending, marks: &[bool], places: &[u64], count: u128)
-        requires few { length places.now ≤ 32 }
+    /// spots.
+    pub fn add_many(&mut self, ending: Ending, marks: &[bool], spots: &[u64], count: u128)
+        requires few { length spots.now ≤ 32 }
         requires total { self.old.total + count < 2 ^ 128 }
-        ensures { self.new ≡ with_many_runs ending marks.now (record { count = count; first = Some places.now }) self.old }
+        ensures { self.new ≡ with_many_runs ending marks.now (record { count = count; first = Some spots.now }) self.old }
     {
-        self.endings.add_many(ending, places, count);
-        add_to_marked(self.finds.as_mut_slice(), marks, places, count);
+        self.endings.add_many(ending, spots, count);
+        add_to_marked(self.finds.as_mut_slice(), marks, spots, count);
         self.met += count;
     }
 

@@ -58,6 +58,7 @@ fn with_own(digest: u64, own: &OwnPart) -> u64 {
         digest = mixed(digest, register.cast_unsigned());
     }
     let digest = mixed(digest, signals.mask().bits());
+    let digest = mixed(digest, signals.handlers() as u64);
     mixed(digest, signals.pending().bits())
 }
 
@@ -118,12 +119,22 @@ fn with_marks(digest: u64, marks: &[bool]) -> u64 {
     digest
 }
 
-/// A digest of how many ticks led to a state, of the marks of texts, and of the state of a machine. Nothing changes.
-pub fn digest_of(ticks: usize, marks: &[bool], kernel: &mut Kernel) -> u64
+/// With the kinds of loose events more.
+fn with_kinds(digest: u64, kinds: &[u8]) -> u64 {
+    let mut digest = digest;
+    for kind in kinds {
+        digest = mixed(digest, u64::from(*kind));
+    }
+    digest
+}
+
+/// A digest of how many spots led to a state, of the loose events that are left, of the marks of texts, and of the state
+/// of a machine. Nothing changes.
+pub fn digest_of(spots: usize, left: &[u8], marks: &[bool], kernel: &mut Kernel) -> u64
     ensures { (kernel.new.state ≡ kernel.old.state) × (kernel.new.events ≡ kernel.old.events) }
 {
-    let digest = mixed(mixed(1, ticks as u64), kernel.ticks());
-    let digest = with_marks(digest, marks);
+    let digest = mixed(mixed(1, spots as u64), kernel.ticks());
+    let digest = with_marks(with_kinds(digest, left), marks);
     let digest = with_turns(digest, kernel);
     let digest = with_consoles(digest, kernel);
     with_processes(digest, kernel)

@@ -44,42 +44,42 @@ impl Endings {
     }
 
     /// Counts a schedule that ends so.
-    pub fn add(&mut self, ending: Ending, places: &[u64])
-        requires few { length places.now ≤ 32 }
+    pub fn add(&mut self, ending: Ending, spots: &[u64])
+        requires few { length spots.now ≤ 32 }
         requires halted { self.old.halted.count < 2 ^ 64 - 1 }
         requires at_rest { self.old.at_rest.count < 2 ^ 64 - 1 }
         requires alarmed { self.old.alarmed.count < 2 ^ 64 - 1 }
         requires going { self.old.going.count < 2 ^ 64 - 1 }
-        ensures { self.new ≡ with_ending ending places.now self.old }
+        ensures { self.new ≡ with_ending ending spots.now self.old }
     {
         match ending {
-            Ending::Halted => self.halted.add(places),
-            Ending::AtRest => self.at_rest.add(places),
+            Ending::Halted => self.halted.add(spots),
+            Ending::AtRest => self.at_rest.add(spots),
             Ending::AwaitsAlarm => {
-                self.at_rest.add(places);
-                self.alarmed.add(places);
+                self.at_rest.add(spots);
+                self.alarmed.add(spots);
             }
-            Ending::Going => self.going.add(places),
+            Ending::Going => self.going.add(spots),
         }
     }
 
-    /// Counts so many schedules that end so, the first of which has these places.
-    pub fn add_many(&mut self, ending: Ending, places: &[u64], count: u128)
-        requires few { length places.now ≤ 32 }
+    /// Counts so many schedules that end so, the first of which has these spots.
+    pub fn add_many(&mut self, ending: Ending, spots: &[u64], count: u128)
+        requires few { length spots.now ≤ 32 }
         requires halted { self.old.halted.count + count < 2 ^ 128 }
         requires at_rest { self.old.at_rest.count + count < 2 ^ 128 }
         requires alarmed { self.old.alarmed.count + count < 2 ^ 128 }
         requires going { self.old.going.count + count < 2 ^ 128 }
-        ensures { self.new ≡ with_many_endings ending (record { count = count; first = Some places.now }) self.old }
+        ensures { self.new ≡ with_many_endings ending (record { count = count; first = Some spots.now }) self.old }
     {
         match ending {
-            Ending::Halted => self.halted.add_many(places, count),
-            Ending::AtRest => self.at_rest.add_many(places, count),
+            Ending::Halted => self.halted.add_many(spots, count),
+            Ending::AtRest => self.at_rest.add_many(spots, count),
             Ending::AwaitsAlarm => {
-                self.at_rest.add_many(places, count);
-                self.alarmed.add_many(places, count);
+                self.at_rest.add_many(spots, count);
+                self.alarmed.add_many(spots, count);
             }
-            Ending::Going => self.going.add_many(places, count),
+            Ending::Going => self.going.add_many(spots, count),
         }
     }
 }

@@ -1,6 +1,6 @@
 //! All schedules of a family, run one after another, and counted.
 
-ghost use Rattle.std.specs.Prelude.{◌≡◌, ◌≤◌, ◌<◌, ◌+◌, ◌^◌, All, length, map, IsTrue, IfOk};
+ghost use Rattle.std.specs.Prelude.{◌≡◌, ◌≤◌, ◌<◌, ◌+◌, ◌^◌, [], All, length, map, IsTrue, IfOk};
 ghost use Rattle.std.specs.List.Sorted.{IsNonDecreasing};
 ghost use Rattle.text.specs.EventTexts.{most_events};
 ghost use Rattle.schedules.specs.Families.{IsSchedule, family as family_of};
@@ -13,6 +13,7 @@ use crate::course::run_list;
 use crate::ending::Ending;
 use crate::lines::Line;
 use crate::placing::scheduled;
+use posix::Event;
 use schedules::Schedule;
 use std::alloc::{AllocError, Global};
 use text::{EventList, World};
@@ -26,12 +27,14 @@ pub trait Progress {
     fn reach(&mut self, events: u64, upto: u64, states: u64);
 }
 
-/// What is explored: the schedules of a world, by its events and the places that ticks may have.
+/// What is explored: the schedules of a world, by its events, and by what is put in before them.
 #[derive(Drop)]
 pub struct Family<'a> {
     pub world: &'a World,
     pub events: &'a EventList,
-    /// The ticks stand before the first so many events.
+    /// Each of these is put in once.
+    pub loose: &'a [Event],
+    /// Something is put in before the first so many events alone.
     pub upto: u64,
     /// At most so many ticks are put in.
     pub ticks: usize,
@@ -40,63 +43,60 @@ pub struct Family<'a> {
     /// How many schedules these are.
     pub size: u128,
     ghost within: { upto ≤ length events.now },
-    ghost few: { ticks ≤ 32 },
-    ghost short: { length events.now + ticks ≤ most_events },
-    ghost counted: { size ≡ length (family_of upto ticks) },
+    ghost placed: { upto ≡ 0 → loose.now ≡ [] },
+    ghost few: { ticks + length loose.now ≤ 32 },
+    ghost short: { length events.now + (ticks + length loose.now) ≤ most_events },
+    ghost counted: { size ≡ length (family_of upto ticks (length loose.now)) },
 }
 
-/// Whether the places rise, not strictly.
-fn do_rise(places: &[u64]) -> bool
-    ensures { IsTrue result → IsNonDecreasing places.now }
+/// Whether the spots rise, not strictly.
+fn do_rise(spots: &[u64]) -> bool
+    ensures { IsTrue result → IsNonDecreasing spots.now }
 {
-    places.is_sorted()
+    spots.is_sorted()
 }
 
-/// Whether all places are below `upto`.
-fn are_below(places: &[u64], upto: u64) -> bool
-    ensures { IsTrue result → All (λ p. p < upto) places.now }
+/// Whether all spots are below `upto`.
+fn are_below(spots: &[u64], upto: u64) -> bool
+    ensures { IsTrue result → All (λ p. p < upto) spots.now }
 {
-    places.iter().all(|place| *place < upto)
+    spots.iter().all(|place| *place < upto)
 }
 
-/// Whether these are the places of a schedule of the family.
-pub fn is_schedule(family: &Family<'_>, places: &[u64]) -> bool
-    ensures { IsTrue result → IsSchedule family.now.upto family.now.ticks places.now }
+/// Whether the family has no loose events, and these are the spots of one of its schedules.
+pub fn is_schedule(family: &Family<'_>, spots: &[u64]) -> bool
+    ensures { IsTrue result → IsSchedule family.now.upto family.now.ticks (length family.now.loose.now) spots.now }
 {
-    if places.len() > family.ticks {
+    if !family.loose.is_empty() || spots.len() > family.ticks {
         return false;
     }
-    do_rise(places) && are_below(places, family.upto)
+    do_rise(spots) && are_below(spots, family.upto)
 }
 
 /// The events of a schedule of the family.
-pub fn events_of(
-    alloc: Global,
-    family: &Family<'_>,
-    places: &[u64],
-) -> Result<EventList, AllocError>
-    requires { IsSchedule family.now.upto family.now.ticks places.now }
-    ensures events { IfOk result (λ list. list ≡ scheduled_events family.now.events.now places.now) }
+pub fn events_of(alloc: Global, family: &Family<'_>, spots: &[u64]) -> Result<EventList, AllocError>
+    requires { IsSchedule family.now.upto family.now.ticks (length family.now.loose.now) spots.now }
+    ensures events { IfOk result (λ list. list ≡ scheduled_events family.now.loose.now family.now.events.now spots.now) }
     ensures len { IfOk result (λ list. length list ≤ most_events) }
 {
-    scheduled(alloc, family.events, places)
+    scheduled(alloc, family.loose, family.events, spots)
 }
 
 /// Runs a schedule of the family; the lines are those of its trace.
 pub fn run_schedule(
     alloc: Global,
     family: &Family<'_>,
-    places: &[u64],
+    spots: &[u64],
     lines: &mut Vec<Line>,
 ) -> Result<Ending, AllocError>
-    requires { IsSchedule family.now.upto family.now.ticks places.now }
-    ensures { IfOk result (λ ending. IsCourse family.now.world.now (scheduled_events family.now.events.now places.now) lines.new.items ending) }
+    requires { IsSchedule family.now.upto family.now.ticks (length family.now.loose.now) spots.now }
+    ensures { IfOk result (λ ending. IsCourse family.now.world.now (scheduled_events family.now.loose.now family.now.events.now spots.now) lines.new.items ending) }
 {
-    let events = events_of(alloc, family, places)?;
+    let events = events_of(alloc, family, spots)?;
     run_list(alloc, family.world, &events, lines)
 }
 
-/// Runs all schedules of a family, with texts that are looked for in their lines. The book tells of all of them, in the
+/// Runs all schedules of a family without loose events, with texts that are looked for in their lines. The book tells of all of them, in the
 /// family's order.
 pub fn explore<'a, P: Progress>(
     alloc: Global,
@@ -104,8 +104,9 @@ pub fn explore<'a, P: Progress>(
     texts: &[&'a str],
     progress: &mut P,
 ) -> Result<Book<'a>, AllocError>
-    requires { family.now.size < 2 ^ 64 }
-    ensures { IfOk result (λ book. book ≡ book_over family.now.world.now family.now.events.now (map (λ t. t.now) texts.now) (family_of family.now.upto family.now.ticks)) }
+    requires size { family.now.size < 2 ^ 64 }
+    requires none { family.now.loose.now ≡ [] }
+    ensures { IfOk result (λ book. book ≡ book_over family.now.world.now family.now.loose.now family.now.events.now (map (λ t. t.now) texts.now) (family_of family.now.upto family.now.ticks (length family.now.loose.now))) }
 {
     let mut book = Book::new(alloc, texts)?;
     let mut schedule = Schedule::first(family.upto, family.ticks);

@@ -69,24 +69,24 @@ impl<'a> Find<'a> {
     }
 
     /// Counts the schedule whose run was looked at.
-    fn end_run(&mut self, places: &[u64])
-        requires few { length places.now ≤ 32 }
+    fn end_run(&mut self, spots: &[u64])
+        requires few { length spots.now ≤ 32 }
         requires count { self.old.tally.count < 2 ^ 64 - 1 }
-        ensures { self.new ≡ after_run places.now self.old }
+        ensures { self.new ≡ after_run spots.now self.old }
     {
         if self.is_there {
-            self.tally.add(places);
+            self.tally.add(spots);
         }
         self.is_there = false;
     }
 
-    /// Counts so many schedules that have it, the first of which has these places.
-    fn add_many(&mut self, places: &[u64], count: u128)
-        requires few { length places.now ≤ 32 }
+    /// Counts so many schedules that have it, the first of which has these spots.
+    fn add_many(&mut self, spots: &[u64], count: u128)
+        requires few { length spots.now ≤ 32 }
         requires count { self.old.tally.count + count < 2 ^ 128 }
-        ensures { self.new ≡ with_many (record { count = count; first = Some places.now }) self.old }
+        ensures { self.new ≡ with_many (record { count = count; first = Some spots.now }) self.old }
     {
-        self.tally.add_many(places, count);
+        self.tally.add_many(spots, count);
     }
 }
 
@@ -100,25 +100,25 @@ pub fn look_all(finds: &mut [Find<'_>], line: &[u8])
 }
 
 /// Counts the schedule whose run was looked at with each text.
-pub fn end_run_all(finds: &mut [Find<'_>], places: &[u64])
-    requires few { length places.now ≤ 32 }
+pub fn end_run_all(finds: &mut [Find<'_>], spots: &[u64])
+    requires few { length spots.now ≤ 32 }
     requires counts { All (λ f. f.tally.count < 2 ^ 64 - 1) finds.old }
-    ensures { finds.new ≡ map (after_run places.now) finds.old }
+    ensures { finds.new ≡ map (after_run spots.now) finds.old }
 {
     for find in finds.iter_mut() {
-        find.end_run(places);
+        find.end_run(spots);
     }
 }
 
-/// Counts so many schedules with each text that is marked; the first of them has these places.
-pub fn add_to_marked(finds: &mut [Find<'_>], marks: &[bool], places: &[u64], count: u128)
-    requires few { length places.now ≤ 32 }
+/// Counts so many schedules with each text that is marked; the first of them has these spots.
+pub fn add_to_marked(finds: &mut [Find<'_>], marks: &[bool], spots: &[u64], count: u128)
+    requires few { length spots.now ≤ 32 }
     requires counts { All (λ f. f.tally.count + count < 2 ^ 128) finds.old }
-    ensures { finds.new ≡ with_marked (record { count = count; first = Some places.now }) marks.now finds.old }
+    ensures { finds.new ≡ with_marked (record { count = count; first = Some spots.now }) marks.now finds.old }
 {
     for (number, mark) in marks.iter().enumerate() {
         if *mark && number < finds.len() {
-            finds[number].add_many(places, count);
+            finds[number].add_many(spots, count);
         }
     }
 }

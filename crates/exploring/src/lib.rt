@@ -2,19 +2,23 @@
 //! are run one after another, or those that meet in one state are gone on with once. The program adds the host alone.
 #![tactic(auto)]
 
+mod apart;
 pub mod book;
 pub mod course;
 mod digest;
 pub mod ending;
 pub mod families;
 pub mod finds;
+mod layer;
 pub mod lines;
 mod merging;
 mod node;
 pub mod outcomes;
 pub mod placing;
 mod report;
+mod search;
 mod serving;
+mod spreading;
 pub mod tally;
 mod words;
 

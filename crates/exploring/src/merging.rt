@@ -1,258 +1,30 @@
 //! Schedules that meet in one state are gone on with once.
 
-ghost use Rattle.std.specs.Prelude.{◌≡◌, ◌+◌, ◌-◌, ◌<◌, ◌≤◌, ◌^◌, ◌++◌, List, ℕ, [], ◌∷◌, length, map, All, IfOk, IfSome, OnOk, drop, slice_get, Some};
+ghost use Rattle.std.specs.Prelude.{◌≡◌, ◌+◌, ◌-◌, ◌<◌, ◌≤◌, ◌^◌, ◌++◌, List, ℕ, [], ◌∷◌, length, map, All, IfOk, OnOk, drop, slice_get, Some};
 ghost use Rattle.posix.specs.Regular.{IsRegular};
 ghost use Rattle.posix.specs.Settle.{IsSettled};
-ghost use Rattle.posix.specs.States.{World as WorldValue, boot};
-ghost use Rattle.schedules.specs.Families.{family as family_of};
-ghost use Rattle.exploring.specs.Counts.{book_over};
+ghost use Rattle.posix.specs.States.{boot};
+ghost use Rattle.schedules.specs.Families.{family as family_of, kinds_of};
 ghost use Rattle.text.specs.EventTexts.{most_events};
-ghost use Rattle.exploring.specs.declared.node.Node.{Node as NodeValue};
-ghost use Rattle.exploring.specs.Merging.{AreAllCountable, AreCountable, AreSameNodes, GoOn, IsAt, IsLeft, IsNode, IsNodeOf, IsOne, IsSameNode, Outlook, Property, always, behind, both, counted, counted_all, given_event, goes_on_once, marks_after, state_after, tally_from, tally_of_node, tally_of_nodes, texts_of, unmarked};
+ghost use Rattle.exploring.specs.Counts.{book_over};
+ghost use Rattle.exploring.specs.declared.search.Search.{Search as SearchValue};
+ghost use Rattle.exploring.specs.Merging.{AreRows, IsNode, Outlook, Property, always, both, counted, counted_all, goes_on_once, list_of, loose_of, most_of, outlook_of, tally_of_all, tally_of_nodes, tally_of_rows, texts_of, unmarked, world_of};
 
 use crate::book::Book;
 use crate::course::run_all;
-use crate::digest::digest_of;
 use crate::families::{Family, Progress};
+use crate::layer::Layer;
 use crate::lines::Line;
 use crate::node::{Node, mark};
+use crate::search::{Search, Stop};
+use crate::spreading::spread_row;
 use posix::Event;
 use std::alloc::{AllocError, Global};
-use std::collections::HashMap;
-use text::{EventList, World};
-
-/// Why schedules aren't gone on with.
-#[derive(Clone, Copy)]
-pub enum Stop {
-    /// There is no memory.
-    Memory,
-    /// There are more than so many states behind the event with this number.
-    States(usize, u64),
-}
-
-impl From<AllocError> for Stop {
-    ghost use Rattle.exploring.specs.declared.merging.Stop.TheVariants.{Memory};
-
-    ghost from_gives = { λ _ stop. stop ≡ Memory };
-
-    fn from(_: AllocError) -> Self {
-        Stop::Memory
-    }
-}
-
-/// What is searched: a world, for schedules of so many ticks, and for texts in their lines.
-#[derive(Clone, Copy)]
-pub struct Search<'a, 't> {
-    pub alloc: Global,
-    pub world: &'a World,
-    /// The texts that are looked for.
-    pub texts: &'a [&'t str],
-    /// At most so many ticks are put in.
-    pub ticks: usize,
-    /// At most so many states are kept before one event.
-    pub states: usize,
-}
-
-/// What is nearly never the same of nodes that aren't one.
-fn digest(node: &mut Node) -> u64
-    ensures { IsSameNode node.old node.new }
-{
-    digest_of(node.places.len(), node.marks.as_slice(), &mut node.kernel)
-}
-
-/// The states before one event of a list. One can stand there twice where another state has its digest: then less is
-/// merged, and all counts are the same.
-#[derive(Drop)]
-pub struct Layer {
-    pub nodes: Vec<Node>,
-    /// Which node may be in a state with this digest.
-    numbers: HashMap<u64, usize>,
-}
-
-impl Layer {
-    /// No states.
-    pub fn new(alloc: Global) -> Layer
-        ensures { result.nodes.items ≡ [] }
-    {
-        Layer {
-            nodes: Vec::new(alloc),
-            numbers: HashMap::new(alloc),
-        }
-    }
-
-    /// The number of the node that is one with another, if it is found.
-    fn find(&mut self, digest: u64, node: &mut Node) -> Option<usize>
-        requires { All (λ n. n.kernel.state.world ≡ node.old.kernel.state.world) self.old.nodes.items }
-        ensures one { IfSome result (λ i. (n : NodeValue) × (slice_get self.new.nodes.items i ≡ Some n) × IsOne n node.new) }
-        ensures nodes { AreSameNodes self.old.nodes.items self.new.nodes.items }
-        ensures node { IsSameNode node.old node.new }
-    {
-        let number = *self.numbers.get(&digest)?;
-        if number < self.nodes.len() && self.nodes[number].is_one(node) {
-            return Some(number);
-        }
-        None
-    }
-
-    /// A node with this digest comes behind the others.
-    fn push(&mut self, digest: u64, node: Node) -> Result<(), AllocError>
-        ensures { OnOk result (self.new.nodes.items ≡ self.old.nodes.items ++ node ∷ []) }
-    {
-        match self.numbers.insert(digest, self.nodes.len()) {
-            Ok(_) => {
-                self.nodes.push(node)?;
-                Ok(())
-            }
-            Err(e) => {
-                drop(node);
-                Err(e.into())
-            }
-        }
-    }
-
-    /// A node comes to those of the layer.
-    pub fn insert(&mut self, node: Node) -> Result<(), AllocError>
-        requires worlds { All (λ n. n.kernel.state.world ≡ node.kernel.state.world) self.old.nodes.items }
-        requires countable { (ticks : ℕ) × AreCountable ticks self.old.nodes.items node }
-        ensures tally { OnOk result ((go_on : Outlook) (ticks : ℕ) → tally_of_nodes go_on ticks self.new.nodes.items ≡ both (tally_of_nodes go_on ticks self.old.nodes.items) (tally_of_node go_on ticks node)) }
-        ensures nodes { OnOk result ((world : WorldValue) (texts : List (List ℕ)) (ticks : ℕ) → All (IsNode world texts ticks) self.old.nodes.items → IsNode world texts ticks node → All (IsNode world texts ticks) self.new.nodes.items) }
-        ensures at { OnOk result ((place : ℕ) → All (IsAt place) self.old.nodes.items → IsAt place node → All (IsAt place) self.new.nodes.items) }
-    {
-        let mut node = node;
-        let digest = digest(&mut node);
-        match self.find(digest, &mut node) {
-            Some(number) => {
-                self.nodes[number].join(node);
-                Ok(())
-            }
-            None => self.push(digest, node),
-        }
-    }
-}
-
-/// A node is given an event, and comes to a layer.
-fn give_to(
-    layer: &mut Layer,
-    node: Node,
-    event: Event,
-    search: &Search<'_, '_>,
-    lines: &mut Vec<Line>,
-) -> Result<(), AllocError>
-    requires few { length node.given < most_events }
-    requires node { IsNodeOf search.now node }
-    requires nodes { All (IsNodeOf search.now) layer.old.nodes.items }
-    requires countable { AreCountable search.now.ticks layer.old.nodes.items node }
-    ensures nodes { OnOk result (All (IsNodeOf search.now) layer.new.nodes.items) }
-    ensures tally { OnOk result ((go_on : Outlook) → tally_of_nodes go_on search.now.ticks layer.new.nodes.items ≡ both (tally_of_nodes go_on search.now.ticks layer.old.nodes.items) (given_event go_on search.now.ticks (texts_of search.now) event node)) }
-    ensures at { (place : ℕ) → All (IsAt (place + 1)) layer.old.nodes.items → IsAt place node → OnOk result (All (IsAt (place + 1)) layer.new.nodes.items) }
-{
-    let mut node = node;
-    match node.give(event, search.texts, lines) {
-        Ok(()) => layer.insert(node),
-        Err(e) => {
-            drop(node);
-            Err(e)
-        }
-    }
-}
-
-/// A node is given the event with this place, and comes to a layer. What comes back has one more tick before the event.
-fn tick_one(
-    layer: &mut Layer,
-    node: Node,
-    place: u64,
-    event: Event,
-    search: &Search<'_, '_>,
-    lines: &mut Vec<Line>,
-) -> Result<Node, AllocError>
-    requires ticks { search.now.ticks ≤ 32 }
-    requires fewer { length node.places.items < search.now.ticks }
-    requires few { place + search.now.ticks < most_events }
-    requires at { IsAt place node }
-    requires all_at { All (IsAt (place + 1)) layer.old.nodes.items }
-    requires node { IsNodeOf search.now node }
-    requires nodes { All (IsNodeOf search.now) layer.old.nodes.items }
-    requires countable { AreAllCountable (texts_of search.now) search.now.ticks place event layer.old.nodes.items (node ∷ []) }
-    ensures node { IfOk result (IsNodeOf search.now) }
-    ensures at { IfOk result (IsAt place) }
-    ensures longer { IfOk result (λ ticked. length ticked.places.items ≡ length node.places.items + 1) }
-    ensures nodes { OnOk result (All (IsNodeOf search.now) layer.new.nodes.items) }
-    ensures all_at { OnOk result (All (IsAt (place + 1)) layer.new.nodes.items) }
-    ensures left { IfOk result (λ ticked. IsLeft (texts_of search.now) search.now.ticks place event layer.old.nodes.items (node ∷ []) layer.new.nodes.items (ticked ∷ [])) }
-{
-    match node.ticked(search.alloc, search.world, place, search.texts, lines) {
-        Ok(ticked) => match give_to(layer, node, event, search, lines) {
-            Ok(()) => Ok(ticked),
-            Err(e) => {
-                drop(ticked);
-                Err(e)
-            }
-        },
-        Err(e) => {
-            drop(node);
-            Err(e)
-        }
-    }
-}
-
-/// A node is given the event with this place, with more ticks before it or none, and comes to a layer.
-fn spread(
-    layer: &mut Layer,
-    node: Node,
-    place: u64,
-    event: Event,
-    search: &Search<'_, '_>,
-    lines: &mut Vec<Line>,
-) -> Result<(), AllocError>
-    requires ticks { search.now.ticks ≤ 32 }
-    requires few { place + search.now.ticks < most_events }
-    requires at { IsAt place node }
-    requires all_at { All (IsAt (place + 1)) layer.old.nodes.items }
-    requires node { IsNodeOf search.now node }
-    requires nodes { All (IsNodeOf search.now) layer.old.nodes.items }
-    requires countable { AreAllCountable (texts_of search.now) search.now.ticks place event layer.old.nodes.items (node ∷ []) }
-    ensures nodes { OnOk result (All (IsNodeOf search.now) layer.new.nodes.items) }
-    ensures all_at { OnOk result (All (IsAt (place + 1)) layer.new.nodes.items) }
-    ensures tally { OnOk result (GoOn (texts_of search.now) search.now.ticks place event layer.old.nodes.items (node ∷ []) layer.new.nodes.items) }
-{
-    let mut node = node;
-    while node.places.len() < search.ticks {
-        node = tick_one(layer, node, place, event, search, lines)?;
-    }
-    give_to(layer, node, event, search, lines)
-}
-
-/// All nodes of a layer are given the event with this place, with more ticks before it or none, and come to another layer.
-fn spread_all(
-    layer: &mut Layer,
-    nodes: &mut Vec<Node>,
-    place: u64,
-    event: Event,
-    search: &Search<'_, '_>,
-    lines: &mut Vec<Line>,
-) -> Result<(), Stop>
-    requires ticks { search.now.ticks ≤ 32 }
-    requires few { place + search.now.ticks < most_events }
-    requires at { All (IsAt place) nodes.old.items }
-    requires all_at { All (IsAt (place + 1)) layer.old.nodes.items }
-    requires nodes { All (IsNodeOf search.now) nodes.old.items }
-    requires layer { All (IsNodeOf search.now) layer.old.nodes.items }
-    requires countable { AreAllCountable (texts_of search.now) search.now.ticks place event layer.old.nodes.items nodes.old.items }
-    ensures nodes { OnOk result (All (IsNodeOf search.now) layer.new.nodes.items) }
-    ensures all_at { OnOk result (All (IsAt (place + 1)) layer.new.nodes.items) }
-    ensures tally { OnOk result (GoOn (texts_of search.now) search.now.ticks place event layer.old.nodes.items nodes.old.items layer.new.nodes.items) }
-{
-    while let Some(node) = nodes.pop() {
-        if layer.nodes.len() > search.states {
-            return Err(Stop::States(search.states, place + 1));
-        }
-        spread(layer, node, place, event, search, lines)?;
-    }
-    Ok(())
-}
+use std::collections::VecDeque;
+use text::EventList;
 
 /// The event with a place in a list; none where the list is over.
-fn event_at(events: &EventList, place: u64) -> Option<Event>
+pub fn event_at(events: &EventList, place: u64) -> Option<Event>
     ensures { result ≡ slice_get events.now place }
 {
     let mut before = 0;
@@ -282,7 +54,7 @@ fn events_from(alloc: Global, events: &EventList, place: u64) -> Result<EventLis
     Ok(rest)
 }
 
-/// Gives these events to a node, and counts the schedules that begin as it says, and have no more ticks, by how they end.
+/// Gives these events to a node, and counts the schedules that begin as it says, and put in no more, by how they end.
 fn count_from(
     node: &mut Node,
     events: &EventList,
@@ -291,7 +63,7 @@ fn count_from(
     lines: &mut Vec<Line>,
 ) -> Result<(), AllocError>
     requires few { node.old.kernel.events + length events.now ≤ most_events }
-    requires places { length node.old.places.items ≤ 32 }
+    requires spots { length node.old.spots.items ≤ 32 }
     requires regular { IsRegular node.old.kernel.state }
     requires settled { IsSettled node.old.kernel.state }
     requires total { book.old.total + node.old.count < 2 ^ 128 }
@@ -303,13 +75,13 @@ fn count_from(
     book.add_many(
         ending,
         node.marks.as_slice(),
-        node.places.as_slice(),
+        node.spots.as_slice(),
         node.count,
     );
     Ok(())
 }
 
-/// Counts the schedules that begin as a node says, and have no more ticks, by how these events end.
+/// Counts the schedules that begin as a node says, and put in no more, by how these events end.
 fn count_node(
     node: Node,
     events: &EventList,
@@ -318,7 +90,7 @@ fn count_node(
     lines: &mut Vec<Line>,
 ) -> Result<(), AllocError>
     requires few { node.kernel.events + length events.now ≤ most_events }
-    requires places { length node.places.items ≤ 32 }
+    requires spots { length node.spots.items ≤ 32 }
     requires regular { IsRegular node.kernel.state }
     requires settled { IsSettled node.kernel.state }
     requires total { book.old.total + node.count < 2 ^ 128 }
@@ -331,18 +103,17 @@ fn count_node(
     result
 }
 
-/// Counts the schedules that begin as these nodes say, and have no more ticks, by how these events end.
+/// Counts the schedules that begin as these nodes say, and put in no more, by how these events end.
 fn count_all(
     nodes: &mut Vec<Node>,
     events: &EventList,
-    search: &Search<'_, '_>,
+    search: &Search<'_, '_, '_>,
     book: &mut Book<'_>,
     lines: &mut Vec<Line>,
 ) -> Result<(), AllocError>
-    requires ticks { search.now.ticks ≤ 32 }
-    requires at { (place : ℕ) × All (IsAt place) nodes.old.items × (place + search.now.ticks + length events.now ≤ most_events) }
-    requires nodes { All (IsNodeOf search.now) nodes.old.items }
-    requires total { book.old.total + (tally_of_nodes goes_on_once search.now.ticks nodes.old.items).count < 2 ^ 128 }
+    requires nodes { All (IsNode search.now search.now.family.now.upto 0) nodes.old.items }
+    requires few { search.now.family.now.upto + length events.now ≤ length (list_of search.now) }
+    requires total { book.old.total + (tally_of_nodes goes_on_once (most_of search.now) nodes.old.items).count < 2 ^ 128 }
     ensures { OnOk result (book.new ≡ counted_all (texts_of search.now) events.now nodes.old.items book.old) }
 {
     while let Some(node) = nodes.pop() {
@@ -351,27 +122,121 @@ fn count_all(
     Ok(())
 }
 
-/// The states behind the event with this place, from those before it.
-fn layer_behind(
-    layer: Layer,
+/// Takes the first row; no states, where there is none.
+fn take_row(rows: &mut VecDeque<Layer>, alloc: Global) -> Layer
+    ensures rows { (search : SearchValue) (place least : ℕ) → AreRows search place least rows.old.items → All (IsNode search place least) result.nodes.items × AreRows search place (least + 1) rows.new.items }
+    ensures tally { (go_on : Outlook) (most : ℕ) → tally_of_rows go_on most rows.old.items ≡ both (tally_of_nodes go_on most result.nodes.items) (tally_of_rows go_on most rows.new.items) }
+{
+    match rows.pop_front() {
+        Some(row) => row,
+        None => Layer::new(alloc),
+    }
+}
+
+/// One more row comes behind the others.
+fn push_row(rows: &mut VecDeque<Layer>, row: Layer) -> Result<(), AllocError>
+    ensures { OnOk result (rows.new.items ≡ rows.old.items ++ row ∷ []) }
+{
+    rows.push_back(row)?;
+    Ok(())
+}
+
+/// How many states these are.
+fn count_states(rows: &VecDeque<Layer>) -> usize {
+    let mut states: usize = 0;
+    for row in rows.iter() {
+        states = states.saturating_add(row.nodes.len());
+    }
+    states
+}
+
+/// A row goes on from before the event with this place: behind it to the last of the next rows, and with one more spot to
+/// the first of the rows above, which comes back.
+fn row_behind(
+    row: Layer,
+    rows: &mut VecDeque<Layer>,
+    next: &mut VecDeque<Layer>,
     place: u64,
     event: Event,
-    search: &Search<'_, '_>,
+    search: &Search<'_, '_, '_>,
     lines: &mut Vec<Line>,
 ) -> Result<Layer, Stop>
-    requires ticks { search.now.ticks ≤ 32 }
-    requires few { place + search.now.ticks < most_events }
-    requires at { All (IsAt place) layer.nodes.items }
-    requires nodes { All (IsNodeOf search.now) layer.nodes.items }
-    requires countable { AreAllCountable (texts_of search.now) search.now.ticks place event [] layer.nodes.items }
-    ensures at { IfOk result (λ next. All (IsAt (place + 1)) next.nodes.items) }
-    ensures nodes { IfOk result (λ next. All (IsNodeOf search.now) next.nodes.items) }
-    ensures tally { IfOk result (λ next. GoOn (texts_of search.now) search.now.ticks place event [] layer.nodes.items next.nodes.items) }
+    requires place { place < search.now.family.now.upto }
+    requires event { slice_get (list_of search.now) place ≡ Some event }
+    requires nodes { All (IsNode search.now place (length next.old.items)) row.nodes.items }
+    requires rows { AreRows search.now place (length next.old.items + 1) rows.old.items }
+    requires next { AreRows search.now (place + 1) 0 next.old.items }
+    requires countable { (tally_of_all always search.now place row.nodes.items rows.old.items next.old.items).count < 2 ^ 128 }
+    ensures len { OnOk result (length next.new.items ≡ length next.old.items + 1) }
+    ensures nodes { IfOk result (λ above. All (IsNode search.now place (length next.new.items)) above.nodes.items) }
+    ensures rows { OnOk result (AreRows search.now place (length next.new.items + 1) rows.new.items) }
+    ensures next { OnOk result (AreRows search.now (place + 1) 0 next.new.items) }
+    ensures tally { (has : Property) → IfOk result (λ above. tally_of_all has search.now place above.nodes.items rows.new.items next.new.items
+        ≡ tally_of_all has search.now place row.nodes.items rows.old.items next.old.items) }
 {
-    let mut layer = layer;
-    let mut next = Layer::new(search.alloc);
-    let done = spread_all(&mut next, &mut layer.nodes, place, event, search, lines);
-    drop(layer);
+    let mut above = take_row(rows, search.alloc);
+    let kept = count_states(next);
+    match spread_row(row, &mut above, kept, place, event, search, lines) {
+        Ok(behind) => match push_row(next, behind) {
+            Ok(()) => Ok(above),
+            Err(e) => {
+                drop(above);
+                Err(e.into())
+            }
+        },
+        Err(e) => {
+            drop(above);
+            Err(e)
+        }
+    }
+}
+
+/// All rows go on from before the event with this place, and come behind it to the next rows.
+fn all_behind(
+    rows: &mut VecDeque<Layer>,
+    next: &mut VecDeque<Layer>,
+    place: u64,
+    event: Event,
+    search: &Search<'_, '_, '_>,
+    lines: &mut Vec<Line>,
+) -> Result<(), Stop>
+    requires place { place < search.now.family.now.upto }
+    requires event { slice_get (list_of search.now) place ≡ Some event }
+    requires rows { AreRows search.now place 0 rows.old.items }
+    requires none { next.old.items ≡ [] }
+    requires countable { (tally_of_rows (outlook_of always search.now place) (most_of search.now) rows.old.items).count < 2 ^ 128 }
+    ensures rows { OnOk result (AreRows search.now (place + 1) 0 next.new.items) }
+    ensures tally { (has : Property) → OnOk result (tally_of_rows (outlook_of has search.now (place + 1)) (most_of search.now) next.new.items
+        ≡ tally_of_rows (outlook_of has search.now place) (most_of search.now) rows.old.items) }
+{
+    let mut row = take_row(rows, search.alloc);
+    for _spots in 0..search.family.ticks + search.family.loose.len() + 1 {
+        row = row_behind(row, rows, next, place, event, search, lines)?;
+    }
+    drop(row);
+    Ok(())
+}
+
+/// The states behind the event with this place, from those before it. Row by row they go on with one more spot.
+fn rows_behind(
+    rows: VecDeque<Layer>,
+    place: u64,
+    event: Event,
+    search: &Search<'_, '_, '_>,
+    lines: &mut Vec<Line>,
+) -> Result<VecDeque<Layer>, Stop>
+    requires place { place < search.now.family.now.upto }
+    requires event { slice_get (list_of search.now) place ≡ Some event }
+    requires rows { AreRows search.now place 0 rows.items }
+    requires countable { (tally_of_rows (outlook_of always search.now place) (most_of search.now) rows.items).count < 2 ^ 128 }
+    ensures rows { IfOk result (λ next. AreRows search.now (place + 1) 0 next.items) }
+    ensures tally { (has : Property) → IfOk result (λ next. tally_of_rows (outlook_of has search.now (place + 1)) (most_of search.now) next.items
+        ≡ tally_of_rows (outlook_of has search.now place) (most_of search.now) rows.items) }
+{
+    let mut rows = rows;
+    let mut next = VecDeque::new(search.alloc);
+    let done = all_behind(&mut rows, &mut next, place, event, search, lines);
+    drop(rows);
     match done {
         Ok(()) => Ok(next),
         Err(e) => {
@@ -381,44 +246,83 @@ fn layer_behind(
     }
 }
 
-/// The states before the first `upto` events of a list, each with the beginnings that lead to it.
+/// The nodes of a row come to others.
+fn take_nodes(nodes: &mut Vec<Node>, row: Layer) -> Result<(), AllocError>
+    ensures { OnOk result (nodes.new.items ≡ nodes.old.items ++ row.nodes.items) }
+{
+    let mut row = row;
+    let done = nodes.append(&mut row.nodes);
+    drop(row);
+    done
+}
+
+/// The nodes of all rows come to others.
+fn take_rows(nodes: &mut Vec<Node>, rows: &mut VecDeque<Layer>) -> Result<(), AllocError>
+    ensures nodes { (search : SearchValue) (place : ℕ) → All (IsNode search place 0) nodes.old.items → AreRows search place 0 rows.old.items → OnOk result (All (IsNode search place 0) nodes.new.items) }
+    ensures tally { (go_on : Outlook) (most : ℕ) → OnOk result (tally_of_nodes go_on most nodes.new.items ≡ both (tally_of_nodes go_on most nodes.old.items) (tally_of_rows go_on most rows.old.items)) }
+{
+    while let Some(row) = rows.pop_front() {
+        take_nodes(nodes, row)?;
+    }
+    Ok(())
+}
+
+/// All states of these rows.
+fn nodes_of(alloc: Global, rows: VecDeque<Layer>) -> Result<Vec<Node>, AllocError>
+    ensures nodes { (search : SearchValue) (place : ℕ) → AreRows search place 0 rows.items → IfOk result (λ nodes. All (IsNode search place 0) nodes.items) }
+    ensures tally { (go_on : Outlook) (most : ℕ) → IfOk result (λ nodes. tally_of_nodes go_on most nodes.items ≡ tally_of_rows go_on most rows.items) }
+{
+    let mut rows = rows;
+    let mut nodes = Vec::new(alloc);
+    let done = take_rows(&mut nodes, &mut rows);
+    drop(rows);
+    match done {
+        Ok(()) => Ok(nodes),
+        Err(e) => {
+            drop(nodes);
+            Err(e)
+        }
+    }
+}
+
+/// The states before the event behind the first `upto` of a list, each with the beginnings that lead to it.
 fn reach<P: Progress>(
-    layer: Layer,
-    events: &EventList,
-    upto: u64,
-    search: &Search<'_, '_>,
+    first: Layer,
+    search: &Search<'_, '_, '_>,
     lines: &mut Vec<Line>,
     progress: &mut P,
-) -> Result<Layer, Stop>
-    requires ticks { search.now.ticks ≤ 32 }
-    requires within { upto ≤ length events.now }
-    requires few { length events.now + search.now.ticks ≤ most_events }
-    requires at { All (IsAt 0) layer.nodes.items }
-    requires nodes { All (IsNodeOf search.now) layer.nodes.items }
-    requires countable { (tally_of_nodes (tally_from always (texts_of search.now) upto 0 events.now) search.now.ticks layer.nodes.items).count < 2 ^ 128 }
-    ensures at { IfOk result (λ last. All (IsAt upto) last.nodes.items) }
-    ensures nodes { IfOk result (λ last. All (IsNodeOf search.now) last.nodes.items) }
-    ensures tally { (has : Property) → IfOk result (λ last. tally_of_nodes (tally_from has (texts_of search.now) 0 upto (drop upto events.now)) search.now.ticks last.nodes.items
-        ≡ tally_of_nodes (tally_from has (texts_of search.now) upto 0 events.now) search.now.ticks layer.nodes.items) }
+) -> Result<VecDeque<Layer>, Stop>
+    requires nodes { All (IsNode search.now 0 0) first.nodes.items }
+    requires countable { (tally_of_nodes (outlook_of always search.now 0) (most_of search.now) first.nodes.items).count < 2 ^ 128 }
+    ensures rows { IfOk result (λ rows. AreRows search.now search.now.family.now.upto 0 rows.items) }
+    ensures tally { (has : Property) → IfOk result (λ rows. tally_of_rows (outlook_of has search.now search.now.family.now.upto) (most_of search.now) rows.items
+        ≡ tally_of_nodes (outlook_of has search.now 0) (most_of search.now) first.nodes.items) }
 {
-    let mut layer = layer;
+    let upto = search.family.upto;
+    let mut rows = VecDeque::new(search.alloc);
+    push_row(&mut rows, first)?;
     for place in 0..upto {
-        let Some(event) = event_at(events, place) else {
+        let Some(event) = event_at(search.family.events, place) else {
             unreachable!()
         };
-        layer = layer_behind(layer, place, event, search, lines)?;
-        progress.reach(place + 1, upto, layer.nodes.len() as u64);
+        rows = rows_behind(rows, place, event, search, lines)?;
+        let states = count_states(&rows);
+        if states > search.family.states {
+            return Err(Stop::States(search.family.states, place + 1));
+        }
+        progress.reach(place + 1, upto, states as u64);
     }
-    Ok(layer)
+    Ok(rows)
 }
 
 /// The state at the start of a world, from which all schedules go on.
-fn start(search: &Search<'_, '_>) -> Result<Layer, AllocError>
-    ensures at { IfOk result (λ layer. All (IsAt 0) layer.nodes.items) }
-    ensures nodes { IfOk result (λ layer. All (IsNodeOf search.now) layer.nodes.items) }
-    ensures tally { (go_on : Outlook) → IfOk result (λ layer. tally_of_nodes go_on search.now.ticks layer.nodes.items ≡ go_on search.now.ticks (boot search.now.world.now) (unmarked (texts_of search.now))) }
+fn start(search: &Search<'_, '_, '_>) -> Result<Layer, AllocError>
+    ensures nodes { IfOk result (λ layer. All (IsNode search.now 0 0) layer.nodes.items) }
+    ensures tally { (go_on : Outlook) → IfOk result (λ layer. tally_of_nodes go_on (most_of search.now) layer.nodes.items
+        ≡ go_on (most_of search.now) (kinds_of (length (loose_of search.now))) (boot (world_of search.now)) (unmarked (texts_of search.now))) }
 {
-    let node = Node::first(search.alloc, search.world, search.texts)?;
+    let family = search.family;
+    let node = Node::first(search.alloc, family.world, family.loose.len(), search.texts)?;
     let mut layer = Layer::new(search.alloc);
     match layer.insert(node) {
         Ok(()) => Ok(layer),
@@ -427,6 +331,22 @@ fn start(search: &Search<'_, '_>) -> Result<Layer, AllocError>
             Err(e)
         }
     }
+}
+
+/// The states behind the last event before which something is put in, each with the beginnings that lead to it.
+fn search_all<P: Progress>(
+    search: &Search<'_, '_, '_>,
+    lines: &mut Vec<Line>,
+    progress: &mut P,
+) -> Result<Vec<Node>, Stop>
+    requires { search.now.family.now.size < 2 ^ 128 }
+    ensures nodes { IfOk result (λ nodes. All (IsNode search.now search.now.family.now.upto 0) nodes.items) }
+    ensures tally { (has : Property) → IfOk result (λ nodes. tally_of_nodes (outlook_of has search.now search.now.family.now.upto) (most_of search.now) nodes.items
+        ≡ outlook_of has search.now 0 (most_of search.now) (kinds_of (length (loose_of search.now))) (boot (world_of search.now)) (unmarked (texts_of search.now))) }
+{
+    let first = start(search)?;
+    let rows = reach(first, search, lines, progress)?;
+    Ok(nodes_of(search.alloc, rows)?)
 }
 
 /// Counts all schedules of a family, with texts that are looked for in their lines; those that meet in one state are gone on
@@ -438,28 +358,18 @@ pub fn merge<'a, P: Progress>(
     progress: &mut P,
 ) -> Result<Book<'a>, Stop>
     requires { family.now.size < 2 ^ 128 }
-    ensures { IfOk result (λ book. book ≡ book_over family.now.world.now family.now.events.now (map (λ t. t.now) texts.now) (family_of family.now.upto family.now.ticks)) }
+    ensures { IfOk result (λ book. book ≡ book_over family.now.world.now family.now.loose.now family.now.events.now (map (λ t. t.now) texts.now) (family_of family.now.upto family.now.ticks (length family.now.loose.now))) }
 {
     let search = Search {
         alloc,
-        world: family.world,
+        family,
         texts,
-        ticks: family.ticks,
-        states: family.states,
     };
     let mut lines = Vec::new(alloc);
-    let first = start(&search)?;
-    let mut last = reach(
-        first,
-        family.events,
-        family.upto,
-        &search,
-        &mut lines,
-        progress,
-    )?;
+    let mut last = search_all(&search, &mut lines, progress)?;
     let rest = events_from(alloc, family.events, family.upto)?;
     let mut book = Book::new(alloc, texts)?;
-    book.tell_states(last.nodes.len() as u64);
-    count_all(&mut last.nodes, &rest, &search, &mut book, &mut lines)?;
+    book.tell_states(last.len() as u64);
+    count_all(&mut last, &rest, &search, &mut book, &mut lines)?;
     Ok(book)
 }

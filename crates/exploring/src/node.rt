@@ -4,21 +4,27 @@ ghost use Rattle.std.specs.Prelude.{◌≡◌, ◌+◌, ◌<◌, ◌≤◌, ◌^
 ghost use Rattle.posix.specs.States.{World as WorldValue, boot};
 ghost use Rattle.posix.specs.Regular.{IsRegular};
 ghost use Rattle.posix.specs.Settle.{IsSettled};
-ghost use Rattle.posix.specs.declared.event.Event.TheVariants.{Tick};
 ghost use Rattle.text.specs.EventTexts.{most_events};
 ghost use Rattle.exploring.specs.Courses.{course_from};
-ghost use Rattle.exploring.specs.Merging.{IsAt, IsNode, IsOne, IsSameNode, Outlook, both, is_before as comes_before, is_earlier as has_earlier, marked, marks_after, state_after, tally_of_node, unmarked};
+ghost use Rattle.schedules.specs.Families.{kinds_of as all_kinds};
+ghost use Rattle.exploring.specs.declared.search.Search.{Search as SearchValue};
+ghost use Rattle.exploring.specs.Merging.{IsNode, IsOne, IsSameNode, Outlook, both, is_before as comes_before, is_earlier as has_earlier, marked, marks_after, state_after, tally_of_node, texts_of, unmarked};
 ghost use Rattle.exploring.specs.Texts.{have_text};
 
 use crate::course::{run_all, run_one};
 use crate::finds::stands_in;
 use crate::lines::{Line, shown};
-use crate::tally::{Places, copied};
+use crate::tally::{Spots, copied};
+use arrayvec::ArrayVec;
 use kernel::Kernel;
 use posix::Event;
+use schedules::MOST_SPOTS;
 use std::alloc::{AllocError, Global};
 use std::mem::swap;
 use text::{EventList, World};
+
+/// The kinds of loose events, from 1.
+pub type Kinds = ArrayVec<u8, MOST_SPOTS>;
 
 /// A state of a machine, and the beginnings of schedules that lead to it.
 #[derive(Drop)]
@@ -27,32 +33,32 @@ pub struct Node {
     pub kernel: Kernel,
     /// How many they are.
     pub count: u128,
-    /// The places of the first of them.
-    pub places: Places,
+    /// The spots of the first of them.
+    pub spots: Spots,
+    /// The kinds of the loose events that they haven't put in.
+    pub left: Kinds,
     /// The events of the first of them.
     pub given: EventList,
     /// Of each text, whether a line has it.
     pub marks: Vec<bool>,
 }
 
-/// Whether the one list, of as many places, has the earlier place where they first differ.
-fn is_earlier(places: &[u64], others: &[u64]) -> bool
-    ensures { result ≡ has_earlier places.now others.now }
+/// Whether the one list, of as many spots, has the earlier spot where they first differ.
+fn is_earlier(spots: &[u64], others: &[u64]) -> bool
+    ensures { result ≡ has_earlier spots.now others.now }
 {
-    let (Some((place, places)), Some((other, others))) = (
-        places.split_first(),
-        others.split_first(),
-    ) else {
+    let (Some((place, spots)), Some((other, others))) = (spots.split_first(), others.split_first())
+    else {
         return false;
     };
-    place < other || (place == other && is_earlier(places, others))
+    place < other || (place == other && is_earlier(spots, others))
 }
 
 /// Whether a schedule comes before another in a family.
-pub fn is_before(places: &[u64], others: &[u64]) -> bool
-    ensures { result ≡ comes_before places.now others.now }
+pub fn is_before(spots: &[u64], others: &[u64]) -> bool
+    ensures { result ≡ comes_before spots.now others.now }
 {
-    places.len() < others.len() || (places.len() == others.len() && is_earlier(places, others))
+    spots.len() < others.len() || (spots.len() == others.len() && is_earlier(spots, others))
 }
 
 /// Whether one of the lines has a text.
@@ -140,21 +146,53 @@ fn give(
     Ok(())
 }
 
+/// The kinds of so many loose events.
+fn kinds_of(loose: usize) -> Kinds
+    requires { loose ≤ 32 }
+    ensures { result.items ≡ all_kinds loose }
+{
+    let mut kinds = Kinds::new();
+    for kind in 0..loose {
+        kinds.push(kind as u8 + 1);
+    }
+    kinds
+}
+
+/// The kinds, copied.
+fn copied_kinds(kinds: &[u8]) -> Kinds
+    requires { length kinds.now ≤ 32 }
+    ensures { result.items ≡ kinds.now }
+{
+    let mut copy = Kinds::new();
+    let _ = copy.try_extend_from_slice(kinds);
+    copy
+}
+
 impl Node {
-    /// The start of a world, where no schedule has begun.
-    pub fn first(alloc: Global, world: &World, texts: &[&str]) -> Result<Node, AllocError>
-        ensures node { (ticks : ℕ) → IfOk result (IsNode world.now (map (λ t. t.now) texts.now) ticks) }
+    /// The start of a world, where no schedule has begun, with so many loose events to put in.
+    pub fn first(
+        alloc: Global,
+        world: &World,
+        loose: usize,
+        texts: &[&str],
+    ) -> Result<Node, AllocError>
+        requires { loose ≤ 32 }
         ensures state { IfOk result (λ n. n.kernel.state ≡ boot world.now) }
+        ensures regular { IfOk result (λ n. IsRegular n.kernel.state) }
+        ensures settled { IfOk result (λ n. IsSettled n.kernel.state) }
+        ensures events { IfOk result (λ n. n.kernel.events ≡ 0) }
         ensures one { IfOk result (λ n. n.count ≡ 1) }
-        ensures places { IfOk result (λ n. n.places.items ≡ []) }
-        ensures at { IfOk result (IsAt 0) }
+        ensures spots { IfOk result (λ n. n.spots.items ≡ []) }
+        ensures left { IfOk result (λ n. n.left.items ≡ all_kinds loose) }
+        ensures given { IfOk result (λ n. n.given ≡ []) }
         ensures marks { IfOk result (λ n. n.marks.items ≡ unmarked (map (λ t. t.now) texts.now)) }
     {
         let marks = vec![in alloc; false; texts.len()]?;
         Ok(Node {
             kernel: Kernel::boot(alloc, world)?,
             count: 1,
-            places: Places::new(),
+            spots: Spots::new(),
+            left: kinds_of(loose),
             given: EventList::new(alloc),
             marks,
         })
@@ -169,13 +207,17 @@ impl Node {
     ) -> Result<(), AllocError>
         requires few { self.old.kernel.events ≤ length self.old.given }
         requires given { length self.old.given < most_events }
-        ensures node { (world : WorldValue) (ticks : ℕ) → IsNode world (map (λ t. t.now) texts.now) ticks self.old → OnOk result (IsNode world (map (λ t. t.now) texts.now) ticks self.new) }
+        ensures node { (search : SearchValue) (place least : ℕ) → IsNode search place least self.old → texts_of search ≡ map (λ t. t.now) texts.now → (place + 1 ≡ search.family.now.upto → self.old.left.items ≡ [])
+            → OnOk result (IsNode search (place + 1) least self.new) }
         ensures state { OnOk result (self.new.kernel.state ≡ state_after event self.old.kernel.state) }
+        ensures regular { OnOk result (IsRegular self.new.kernel.state) }
+        ensures settled { OnOk result (IsSettled self.new.kernel.state) }
+        ensures events { OnOk result (self.new.kernel.events ≡ self.old.kernel.events + 1) }
         ensures marks { OnOk result (self.new.marks.items ≡ marks_after (map (λ t. t.now) texts.now) event self.old.kernel.state self.old.marks.items) }
         ensures given { OnOk result (self.new.given ≡ self.old.given ++ event ∷ []) }
         ensures count { self.new.count ≡ self.old.count }
-        ensures places { self.new.places ≡ self.old.places }
-        ensures at { (place : ℕ) → IsAt place self.old → OnOk result (IsAt (place + 1) self.new) }
+        ensures spots { self.new.spots ≡ self.old.spots }
+        ensures left { self.new.left ≡ self.old.left }
     {
         give(
             &mut self.kernel,
@@ -191,14 +233,16 @@ impl Node {
     /// The same beginnings, with a kernel of their own.
     fn again(&self, alloc: Global, world: &World, lines: &mut Vec<Line>) -> Result<Node, AllocError>
         requires few { length self.now.given ≤ most_events }
-        requires ticks { length self.now.places.items ≤ 32 }
+        requires spots { length self.now.spots.items ≤ 32 }
+        requires left { length self.now.left.items ≤ 32 }
         requires reached { self.now.kernel.state ≡ (course_from 1 (boot world.now) self.now.given).last }
         ensures state { IfOk result (λ n. n.kernel.state ≡ self.now.kernel.state) }
         ensures events { IfOk result (λ n. n.kernel.events ≤ length self.now.given) }
         ensures regular { IfOk result (λ n. IsRegular n.kernel.state) }
         ensures settled { IfOk result (λ n. IsSettled n.kernel.state) }
         ensures count { IfOk result (λ n. n.count ≡ self.now.count) }
-        ensures places { IfOk result (λ n. n.places.items ≡ self.now.places.items) }
+        ensures spots { IfOk result (λ n. n.spots.items ≡ self.now.spots.items) }
+        ensures left { IfOk result (λ n. n.left.items ≡ self.now.left.items) }
         ensures given { IfOk result (λ n. n.given ≡ self.now.given) }
         ensures marks { IfOk result (λ n. n.marks.items ≡ self.now.marks.items) }
     {
@@ -207,34 +251,40 @@ impl Node {
         Ok(Node {
             kernel: kernel_after(alloc, world, &self.given, lines)?,
             count: self.count,
-            places: copied(self.places.as_slice()),
+            spots: copied(self.spots.as_slice()),
+            left: copied_kinds(self.left.as_slice()),
             given,
             marks,
         })
     }
 
-    /// The beginnings with one more tick, which stands before the event with this place.
-    pub fn ticked(
+    /// The beginnings with one more event, which is put in at this spot.
+    pub fn with(
         &self,
         alloc: Global,
         world: &World,
-        place: u64,
+        spot: u64,
+        event: Event,
         texts: &[&str],
         lines: &mut Vec<Line>,
     ) -> Result<Node, AllocError>
         requires few { length self.now.given < most_events }
-        requires ticks { length self.now.places.items < 32 }
-        requires node { (ticks : ℕ) × IsNode world.now (map (λ t. t.now) texts.now) ticks self.now }
-        ensures node { (ticks : ℕ) → IsNode world.now (map (λ t. t.now) texts.now) ticks self.now → length self.now.places.items < ticks → IfOk result (IsNode world.now (map (λ t. t.now) texts.now) ticks) }
-        ensures state { IfOk result (λ n. n.kernel.state ≡ state_after Tick self.now.kernel.state) }
-        ensures marks { IfOk result (λ n. n.marks.items ≡ marks_after (map (λ t. t.now) texts.now) Tick self.now.kernel.state self.now.marks.items) }
+        requires spots { length self.now.spots.items < 32 }
+        requires left { length self.now.left.items ≤ 32 }
+        requires reached { self.now.kernel.state ≡ (course_from 1 (boot world.now) self.now.given).last }
+        ensures state { IfOk result (λ n. n.kernel.state ≡ state_after event self.now.kernel.state) }
+        ensures regular { IfOk result (λ n. IsRegular n.kernel.state) }
+        ensures settled { IfOk result (λ n. IsSettled n.kernel.state) }
+        ensures events { IfOk result (λ n. n.kernel.events ≤ length self.now.given + 1) }
+        ensures marks { IfOk result (λ n. n.marks.items ≡ marks_after (map (λ t. t.now) texts.now) event self.now.kernel.state self.now.marks.items) }
+        ensures given { IfOk result (λ n. n.given ≡ self.now.given ++ event ∷ []) }
         ensures count { IfOk result (λ n. n.count ≡ self.now.count) }
-        ensures places { IfOk result (λ n. n.places.items ≡ self.now.places.items ++ place ∷ []) }
-        ensures at { (given : ℕ) → IsAt given self.now → IfOk result (IsAt given) }
+        ensures spots { IfOk result (λ n. n.spots.items ≡ self.now.spots.items ++ spot ∷ []) }
+        ensures left { IfOk result (λ n. n.left.items ≡ self.now.left.items) }
     {
         let mut node = self.again(alloc, world, lines)?;
-        node.places.push(place);
-        match node.give(Event::Tick, texts, lines) {
+        node.spots.push(spot);
+        match node.give(event, texts, lines) {
             Ok(()) => Ok(node),
             Err(e) => {
                 drop(node);
@@ -243,14 +293,16 @@ impl Node {
         }
     }
 
-    /// Whether two nodes are one: the same state of a world, led to by as many ticks, with the same marks.
+    /// Whether two nodes are one: the same state of a world, led to by as many spots, with the same loose events left and
+    /// the same marks.
     pub fn is_one(&mut self, other: &mut Node) -> bool
         requires world { self.old.kernel.state.world ≡ other.old.kernel.state.world }
         ensures one { result ≡ true → IsOne self.old other.old }
         ensures same { IsSameNode self.old self.new }
         ensures other { IsSameNode other.old other.new }
     {
-        self.places.len() == other.places.len()
+        self.spots.len() == other.spots.len()
+            && self.left.as_slice() == other.left.as_slice()
             && self.marks.as_slice() == other.marks.as_slice()
             && self.kernel.is_same(&mut other.kernel)
     }
@@ -259,12 +311,11 @@ impl Node {
     fn join_first(&mut self, other: &mut Node)
         requires count { self.old.count + other.old.count < 2 ^ 128 }
         requires one { IsOne self.old other.old }
-        ensures tally { (go_on : Outlook) (ticks : ℕ) → tally_of_node go_on ticks self.new ≡ both (tally_of_node go_on ticks self.old) (tally_of_node go_on ticks other.old) }
-        ensures node { (world : WorldValue) (texts : List (List ℕ)) (ticks : ℕ) → IsNode world texts ticks self.old → IsNode world texts ticks other.old → IsNode world texts ticks self.new }
-        ensures at { (place : ℕ) → IsAt place self.old → IsAt place other.old → IsAt place self.new }
+        ensures tally { (go_on : Outlook) (most : ℕ) → tally_of_node go_on most self.new ≡ both (tally_of_node go_on most self.old) (tally_of_node go_on most other.old) }
+        ensures node { (search : SearchValue) (place least : ℕ) → IsNode search place least self.old → IsNode search place least other.old → IsNode search place least self.new }
     {
         let count = self.count + other.count;
-        if is_before(other.places.as_slice(), self.places.as_slice()) {
+        if is_before(other.spots.as_slice(), self.spots.as_slice()) {
             swap(self, other);
         }
         self.count = count;
@@ -274,9 +325,8 @@ impl Node {
     pub fn join(&mut self, mut other: Node)
         requires count { self.old.count + other.count < 2 ^ 128 }
         requires one { IsOne self.old other }
-        ensures tally { (go_on : Outlook) (ticks : ℕ) → tally_of_node go_on ticks self.new ≡ both (tally_of_node go_on ticks self.old) (tally_of_node go_on ticks other) }
-        ensures node { (world : WorldValue) (texts : List (List ℕ)) (ticks : ℕ) → IsNode world texts ticks self.old → IsNode world texts ticks other → IsNode world texts ticks self.new }
-        ensures at { (place : ℕ) → IsAt place self.old → IsAt place other → IsAt place self.new }
+        ensures tally { (go_on : Outlook) (most : ℕ) → tally_of_node go_on most self.new ≡ both (tally_of_node go_on most self.old) (tally_of_node go_on most other) }
+        ensures node { (search : SearchValue) (place least : ℕ) → IsNode search place least self.old → IsNode search place least other → IsNode search place least self.new }
     {
         self.join_first(&mut other);
         drop(other);

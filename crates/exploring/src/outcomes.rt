@@ -9,13 +9,13 @@ use std::collections::HashMap;
 use std::marker::Model;
 
 /// Counts a schedule to the outcome that has this number.
-fn add_to(outcomes: &mut [Tally], number: usize, places: &[u64])
-    requires few { length places.now ≤ 32 }
+fn add_to(outcomes: &mut [Tally], number: usize, spots: &[u64])
+    requires few { length spots.now ≤ 32 }
     requires there { number < length outcomes.old }
     requires total { total_of outcomes.old < 2 ^ 64 - 1 }
     ensures { total_of outcomes.new ≡ total_of outcomes.old + 1 }
 {
-    outcomes[number].add(places);
+    outcomes[number].add(spots);
 }
 
 /// The outcomes so far, in the order of their first schedules.
@@ -55,8 +55,8 @@ impl Outcomes {
 
     /// Counts a schedule whose run has these lines: those of each process after those of the processes with lesser
     /// numbers.
-    pub fn add(&mut self, lines: &[u8], places: &[u64]) -> Result<(), AllocError>
-        requires few { length places.now ≤ 32 }
+    pub fn add(&mut self, lines: &[u8], spots: &[u64]) -> Result<(), AllocError>
+        requires few { length spots.now ≤ 32 }
         requires total { self.old < 2 ^ 64 - 1 }
         ensures ok { OnOk result (self.new ≡ self.old + 1) }
         ensures err { OnErr result (self.new ≡ self.old) }
@@ -71,7 +71,7 @@ impl Outcomes {
                 number
             }
         };
-        add_to(self.outcomes.as_mut_slice(), number, places);
+        add_to(self.outcomes.as_mut_slice(), number, spots);
         self.total += 1;
         Ok(())
     }

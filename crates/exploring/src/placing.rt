@@ -1,11 +1,13 @@
-//! Ticks that are put into a list of events.
+//! Ticks and loose events that are put into a list of events.
 
-ghost use Rattle.std.specs.Prelude.{◌≡◌, ◌+◌, ◌-◌, ◌<◌, ◌≤◌, ◌^◌, ◌++◌, List, All, length, OnOk, IfOk, replicate};
+ghost use Rattle.std.specs.Prelude.{◌≡◌, ◌+◌, ◌-◌, ◌<◌, ◌≤◌, ◌^◌, ◌++◌, List, All, length, map, OnOk, IfOk, replicate};
 ghost use Rattle.std.specs.List.Sorted.{IsNonDecreasing};
 ghost use Rattle.posix.specs.declared.event.Event.{Event};
+ghost use Rattle.schedules.specs.Families.{place_of as place_of_spot};
 ghost use Rattle.schedules.specs.Schedules.{scheduled as scheduled_events, given, IsGiven};
 
 use posix::Event;
+use schedules::{place_of, put_at};
 use std::alloc::{AllocError, Global};
 use text::{EventList, EventRun};
 
@@ -20,33 +22,35 @@ fn push(list: &mut EventList, event: Event, count: u64) -> Result<(), AllocError
     list.push(event, count)
 }
 
-/// Adds a run whose first event has place `start`, with a tick at each of the places that lie within it; `used` places
-/// lie before it. How many lie before its end.
+/// Adds a run whose first event has place `start`, with what is put in at each of the spots that lie within it; `used`
+/// spots lie before it. How many lie before its end.
 fn push_run(
     list: &mut EventList,
+    loose: &[Event],
     start: u64,
     run: EventRun,
-    places: &[u64],
+    spots: &[u64],
     used: usize,
 ) -> Result<usize, AllocError>
-    requires rising { IsNonDecreasing places.now }
-    requires given { IsGiven start used places.now }
-    requires used { used ≤ length places.now }
-    requires few { start + run.count + length places.now < 2 ^ 40 }
+    requires loose { length loose.now ≤ 32 }
+    requires rising { IsNonDecreasing (map (place_of_spot (length loose.now)) spots.now) }
+    requires given { IsGiven (length loose.now) start used spots.now }
+    requires used { used ≤ length spots.now }
+    requires few { start + run.count + length spots.now < 2 ^ 40 }
     requires len { length list.old ≡ start + used }
-    ensures given { IfOk result (λ more. IsGiven (start + run.count) more places.now) }
-    ensures used { IfOk result (λ more. more ≤ length places.now) }
+    ensures given { IfOk result (λ more. IsGiven (length loose.now) (start + run.count) more spots.now) }
+    ensures used { IfOk result (λ more. more ≤ length spots.now) }
     ensures len { IfOk result (λ more. length list.new ≡ start + run.count + more) }
     ensures list { IfOk result (λ more. (before behind events : List Event) → events ≡ before ++ replicate run.count run.event ++ behind → length before ≡ start
-        → list.old ≡ given start used events places.now → list.new ≡ given (start + run.count) more events places.now) }
+        → list.old ≡ given loose.now start used events spots.now → list.new ≡ given loose.now (start + run.count) more events spots.now) }
 {
     let end = start + run.count();
     let mut done = start;
     let mut used = used;
-    while used < places.len() && places[used] < end {
-        let place = places[used];
+    while used < spots.len() && place_of(loose.len(), spots[used]) < end {
+        let place = place_of(loose.len(), spots[used]);
         push(list, run.event(), place - done)?;
-        push(list, Event::Tick, 1)?;
+        push(list, put_at(loose, spots[used]), 1)?;
         done = place;
         used += 1;
     }
@@ -54,18 +58,24 @@ fn push_run(
     Ok(used)
 }
 
-/// The events with a tick before the event at each of the places, which rise and are below their number.
-pub fn scheduled(alloc: Global, events: &EventList, places: &[u64]) -> Result<EventList, AllocError>
-    requires rising { IsNonDecreasing places.now }
-    requires below { All (λ p. p < length events.now) places.now }
-    requires few { length events.now + length places.now < 2 ^ 40 }
-    ensures { IfOk result (λ list. list ≡ scheduled_events events.now places.now) }
+/// The events with what is put in at each of the spots, whose places rise and are below their number.
+pub fn scheduled(
+    alloc: Global,
+    loose: &[Event],
+    events: &EventList,
+    spots: &[u64],
+) -> Result<EventList, AllocError>
+    requires loose { length loose.now ≤ 32 }
+    requires rising { IsNonDecreasing (map (place_of_spot (length loose.now)) spots.now) }
+    requires below { All (λ q. place_of_spot (length loose.now) q < length events.now) spots.now }
+    requires few { length events.now + length spots.now < 2 ^ 40 }
+    ensures { IfOk result (λ list. list ≡ scheduled_events loose.now events.now spots.now) }
 {
     let mut list = EventList::new(alloc);
     let mut given = 0;
     let mut used = 0;
     for run in events.runs() {
-        used = push_run(&mut list, given, *run, places, used)?;
+        used = push_run(&mut list, loose, given, *run, spots, used)?;
         given += run.count();
     }
     Ok(list)

@@ -1,12 +1,13 @@
 //! What is told of a family whose schedules were counted.
 
-ghost use Rattle.std.specs.Prelude.{◌≡◌, ◌++◌, All, IfOk, OnOk};
+ghost use Rattle.std.specs.Prelude.{◌≡◌, ◌++◌, All, IfOk, OnOk, length};
 ghost use Rattle.std.specs.String.{string_bytes};
 ghost use Rattle.schedules.specs.Families.{IsSchedule};
 ghost use Rattle.schedules.specs.Schedules.{scheduled as scheduled_events};
 ghost use Rattle.schedules.specs.EventLines.{AddsText};
 ghost use Rattle.exploring.specs.Reports.{Adds, AreOfFamily, IsFirstOf, Reports, ShowsFind, ShowsFinds, ShowsFirst, at_rest_lines, ending_line, first_lines, first_that, plural as plural_of, size_line};
 
+use crate::apart::{Unlike, first_unlike};
 use crate::course::run_list;
 use crate::{Book, Ending, Endings, Family, Find, Line, Tally, events_of, is_schedule};
 use schedules::write_events;
@@ -41,27 +42,35 @@ fn write_schedule(
     alloc: Global,
     text: &mut String,
     family: &Family<'_>,
-    places: &[u64],
+    spots: &[u64],
 ) -> Result<(), AllocError>
-    requires { IsSchedule family.now.upto family.now.ticks places.now }
-    ensures { OnOk result (AddsText (string_bytes text.old) (scheduled_events family.now.events.now places.now) (string_bytes text.new)) }
+    requires { IsSchedule family.now.upto family.now.ticks (length family.now.loose.now) spots.now }
+    ensures { OnOk result (AddsText (string_bytes text.old) (scheduled_events family.now.loose.now family.now.events.now spots.now) (string_bytes text.new)) }
 {
-    write_events(text, &events_of(alloc, family, places)?)
+    write_events(text, &events_of(alloc, family, spots)?)
 }
 
 /// Writes how many schedules there are.
 fn write_size(text: &mut String, family: &Family<'_>) -> Result<(), AllocError>
-    ensures { OnOk result (string_bytes text.new ≡ string_bytes text.old ++ size_line family.now.size family.now.upto family.now.ticks) }
+    ensures { OnOk result (string_bytes text.new ≡ string_bytes text.old ++ size_line family.now.size family.now.upto family.now.ticks (length family.now.loose.now)) }
 {
-    let (size, upto, ticks) = (family.size, family.upto, family.ticks);
+    let (size, upto, ticks, loose) = (family.size, family.upto, family.ticks, family.loose.len());
     let (s, t, e) = (
         plural(size),
         plural(ticks as u128),
         plural(u128::from(upto)),
     );
+    if loose == 0 {
+        return writeln!(
+            text,
+            "{size} schedule{s}: at most {ticks} tick{t}, each before one of the first {upto} event{e}"
+        );
+    }
+    let l = plural(loose as u128);
+    write!(text, "{size} schedule{s}: at most {ticks} tick{t} and ")?;
     writeln!(
         text,
-        "{size} schedule{s}: at most {ticks} tick{t}, each before one of the first {upto} event{e}"
+        "{loose} event{l} anywhere, each before one of the first {upto} event{e}"
     )
 }
 
@@ -91,7 +100,7 @@ fn write_endings(
     family: &Family<'_>,
     endings: &Endings,
 ) -> Result<(), AllocError>
-    ensures { OnOk result (string_bytes text.new ≡ string_bytes text.old ++ first_lines family.now.size family.now.upto family.now.ticks endings.now) }
+    ensures { OnOk result (string_bytes text.new ≡ string_bytes text.old ++ first_lines family.now.size family.now.upto family.now.ticks (length family.now.loose.now) endings.now) }
 {
     write_size(text, family)?;
     write_ending(text, endings.halted.count(), "halt")?;
@@ -107,14 +116,14 @@ fn write_first(
     what: &str,
     tally: &Tally,
 ) -> Result<(), AllocError>
-    requires { IsFirstOf family.now.upto family.now.ticks tally.now }
-    ensures { OnOk result (Adds (string_bytes text.old) (ShowsFirst family.now.events.now (first_that what.now) tally.now.first) (string_bytes text.new)) }
+    requires { IsFirstOf family.now.upto family.now.ticks (length family.now.loose.now) tally.now }
+    ensures { OnOk result (Adds (string_bytes text.old) (ShowsFirst family.now.loose.now family.now.events.now (first_that what.now) tally.now.first) (string_bytes text.new)) }
 {
-    let Some(places) = tally.first() else {
+    let Some(spots) = tally.first() else {
         return Ok(());
     };
     writeln!(text, "\nthe first that {what}")?;
-    write_schedule(alloc, text, family, places)
+    write_schedule(alloc, text, family, spots)
 }
 
 /// Writes which schedules have a text in a line.
@@ -124,18 +133,18 @@ fn write_find(
     family: &Family<'_>,
     find: &Find<'_>,
 ) -> Result<(), AllocError>
-    requires { IsFirstOf family.now.upto family.now.ticks find.now.tally }
-    ensures { OnOk result (Adds (string_bytes text.old) (ShowsFind family.now.events.now find.now) (string_bytes text.new)) }
+    requires { IsFirstOf family.now.upto family.now.ticks (length family.now.loose.now) find.now.tally }
+    ensures { OnOk result (Adds (string_bytes text.old) (ShowsFind family.now.loose.now family.now.events.now find.now) (string_bytes text.new)) }
 {
     let sought = find.text();
     let count = find.tally().count();
     let s = plural(count);
     writeln!(text, "\n`{sought}` is in {count} schedule{s}")?;
-    let Some(places) = find.tally().first() else {
+    let Some(spots) = find.tally().first() else {
         return Ok(());
     };
     text.push_str("the first that has it\n")?;
-    write_schedule(alloc, text, family, places)
+    write_schedule(alloc, text, family, spots)
 }
 
 /// Writes which schedules have each text in a line.
@@ -145,8 +154,8 @@ fn write_finds(
     family: &Family<'_>,
     finds: &[Find<'_>],
 ) -> Result<(), AllocError>
-    requires { All (λ f. IsFirstOf family.now.upto family.now.ticks f.tally) finds.now }
-    ensures { OnOk result (Adds (string_bytes text.old) (ShowsFinds family.now.events.now finds.now) (string_bytes text.new)) }
+    requires { All (λ f. IsFirstOf family.now.upto family.now.ticks (length family.now.loose.now) f.tally) finds.now }
+    ensures { OnOk result (Adds (string_bytes text.old) (ShowsFinds family.now.loose.now family.now.events.now finds.now) (string_bytes text.new)) }
 {
     for find in finds {
         write_find(alloc, text, family, find)?;
@@ -154,14 +163,20 @@ fn write_finds(
     Ok(())
 }
 
+/// Writes a line as a trace has it, behind four blanks.
+fn write_line(text: &mut String, line: &Line) -> Result<(), AllocError> {
+    text.push_str("    ")?;
+    let printed = print_entry(line.event(), line.entry());
+    for byte in printed.as_slice() {
+        text.push(char::from(*byte))?;
+    }
+    Ok(())
+}
+
 /// Writes lines as a trace has them, each behind four blanks.
 fn write_lines(text: &mut String, lines: &[Line]) -> Result<(), AllocError> {
     for line in lines {
-        text.push_str("    ")?;
-        let printed = print_entry(line.event(), line.entry());
-        for byte in printed.as_slice() {
-            text.push(char::from(*byte))?;
-        }
+        write_line(text, line)?;
     }
     Ok(())
 }
@@ -176,23 +191,75 @@ fn write_last(text: &mut String, lines: &[Line]) -> Result<(), AllocError> {
     write_lines(text, &lines[from..])
 }
 
-/// Writes the first schedule of an outcome, and the last lines of its run.
+/// Writes a line that the first outcome's run doesn't have, and what it has in its place.
+fn write_unlike(text: &mut String, unlike: &Unlike) -> Result<(), AllocError> {
+    text.push_str("  the first line unlike those of 1\n")?;
+    write_line(text, &unlike.line)?;
+    let Some(other) = &unlike.other else {
+        return Ok(());
+    };
+    text.push_str("  in place of\n")?;
+    write_line(text, other)
+}
+
+/// Writes what sets the lines of a run apart from those of the first outcome's run.
+fn write_apart(
+    alloc: Global,
+    text: &mut String,
+    lines: &[Line],
+    first: &[Line],
+) -> Result<(), AllocError> {
+    if let Some(unlike) = first_unlike(alloc, lines, first)? {
+        return write_unlike(text, &unlike);
+    }
+    let Some(missing) = first_unlike(alloc, first, lines)? else {
+        return Ok(());
+    };
+    text.push_str("  without the line of 1\n")?;
+    write_line(text, &missing.line)
+}
+
+/// Writes the first schedule of an outcome, what sets its run apart from that of the first outcome, if it is another, and
+/// its last lines. The lines of its run.
 fn write_run(
     alloc: Global,
     text: &mut String,
     family: &Family<'_>,
-    places: &[u64],
-) -> Result<(), AllocError> {
-    if !is_schedule(family, places) {
-        return Ok(());
-    }
-    let events = events_of(alloc, family, places)?;
+    spots: &[u64],
+    first: Option<&[Line]>,
+) -> Result<Vec<Line>, AllocError> {
     let mut lines = Vec::new(alloc);
+    if !is_schedule(family, spots) {
+        return Ok(lines);
+    }
+    let events = events_of(alloc, family, spots)?;
     let ending = run_list(alloc, family.world, &events, &mut lines)?;
     let ends = ending_words(ending);
     writeln!(text, ", the first of which {ends}")?;
     write_events(text, &events)?;
-    write_last(text, lines.as_slice())
+    if let Some(first) = first {
+        write_apart(alloc, text, lines.as_slice(), first)?;
+    }
+    write_last(text, lines.as_slice())?;
+    Ok(lines)
+}
+
+/// Writes how many schedules have an outcome, and the run of the first of them. The lines of that run.
+fn write_outcome(
+    alloc: Global,
+    text: &mut String,
+    family: &Family<'_>,
+    number: usize,
+    outcome: &Tally,
+    first: Option<&[Line]>,
+) -> Result<Vec<Line>, AllocError> {
+    let count = outcome.count();
+    let s = plural(count);
+    write!(text, "\n{number}. {count} schedule{s}")?;
+    match outcome.first() {
+        Some(spots) => write_run(alloc, text, family, spots, first),
+        None => Ok(Vec::new(alloc)),
+    }
 }
 
 /// Writes the most frequent outcomes.
@@ -202,13 +269,13 @@ fn write_some(
     family: &Family<'_>,
     outcomes: &[&Tally],
 ) -> Result<(), AllocError> {
-    for (before, outcome) in outcomes.iter().enumerate() {
-        let (number, count) = (before + 1, outcome.count());
-        let s = plural(count);
-        write!(text, "\n{number}. {count} schedule{s}")?;
-        if let Some(places) = outcome.first() {
-            write_run(alloc, text, family, places)?;
-        }
+    let Some((first, others)) = outcomes.split_first() else {
+        return Ok(());
+    };
+    let first_lines = write_outcome(alloc, text, family, 1, first, None)?;
+    for (before, outcome) in others.iter().enumerate() {
+        let first = Some(first_lines.as_slice());
+        write_outcome(alloc, text, family, before + 2, outcome, first)?;
     }
     Ok(())
 }
@@ -240,8 +307,8 @@ fn outcomes_of(alloc: Global, family: &Family<'_>, book: &Book<'_>) -> Result<St
 
 /// What is told of a family.
 pub fn report(alloc: Global, family: &Family<'_>, book: &Book<'_>) -> Result<String, AllocError>
-    requires { AreOfFamily family.now.upto family.now.ticks book.now }
-    ensures { IfOk result (λ text. Reports family.now.events.now family.now.size family.now.upto family.now.ticks book.now (string_bytes text)) }
+    requires { AreOfFamily family.now.upto family.now.ticks (length family.now.loose.now) book.now }
+    ensures { IfOk result (λ text. Reports family.now.loose.now family.now.events.now family.now.size family.now.upto family.now.ticks book.now (string_bytes text)) }
 {
     let mut text = String::new(alloc);
     let endings = book.endings();

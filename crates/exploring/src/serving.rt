@@ -1,29 +1,35 @@
 //! What the program does: its texts and its statuses.
 
-ghost use Rattle.std.specs.Prelude.{◌≡◌, ◌+◌, ◌≤◌, false, true, length, Err, MatchResult, None, OnOk, Some, map, option_map, ◌<◌, ◌^◌};
+ghost use Rattle.std.specs.Prelude.{◌≡◌, ◌⊎◌, ◌+◌, ◌≤◌, false, true, List, [], length, Result, Err, MatchResult, None, OnOk, Some, map, option_map, ◌<◌, ◌^◌};
 ghost use Rattle.inputs.specs.declared.command_line.WordsFault.{WordsFault};
-ghost use Rattle.text.specs.EventTexts.{most_events};
+ghost use Rattle.posix.specs.declared.event.Event.{Event as EventValue};
+ghost use Rattle.text.specs.declared.fault.TextFault.{TextFault as TextFaultValue};
+ghost use Rattle.text.specs.EventTexts.{event_text, most_events};
+ghost use Rattle.text.specs.Reading.{IsFaultOf};
 ghost use Rattle.schedules.specs.Families.{family as family_of};
 ghost use Rattle.exploring.specs.Counts.{book_over};
 ghost use Rattle.exploring.specs.Serving.{Means, answer_of, asked_by, is_found as has_found, all_halt as have_halted, is_told as told_by, status_of};
-ghost use Rattle.exploring.specs.Words.{are_run, asked_by_parts, parted_as, request_of_words, said, states_asked, ticks_asked, upto_asked};
+ghost use Rattle.exploring.specs.Words.{are_run, asked_by_parts, can_be_put, loose_asked, only, parted_as, request_of_words, said, states_asked, ticks_asked, upto_asked};
 
-use crate::merging::{Stop, merge};
+use crate::merging::{event_at, merge};
 use crate::report::report;
+use crate::search::Stop;
 use crate::words::{Parts, Request, parts_of, requested};
 use crate::{Book, Family, Progress, explore};
 use arrayvec::ArrayString;
 use inputs::{InputFault, NoRequest, ReadFiles, WordsFault, number, read_inputs, tell_unread};
 use kernel::{Sink, SinkFault, put_all};
+use posix::Event;
 use schedules::family_size;
 use std::alloc::{AllocError, Global};
 use std::fmt::Write;
+use text::{Reason, TextFault, read_events};
 use thiserror::Error;
 
 /// Why the program doesn't end with status 0.
 #[derive(Clone, Copy, Debug, Error)]
 enum Failure<'a> {
-    #[error("usage: jobk explore WORLD EVENTS [--ticks K] [--upto N] [--states N] [--find TEXT].. [--must-halt] [--all]")]
+    #[error("usage: jobk explore WORLD EVENTS [--ticks K] [--upto N] [--states N] [--anywhere EVENT].. [--find TEXT].. [--must-halt] [--all]")]
     Usage,
     #[error("jobk: --ticks takes a number from 0 to 32")]
     Ticks,
@@ -33,6 +39,14 @@ enum Failure<'a> {
     States(u64),
     #[error("jobk: --upto {0} is above the number of events, which is {1}")]
     UptoAbove(u64, u64),
+    #[error("jobk: --anywhere takes one event, as a line of an event text has it")]
+    NotOneEvent,
+    #[error("jobk: --ticks and --anywhere put in at most {0} events")]
+    TooMuchPutIn(usize),
+    #[error("jobk: --anywhere needs an event to stand before")]
+    NoEventBehind,
+    #[error("jobk: --all runs schedules one after another, which --anywhere doesn't")]
+    AllAnywhere,
     #[error("jobk: more than {0} schedules: say fewer by --ticks or --upto")]
     TooManySchedules(u128),
     #[error("jobk: more than {0} states behind event {1}: say more by --states, or fewer ticks or places by --ticks or --upto")]
@@ -49,6 +63,9 @@ enum Failure<'a> {
 
 /// A schedule has at most so many ticks.
 const MOST_TICKS: u64 = 32;
+
+/// At most so many ticks and loose events are put into one schedule.
+const MOST_PUT_IN: usize = 32;
 
 /// No more states than this can be kept before one event.
 const MOST_STATES: u64 = 10_000_000;
@@ -132,6 +149,10 @@ impl Failure<'_> {
             | Failure::Upto
             | Failure::States(_)
             | Failure::UptoAbove(_, _)
+            | Failure::NotOneEvent
+            | Failure::TooMuchPutIn(_)
+            | Failure::NoEventBehind
+            | Failure::AllAnywhere
             | Failure::TooManySchedules(_)
             | Failure::TooManyEvents(_, _) => 2,
             Failure::ManyStates(_, _) | Failure::Memory | Failure::Write => 3,
@@ -185,18 +206,91 @@ fn states_of<'a>(word: Option<&str>) -> Result<usize, Failure<'a>>
     }
 }
 
+/// Why a word isn't the text of an event: want of memory is no fault of it.
+fn failure_of_word<'a>(fault: TextFault) -> Failure<'a>
+    ensures { (meaning : Result (List EventValue) TextFaultValue) → IsFaultOf meaning fault
+        → (status_of result ≡ 3) ⊎ ((status_of result ≡ 2) × (only meaning ≡ None)) }
+{
+    match fault.reason {
+        Reason::Memory => Failure::Memory,
+        _ => Failure::NotOneEvent,
+    }
+}
+
+/// The one event of a text, in a world of so many consoles.
+fn event_of<'a>(alloc: Global, consoles: u8, word: &str) -> Result<Event, Failure<'a>>
+    ensures { MatchResult result
+        (λ event. only (event_text consoles word.now) ≡ Some event)
+        (λ why. (status_of why ≡ 3) ⊎ ((status_of why ≡ 2) × (only (event_text consoles word.now) ≡ None))) }
+{
+    let events = match read_events(alloc, consoles, word.as_bytes()) {
+        Ok(events) => events,
+        Err(fault) => return Err(failure_of_word(fault)),
+    };
+    if events.len() != 1 {
+        return Err(Failure::NotOneEvent);
+    }
+    event_at(&events, 0).ok_or(Failure::NotOneEvent)
+}
+
+/// The events of words, each of which is the text of one.
+fn events_of_words<'a>(
+    alloc: Global,
+    consoles: u8,
+    words: &[&str],
+) -> Result<Vec<Event>, Failure<'a>>
+    ensures { MatchResult result
+        (λ loose. loose_asked consoles (map (λ w. w.now) words.now) ≡ Some loose.items)
+        (λ why. (status_of why ≡ 3) ⊎ ((status_of why ≡ 2) × (loose_asked consoles (map (λ w. w.now) words.now) ≡ None))) }
+{
+    let mut loose = Vec::new(alloc);
+    for word in words {
+        let event = event_of(alloc, consoles, word)?;
+        if loose.push(event).is_err() {
+            return Err(Failure::Memory);
+        }
+    }
+    Ok(loose)
+}
+
+/// Refuses loose events that can't be put in: too many, before no event, or into schedules that are run one after
+/// another.
+fn fit_in<'a>(loose: &[Event], upto: u64, ticks: usize, all: bool) -> Result<(), Failure<'a>>
+    requires { ticks ≤ 32 }
+    ensures fit { MatchResult result
+        (λ _. can_be_put all upto ticks (length loose.now) ≡ true)
+        (λ why. (status_of why ≡ 2) × (can_be_put all upto ticks (length loose.now) ≡ false)) }
+    ensures few { OnOk result (ticks + length loose.now ≤ 32) }
+    ensures placed { OnOk result (upto ≡ 0 → loose.now ≡ []) }
+{
+    if loose.len() > MOST_PUT_IN - ticks {
+        return Err(Failure::TooMuchPutIn(MOST_PUT_IN));
+    }
+    if loose.is_empty() {
+        return Ok(());
+    }
+    if upto == 0 {
+        return Err(Failure::NoEventBehind);
+    }
+    if all {
+        return Err(Failure::AllAnywhere);
+    }
+    Ok(())
+}
+
 /// How many schedules there are, unless they are too many to be counted, or one of them is too long.
-fn size_of<'a>(upto: u64, ticks: usize, events: u64) -> Result<u128, Failure<'a>>
-    requires ticks { ticks ≤ 32 }
+fn size_of<'a>(upto: u64, ticks: usize, loose: usize, events: u64) -> Result<u128, Failure<'a>>
+    requires few { ticks + loose ≤ 32 }
+    requires upto { upto ≤ events }
     requires events { events ≤ most_events }
     ensures size { MatchResult result
-        (λ size. (size ≡ length (family_of upto ticks)) × (are_run (length (family_of upto ticks)) (events + ticks) ≡ true))
-        (λ why. (status_of why ≡ 2) × (are_run (length (family_of upto ticks)) (events + ticks) ≡ false)) }
-    ensures short { OnOk result (events + ticks ≤ most_events) }
+        (λ size. (size ≡ length (family_of upto ticks loose)) × (are_run (length (family_of upto ticks loose)) (events + (ticks + loose)) ≡ true))
+        (λ why. (status_of why ≡ 2) × (are_run (length (family_of upto ticks loose)) (events + (ticks + loose)) ≡ false)) }
+    ensures short { OnOk result (events + (ticks + loose) ≤ most_events) }
 {
     let most = u128::MAX;
-    let longest = events + ticks as u64;
-    let size = family_size(upto, ticks, most).ok_or(Failure::TooManySchedules(most))?;
+    let longest = events + (ticks + loose) as u64;
+    let size = family_size(upto, ticks, loose, most).ok_or(Failure::TooManySchedules(most))?;
     if longest > MOST_EVENTS {
         return Err(Failure::TooManyEvents(longest, MOST_EVENTS));
     }
@@ -214,7 +308,8 @@ fn are_run_each(size: u128, longest: u64, all: bool) -> bool
     all || (size <= MOST_SCHEDULES && size * u128::from(longest) <= MOST_GIVEN)
 }
 
-/// The book of a family, by its schedules one after another, or by the states in which they meet.
+/// The book of a family, by its schedules one after another, or by the states in which they meet, as always with loose
+/// events.
 fn book_of<'w, P: Progress>(
     alloc: Global,
     family: &Family<'_>,
@@ -222,11 +317,11 @@ fn book_of<'w, P: Progress>(
     progress: &mut P,
 ) -> Result<Book<'w>, Failure<'w>>
     ensures { MatchResult result
-        (λ book. book ≡ book_over family.now.world.now family.now.events.now (said request.now).finds (family_of family.now.upto family.now.ticks))
+        (λ book. book ≡ book_over family.now.world.now family.now.loose.now family.now.events.now (said request.now).finds (family_of family.now.upto family.now.ticks (length family.now.loose.now)))
         (λ why. status_of why ≡ 3) }
 {
     let longest = family.events.len() + family.ticks as u64;
-    if are_run_each(family.size, longest, request.all) {
+    if family.loose.is_empty() && are_run_each(family.size, longest, request.all) {
         Ok(explore(alloc, family, request.finds, progress)?)
     } else {
         Ok(merge(alloc, family, request.finds, progress)?)
@@ -267,13 +362,18 @@ fn serve_request<'a, 'w, F: ReadFiles, O: Sink, P: Progress>(
     let ticks = ticks_of(request.ticks)?;
     let inputs = read_inputs(alloc, files, request.world, request.events)?;
     let upto = upto_of(request.upto, inputs.events.len())?;
+    let states = states_of(request.states)?;
+    let put_in = events_of_words(alloc, inputs.world.consoles(), request.anywhere)?;
+    let loose = put_in.as_slice();
+    fit_in(loose, upto, ticks, request.all)?;
     let family = Family {
         world: &inputs.world,
         events: &inputs.events,
+        loose,
         upto,
         ticks,
-        states: states_of(request.states)?,
-        size: size_of(upto, ticks, inputs.events.len())?,
+        states,
+        size: size_of(upto, ticks, loose.len(), inputs.events.len())?,
     };
     let book = book_of(alloc, &family, request, progress)?;
     let reported = report(alloc, &family, &book);

@@ -8,16 +8,16 @@ use crate::node::is_before;
 use arrayvec::ArrayVec;
 use std::marker::Model;
 
-/// The places of a schedule's ticks.
-pub type Places = ArrayVec<u64, 32>;
+/// The spots of a schedule.
+pub type Spots = ArrayVec<u64, 32>;
 
-/// The places, copied.
-pub fn copied(places: &[u64]) -> Places
-    requires { length places.now ≤ 32 }
-    ensures { result.items ≡ places.now }
+/// The spots, copied.
+pub fn copied(spots: &[u64]) -> Spots
+    requires { length spots.now ≤ 32 }
+    ensures { result.items ≡ spots.now }
 {
-    let mut copy = Places::new();
-    let _ = copy.try_extend_from_slice(places);
+    let mut copy = Spots::new();
+    let _ = copy.try_extend_from_slice(spots);
     copy
 }
 
@@ -25,7 +25,7 @@ pub fn copied(places: &[u64]) -> Places
 #[derive(Drop)]
 pub struct Tally {
     count: u128,
-    first: Option<Places>,
+    first: Option<Spots>,
 }
 
 impl Model for Tally {
@@ -55,41 +55,41 @@ impl Tally {
         self.count
     }
 
-    /// The places of the first of them.
+    /// The spots of the first of them.
     pub fn first(&self) -> Option<&[u64]>
         ensures { option_map (λ ps. ps.now) result ≡ self.now.first }
     {
         match &self.first {
-            Some(places) => Some(places.as_slice()),
+            Some(spots) => Some(spots.as_slice()),
             None => None,
         }
     }
 
     /// Counts a schedule that has the property.
-    pub fn add(&mut self, places: &[u64])
-        requires few { length places.now ≤ 32 }
+    pub fn add(&mut self, spots: &[u64])
+        requires few { length spots.now ≤ 32 }
         requires count { self.old.count < 2 ^ 128 - 1 }
-        ensures { self.new ≡ with_schedule places.now self.old }
+        ensures { self.new ≡ with_schedule spots.now self.old }
     {
         self.count += 1;
         if self.first.is_none() {
-            self.first = Some(copied(places));
+            self.first = Some(copied(spots));
         }
     }
 
-    /// Counts so many schedules that have the property, the first of which has these places.
-    pub fn add_many(&mut self, places: &[u64], count: u128)
-        requires few { length places.now ≤ 32 }
+    /// Counts so many schedules that have the property, the first of which has these spots.
+    pub fn add_many(&mut self, spots: &[u64], count: u128)
+        requires few { length spots.now ≤ 32 }
         requires count { self.old.count + count < 2 ^ 128 }
-        ensures { self.new ≡ both self.old (record { count = count; first = Some places.now }) }
+        ensures { self.new ≡ both self.old (record { count = count; first = Some spots.now }) }
     {
         self.count += count;
         let is_first = match &self.first {
-            Some(first) => is_before(places, first.as_slice()),
+            Some(first) => is_before(spots, first.as_slice()),
             None => true,
         };
         if is_first {
-            self.first = Some(copied(places));
+            self.first = Some(copied(spots));
         }
     }
 }

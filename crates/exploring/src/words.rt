@@ -3,33 +3,76 @@
 ghost use Rattle.std.specs.Prelude.{◌≡◌, IfOk, MatchResult, None, OnOk, Some, map, option_map};
 ghost use Rattle.clap.specs.Lexer.{name_and_value};
 ghost use Rattle.clap.specs.Words.{app_of, found_of, rows_of};
-ghost use Rattle.exploring.specs.Words.{asked_by_parts, asked_in, command_line as command_line_asked, nothing_parted, parted, parted_as, said, with_any, with_find, with_word};
+ghost use Rattle.exploring.specs.Words.{asked_by_parts, asked_in, awaits_text, command_line as command_line_asked, nothing_parted, option_named, parted, parted_as, said, with_any, with_text, with_use, with_word, word_of};
 
 use clap::{ArgAction, ArgMatches, Command};
 use inputs::{NoRequest, command, is_used, named_files, value_of};
 use std::alloc::{AllocError, Global};
 
+/// An option with a text behind it, which may begin with a hyphen.
+#[derive(Clone, Copy)]
+enum Texted {
+    /// A text that is looked for.
+    Find,
+    /// An event that is put in anywhere.
+    Anywhere,
+}
+
+impl Texted {
+    /// The option as a word.
+    fn word(self) -> &'static str
+        ensures { result.now ≡ word_of self }
+    {
+        match self {
+            Texted::Find => "--find",
+            Texted::Anywhere => "--anywhere",
+        }
+    }
+
+    /// The option of this name, if there is one.
+    fn named(name: &str) -> Option<Texted>
+        ensures { result ≡ option_named name.now }
+    {
+        match name {
+            "--find" => Some(Texted::Find),
+            "--anywhere" => Some(Texted::Anywhere),
+            _ => None,
+        }
+    }
+}
+
 /// What the next word is.
-#[derive(Clone, Copy, PartialEq, Eq)]
+#[derive(Clone, Copy)]
 enum Next {
     /// An option, its value, or the name of a file.
     Any,
-    /// A text that is looked for, behind `--find`.
-    Sought,
+    /// The text of an option.
+    Behind(Texted),
     /// The name of a file, behind `--`.
     File,
 }
 
-/// Words, with the texts behind `--find` told apart: they may begin with a hyphen.
+impl Next {
+    /// Whether it is a text of an option.
+    fn is_text(self) -> bool
+        ensures { result ≡ awaits_text self }
+    {
+        match self {
+            Next::Behind(_) => true,
+            Next::Any | Next::File => false,
+        }
+    }
+}
+
+/// Words, with the texts behind `--find` and `--anywhere` told apart: they may begin with a hyphen.
 #[derive(Drop)]
 pub struct Parts<'a> {
     finds: Vec<&'a str>,
-    /// All other words; each use of `--find` is left as a flag.
+    anywhere: Vec<&'a str>,
+    /// All other words; each use of `--find` and `--anywhere` is left as a flag.
     others: Vec<&'a str>,
     next: Next,
 }
-
-const FIND: &str = "--find";
 
 /// What stands before the first `=` of a word, and what stands behind it, if there is one.
 fn name_and_text<'a>(word: &'a str) -> (&'a str, Option<&'a str>)
@@ -48,19 +91,31 @@ impl<'a> Parts<'a> {
     {
         Parts {
             finds: Vec::new(alloc),
+            anywhere: Vec::new(alloc),
             others: Vec::new(alloc),
             next: Next::Any,
         }
     }
 
-    /// Takes a use of `--find`, with its text if that stands in the same word.
-    fn take_find(&mut self, text: Option<&'a str>) -> Result<(), AllocError>
-        ensures { OnOk result (parted_as self.new ≡ with_find (parted_as self.old) (option_map (λ t. t.now) text.entry)) }
+    /// Takes the text of an option.
+    fn take_text(&mut self, option: Texted, text: &'a str) -> Result<(), AllocError>
+        ensures { OnOk result (parted_as self.new ≡ with_text option (parted_as self.old) text.entry.now) }
     {
-        self.others.push(FIND)?;
+        match option {
+            Texted::Find => self.finds.push(text)?,
+            Texted::Anywhere => self.anywhere.push(text)?,
+        }
+        Ok(())
+    }
+
+    /// Takes a use of an option, with its text if that stands in the same word.
+    fn take_use(&mut self, option: Texted, text: Option<&'a str>) -> Result<(), AllocError>
+        ensures { OnOk result (parted_as self.new ≡ with_use (parted_as self.old) option (option_map (λ t. t.now) text.entry)) }
+    {
+        self.others.push(option.word())?;
         match text {
-            Some(text) => self.finds.push(text)?,
-            None => self.next = Next::Sought,
+            Some(text) => self.take_text(option, text)?,
+            None => self.next = Next::Behind(option),
         }
         Ok(())
     }
@@ -70,8 +125,8 @@ impl<'a> Parts<'a> {
         ensures { OnOk result (parted_as self.new ≡ with_any (parted_as self.old) word.entry.now) }
     {
         let (name, text) = name_and_text(word);
-        if name == FIND {
-            return self.take_find(text);
+        if let Some(option) = Texted::named(name) {
+            return self.take_use(option, text);
         }
         self.others.push(word)?;
         if word == "--" {
@@ -86,9 +141,9 @@ impl<'a> Parts<'a> {
     {
         match self.next {
             Next::Any => self.take_any(word)?,
-            Next::Sought => {
+            Next::Behind(option) => {
                 self.next = Next::Any;
-                self.finds.push(word)?;
+                self.take_text(option, word)?;
             }
             Next::File => self.others.push(word)?,
         }
@@ -96,7 +151,7 @@ impl<'a> Parts<'a> {
     }
 }
 
-/// Tells the texts behind `--find` apart from the other words.
+/// Tells the texts behind `--find` and `--anywhere` apart from the other words.
 pub fn parts_of<'a>(alloc: Global, words: &[&'a str]) -> Result<Parts<'a>, AllocError>
     ensures { IfOk result (λ parts. parted_as parts ≡ parted (map (λ w. w.now) words.now)) }
 {
@@ -120,15 +175,18 @@ pub struct Request<'a, 'w> {
     pub states: Option<&'a str>,
     /// What stands behind each `--find`.
     pub finds: &'a [&'w str],
+    /// What stands behind each `--anywhere`.
+    pub anywhere: &'a [&'w str],
     pub must_halt: bool,
     pub all: bool,
 }
 
 /// The program's options, each with what its use does.
-const OPTIONS: [(&str, ArgAction); 6] = [
+const OPTIONS: [(&str, ArgAction); 7] = [
     ("ticks", ArgAction::Set),
     ("upto", ArgAction::Set),
     ("states", ArgAction::Set),
+    ("anywhere", ArgAction::Count),
     ("find", ArgAction::Count),
     ("must-halt", ArgAction::SetTrue),
     ("all", ArgAction::SetTrue),
@@ -141,14 +199,15 @@ fn command_line<'a>(alloc: Global) -> Result<Command<'a>, AllocError>
     command(alloc, "explore", &OPTIONS)
 }
 
-/// What the texts behind `--find` and the matches of the other words ask for.
+/// What the texts behind `--find` and `--anywhere` and the matches of the other words ask for.
 fn request_of<'a, 'w>(
     finds: &'a [&'w str],
+    anywhere: &'a [&'w str],
     matches: &ArgMatches<'a>,
 ) -> Result<Request<'a, 'w>, NoRequest>
     ensures { MatchResult result
-        (λ r. asked_in (map (λ t. t.now) finds.entry.now) (rows_of (found_of matches.now)) ≡ Some (said r))
-        (λ why. asked_in (map (λ t. t.now) finds.entry.now) (rows_of (found_of matches.now)) ≡ None) }
+        (λ r. asked_in (map (λ t. t.now) finds.entry.now) (map (λ t. t.now) anywhere.entry.now) (rows_of (found_of matches.now)) ≡ Some (said r))
+        (λ why. asked_in (map (λ t. t.now) finds.entry.now) (map (λ t. t.now) anywhere.entry.now) (rows_of (found_of matches.now)) ≡ None) }
 {
     let (world, events) = named_files(matches)?;
     Ok(Request {
@@ -158,6 +217,7 @@ fn request_of<'a, 'w>(
         upto: value_of(matches, "upto"),
         states: value_of(matches, "states"),
         finds,
+        anywhere,
         must_halt: is_used(matches, "must-halt"),
         all: is_used(matches, "all"),
     })
@@ -169,9 +229,9 @@ pub fn requested<'a, 'w>(alloc: Global, parts: &'a Parts<'w>) -> Result<Request<
         (λ r. asked_by_parts (parted_as parts.entry.now) ≡ Some (said r))
         (λ why. why ≡ NoRequest.Usage → asked_by_parts (parted_as parts.entry.now) ≡ None) }
 {
-    if parts.next == Next::Sought {
+    if parts.next.is_text() {
         return Err(NoRequest::Usage);
     }
     let matches = command_line(alloc)?.try_get_matches_from(parts.others.as_slice())?;
-    request_of(parts.finds.as_slice(), &matches)
+    request_of(parts.finds.as_slice(), parts.anywhere.as_slice(), &matches)
 }

@@ -29,13 +29,6 @@ find_at f [] up n i e = absurd (cc)
 find_at f (x ∷ xs) up n zero e = let same : f x ≡ n = cc in rw (eq-eqb (f x) n same) refl
 find_at f (x ∷ xs) up n (suc i) e = grind (arith, above_get (f x) (map f xs) up.0 i n e, find_at f xs up.1 n i e, eqb-true (f x) n)
 
--- so one is
-pub at_there : {X : Type 0} (f : X → ℕ) (xs : List X) → Rises (map f xs) → (n i : ℕ) → IsNumberAt (map f xs) n i → find (λ x. f x == n) xs ≡ None → ⊥
-at_there f xs up n i e none =
-    let gone : slice_get xs i ≡ None = sym (find_at f xs up n i e) ∙ none in
-    let no : Some n ≡ None = sym e ∙ slice_get-map f xs i ∙ ap (option_map f) gone in
-    cc
-
 -- who isn't there isn't found
 pub find_none : {X : Type 0} (f : X → ℕ) (xs : List X) (n : ℕ) → is_in n (map f xs) ≡ false → find (λ x. f x == n) xs ≡ None
 unfolding is_in

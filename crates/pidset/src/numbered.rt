@@ -1,8 +1,8 @@
 //! Items of a vector that have a number each, in rising order of their numbers.
 
-ghost use Rattle.std.specs.Prelude.{◌≡◌, ◌+◌, ◌<◌, ◌≤◌, ◌==◌, ℕ, false, None, IsSome, not, nat_lt, map, filter, find, insert, length, slice_get, vec_len, vec_capacity, IfOk, IfErr, OnSome};
+ghost use Rattle.std.specs.Prelude.{◌≡◌, ◌+◌, ◌<◌, ◌≤◌, ◌==◌, ℕ, false, None, nat_lt, map, filter, insert, length, slice_get, vec_len, vec_capacity, IfOk, IfErr};
 ghost use Rattle.std.specs.Option.{option_copied, option_map_or};
-ghost use Rattle.pidset.specs.Numbers.{Rises, IsNumberAt, IsInsertionPoint, index_behind, inserted_in_order};
+ghost use Rattle.pidset.specs.Numbers.{Rises, IsNumberAt, IsInsertionPoint, index_behind};
 
 use posix::Pid;
 
@@ -70,29 +70,6 @@ pub(crate) fn stands_at<T: Numbered>(items: &[T], at: usize, number: u128) -> bo
     }
 }
 
-/// Where the item with the number of `key` stands that is there.
-pub fn found<T: Numbered, K: Numbered>(items: &[T], key: &K) -> usize
-    requires rising { Rises (map T.number items.now) }
-    requires there { IsSome (find (λ item. T.number item == K.number key.now) items.now) }
-    ensures { IsNumberAt (map T.number items.now) (K.number key.now) result }
-{
-    match search(items, key) {
-        Ok(at) => at,
-        Err(_) => unreachable!(),
-    }
-}
-
-/// The item with the number of `key`, if it is there.
-pub fn item_of<'a, T: Numbered, K: Numbered>(items: &'a [T], key: &K) -> Option<&'a T>
-    requires { Rises (map T.number items.now) }
-    ensures { option_copied result ≡ find (λ item. T.number item == K.number key.now) items.now }
-{
-    match search(items, key) {
-        Ok(at) => Some(&items[at]),
-        Err(_) => None,
-    }
-}
-
 /// The item behind the place of another, or at the place where one would go.
 #[inline]
 pub(crate) fn behind<T>(items: &[T], place: Result<usize, usize>) -> Option<&T>
@@ -113,21 +90,6 @@ pub fn next_above<'a, T: Numbered, K: Numbered>(items: &'a [T], key: &K) -> Opti
     behind(items, search(items, key))
 }
 
-/// Puts in an item whose number isn't there, where there is room.
-pub fn put_in<T: Numbered>(items: &mut Vec<T>, item: T)
-    requires rising { Rises (map T.number items.old.items) }
-    requires absent { find (λ other. T.number other == T.number item) items.old.items ≡ None }
-    requires room { vec_len items.old < vec_capacity items.old }
-    ensures items { items.new.items ≡ inserted_in_order T.number item items.old.items }
-    ensures len { vec_len items.new ≡ vec_len items.old + 1 }
-    ensures capacity { vec_capacity items.new ≡ vec_capacity items.old }
-{
-    match search(items, &item) {
-        Ok(_) => unreachable!(),
-        Err(at) => insert_at(items, at, item),
-    }
-}
-
 /// Puts an item in at an index, where there is room.
 pub fn insert_at<T: Drop>(items: &mut Vec<T>, at: usize, item: T)
     requires at { at ≤ vec_len items.old }
@@ -137,19 +99,4 @@ pub fn insert_at<T: Drop>(items: &mut Vec<T>, at: usize, item: T)
     ensures capacity { vec_capacity items.new ≡ vec_capacity items.old }
 {
     let _ = items.insert(at, item);
-}
-
-/// Takes out the item with the number of `key`, if it is there.
-pub fn take_out<T: Numbered, K: Numbered>(items: &mut Vec<T>, key: &K) -> Option<T>
-    requires { Rises (map T.number items.old.items) }
-    ensures value { result ≡ find (λ item. T.number item == K.number key.now) items.old.items }
-    ensures items { items.new.items ≡ filter (λ item. not (T.number item == K.number key.now)) items.old.items }
-    ensures len { vec_len items.new ≤ vec_len items.old }
-    ensures one_less { OnSome result (vec_len items.new + 1 ≡ vec_len items.old) }
-    ensures capacity { vec_capacity items.new ≡ vec_capacity items.old }
-{
-    match search(items, key) {
-        Ok(at) => Some(items.remove(at)),
-        Err(_) => None,
-    }
 }

@@ -1,3 +1,2 @@
 pub mod RecordLemmas
-pub mod ScanLemmas
 pub mod SlabLemmas

@@ -1,4 +1,4 @@
--- What tables are worth.
+-- What a table in slots is worth.
 use Rattle.std.specs.Prelude.{◌≡◌, ℕ, List, length, filter_map, Some}
 use Rattle.std.specs.List.{AllByRecursion}
 use Rattle.slab.specs.Slab.{Slab, get, slab_len}
@@ -8,18 +8,6 @@ use Rattle.pidset.specs.Pages.{Entry, pids_of}
 use Rattle.proctable.specs.declared.records.Record.{Record}
 use Rattle.proctable.specs.Records.{with_record}
 use Rattle.proctable.specs.Slots.{one_more}
-
--- ---- a table that scans
-
--- its processes, and how many more it has room for
-pub record ScanView : Type 0 where
-  pub processes : List Process
-  pub room : ℕ
-
-abbrev pub scan_with_record : ScanView → ℕ → Record → ScanView
-scan_with_record t p b = record t { processes = with_record t.processes p b }
-
--- ---- a table in slots
 
 -- its processes, how many more it has room for, and how many slots were read
 pub record SlabView : Type 0 where

@@ -8,7 +8,6 @@ ghost use Rattle.proctable.specs.contracts.slot.Slot.{the_row as slot_row};
 use crate::records::Record;
 use crate::snapshot::Snapshot;
 use crate::spare::Spare;
-use pidset::Numbered;
 use posix::Pid;
 use std::marker::Model;
 
@@ -30,23 +29,7 @@ impl Model for Slot {
     ghost view = { λ s. process_of s.pid s.parent s.fields };
 }
 
-impl Numbered for Slot {
-    ghost number = { λ s. s.pid };
-
-    fn number(&self) -> u128 {
-        let pid = self.pid;
-        u128::from(pid.number())
-    }
-}
-
 impl Slot {
-    /// Its number.
-    pub fn pid(&self) -> Pid
-        ensures { result ≡ self.now.pid }
-    {
-        self.pid
-    }
-
     /// A process of these parts.
     pub fn new(pid: Pid, parent: Pid, fields: Record) -> Slot
         ensures { result ≡ process_of pid parent fields }

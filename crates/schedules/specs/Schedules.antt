@@ -1,28 +1,42 @@
--- The events of a schedule: a list of events with ticks put in.
-use Rattle.std.specs.Prelude.{ℕ, ◌-◌, ◌<◌, ◌≤◌, List, [], ◌∷◌, ◌++◌, length, take, drop, slice_index}
+-- The events of a schedule: a list of events with ticks and loose events put in.
+use Rattle.std.specs.Prelude.{ℕ, zero, suc, ◌-◌, ◌<◌, ◌≤◌, List, [], ◌∷◌, ◌++◌, length, take, drop, slice_index, slice_index_or}
 use Rattle.posix.specs.declared.event.Event.{Event}
 use Rattle.posix.specs.declared.event.Event.TheVariants.{Tick}
-use Rattle.schedules.specs.Families.{Places}
+use Rattle.schedules.specs.Families.{Spots, kind_of, place_of}
 
--- The events with a tick put in at each place; the last place goes first, so that the others stay.
-unfoldable pub scheduled : List Event → Places → List Event
-scheduled events [] = events
-scheduled events (p ∷ ps) = let later = scheduled events ps in take p later ++ Tick ∷ drop p later
+-- what is put in, of a kind
+abbrev pub event_of : List Event → ℕ → Event
+event_of loose zero = Tick
+event_of loose (suc i) = slice_index_or loose i Tick
 
--- The same from the front, for rising places within the list: of the events from the one with index i on, those up to the first place, a
--- tick, and so on.
-unfoldable pub from_front : ℕ → List Event → Places → List Event
-from_front i events [] = events
-from_front i events (p ∷ ps) = take (p - i) events ++ Tick ∷ from_front p (drop (p - i) events) ps
+-- what is put in at a spot
+abbrev pub put_at : List Event → ℕ → Event
+put_at loose q = event_of loose (kind_of (length loose) q)
+
+-- The events with one put in at each spot; the last goes in first, so that the others stay.
+unfoldable pub scheduled : List Event → List Event → Spots → List Event
+scheduled loose events [] = events
+scheduled loose events (q ∷ ps) =
+    let later = scheduled loose events ps in
+    let p = place_of (length loose) q in
+    take p later ++ put_at loose q ∷ drop p later
+
+-- The same from the front, where the places rise and are within the list: of the events from the one with index i on, those before the first spot,
+-- what is put in there, and so on.
+unfoldable pub from_front : List Event → ℕ → List Event → Spots → List Event
+from_front loose i events [] = events
+from_front loose i events (q ∷ ps) =
+    let p = place_of (length loose) q in
+    take (p - i) events ++ put_at loose q ∷ from_front loose p (drop (p - i) events) ps
 
 -- ---- schedules that are given bit by bit
 
--- what is given of a schedule, once the first i events of the list and the first j ticks are
-abbrev pub given : ℕ → ℕ → List Event → Places → List Event
-given i j events places = scheduled (take i events) (take j places)
+-- what is given of a schedule, once the first i events of the list and what is put in at the first j spots are
+abbrev pub given : List Event → ℕ → ℕ → List Event → Spots → List Event
+given loose i j events ps = scheduled loose (take i events) (take j ps)
 
--- The first i events and the first j ticks can be given before all others: those ticks stand before the event with index i or earlier, and
--- the others there or later.
-pub record IsGiven (i j : ℕ) (places : Places) : Type 0 where
-  pub used : (k : ℕ) → k < j → slice_index places k ≤ i
-  pub left : (k : ℕ) → j ≤ k → k < length places → i ≤ slice_index places k
+-- The first i events and the first j spots can be given before all others: those spots are before the event with index i or an earlier one,
+-- and the others there or later.
+pub record IsGiven (loose i j : ℕ) (ps : Spots) : Type 0 where
+  pub used : (k : ℕ) → k < j → place_of loose (slice_index ps k) ≤ i
+  pub left : (k : ℕ) → j ≤ k → k < length ps → i ≤ place_of loose (slice_index ps k)

@@ -1,43 +1,46 @@
-//! Schedules: the ways to put ticks into a list of events, which ones there are, and each in turn; and lists of events
-//! as texts.
+//! Schedules: the ways to put ticks and loose events into a list of events, which ones there are, and each in turn; and
+//! lists of events as texts.
 #![tactic(auto)]
 
-ghost use Rattle.std.specs.Prelude.{◌≡◌, ◌≢◌, ◌+◌, ◌≤◌, ◌↔◌, ℕ, List, length, All, AllPairs, Contains};
+ghost use Rattle.std.specs.Prelude.{◌≡◌, ◌≢◌, ◌+◌, ◌*◌, ◌≤◌, ◌↔◌, ℕ, List, length, map, All, AllPairs, Contains};
 ghost use Rattle.std.specs.List.Sorted.{IsNonDecreasing};
 ghost use Rattle.posix.specs.declared.event.Event.{Event};
-ghost use Rattle.schedules.specs.Families.{Places, family, IsSchedule, IsBefore, choose};
+ghost use Rattle.schedules.specs.Families.{Spots, family, IsSchedule, IsBefore, choose, place_of, ways};
 ghost use Rattle.schedules.specs.Schedules.{scheduled, from_front};
 
 mod eventtext;
 mod places;
 pub mod schedule;
 pub mod sizes;
+pub mod spots;
 
 pub use eventtext::write_events;
 pub use schedule::Schedule;
 pub use sizes::family_size;
+pub use spots::{event_of, place_of, put_at, spot};
 
-/// The most ticks that a schedule has.
-pub const MOST_TICKS: usize = 32;
+/// The most spots that a schedule has.
+pub const MOST_SPOTS: usize = 32;
 
 /// A family has all schedules of its kind, each once, in the order said.
 ///
-/// Those are the lists of at most so many places that rise, not strictly, and are all below a bound. Fewer
-/// ticks come first; of as many, the schedule with the earlier place where two first differ. With `n` places
-/// and at most `k` ticks there are as many as there are ways to choose `k` of `n + k` things.
+/// A schedule has at most so many ticks and each loose event once; all are put in before the first so many events.
+/// Fewer spots come first; of as many, the schedule with the earlier spot where two first differ. With `n` places and
+/// at most `k` ticks there are as many as there are ways to choose `k` of `n + k` things. With loose events, too, these
+/// make `n` ways of the first, times `n + 1` of the second, and so on, and each is one more place for a tick.
 pub fn families_are_whole()
-    ensures members { (upto ticks : ℕ) (ps : Places) → Contains (family upto ticks) ps ↔ IsSchedule upto ticks ps }
-    ensures in_order { (upto ticks : ℕ) → AllPairs IsBefore (family upto ticks) }
-    ensures once { (upto ticks : ℕ) → AllPairs (λ ps qs. ps ≢ qs) (family upto ticks) }
-    ensures size { (upto ticks : ℕ) → length (family upto ticks) ≡ choose (upto + ticks) ticks }
+    ensures members { (upto ticks loose : ℕ) (ps : Spots) → Contains (family upto ticks loose) ps ↔ IsSchedule upto ticks loose ps }
+    ensures in_order { (upto ticks loose : ℕ) → AllPairs IsBefore (family upto ticks loose) }
+    ensures once { (upto ticks loose : ℕ) → AllPairs (λ ps qs. ps ≢ qs) (family upto ticks loose) }
+    ensures size { (upto ticks loose : ℕ) → length (family upto ticks loose) ≡ ways upto loose * choose (upto + loose + ticks) ticks }
 {}
 
-/// The events of a schedule, from the front: those up to the first place, a tick, and so on.
+/// The events of a schedule, from the front: those before the first spot, what is put in there, and so on.
 ///
-/// It has as many events as the list, and one more for each place. Where the list has a tick of its own, two
-/// schedules can have the same events: they count as two.
+/// It has as many events as the list, and one more for each spot. Where the list has such an event of its own, or two
+/// loose events are alike, two schedules can have the same events: they count as two.
 pub fn schedules_go_from_the_front()
-    ensures front { (events : List Event) (ps : Places) → IsNonDecreasing ps → All (λ p. p ≤ length events) ps
-        → scheduled events ps ≡ from_front 0 events ps }
-    ensures length { (events : List Event) (ps : Places) → length (scheduled events ps) ≡ length events + length ps }
+    ensures front { (loose events : List Event) (ps : Spots) → IsNonDecreasing (map (place_of (length loose)) ps) → All (λ q. place_of (length loose) q ≤ length events) ps
+        → scheduled loose events ps ≡ from_front loose 0 events ps }
+    ensures length { (loose events : List Event) (ps : Spots) → length (scheduled loose events ps) ≡ length events + length ps }
 {}

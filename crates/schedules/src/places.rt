@@ -1,4 +1,4 @@
-//! Places of as many ticks, one list after another.
+//! Spots of as many ticks, one list after another.
 
 ghost use Rattle.schedules.specs.Walks.{Advances};
 

@@ -1,40 +1,57 @@
 //! How many schedules there are.
 
-ghost use Rattle.std.specs.Prelude.{◌≡◌, ◌+◌, ◌<◌, ◌≤◌, length};
+ghost use Rattle.std.specs.Prelude.{◌≡◌, ◌+◌, ◌*◌, ◌<◌, ◌≤◌, ◌^◌, length};
 ghost use Rattle.std.specs.Option.{SomeIff};
-ghost use Rattle.schedules.specs.Families.{family};
+ghost use Rattle.schedules.specs.Families.{choose, family, ways};
 
-use crate::MOST_TICKS;
+use crate::MOST_SPOTS;
 
-/// The size of the family with a tick more than the one of this size; `None` where it is above `limit`.
-fn with_one_more(size: u128, upto: u64, ticks: usize, limit: u128) -> Option<u128>
-    requires few { ticks < MOST_TICKS }
-    requires size { size ≡ length (family upto ticks) }
-    ensures { SomeIff result (length (family upto (ticks + 1)) ≤ limit) (length (family upto (ticks + 1))) }
+/// How many ways there are to choose one more of one more than these things, where there are so many to choose `chosen`
+/// of `of + chosen`; `None` where it is above `limit`.
+fn with_one_more(size: u128, of: u64, chosen: usize, limit: u128) -> Option<u128>
+    requires few { chosen < MOST_SPOTS }
+    requires size { size ≡ choose (of + chosen) chosen }
+    ensures { SomeIff result (choose (of + (chosen + 1)) (chosen + 1) ≤ limit) (choose (of + (chosen + 1)) (chosen + 1)) }
 {
-    let more = ticks as u128 + 1;
-    let places = u128::from(upto) + more;
-    // It is `size * places / more`, which has no rest. The product can be above 128 bits.
-    let next = (size / more).checked_mul(places)?;
-    let next = next.checked_add(size % more * places / more)?;
+    let more = chosen as u128 + 1;
+    let things = u128::from(of) + more;
+    // It is `size * things / more`, which has no rest. The product can be above 128 bits.
+    let next = (size / more).checked_mul(things)?;
+    let next = next.checked_add(size % more * things / more)?;
     if next > limit {
         return None;
     }
     Some(next)
 }
 
-/// How many schedules there are of at most `ticks` ticks, each before one of the first `upto` events: their
-/// exact number, or `None` where it is above `limit`.
-pub fn family_size(upto: u64, ticks: usize, limit: u128) -> Option<u128>
-    requires { ticks ≤ MOST_TICKS }
-    ensures { SomeIff result (length (family upto ticks) ≤ limit) (length (family upto ticks)) }
+/// How many ways there are to choose `chosen` of `of + chosen` things; `None` where it is above `limit`.
+fn ways_to_choose(of: u64, chosen: usize, limit: u128) -> Option<u128>
+    requires { chosen ≤ MOST_SPOTS }
+    ensures { SomeIff result (choose (of + chosen) chosen ≤ limit) (choose (of + chosen) chosen) }
 {
     if limit == 0 {
         return None;
     }
     let mut size = 1;
-    for k in 0..ticks {
-        size = with_one_more(size, upto, k, limit)?;
+    for k in 0..chosen {
+        size = with_one_more(size, of, k, limit)?;
     }
     Some(size)
+}
+
+/// How many schedules there are of at most `ticks` ticks and of `loose` loose events, all before the first `upto`
+/// events: their exact number, or `None` where it is above `limit`.
+pub fn family_size(upto: u64, ticks: usize, loose: usize, limit: u128) -> Option<u128>
+    requires spots { ticks + loose ≤ MOST_SPOTS }
+    requires upto { upto ≤ 2 ^ 63 }
+    ensures { SomeIff result (length (family upto ticks loose) ≤ limit) (length (family upto ticks loose)) }
+{
+    if upto == 0 && loose > 0 {
+        return Some(0);
+    }
+    let mut size = ways_to_choose(upto + loose as u64, ticks, limit)?;
+    for before in 0..loose {
+        size = size.checked_mul(u128::from(upto) + before as u128)?;
+    }
+    if size > limit { None } else { Some(size) }
 }

@@ -8,5 +8,5 @@ end_run_all-requires-clause-counts c =
 
 pub returns-clause-counted : goal.returns-clause-counted
 returns-clause-counted c met counted =
-    book_counted c.args.lines.now c.args.ending c.args.places.now c.args.endings.now c.args.finds.now (c.args.outcomes.now + met) counted c.add-2.new.self c.end_run_all.new.finds (c.add.new.self + met)
+    book_counted c.args.lines.now c.args.ending c.args.spots.now c.args.endings.now c.args.finds.now (c.args.outcomes.now + met) counted c.add-2.new.self c.end_run_all.new.finds (c.add.new.self + met)
     (search rules) (search rules) (one_more_with c.args.outcomes.now c.add.new.self met c.in_ok-add.ensures.ok)

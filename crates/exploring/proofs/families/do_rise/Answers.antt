@@ -3,4 +3,4 @@ use Rattle.exploring.proofs.TellingLemmas.{where_true}
 use Rattle.exploring.proofs.families.do_rise.Goals as goal
 
 pub returns : goal.returns
-returns c = where_true c.is_sorted.result _ _ (non_decreasing_from_is_sorted c.args.places.now c.is_sorted.result c.is_sorted.ensures.cases)
+returns c = where_true c.is_sorted.result _ _ (non_decreasing_from_is_sorted c.args.spots.now c.is_sorted.result c.is_sorted.ensures.cases)

@@ -6,4 +6,4 @@ use Rattle.exploring.proofs.families.events_of.Goals as goal
 pub returns-clause-len : goal.returns-clause-len
 returns-clause-len c =
     let f = c.args.family.now in
-    short_schedule c.scheduled.result f.events.now c.args.places.now most_events c.scheduled.ensures (omega (arith, f.short, c.requires.few))
+    short_schedule c.scheduled.result f.loose.now f.events.now c.args.spots.now most_events c.scheduled.ensures (omega (arith, f.short, c.requires.few))

@@ -6,7 +6,7 @@ use Rattle.exploring.proofs.families.explore.Given as goal
 
 abbrev pub invariant-loop-is_more : goal.invariant-loop-is_more
 invariant-loop-is_more g l = record {
-  way : IsOnItsWay l.is_more (family l.family.upto l.family.ticks) l.schedule.places (book_over l.family.world.now l.family.events.now (map (λ t. t.now) l.texts)) l.book;
+  way : IsOnItsWay l.is_more (family l.family.upto l.family.ticks 0) l.schedule.places (book_over l.family.world.now l.family.loose.now l.family.events.now (map (λ t. t.now) l.texts)) l.book;
   upto : l.schedule.upto ≡ l.family.upto;
   ticks : l.schedule.ticks ≡ l.family.ticks;
 }

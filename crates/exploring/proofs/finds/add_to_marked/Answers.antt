@@ -10,7 +10,7 @@ loop-number-init c = none_marked _ c.args.marks.now c.args.finds.now
 
 pub add_many-requires-clause-count : goal.add_many-requires-clause-count
 add_many-requires-clause-count c =
-    let t : TallyView = record { count = c.args.count; first = Some c.args.places.now } in
+    let t : TallyView = record { count = c.args.count; first = Some c.args.spots.now } in
     let i = c.loop-number.number in
     let d = c.index-finds-number.result in
     let within : i < length c.args.finds.now = omega (arith, c.if-number-finds.true, c.loop-number.auto.finds) in
@@ -19,7 +19,7 @@ add_many-requires-clause-count c =
 
 pub loop-number-preserved : goal.loop-number-preserved
 loop-number-preserved c =
-    let t : TallyView = record { count = c.args.count; first = Some c.args.places.now } in
+    let t : TallyView = record { count = c.args.count; first = Some c.args.spots.now } in
     let i = c.loop-number.number in
     let marks = c.args.marks.now in
     let finds = c.args.finds.now in

@@ -1,5 +1,5 @@
 use Rattle.std.proofs.Common.{◌+◌, ◌∙◌, ap₂, map, drop, length, List, ℕ, Bool, ◌≡◌, Some}
-use Rattle.schedules.specs.Families.{Places}
+use Rattle.schedules.specs.Families.{Spots}
 use Rattle.exploring.specs.Merging.{marked, with_many_runs}
 use Rattle.exploring.proofs.BookLemmas.{written}
 use Rattle.exploring.proofs.NodeCountLemmas.{counted_is}
@@ -16,4 +16,4 @@ returns c =
     e.adds e.ending
     (c.mark.ensures.marks ∙ ap₂ (marked texts) c.as_slice.ensures.value c.as_mut_slice.ensures.value)
     (c.add_many.ensures
-    ∙ ap₂ (λ (ms : List Bool) (ps : Places). with_many_runs c.in_ok-ending.ending ms (record { count = c.args.node.now.count; first = Some ps }) c.args.book.now) all c.as_slice-3.ensures.value)
+    ∙ ap₂ (λ (ms : List Bool) (ps : Spots). with_many_runs c.in_ok-ending.ending ms (record { count = c.args.node.now.count; first = Some ps }) c.args.book.now) all c.as_slice-3.ensures.value)

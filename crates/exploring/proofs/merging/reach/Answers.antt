@@ -1,24 +1,27 @@
-use Rattle.std.proofs.Common.{◌≡◌, ◌∙◌, [], map, refl, slice_get, sym, Some}
-use Rattle.exploring.proofs.SpreadLemmas.{way_countable, way_goes_on}
+use Rattle.std.proofs.Common.{◌∙◌, ap, arith, sym}
+use Rattle.exploring.specs.Merging.{always, most_of, outlook_of}
+use Rattle.exploring.proofs.RowLemmas.{one_row, one_row_tally}
 use Rattle.exploring.proofs.merging.reach.Goals as goal
 
-pub layer_behind-requires-clause-countable : goal.layer_behind-requires-clause-countable
-layer_behind-requires-clause-countable g c =
+pub loop-place-init : goal.loop-place-init
+loop-place-init g c =
     let s = c.args.search.now in
-    let l = c.loop-place in
-    let event : slice_get c.args.events.now l.place ≡ Some c.in-Some.event = sym c.event_at.ensures ∙ c.in-Some.is in
-    way_countable (map (λ t. t.now) s.texts.now) c.args.upto c.args.events.now s.ticks c.args.layer.nodes.items l.place c.in-Some.event l.layer.nodes.items [] c.loop-place-test.true event refl
-    l.invariant.way c.requires.countable
+    let none = c.new-rows.ensures.items in
+    record {
+      rows = one_row s 0 c.new-rows.result.items c.push_row.new.rows.items c.args.first none c.in_ok-push_row.ensures c.requires.nodes;
+      tally = λ has. one_row_tally (outlook_of has s 0) (most_of s) c.new-rows.result.items c.push_row.new.rows.items c.args.first none c.in_ok-push_row.ensures;
+    }
+
+pub rows_behind-requires-clause-countable : goal.rows_behind-requires-clause-countable
+rows_behind-requires-clause-countable g c =
+    let same = ap (λ t. t.count) (c.loop-place.invariant.tally always) in
+    omega (arith, same, c.requires.countable)
+
+pub rows_behind-requires-clause-event : goal.rows_behind-requires-clause-event
+rows_behind-requires-clause-event g c = sym c.event_at.ensures ∙ c.in-Some.is
 
 pub loop-place-preserved : goal.loop-place-preserved
-loop-place-preserved g c =
-    let s = c.args.search.now in
-    let l = c.loop-place in
-    let e = c.in_ok-layer.ensures in
-    let event : slice_get c.args.events.now l.place ≡ Some c.in-Some.event = sym c.event_at.ensures ∙ c.in-Some.is in
-    record {
-      at = e.at;
-      nodes = e.nodes;
-      way = way_goes_on (map (λ t. t.now) s.texts.now) c.args.upto c.args.events.now s.ticks c.args.layer.nodes.items l.place c.in-Some.event l.layer.nodes.items [] c.in_ok-layer.layer.nodes.items
-          c.loop-place-test.true event refl l.invariant.way e.tally;
-    }
+loop-place-preserved g c = record {
+  rows = c.in_ok-rows.ensures.rows;
+  tally = λ has. c.in_ok-rows.ensures.tally has ∙ c.loop-place.invariant.tally has;
+}

@@ -1,16 +1,12 @@
-use Rattle.std.proofs.Common.{map}
-use Rattle.std.specs.List.{All}
-use Rattle.exploring.specs.Merging.{IsAt, IsNode}
-use Rattle.exploring.proofs.SpreadLemmas.{IsOnItsWay}
+use Rattle.std.proofs.Common.{◌≡◌}
+use Rattle.exploring.specs.Merging.{AreRows, Property, most_of, outlook_of, tally_of_nodes, tally_of_rows}
 use Rattle.exploring.proofs.merging.reach.Given as goal
 
 -- the nodes at this place tell what the first did
 abbrev pub invariant-loop-place : goal.invariant-loop-place
 invariant-loop-place g l =
     let s = l.search in
-    let texts = map (λ t. t.now) s.texts.now in
     record {
-      at : All (IsAt l.place) l.layer.nodes.items;
-      nodes : All (IsNode s.world.now texts s.ticks) l.layer.nodes.items;
-      way : IsOnItsWay texts l.upto l.events s.ticks l.fn.layer.nodes.items l.place l.layer.nodes.items;
+      rows : AreRows s l.place 0 l.rows.items;
+      tally : (has : Property) → tally_of_rows (outlook_of has s l.place) (most_of s) l.rows.items ≡ tally_of_nodes (outlook_of has s 0) (most_of s) l.fn.first.nodes.items;
     }

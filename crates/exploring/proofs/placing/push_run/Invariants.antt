@@ -4,17 +4,17 @@ use Rattle.posix.specs.declared.event.Event.{Event}
 use Rattle.schedules.specs.Schedules.{given, IsGiven}
 use Rattle.exploring.proofs.placing.push_run.Given as goal
 
--- the events up to the one with index done and the first ticks are given
+-- the events up to the one with index done and what is put in at the first spots are given
 abbrev pub invariant-loop-used : goal.invariant-loop-used
 invariant-loop-used l = record {
-  placed : IsGiven l.done l.used l.places;
-  known : l.used ≤ length l.places;
+  placed : IsGiven (length l.loose) l.done l.used l.spots;
+  known : l.used ≤ length l.spots;
   from : l.start ≤ l.done;
   within : l.done ≤ l.start + l.run.count;
   len : length l.list ≡ l.done + l.used;
   list : (before behind events : List Event) → events ≡ before ++ replicate l.run.count l.run.event ++ behind → length before ≡ l.start
-      → l.fn.list ≡ given l.start l.fn.used events l.places → l.list ≡ given l.done l.used events l.places;
+      → l.fn.list ≡ given l.loose l.start l.fn.used events l.spots → l.list ≡ given l.loose l.done l.used events l.spots;
 }
 
 abbrev pub decreases-loop-used : goal.decreases-loop-used
-decreases-loop-used l = length l.places - l.used
+decreases-loop-used l = length l.spots - l.used

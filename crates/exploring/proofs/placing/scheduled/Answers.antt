@@ -1,4 +1,4 @@
-use Rattle.std.proofs.Common.{rules, arith, ◌+◌, ◌∙◌, sym, take, drop}
+use Rattle.std.proofs.Common.{rules, arith, length, ◌+◌, ◌∙◌, sym, take, drop}
 use Rattle.text.specs.EventLists.{expanded}
 use Rattle.schedules.proofs.GivenLemmas.{given_none, nothing_is_given}
 use Rattle.exploring.proofs.PlacingLemmas.{all_given, all_runs, around_run, ends_within, one_more_run}
@@ -6,13 +6,14 @@ use Rattle.exploring.proofs.placing.scheduled.Goals as goal
 
 pub loop-run-init : goal.loop-run-init
 loop-run-init c =
-    let places = c.args.places.now in
+    let loose = c.args.loose.now in
+    let spots = c.args.spots.now in
     record {
-      placed = nothing_is_given places;
+      placed = nothing_is_given (length loose) spots;
       known = omega arith;
       at = search rules;
       len = search rules;
-      list = c.new-list.ensures ∙ sym (given_none c.args.events.now places);
+      list = c.new-list.ensures ∙ sym (given_none loose c.args.events.now spots);
     }
 
 pub push_run-requires-clause-few : goal.push_run-requires-clause-few
@@ -34,4 +35,4 @@ pub returns : goal.returns
 returns c =
     let l = c.loop-run in
     let all = all_runs c.runs-run-items.result.now l.run-index l.given c.args.events.now c.loop-run-test.false c.runs-run-items.ensures l.invariant.at in
-    all_given l.given l.used c.args.events.now l.list c.args.places.now l.invariant.placed l.invariant.known c.requires.below all l.invariant.list
+    all_given c.args.loose.now l.given l.used c.args.events.now l.list c.args.spots.now l.invariant.placed l.invariant.known c.requires.below all l.invariant.list

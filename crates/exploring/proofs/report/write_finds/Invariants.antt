@@ -4,4 +4,4 @@ use Rattle.exploring.specs.Reports.{Adds, ShowsFinds}
 use Rattle.exploring.proofs.report.write_finds.Given as goal
 
 abbrev pub invariant-loop-find : goal.invariant-loop-find
-invariant-loop-find l = Adds (string_bytes l.fn.text) (ShowsFinds l.family.events.now (take l.find-index l.finds)) (string_bytes l.text)
+invariant-loop-find l = Adds (string_bytes l.fn.text) (ShowsFinds l.family.loose.now l.family.events.now (take l.find-index l.finds)) (string_bytes l.text)

@@ -1,6 +1,6 @@
-use Rattle.std.proofs.Common.{◌≡◌, ◌≤◌, length}
-use Rattle.schedules.specs.Families.{family}
+use Rattle.std.proofs.Common.{◌≡◌, ◌+◌, ◌*◌}
+use Rattle.schedules.specs.Families.{choose, ways}
 use Rattle.schedules.proofs.sizes.family_size.Given as goal
 
-abbrev pub invariant-loop-k : goal.invariant-loop-k
-invariant-loop-k l = (l.size ≡ length (family l.upto l.k)) × (l.size ≤ l.limit)
+abbrev pub invariant-loop-before : goal.invariant-loop-before
+invariant-loop-before l = l.size ≡ ways l.upto l.before * choose (l.upto + l.loose + l.ticks) l.ticks

@@ -20,8 +20,8 @@ returns c =
     let e = c.count_run.ensures in
     rw (← c.self.view_is)
     (on_ok c.count_run.result _ _ _ _ e.endings e.finds e.total
-    (λ ends finds total. book_with_run c.args.lines.now.items c.sort_by_key.new.self.items c.args.ending c.args.places.now _ c.count_run.new.endings c.count_run.new.finds _ (c.count_run.new.outcomes + c.self.inside.met)
+    (λ ends finds total. book_with_run c.args.lines.now.items c.sort_by_key.new.self.items c.args.ending c.args.spots.now _ c.count_run.new.endings c.count_run.new.finds _ (c.count_run.new.outcomes + c.self.inside.met)
     c.in_ok-sort_by_key.ensures.permutation ends
-    (finds ∙ ap₂ (λ ls fs. map (after_run c.args.places.now) (map (saw ls) fs)) c.as_slice.ensures.value c.as_mut_slice.ensures.value)
+    (finds ∙ ap₂ (λ ls fs. map (after_run c.args.spots.now) (map (saw ls) fs)) c.as_slice.ensures.value c.as_mut_slice.ensures.value)
     (one_more_with c.self.inside.outcomes c.count_run.new.outcomes c.self.inside.met total)
     (written c.self.inside.finds.len c.count_run.new.finds _ (search rules))))

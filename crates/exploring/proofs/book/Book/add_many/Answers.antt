@@ -12,7 +12,7 @@ pub invariant_of-self : goal.invariant_of-self
 invariant_of-self c =
     let before = ap (λ b. b.total) c.self.view_is in
     rw (written c.self.inside.finds.len c.add_to_marked.new.finds (drop (length c.add_to_marked.new.finds) c.self.inside.finds.items) (search rules)) (
-      many_counted c.args.ending c.args.marks.now (record { count = c.args.count; first = Some c.args.places.now }) c.self.inside.endings c.self.inside.finds.items (c.self.inside.outcomes + c.self.inside.met) c.self.invariant.0
+      many_counted c.args.ending c.args.marks.now (record { count = c.args.count; first = Some c.args.spots.now }) c.self.inside.endings c.self.inside.finds.items (c.self.inside.outcomes + c.self.inside.met) c.self.invariant.0
           c.add_many.new.self c.add_to_marked.new.finds (c.self.inside.outcomes + (c.self.inside.met + c.args.count)) c.add_many.ensures (search rules) (omega arith),
       omega (arith, before, c.requires.total),
     )

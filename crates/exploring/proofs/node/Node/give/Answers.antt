@@ -1,6 +1,6 @@
-use Rattle.std.proofs.Common.{arith, ap, refl, length, map, ◌∙◌}
+use Rattle.std.proofs.Common.{arith, ap, refl, length, map, sym, ◌∙◌}
 use Rattle.exploring.specs.Merging.{marks_after}
-use Rattle.exploring.proofs.NodeLemmas.{given_node, one_longer, written}
+use Rattle.exploring.proofs.NodeLemmas.{given_node, written}
 use Rattle.exploring.proofs.node.Node.give.Goals as goal
 
 pub returns : goal.returns
@@ -15,11 +15,15 @@ returns c =
     ∙ ap (λ ms. marks_after texts x n.kernel.state ms) c.as_mut_slice.ensures.value in
     let given = c.in_ok-push.ensures.ok in
     record {
-      node = λ world ticks i. given_node world texts ticks x n _ i e.state e.events e.regular e.settled given marks refl;
+      node = λ search place least i same none.
+          given_node search place least x n _ i none e.state e.regular e.settled e.events (marks ∙ ap (λ ts. marks_after ts x n.kernel.state n.marks.items) (sym same)) given refl refl;
       state = e.state;
+      regular = e.regular;
+      settled = e.settled;
+      events = e.events;
       marks = marks;
       given = given;
       count = refl;
-      places = refl;
-      at = λ place at. ap length given ∙ one_longer place n.given x n.places.items at;
+      spots = refl;
+      left = refl;
     }

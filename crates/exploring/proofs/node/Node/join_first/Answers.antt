@@ -1,5 +1,5 @@
 use Rattle.std.proofs.Common.{rules, inl, inr, ◌∙◌}
-use Rattle.exploring.proofs.NodeLemmas.{IsFirstOf, joined_at, joined_node, joined_tally}
+use Rattle.exploring.proofs.NodeLemmas.{IsFirstOf, joined_node, joined_tally}
 use Rattle.exploring.proofs.node.Node.join_first.Goals.{then-is_before, else-is_before}
 use Rattle.exploring.proofs.node.Node.join_first.Goals as goal
 
@@ -13,7 +13,6 @@ returns c =
       | else-is_before w ↦ inr (w.self-is, search rules)
     ] in
     record {
-      tally = λ go_on ticks. joined_tally old other mid c.requires.one which go_on ticks;
-      node = λ world texts ticks i j. joined_node old other mid which world texts ticks i j;
-      at = λ place i j. joined_at old other mid which place i j;
+      tally = λ go_on most. joined_tally old other mid c.requires.one which go_on most;
+      node = λ search place least i j. joined_node old other mid which search place least i j;
     }

@@ -1,0 +1,46 @@
+//! Spots: before which event of a list something is put in, and what.
+
+ghost use Rattle.std.specs.Prelude.{◌≡◌, ◌<◌, ◌≤◌, ◌^◌, length};
+ghost use Rattle.schedules.specs.Families.{place_of as place_of_spot, spot as spot_of};
+ghost use Rattle.schedules.specs.Schedules.{event_of as event_of_kind, put_at as put_at_spot};
+
+use crate::MOST_SPOTS;
+use posix::Event;
+
+/// The spot of a kind before the event with this place, where there are so many loose events.
+pub fn spot(loose: usize, place: u64, kind: u8) -> u64
+    requires few { loose ≤ MOST_SPOTS }
+    requires place { place < 2 ^ 40 }
+    ensures { result ≡ spot_of loose place kind }
+{
+    place * (loose as u64 + 1) + u64::from(kind)
+}
+
+/// The place of the event that a spot is before, where there are so many loose events.
+pub fn place_of(loose: usize, spot: u64) -> u64
+    requires { loose ≤ MOST_SPOTS }
+    ensures { result ≡ place_of_spot loose spot }
+{
+    spot / (loose as u64 + 1)
+}
+
+/// What is put in, of a kind: a tick for 0, and else one of the loose events, from 1.
+pub fn event_of(loose: &[Event], kind: usize) -> Event
+    ensures { result ≡ event_of_kind loose.now kind }
+{
+    if kind == 0 {
+        return Event::Tick;
+    }
+    match loose.get(kind - 1) {
+        Some(event) => *event,
+        None => Event::Tick,
+    }
+}
+
+/// What is put in at a spot.
+pub fn put_at(loose: &[Event], spot: u64) -> Event
+    requires { length loose.now ≤ MOST_SPOTS }
+    ensures { result ≡ put_at_spot loose.now spot }
+{
+    event_of(loose, (spot % (loose.len() as u64 + 1)) as usize)
+}

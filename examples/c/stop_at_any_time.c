@@ -1,0 +1,60 @@
+/* The shell of job_control_shell.c, which ignores TSTP, too: a ^Z at its prompt, where it has the terminal itself, would
+   stop it. */
+#include "jobk.h"
+
+static char line[16];
+
+/* As the shell or the job may act first, both make the group, and both give it the terminal. */
+static void run_job(void)
+{
+    setpgid(0, 0);
+    tcsetpgrp(0, getpid());
+    signal(SIGTTOU, SIG_DFL);
+    signal(SIGTSTP, SIG_DFL);
+    for (;;) {
+        int count = read(0, line, sizeof line);
+        if (count == 0)
+            _exit(0);
+        write(1, line, count);
+    }
+}
+
+/* Waits until the job stops or ends, and takes the terminal back. */
+static void watch(pid_t shell)
+{
+    int status = 0;
+    waitpid(-1, &status, WUNTRACED);
+    note(status);
+    tcsetpgrp(0, shell);
+}
+
+static void run_shell(void)
+{
+    pid_t shell = setsid();
+    setctty(1);
+    signal(SIGTTOU, SIG_IGN);
+    signal(SIGTSTP, SIG_IGN);
+    pid_t job = fork();
+    if (job == 0)
+        run_job();
+    setpgid(job, job);
+    tcsetpgrp(0, job);
+    watch(shell);
+    while (read(0, line, sizeof line) > 0) {
+        int foreground = line[0] != 'b';
+        if (foreground)
+            tcsetpgrp(0, job);
+        kill(-job, SIGCONT);
+        if (foreground)
+            watch(shell);
+    }
+    _exit(0);
+}
+
+int main(void)
+{
+    if (fork() == 0)
+        run_shell();
+    waitpid(-1, NULL, 0);
+    return 0;
+}
