@@ -1,10 +1,11 @@
 // What `explore` prints, taken apart: the counts, the schedules that it found, and the outcomes.
 
-const isEvents = line => /^ {4}(step|tick|key|type|hangup) /.test(line);
+const isEvents = line => /^ {4}(#|(step|tick|key|type|hangup) )/.test(line);
 
 const last = '  with the last lines';
 
-// A part of the text: its head, the events of its first schedule, what sets its trace apart, and the last lines of that.
+// A part of the text: its head, the events of its first schedule with their comments, what sets its trace apart, and the
+// last lines of that.
 function partOf(text) {
   const [head, ...more] = text.split('\n');
   const middle = more.findIndex(it => /^ {2}\S/.test(it));

@@ -8,7 +8,7 @@ function card({ head, events, others }, session) {
   const show = make('button', { type: 'button', textContent: 'Show this one' });
   show.onclick = () => {
     $('tab-lanes').click();
-    session.change({ events: `${events.join('\n')}\n`, at: Infinity });
+    session.change({ events: `${events.filter(it => !it.startsWith('#')).join('\n')}\n`, at: Infinity });
   };
   const list = make('pre', { textContent: events.join('\n') });
   const lines = make('pre', { className: 'note', textContent: others.join('\n') });

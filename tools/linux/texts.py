@@ -6,18 +6,35 @@ class Program:
         self.name = words[1]
         ids = dict(zip(words[2::2], map(int, words[3::2])))
         self.setuid, self.setgid = ids.get('setuid'), ids.get('setgid')
-        self.code, self.labels = [], {}
+        self.code, self.lines, self.labels = [], [], {}     # lines: of each instruction
+
+    def label(self, address):
+        """The label nearest before an address, and how far behind it the address is; nothing where there is none."""
+        found = [(name, at) for name, at in self.labels.items() if at <= address]
+        if not found:
+            return ''
+        name, at = found[-1]
+        return name + ('+%d' % (address - at) if address != at else '')
+
+    def place(self, pc):
+        """Where a process with this pc stands: the line of the world, and the label before it."""
+        if pc < 16:
+            return 'at address %d' % pc
+        label = self.label(pc)
+        line = 'at line %d' % self.lines[pc - 16] if pc - 16 < len(self.code) else 'outside its program'
+        return line + (' (%s)' % label) * bool(label)
 
 
 class World:
     """What the text of a world says."""
 
     def __init__(self, text):
-        lines = filter(None, (line.split('#')[0].replace(',', ' ').split() for line in text.split('\n')))
-        self.pidmax, self.consoles = int(next(lines)[1]), int(next(lines)[1])
+        lines = ((number, line.split('#')[0].replace(',', ' ').split()) for number, line in enumerate(text.split('\n'), 1))
+        lines = ((number, words) for number, words in lines if words)
+        self.pidmax, self.consoles = int(next(lines)[1][1]), int(next(lines)[1][1])
         self.programs = []
         is_open = False
-        for words in lines:
+        for number, words in lines:
             if not is_open:
                 self.programs.append(Program(words))
                 is_open = True
@@ -27,6 +44,7 @@ class World:
                 self.programs[-1].labels[words[0][:-1]] = 16 + len(self.programs[-1].code)
             else:
                 self.programs[-1].code.append(words)
+                self.programs[-1].lines.append(number)
 
     def value(self, program, word):
         if word[0] == '@':

@@ -1,6 +1,6 @@
 //! Schedules that are explored.
 
-use exploring::{Family, Progress, explore};
+use counting::{Family, Progress, explore};
 use schedules::family_size;
 use std::alloc::{AllocError, Global};
 use std::process::Abort;

@@ -1,3 +1,4 @@
 pub mod Commands
 pub mod Named
+pub mod Options
 pub mod Serving

@@ -7,6 +7,7 @@ use Rattle.inputs.specs.Reads.{Contents, Text}
 use Rattle.sink.specs.Sinks.{Seen}
 use Rattle.refusing.specs.Texts.{Input, IsInput, files_with}
 use Rattle.commands.specs.Commands.{ServesAs, purpose_of}
+use Rattle.commands.specs.Options.{ArePlain, first_option}
 use Rattle.commands.specs.declared.named.Place.{Place as DeclaredPlace}
 
 -- `run`, `explore` and `show`
@@ -51,11 +52,13 @@ in_folder folder file = if get_or folder (length folder - 1) 0 == 47 then folder
 abbrev pub over_texts : Text → List Text → List Text
 over_texts command options = command ∷ codes "world" ∷ codes "events" ∷ options
 
--- The command was served over the files `world` and `events`, which have these texts.
+-- The command was served over the files `world` and `events`, which have these texts, and over options that stand for the given ones.
 pub record ServesTexts {S : Type 0} (contents : Contents) (command : Text) (options : List Text) (old new : S) (before after : Seen) (status : ℕ) : Type 0 where
+  pub plain : List Text
+  pub are_plain : ArePlain (first_option command) options plain
   pub words : Bor (List (Bor Text))
-  pub are : map (λ w. w.now) words.now ≡ over_texts command options
-  pub serves : ServesAs contents (Ok words) old new before after status (purpose_of (over_texts command options))
+  pub are : map (λ w. w.now) words.now ≡ over_texts command plain
+  pub serves : ServesAs contents (Ok words) old new before after status (purpose_of (over_texts command plain))
 
 -- The texts of this place were read, the world from one of the two files that its name can mean, and the command was
 -- served over them with numbers for their names.

@@ -16,6 +16,8 @@ pub const HELP: &[u8] =
         --find TEXT            counts the schedules that have a line with TEXT
         --must-halt            status 4 where a schedule doesn't halt
         --all                  runs each by itself, also more than 10000000
+        --outcomes             status 2 where there are too many to tell of outcomes
+        --write WHICH          prints the events of one schedule alone: rest, going, find, or an outcome's number
     jobk show WORLD EVENTS     shows the state after the last event
         --at E                 after event E
         --calls                each event up to it, and what it did

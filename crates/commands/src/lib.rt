@@ -3,6 +3,7 @@
 
 mod help;
 mod named;
+mod options;
 mod serving;
 
 pub use serving::serve;

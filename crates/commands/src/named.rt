@@ -5,6 +5,7 @@ ghost use Rattle.std.specs.String.{string_bytes};
 ghost use Rattle.refusing.specs.Texts.{named_files};
 ghost use Rattle.commands.specs.Named.{ServesNamed, ServesTexts, in_folder, is_option as is_option_of, over_texts, place_in as place_in_words, said, takes_names as takes_names_of};
 
+use crate::options::plain_options;
 use crate::serving::serve_command;
 use exploring::Progress;
 use inputs::{FileFailure, ReadFiles};
@@ -78,15 +79,17 @@ fn file_in(alloc: Global, folder: &str, file: &str) -> Result<String, AllocError
 fn words_over_texts<'a>(
     alloc: Global,
     command: &'a str,
-    options: &[&'a str],
+    options: &'a [String],
 ) -> Result<Vec<&'a str>, AllocError>
-    ensures { IfOk result (λ words. map (λ w. w.now) words.items ≡ over_texts command.entry.now (map (λ w. w.now) options.now)) }
+    ensures { IfOk result (λ words. map (λ w. w.now) words.items ≡ over_texts command.entry.now (map string_bytes options.entry.now)) }
 {
     let mut words = Vec::new(alloc);
     words.push(command)?;
     words.push("world")?;
     words.push("events")?;
-    words.extend_from_slice(options)?;
+    for option in options {
+        words.push(option.as_str())?;
+    }
     Ok(words)
 }
 
@@ -97,7 +100,7 @@ fn tell_refused<E: Sink>(texts: &Texts<'_>, err: &mut E) {
     }
 }
 
-/// Does what a command asks for, over texts.
+/// Does what a command asks for, over texts, with numbers for the names in its options.
 fn serve_texts<'a, O: Sink, E: Sink, P: Progress + Ask>(
     alloc: Global,
     command: &'a str,
@@ -110,7 +113,8 @@ fn serve_texts<'a, O: Sink, E: Sink, P: Progress + Ask>(
     ensures ok { IfOk result (λ status. ServesTexts (named_files texts.now) command.entry.now (map (λ w. w.now) options.entry.now) out.old out.new (O.seen out.old) (O.seen out.new) status) }
     ensures err { OnErr result (out.new ≡ out.old) }
 {
-    let words = words_over_texts(alloc, command, options)?;
+    let plain = plain_options(alloc, command, options)?;
+    let words = words_over_texts(alloc, command, plain.as_slice())?;
     let status = serve_command(alloc, words.as_slice(), texts, None, out, err, person);
     if status == 1 {
         tell_refused(texts, err);

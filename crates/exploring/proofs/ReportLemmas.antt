@@ -10,10 +10,10 @@ use Rattle.schedules.specs.Schedules.{scheduled}
 use Rattle.schedules.specs.EventLines.{AddsText}
 use Rattle.std.proofs.lemmas.List.{take_more}
 use Rattle.std.proofs.lemmas.List.Folds.{concat-append}
-use Rattle.exploring.specs.Books.{BookView}
-use Rattle.exploring.specs.declared.ending.Endings.{Endings}
+use Rattle.counting.specs.Books.{BookView}
+use Rattle.counting.specs.declared.ending.Endings.{Endings}
 use Rattle.exploring.specs.Reports.{Adds, Reports, at_rest_lines, ending_line, first_lines, first_that, plural, ShowsFind, ShowsFinds, ShowsFirst, find_line, first_that_has_it, size_line, to_the_right}
-use Rattle.exploring.specs.Texts.{FindView}
+use Rattle.counting.specs.Texts.{FindView}
 
 blanks : (n : ℕ) → repeat {A = ℕ} n (32 ∷ []) ≡ replicate n 32
 blanks zero = refl

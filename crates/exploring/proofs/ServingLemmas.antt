@@ -1,16 +1,17 @@
 -- What a status means.
 use Rattle.std.proofs.Common.{◌≡◌, ◌⊎◌, ◌∙◌, ℕ, ◌+◌, Bool, true, false, Option, Some, None, List, length, refl, ap, sym, subst, arith, inl, inr, Result, Ok, Err}
-use Rattle.std.specs.Prelude.{IsErrAnd, IsSomeAnd}
+use Rattle.std.specs.Prelude.{◌||◌, IsErrAnd, IsSomeAnd}
 use Rattle.posix.specs.declared.event.Event.{Event}
 use Rattle.posix.specs.States.{World}
 use Rattle.inputs.specs.Reads.{AreRead, Contents}
 use Rattle.exploring.specs.declared.serving.Failure.{Failure}
 use Rattle.exploring.specs.declared.serving.Failure.TheVariants as failure
-use Rattle.exploring.specs.Books.{BookView}
+use Rattle.counting.specs.Books.{BookView}
 use Rattle.sink.specs.Sinks.{BreaksOff, Seen, TakesAll}
-use Rattle.exploring.specs.Reports.{Reports}
+use Rattle.exploring.specs.declared.words.Written.{Written}
+use Rattle.exploring.specs.Reports.{IsAsFor}
 use Rattle.exploring.specs.Serving.{IsExplored, Means, answer_of, book_asked, is_told, schedules_of, status_of}
-use Rattle.exploring.specs.Words.{Asked, Parted, Put, are_run, asked_by_parts, can_be_put, family_asked, loose_asked, states_asked, ticks_asked, upto_asked}
+use Rattle.exploring.specs.Words.{Asked, Parted, Put, are_run, asked_by_parts, can_be_put, family_asked, loose_asked, states_asked, ticks_asked, upto_asked, written_asked}
 
 pub means_explored : {S : Type 0} (contents : Contents) (a : Asked) (old new : S) (before after : Seen) (told : Bool) → IsExplored contents a told (TakesAll before after)
     → Means contents (Some a) old new before after (answer_of (Ok told))
@@ -42,8 +43,8 @@ means_alike contents p q old new before after status known same is h =
 -- ---- what is put in
 
 pub in_range : (a : Asked) (consoles n : ℕ) (p : Put) (states : ℕ) → ticks_asked a.ticks ≡ Some p.ticks → upto_asked n a.upto ≡ Some p.upto → states_asked a.states ≡ Some states
-    → loose_asked consoles a.anywhere ≡ Some p.loose → can_be_put a.all p.upto p.ticks (length p.loose) ≡ true
-    → are_run (length (schedules_of p)) (n + (p.ticks + length p.loose)) ≡ true → family_asked a consoles n ≡ Some p
+    → loose_asked consoles a.anywhere ≡ Some p.loose → can_be_put (a.all || a.outcomes) p.upto p.ticks (length p.loose) ≡ true
+    → are_run a.all a.outcomes (length (schedules_of p)) (n + (p.ticks + length p.loose)) ≡ true → family_asked a consoles n ≡ Some p
 in_range a consoles n p states ticks_are upto_is states_are loose_are put run = rw (ticks_are, upto_is, states_are, loose_are, put, run) refl
 
 -- a word isn't an event
@@ -53,13 +54,13 @@ no_event a consoles n ticks upto states ticks_are upto_is states_are none = rw (
 
 -- the loose events can't be put in
 pub no_place : (a : Asked) (consoles n : ℕ) (p : Put) (states : ℕ) → ticks_asked a.ticks ≡ Some p.ticks → upto_asked n a.upto ≡ Some p.upto → states_asked a.states ≡ Some states
-    → loose_asked consoles a.anywhere ≡ Some p.loose → can_be_put a.all p.upto p.ticks (length p.loose) ≡ false → family_asked a consoles n ≡ None
+    → loose_asked consoles a.anywhere ≡ Some p.loose → can_be_put (a.all || a.outcomes) p.upto p.ticks (length p.loose) ≡ false → family_asked a consoles n ≡ None
 no_place a consoles n p states ticks_are upto_is states_are loose_are put = rw (ticks_are, upto_is, states_are, loose_are, put) refl
 
 -- there are too many schedules
 pub too_many : (a : Asked) (consoles n : ℕ) (p : Put) (states : ℕ) → ticks_asked a.ticks ≡ Some p.ticks → upto_asked n a.upto ≡ Some p.upto → states_asked a.states ≡ Some states
-    → loose_asked consoles a.anywhere ≡ Some p.loose → can_be_put a.all p.upto p.ticks (length p.loose) ≡ true
-    → are_run (length (schedules_of p)) (n + (p.ticks + length p.loose)) ≡ false → family_asked a consoles n ≡ None
+    → loose_asked consoles a.anywhere ≡ Some p.loose → can_be_put (a.all || a.outcomes) p.upto p.ticks (length p.loose) ≡ true
+    → are_run a.all a.outcomes (length (schedules_of p)) (n + (p.ticks + length p.loose)) ≡ false → family_asked a consoles n ≡ None
 too_many a consoles n p states ticks_are upto_is states_are loose_are put run = rw (ticks_are, upto_is, states_are, loose_are, put, run) refl
 
 -- words that are out of range, or memory was refused
@@ -75,24 +76,26 @@ means_refused contents a old before after world events (Err f) e A h read none (
       done = λ e. absurd (omega (arith, e, is));
       told = λ e. absurd (omega (arith, e, is));
       refused = λ e. absurd (omega (arith, e, is));
-      other_words = λ e. (inr (world, events, read, none two.1), refl);
+      other_words = λ e. (inr (inr (world, events, read, none two.1)), refl);
       cut_short = λ e. absurd (omega (arith, e, is));
     }
 
--- all schedules of the family were run, and a text that tells of them was put
-pub explored : (contents : Contents) (a : Asked) (world : World) (events : List Event) (p : Put) (states size : ℕ) (book : BookView) (told : Bool) (text : List ℕ) (IsPut : List ℕ → Type 0)
+-- all schedules of the family were run, and the text was put that is asked for
+pub explored : (contents : Contents) (a : Asked) (world : World) (events : List Event) (p : Put) (states size : ℕ) (written : Written) (book : BookView) (told : Bool) (text : List ℕ) (IsPut : List ℕ → Type 0)
     → AreRead contents (a.world, a.events) world events → ticks_asked a.ticks ≡ Some p.ticks → upto_asked (length events) a.upto ≡ Some p.upto → states_asked a.states ≡ Some states
-    → loose_asked world.consoles a.anywhere ≡ Some p.loose → can_be_put a.all p.upto p.ticks (length p.loose) ≡ true
-    → are_run (length (schedules_of p)) (length events + (p.ticks + length p.loose)) ≡ true → size ≡ length (schedules_of p) → book ≡ book_asked world events a.finds p
-    → told ≡ is_told a.must_halt book → Reports p.loose events size p.upto p.ticks book text → IsPut text → IsExplored contents a told IsPut
-explored contents a world events p states size book told text IsPut read ticks_are upto_is states_are loose_are put_in run counted is answer reports put = record {
+    → loose_asked world.consoles a.anywhere ≡ Some p.loose → can_be_put (a.all || a.outcomes) p.upto p.ticks (length p.loose) ≡ true
+    → are_run a.all a.outcomes (length (schedules_of p)) (length events + (p.ticks + length p.loose)) ≡ true → size ≡ length (schedules_of p) → book ≡ book_asked world events a.finds p
+    → told ≡ is_told a.must_halt book → written_asked a.write ≡ Some written → IsAsFor written p.loose events size p.upto p.ticks book text → IsPut text → IsExplored contents a told IsPut
+explored contents a world events p states size written book told text IsPut read ticks_are upto_is states_are loose_are put_in run counted is answer asked is_as_asked put = record {
   world = world;
   events = events;
   put_in = p;
+  written = written;
   read = read;
   in_range = in_range a world.consoles (length events) p states ticks_are upto_is states_are loose_are put_in run;
   answer = answer ∙ ap (is_told a.must_halt) is;
+  asked = asked;
   text = text;
-  reports = subst (λ n. Reports p.loose events n p.upto p.ticks (book_asked world events a.finds p) text) counted (subst (λ b. Reports p.loose events size p.upto p.ticks b text) is reports);
+  is_as_asked = subst (λ n. IsAsFor written p.loose events n p.upto p.ticks (book_asked world events a.finds p) text) counted (subst (λ b. IsAsFor written p.loose events size p.upto p.ticks b text) is is_as_asked);
   put = put;
 }

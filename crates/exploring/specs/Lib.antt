@@ -1,11 +1,3 @@
-pub mod Tallies
-pub mod Texts
-pub mod Endings
-pub mod Courses
-pub mod Books
-pub mod Counts
-pub mod Walks
 pub mod Reports
 pub mod Words
 pub mod Serving
-pub mod Merging

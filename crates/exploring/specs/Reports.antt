@@ -1,14 +1,16 @@
 -- What is printed of a family whose schedules were counted.
-use Rattle.std.specs.Prelude.{◌≡◌, ℕ, ◌-◌, ◌==◌, List, [], ◌∷◌, ◌++◌, length, replicate, decimal, codes, Option, Some, None, IfSome, if◌then◌else◌}
+use Rattle.std.specs.Prelude.{◌≡◌, ◌⊎◌, ℕ, ◌-◌, ◌==◌, List, [], ◌∷◌, ◌++◌, length, replicate, decimal, codes, Option, Some, None, IfSome, if◌then◌else◌}
 use Rattle.std.specs.List.{All, concat}
 use Rattle.posix.specs.declared.event.Event.{Event}
 use Rattle.schedules.specs.Families.{IsSchedule, Spots}
 use Rattle.schedules.specs.Schedules.{scheduled}
 use Rattle.schedules.specs.EventLines.{StandsFor}
-use Rattle.exploring.specs.declared.ending.Endings.{Endings}
-use Rattle.exploring.specs.Books.{BookView}
-use Rattle.exploring.specs.Tallies.{TallyView}
-use Rattle.exploring.specs.Texts.{FindView}
+use Rattle.counting.specs.declared.ending.Endings.{Endings}
+use Rattle.counting.specs.Books.{BookView}
+use Rattle.counting.specs.Tallies.{TallyView}
+use Rattle.counting.specs.Texts.{FindView}
+use Rattle.exploring.specs.declared.words.Written.{Written}
+use Rattle.exploring.specs.declared.words.Written.TheVariants as written
 
 -- ---- counts
 
@@ -99,3 +101,36 @@ pub record Reports (loose events : List Event) (size upto ticks : ℕ) (b : Book
   pub shows_at_rest : ShowsFirst loose events (first_that (codes "comes to rest")) b.endings.at_rest.first at_rest
   pub shows_going : ShowsFirst loose events (first_that (codes "is still going")) b.endings.going.first going
   pub shows_finds : ShowsFinds loose events b.finds finds
+
+-- ---- one schedule in place of it
+
+-- The text stands for the events of this schedule; it is empty, where there is none.
+abbrev pub StandsForFirst : List Event → List Event → Option Spots → List ℕ → Type 0
+StandsForFirst loose events None text = text ≡ []
+StandsForFirst loose events (Some ps) text = StandsFor text (scheduled loose events ps)
+
+abbrev pub if_none : Option Spots → Option Spots → Option Spots
+if_none (Some ps) other = Some ps
+if_none None other = other
+
+-- the first schedule with the first of the texts that a schedule has
+abbrev pub first_found : List FindView → Option Spots
+first_found [] = None
+first_found (f ∷ fs) = if_none f.tally.first (first_found fs)
+
+-- The text stands for the events of a schedule of the family, or it is empty.
+abbrev pub StandsForSome : List Event → List Event → ℕ → ℕ → List ℕ → Type 0
+StandsForSome loose events upto ticks text = (text ≡ []) ⊎ ((ps : Spots) × IsSchedule upto ticks (length loose) ps × StandsFor text (scheduled loose events ps))
+
+-- The text is what is to be written.
+abbrev pub IsAsFor : Written → List Event → List Event → ℕ → ℕ → ℕ → BookView → List ℕ → Type 0
+IsAsFor written.Report loose events size upto ticks b text = Reports loose events size upto ticks b text
+IsAsFor written.Rest loose events size upto ticks b text = StandsForFirst loose events b.endings.at_rest.first text
+IsAsFor written.Going loose events size upto ticks b text = StandsForFirst loose events b.endings.going.first text
+IsAsFor written.Find loose events size upto ticks b text = StandsForFirst loose events (first_found b.finds) text
+IsAsFor (written.Outcome number) loose events size upto ticks b text = StandsForSome loose events upto ticks text
+
+-- nothing, where there is no text
+abbrev pub bytes_put : Option (List ℕ) → List ℕ
+bytes_put None = []
+bytes_put (Some text) = text

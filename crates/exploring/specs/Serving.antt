@@ -11,14 +11,15 @@ use Rattle.inputs.specs.Reads.{AreRead, AreRefused, Contents, Text}
 use Rattle.inputs.specs.Statuses.{status_of as status_of_input}
 use Rattle.inputs.specs.declared.words.NoRequest.{NoRequest}
 use Rattle.inputs.specs.declared.words.NoRequest.TheVariants as no_request
-use Rattle.exploring.specs.declared.search.Stop.{Stop}
-use Rattle.exploring.specs.declared.search.Stop.TheVariants as stop
+use Rattle.merging.specs.declared.search.Stop.{Stop}
+use Rattle.merging.specs.declared.search.Stop.TheVariants as stop
 use Rattle.exploring.specs.declared.serving.Failure.{Failure}
-use Rattle.exploring.specs.declared.serving.Failure.TheVariants.{Usage, Ticks, Upto, States, UptoAbove, NotOneEvent, TooMuchPutIn, NoEventBehind, AllAnywhere, TooManySchedules, TooManyEvents, ManyStates, Input, Memory, Write}
-use Rattle.exploring.specs.Books.{BookView}
-use Rattle.exploring.specs.Counts.{book_over}
-use Rattle.exploring.specs.Reports.{Reports}
-use Rattle.exploring.specs.Words.{Asked, Put, family_asked, request_of_words, ticks_asked}
+use Rattle.exploring.specs.declared.serving.Failure.TheVariants.{Usage, Ticks, Upto, States, UptoAbove, NotOneEvent, TooMuchPutIn, NoEventBehind, AllAnywhere, OutcomesAnywhere, Which, TooManyOutcomes, TooManyForAll, TooManySchedules, TooManyEvents, ManyStates, Input, Memory, Write}
+use Rattle.counting.specs.Books.{BookView}
+use Rattle.counting.specs.Counts.{book_over}
+use Rattle.exploring.specs.declared.words.Written.{Written}
+use Rattle.exploring.specs.Reports.{IsAsFor}
+use Rattle.exploring.specs.Words.{Asked, Put, family_asked, request_of_words, ticks_asked, written_asked}
 
 -- ---- statuses
 
@@ -34,6 +35,10 @@ status_of NotOneEvent = 2
 status_of (TooMuchPutIn most) = 2
 status_of NoEventBehind = 2
 status_of AllAnywhere = 2
+status_of OutcomesAnywhere = 2
+status_of Which = 2
+status_of (TooManyOutcomes schedules given) = 2
+status_of (TooManyForAll most) = 2
 status_of (TooManySchedules most) = 2
 status_of (TooManyEvents longest most) = 2
 status_of (ManyStates most place) = 3
@@ -75,22 +80,24 @@ abbrev pub book_asked : World → List Event → List Text → Put → BookView
 book_asked world events texts p = book_over world p.loose events texts (schedules_of p)
 
 -- What is asked for was explored, with this answer: the files are a world and events for it, all schedules of the family were counted, and a text
--- that tells of them was put.
+-- that tells of them was put, or in its place one that stands for the schedule that is to be written.
 pub record IsExplored (contents : Contents) (a : Asked) (told : Bool) (IsPut : List ℕ → Type 0) : Type 0 where
   pub world : World
   pub events : List Event
   pub put_in : Put
+  pub written : Written
   pub read : AreRead contents (a.world, a.events) world events
   pub in_range : family_asked a world.consoles (length events) ≡ Some put_in
   pub answer : told ≡ is_told a.must_halt (book_asked world events a.finds put_in)
+  pub asked : written_asked a.write ≡ Some written
   pub text : List ℕ
-  pub reports : Reports put_in.loose events (length (schedules_of put_in)) put_in.upto put_in.ticks (book_asked world events a.finds put_in) text
+  pub is_as_asked : IsAsFor written put_in.loose events (length (schedules_of put_in)) put_in.upto put_in.ticks (book_asked world events a.finds put_in) text
   pub put : IsPut text
 
--- A number that is asked for is out of range, a word isn't an event, or there are too many schedules.
+-- A number that is asked for is out of range, a word isn't an event or a schedule, or there are too many schedules.
 abbrev pub IsOutOfRange : Contents → Asked → Type 0
-IsOutOfRange contents a = (ticks_asked a.ticks ≡ None)
-    ⊎ ((world : World) × (events : List Event) × AreRead contents (a.world, a.events) world events × (family_asked a world.consoles (length events) ≡ None))
+IsOutOfRange contents a = (ticks_asked a.ticks ≡ None) ⊎ ((written_asked a.write ≡ None)
+    ⊎ ((world : World) × (events : List Event) × AreRead contents (a.world, a.events) world events × (family_asked a world.consoles (length events) ≡ None)))
 
 -- ---- what a status means
 

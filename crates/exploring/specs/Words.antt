@@ -1,5 +1,5 @@
 -- The words of the command line, and what they ask for.
-use Rattle.std.specs.Prelude.{ℕ, ◌+◌, ◌^◌, ◌-◌, ◌==◌, ◌&&◌, ◌||◌, not, Bool, true, false, List, [], ◌∷◌, ◌++◌, length, map, fold, nat_le, Option, None, Some, Result, Ok, Err, codes, option_and_then, option_map, if◌then◌else◌}
+use Rattle.std.specs.Prelude.{ℕ, ◌+◌, ◌*◌, ◌^◌, ◌-◌, ◌==◌, ◌&&◌, ◌||◌, not, Bool, true, false, List, [], ◌∷◌, ◌++◌, length, map, fold, nat_le, Option, None, Some, Result, Ok, Err, codes, option_and_then, option_map, if◌then◌else◌}
 use Rattle.std.specs.Str.{bytes_eq}
 use Rattle.clap.specs.Lexer.{name_and_value}
 use Rattle.clap.specs.Words.{App, Row, Text, fault_of, first_of, matches_of}
@@ -16,6 +16,8 @@ use Rattle.exploring.specs.declared.words.Parts.{Parts}
 use Rattle.exploring.specs.declared.words.Request.{Request}
 use Rattle.exploring.specs.declared.words.Texted.{Texted}
 use Rattle.exploring.specs.declared.words.Texted.TheVariants.{Find, Anywhere}
+use Rattle.exploring.specs.declared.words.Written.{Written}
+use Rattle.exploring.specs.declared.words.Written.TheVariants as written
 
 -- what words ask for
 pub record Asked : Type 0 where
@@ -28,6 +30,8 @@ pub record Asked : Type 0 where
   pub anywhere : List Text  -- the words behind each `--anywhere`
   pub must_halt : Bool
   pub all : Bool
+  pub outcomes : Bool
+  pub write : Option Text  -- the word behind `--write`
 
 -- ---- the texts behind `--find` and `--anywhere`, which may begin with a hyphen, and all other words
 
@@ -91,11 +95,11 @@ parted words = fold with_word nothing_parted words
 
 -- ---- what they ask for
 
--- `explore WORLD EVENTS [--ticks K] [--upto N] [--states N] [--anywhere].. [--find].. [--must-halt] [--all]`
+-- `explore WORLD EVENTS [--ticks K] [--upto N] [--states N] [--anywhere].. [--find].. [--must-halt] [--all] [--outcomes] [--write WHICH]`
 abbrev pub command_line : App
 command_line = command_of (codes "explore")
     ((codes "ticks", Set) ∷ (codes "upto", Set) ∷ (codes "states", Set) ∷ (codes "anywhere", Count) ∷ (codes "find", Count) ∷ (codes "must-halt", SetTrue)
-    ∷ (codes "all", SetTrue) ∷ [])
+    ∷ (codes "all", SetTrue) ∷ (codes "outcomes", SetTrue) ∷ (codes "write", Set) ∷ [])
 
 -- what the files, the texts and the other words' matches ask for
 abbrev pub asked_with : List Text → List Text → List Row → Text × Text → Asked
@@ -109,6 +113,8 @@ asked_with finds anywhere rows (world, events) = record {
   anywhere = anywhere;
   must_halt = is_used (codes "must-halt") rows;
   all = is_used (codes "all") rows;
+  outcomes = is_used (codes "outcomes") rows;
+  write = first_of (codes "write") rows;
 }
 
 abbrev pub asked_in : List Text → List Text → List Row → Option Asked
@@ -144,6 +150,8 @@ said r = record {
   anywhere = map (λ t. t.now) r.anywhere.now;
   must_halt = r.must_halt;
   all = r.all;
+  outcomes = r.outcomes;
+  write = option_map (λ w. w.now) r.write;
 }
 
 -- the words that were told apart
@@ -171,9 +179,15 @@ abbrev pub states_asked : Option Text → Option ℕ
 states_asked None = Some 50000
 states_asked (Some word) = up_to 10000000 (number_of word)
 
--- So many schedules are told of, the longest of so many events: not more than can be at all.
-abbrev pub are_run : ℕ → ℕ → Bool
-are_run size longest = nat_le size (2 ^ 128 - 1) && nat_le longest 1000000000000
+-- So many schedules, the longest of so many events, are run one after another, unless loose events are put in: all that can be counted so, or those
+-- that take little time.
+abbrev pub are_run_each : Bool → ℕ → ℕ → Bool
+are_run_each all size longest = nat_le size (2 ^ 64 - 1) && (all || nat_le size 10000000 && nat_le (size * longest) 10000000000)
+
+-- So many schedules are told of, the longest of so many events: not more than can be at all, and where outcomes are to be told, not more than are run
+-- one after another.
+abbrev pub are_run : Bool → Bool → ℕ → ℕ → Bool
+are_run all outcomes size longest = nat_le size (2 ^ 128 - 1) && nat_le longest 1000000000000 && (not outcomes || are_run_each all size longest)
 
 -- what is put in: before how many events, how many ticks at most, and which events once each
 pub record Put : Type 0 where
@@ -195,15 +209,15 @@ loose_asked consoles (word ∷ words) = option_and_then (λ event. option_map (�
 
 -- So many ticks and loose events can be put in: there is an event that the loose ones stand before, and schedules aren't to be run one after another.
 abbrev pub can_be_put : Bool → ℕ → ℕ → ℕ → Bool
-can_be_put all upto ticks loose = nat_le (ticks + loose) 32 && (loose == 0 || not (upto == 0) && not all)
+can_be_put each upto ticks loose = nat_le (ticks + loose) 32 && (loose == 0 || not (upto == 0) && not each)
 
--- So many of so many events are put in, and the schedules can be told of.
-abbrev pub fits : Bool → ℕ → Put → Bool
-fits all events p = can_be_put all p.upto p.ticks (length p.loose)
-    && are_run (length (family p.upto p.ticks (length p.loose))) (events + (p.ticks + length p.loose))
+-- So many of so many events are put in, and the schedules can be told of, one after another with `--all`, and by outcomes with `--outcomes`.
+abbrev pub fits : Bool → Bool → ℕ → Put → Bool
+fits all outcomes events p = can_be_put (all || outcomes) p.upto p.ticks (length p.loose)
+    && are_run all outcomes (length (family p.upto p.ticks (length p.loose))) (events + (p.ticks + length p.loose))
 
-abbrev pub if_fits : Bool → ℕ → Put → Option Put
-if_fits all events p = if fits all events p then Some p else None
+abbrev pub if_fits : Bool → Bool → ℕ → Put → Option Put
+if_fits all outcomes events p = if fits all outcomes events p then Some p else None
 
 -- where so many states can be kept
 abbrev pub if_kept : Option Text → Option Put → Option Put
@@ -213,5 +227,20 @@ if_kept word put = option_and_then (λ states. put) (states_asked word)
 -- many schedules.
 abbrev pub family_asked : Asked → ℕ → ℕ → Option Put
 family_asked a consoles events = option_and_then (λ ticks. option_and_then (λ upto. if_kept a.states (option_and_then (λ loose.
-    if_fits a.all events (record { upto = upto; ticks = ticks; loose = loose }))
+    if_fits a.all a.outcomes events (record { upto = upto; ticks = ticks; loose = loose }))
     (loose_asked consoles a.anywhere))) (upto_asked events a.upto)) (ticks_asked a.ticks)
+
+-- ---- what is put
+
+abbrev pub outcome_numbered : Option ℕ → Option Written
+outcome_numbered None = None
+outcome_numbered (Some number) = if number == 0 then None else Some (written.Outcome number)
+
+abbrev pub written_named : Text → Option Written
+written_named word = if bytes_eq word (codes "rest") then Some written.Rest else if bytes_eq word (codes "going") then Some written.Going
+    else if bytes_eq word (codes "find") then Some written.Find else outcome_numbered (number_of word)
+
+-- the report, if nothing is named
+abbrev pub written_asked : Option Text → Option Written
+written_asked None = Some written.Report
+written_asked (Some word) = written_named word

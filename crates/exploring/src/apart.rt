@@ -2,9 +2,9 @@
 
 ghost use Rattle.std.specs.Prelude.{◌≡◌, ◌↔◌, IfSome, IsNone, IsTrue, Some, option_map};
 ghost use Rattle.std.specs.Option.{option_copied};
-ghost use Rattle.exploring.specs.Texts.{shown as shown_of};
+ghost use Rattle.counting.specs.Texts.{shown as shown_of};
 
-use crate::lines::{Line, process_number, shown};
+use counting::{Line, process_number, shown};
 use std::alloc::{AllocError, Global};
 use std::collections::HashMap;
 

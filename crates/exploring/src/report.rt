@@ -8,12 +8,15 @@ ghost use Rattle.schedules.specs.EventLines.{AddsText};
 ghost use Rattle.exploring.specs.Reports.{Adds, AreOfFamily, IsFirstOf, Reports, ShowsFind, ShowsFinds, ShowsFirst, at_rest_lines, ending_line, first_lines, first_that, plural as plural_of, size_line};
 
 use crate::apart::{Unlike, first_unlike};
-use crate::course::run_list;
-use crate::{Book, Ending, Endings, Family, Find, Line, Tally, events_of, is_schedule};
+use crate::turns::turns_of;
+use counting::{
+    Book, Ending, Endings, Family, Find, Line, Tally, events_of, is_schedule, run_schedule,
+};
 use schedules::write_events;
 use std::alloc::{AllocError, Global};
 use std::fmt::Write;
 use trace::print_entry;
+use wording::Listing;
 
 /// So many outcomes are shown at most.
 const MOST_SHOWN: usize = 20;
@@ -37,17 +40,20 @@ fn ending_words(ending: Ending) -> &'static str {
     }
 }
 
-/// Writes the text of the events of a schedule.
-fn write_schedule(
+/// Writes the text of the events of a schedule, with comments that say whose turns the ticks take that are put in.
+pub fn write_schedule(
     alloc: Global,
     text: &mut String,
     family: &Family<'_>,
+    listing: &Listing<'_>,
     spots: &[u64],
 ) -> Result<(), AllocError>
     requires { IsSchedule family.now.upto family.now.ticks (length family.now.loose.now) spots.now }
     ensures { OnOk result (AddsText (string_bytes text.old) (scheduled_events family.now.loose.now family.now.events.now spots.now) (string_bytes text.new)) }
 {
-    write_events(text, &events_of(alloc, family, spots)?)
+    let turns = turns_of(alloc, family, listing, spots)?;
+    let events = events_of(alloc, family, spots)?;
+    write_events(text, &events, turns.as_slice())
 }
 
 /// Writes how many schedules there are.
@@ -113,6 +119,7 @@ fn write_first(
     alloc: Global,
     text: &mut String,
     family: &Family<'_>,
+    listing: &Listing<'_>,
     what: &str,
     tally: &Tally,
 ) -> Result<(), AllocError>
@@ -123,7 +130,7 @@ fn write_first(
         return Ok(());
     };
     writeln!(text, "\nthe first that {what}")?;
-    write_schedule(alloc, text, family, spots)
+    write_schedule(alloc, text, family, listing, spots)
 }
 
 /// Writes which schedules have a text in a line.
@@ -131,6 +138,7 @@ fn write_find(
     alloc: Global,
     text: &mut String,
     family: &Family<'_>,
+    listing: &Listing<'_>,
     find: &Find<'_>,
 ) -> Result<(), AllocError>
     requires { IsFirstOf family.now.upto family.now.ticks (length family.now.loose.now) find.now.tally }
@@ -144,7 +152,7 @@ fn write_find(
         return Ok(());
     };
     text.push_str("the first that has it\n")?;
-    write_schedule(alloc, text, family, spots)
+    write_schedule(alloc, text, family, listing, spots)
 }
 
 /// Writes which schedules have each text in a line.
@@ -152,13 +160,14 @@ fn write_finds(
     alloc: Global,
     text: &mut String,
     family: &Family<'_>,
+    listing: &Listing<'_>,
     finds: &[Find<'_>],
 ) -> Result<(), AllocError>
     requires { All (λ f. IsFirstOf family.now.upto family.now.ticks (length family.now.loose.now) f.tally) finds.now }
     ensures { OnOk result (Adds (string_bytes text.old) (ShowsFinds family.now.loose.now family.now.events.now finds.now) (string_bytes text.new)) }
 {
     for find in finds {
-        write_find(alloc, text, family, find)?;
+        write_find(alloc, text, family, listing, find)?;
     }
     Ok(())
 }
@@ -225,6 +234,7 @@ fn write_run(
     alloc: Global,
     text: &mut String,
     family: &Family<'_>,
+    listing: &Listing<'_>,
     spots: &[u64],
     first: Option<&[Line]>,
 ) -> Result<Vec<Line>, AllocError> {
@@ -232,11 +242,10 @@ fn write_run(
     if !is_schedule(family, spots) {
         return Ok(lines);
     }
-    let events = events_of(alloc, family, spots)?;
-    let ending = run_list(alloc, family.world, &events, &mut lines)?;
+    let ending = run_schedule(alloc, family, spots, &mut lines)?;
     let ends = ending_words(ending);
     writeln!(text, ", the first of which {ends}")?;
-    write_events(text, &events)?;
+    write_schedule(alloc, text, family, listing, spots)?;
     if let Some(first) = first {
         write_apart(alloc, text, lines.as_slice(), first)?;
     }
@@ -249,6 +258,7 @@ fn write_outcome(
     alloc: Global,
     text: &mut String,
     family: &Family<'_>,
+    listing: &Listing<'_>,
     number: usize,
     outcome: &Tally,
     first: Option<&[Line]>,
@@ -257,7 +267,7 @@ fn write_outcome(
     let s = plural(count);
     write!(text, "\n{number}. {count} schedule{s}")?;
     match outcome.first() {
-        Some(spots) => write_run(alloc, text, family, spots, first),
+        Some(spots) => write_run(alloc, text, family, listing, spots, first),
         None => Ok(Vec::new(alloc)),
     }
 }
@@ -267,28 +277,34 @@ fn write_some(
     alloc: Global,
     text: &mut String,
     family: &Family<'_>,
+    listing: &Listing<'_>,
     outcomes: &[&Tally],
 ) -> Result<(), AllocError> {
     let Some((first, others)) = outcomes.split_first() else {
         return Ok(());
     };
-    let first_lines = write_outcome(alloc, text, family, 1, first, None)?;
+    let first_lines = write_outcome(alloc, text, family, listing, 1, first, None)?;
     for (before, outcome) in others.iter().enumerate() {
         let first = Some(first_lines.as_slice());
-        write_outcome(alloc, text, family, before + 2, outcome, first)?;
+        write_outcome(alloc, text, family, listing, before + 2, outcome, first)?;
     }
     Ok(())
 }
 
 /// What is told of the outcomes.
-fn outcomes_of(alloc: Global, family: &Family<'_>, book: &Book<'_>) -> Result<String, AllocError> {
+fn outcomes_of(
+    alloc: Global,
+    family: &Family<'_>,
+    listing: &Listing<'_>,
+    book: &Book<'_>,
+) -> Result<String, AllocError> {
     let mut text = String::new(alloc);
     let states = book.states();
     if states > 0 {
         let s = plural(u128::from(states));
         writeln!(
             text,
-            "\ntold apart by {states} state{s} behind the last tick"
+            "\ntold apart by {states} state{s} where no more is put in"
         )?;
         return Ok(text);
     }
@@ -297,7 +313,13 @@ fn outcomes_of(alloc: Global, family: &Family<'_>, book: &Book<'_>) -> Result<St
     let s = plural(count as u128);
     writeln!(text, "\n{count} outcome{s}")?;
     let shown = count.min(MOST_SHOWN);
-    write_some(alloc, &mut text, family, &outcomes.as_slice()[..shown])?;
+    write_some(
+        alloc,
+        &mut text,
+        family,
+        listing,
+        &outcomes.as_slice()[..shown],
+    )?;
     let more = count - shown;
     if more > 0 {
         writeln!(text, "\nand {more} less frequent")?;
@@ -306,17 +328,23 @@ fn outcomes_of(alloc: Global, family: &Family<'_>, book: &Book<'_>) -> Result<St
 }
 
 /// What is told of a family.
-pub fn report(alloc: Global, family: &Family<'_>, book: &Book<'_>) -> Result<String, AllocError>
+pub fn report(
+    alloc: Global,
+    family: &Family<'_>,
+    listing: &Listing<'_>,
+    book: &Book<'_>,
+) -> Result<String, AllocError>
     requires { AreOfFamily family.now.upto family.now.ticks (length family.now.loose.now) book.now }
     ensures { IfOk result (λ text. Reports family.now.loose.now family.now.events.now family.now.size family.now.upto family.now.ticks book.now (string_bytes text)) }
 {
     let mut text = String::new(alloc);
     let endings = book.endings();
     write_endings(&mut text, family, endings)?;
-    write_first(alloc, &mut text, family, "comes to rest", &endings.at_rest)?;
-    write_first(alloc, &mut text, family, "is still going", &endings.going)?;
-    write_finds(alloc, &mut text, family, book.finds())?;
-    let outcomes = outcomes_of(alloc, family, book)?;
+    let (resting, going) = (&endings.at_rest, &endings.going);
+    write_first(alloc, &mut text, family, listing, "comes to rest", resting)?;
+    write_first(alloc, &mut text, family, listing, "is still going", going)?;
+    write_finds(alloc, &mut text, family, listing, book.finds())?;
+    let outcomes = outcomes_of(alloc, family, listing, book)?;
     text.push_str(outcomes.as_str())?;
     Ok(text)
 }

@@ -1,24 +1,26 @@
 //! What the program does: its texts and its statuses.
 
-ghost use Rattle.std.specs.Prelude.{◌≡◌, ◌⊎◌, ◌+◌, ◌≤◌, false, true, List, [], length, Result, Err, MatchResult, None, OnOk, Some, map, option_map, ◌<◌, ◌^◌};
+ghost use Rattle.std.specs.Prelude.{◌≡◌, ◌⊎◌, ◌+◌, ◌≤◌, ◌||◌, false, true, List, [], length, Result, Err, MatchResult, None, OnErr, OnOk, Some, map, option_map};
+ghost use Rattle.std.specs.String.{string_bytes};
+ghost use Rattle.sink.specs.Sinks.{BreaksOff, TakesAll};
 ghost use Rattle.inputs.specs.declared.command_line.WordsFault.{WordsFault};
 ghost use Rattle.posix.specs.declared.event.Event.{Event as EventValue};
 ghost use Rattle.text.specs.declared.fault.TextFault.{TextFault as TextFaultValue};
 ghost use Rattle.text.specs.EventTexts.{event_text, most_events};
 ghost use Rattle.text.specs.Reading.{IsFaultOf};
 ghost use Rattle.schedules.specs.Families.{family as family_of};
-ghost use Rattle.exploring.specs.Counts.{book_over};
+ghost use Rattle.counting.specs.Counts.{book_over};
+ghost use Rattle.exploring.specs.Reports.{bytes_put};
 ghost use Rattle.exploring.specs.Serving.{Means, answer_of, asked_by, is_found as has_found, all_halt as have_halted, is_told as told_by, status_of};
-ghost use Rattle.exploring.specs.Words.{are_run, asked_by_parts, can_be_put, loose_asked, only, parted_as, request_of_words, said, states_asked, ticks_asked, upto_asked};
+ghost use Rattle.exploring.specs.Words.{are_run, are_run_each as each_is_run, asked_by_parts, can_be_put, loose_asked, only, parted_as, request_of_words, said, states_asked, ticks_asked, upto_asked, written_asked};
 
-use crate::merging::{event_at, merge};
-use crate::report::report;
-use crate::search::Stop;
-use crate::words::{Parts, Request, parts_of, requested};
-use crate::{Book, Family, Progress, explore};
+use crate::words::{Parts, Request, Written, parts_of, requested};
+use crate::written::text_of;
 use arrayvec::ArrayString;
+use counting::{Book, Family, Progress, event_at, explore};
 use inputs::{InputFault, NoRequest, ReadFiles, WordsFault, number, read_inputs, tell_unread};
 use kernel::{Sink, SinkFault, put_all};
+use merging::{Stop, merge};
 use posix::Event;
 use schedules::family_size;
 use std::alloc::{AllocError, Global};
@@ -29,7 +31,7 @@ use thiserror::Error;
 /// Why the program doesn't end with status 0.
 #[derive(Clone, Copy, Debug, Error)]
 enum Failure<'a> {
-    #[error("usage: jobk explore WORLD EVENTS [--ticks K] [--upto N] [--states N] [--anywhere EVENT].. [--find TEXT].. [--must-halt] [--all]")]
+    #[error("usage: jobk explore WORLD EVENTS [--ticks K] [--upto N] [--states N] [--anywhere EVENT].. [--find TEXT].. [--must-halt] [--all] [--outcomes] [--write WHICH]")]
     Usage,
     #[error("jobk: --ticks takes a number from 0 to 32")]
     Ticks,
@@ -47,6 +49,14 @@ enum Failure<'a> {
     NoEventBehind,
     #[error("jobk: --all runs schedules one after another, which --anywhere doesn't")]
     AllAnywhere,
+    #[error("jobk: --outcomes runs schedules one after another, which --anywhere doesn't")]
+    OutcomesAnywhere,
+    #[error("jobk: --write takes rest, going, find, or the number of an outcome")]
+    Which,
+    #[error("jobk: --outcomes tells of up to {0} schedules and {1} events in all: say fewer by --ticks or --upto")]
+    TooManyOutcomes(u128, u128),
+    #[error("jobk: --outcomes tells of up to {0} schedules with --all: say fewer by --ticks or --upto")]
+    TooManyForAll(u64),
     #[error("jobk: more than {0} schedules: say fewer by --ticks or --upto")]
     TooManySchedules(u128),
     #[error("jobk: more than {0} states behind event {1}: say more by --states, or fewer ticks or places by --ticks or --upto")]
@@ -69,6 +79,9 @@ const MOST_PUT_IN: usize = 32;
 
 /// No more states than this can be kept before one event.
 const MOST_STATES: u64 = 10_000_000;
+
+/// More schedules than this aren't run one after another.
+const MOST_OF_ALL: u64 = u64::MAX;
 
 /// More schedules than this are run one after another with `--all` alone.
 const MOST_SCHEDULES: u128 = 10_000_000;
@@ -153,6 +166,10 @@ impl Failure<'_> {
             | Failure::TooMuchPutIn(_)
             | Failure::NoEventBehind
             | Failure::AllAnywhere
+            | Failure::OutcomesAnywhere
+            | Failure::Which
+            | Failure::TooManyOutcomes(_, _)
+            | Failure::TooManyForAll(_)
             | Failure::TooManySchedules(_)
             | Failure::TooManyEvents(_, _) => 2,
             Failure::ManyStates(_, _) | Failure::Memory | Failure::Write => 3,
@@ -206,6 +223,18 @@ fn states_of<'a>(word: Option<&str>) -> Result<usize, Failure<'a>>
     }
 }
 
+/// What is put: the report, if nothing is named.
+fn written_of<'a>(word: Option<&str>) -> Result<Written, Failure<'a>>
+    ensures { MatchResult result
+        (λ written. written_asked (option_map (λ w. w.now) word.entry) ≡ Some written)
+        (λ why. (status_of why ≡ 2) × (written_asked (option_map (λ w. w.now) word.entry) ≡ None)) }
+{
+    let Some(word) = word else {
+        return Ok(Written::Report);
+    };
+    Written::named(word).ok_or(Failure::Which)
+}
+
 /// Why a word isn't the text of an event: want of memory is no fault of it.
 fn failure_of_word<'a>(fault: TextFault) -> Failure<'a>
     ensures { (meaning : Result (List EventValue) TextFaultValue) → IsFaultOf meaning fault
@@ -254,12 +283,18 @@ fn events_of_words<'a>(
 }
 
 /// Refuses loose events that can't be put in: too many, before no event, or into schedules that are run one after
-/// another.
-fn fit_in<'a>(loose: &[Event], upto: u64, ticks: usize, all: bool) -> Result<(), Failure<'a>>
+/// another, as they are with `--all` and `--outcomes`.
+fn fit_in<'a>(
+    loose: &[Event],
+    upto: u64,
+    ticks: usize,
+    all: bool,
+    outcomes: bool,
+) -> Result<(), Failure<'a>>
     requires { ticks ≤ 32 }
     ensures fit { MatchResult result
-        (λ _. can_be_put all upto ticks (length loose.now) ≡ true)
-        (λ why. (status_of why ≡ 2) × (can_be_put all upto ticks (length loose.now) ≡ false)) }
+        (λ _. can_be_put (all || outcomes) upto ticks (length loose.now) ≡ true)
+        (λ why. (status_of why ≡ 2) × (can_be_put (all || outcomes) upto ticks (length loose.now) ≡ false)) }
     ensures few { OnOk result (ticks + length loose.now ≤ 32) }
     ensures placed { OnOk result (upto ≡ 0 → loose.now ≡ []) }
 {
@@ -275,17 +310,50 @@ fn fit_in<'a>(loose: &[Event], upto: u64, ticks: usize, all: bool) -> Result<(),
     if all {
         return Err(Failure::AllAnywhere);
     }
+    if outcomes {
+        return Err(Failure::OutcomesAnywhere);
+    }
     Ok(())
 }
 
-/// How many schedules there are, unless they are too many to be counted, or one of them is too long.
-fn size_of<'a>(upto: u64, ticks: usize, loose: usize, events: u64) -> Result<u128, Failure<'a>>
+/// Whether so many schedules, the longest of so many events, are run one after another: all that can be counted so, or those
+/// that take little time.
+fn are_run_each(size: u128, longest: u64, all: bool) -> bool
+    ensures { result ≡ each_is_run all size longest }
+{
+    if size > u128::from(MOST_OF_ALL) {
+        return false;
+    }
+    all || (size <= MOST_SCHEDULES && size * u128::from(longest) <= MOST_GIVEN)
+}
+
+/// Why the outcomes of schedules that aren't run one after another can't be told.
+fn no_outcomes<'a>(all: bool) -> Failure<'a>
+    ensures { status_of result ≡ 2 }
+{
+    if all {
+        Failure::TooManyForAll(MOST_OF_ALL)
+    } else {
+        Failure::TooManyOutcomes(MOST_SCHEDULES, MOST_GIVEN)
+    }
+}
+
+/// How many schedules there are, unless they are too many to be counted, or to be run one after another where outcomes are
+/// to be told, or one of them is too long.
+fn size_of<'a>(
+    upto: u64,
+    ticks: usize,
+    loose: usize,
+    events: u64,
+    all: bool,
+    outcomes: bool,
+) -> Result<u128, Failure<'a>>
     requires few { ticks + loose ≤ 32 }
     requires upto { upto ≤ events }
     requires events { events ≤ most_events }
     ensures size { MatchResult result
-        (λ size. (size ≡ length (family_of upto ticks loose)) × (are_run (length (family_of upto ticks loose)) (events + (ticks + loose)) ≡ true))
-        (λ why. (status_of why ≡ 2) × (are_run (length (family_of upto ticks loose)) (events + (ticks + loose)) ≡ false)) }
+        (λ size. (size ≡ length (family_of upto ticks loose)) × (are_run all outcomes (length (family_of upto ticks loose)) (events + (ticks + loose)) ≡ true))
+        (λ why. (status_of why ≡ 2) × (are_run all outcomes (length (family_of upto ticks loose)) (events + (ticks + loose)) ≡ false)) }
     ensures short { OnOk result (events + (ticks + loose) ≤ most_events) }
 {
     let most = u128::MAX;
@@ -294,18 +362,10 @@ fn size_of<'a>(upto: u64, ticks: usize, loose: usize, events: u64) -> Result<u12
     if longest > MOST_EVENTS {
         return Err(Failure::TooManyEvents(longest, MOST_EVENTS));
     }
-    Ok(size)
-}
-
-/// Whether so many schedules, the longest of so many events, are run one after another: all that can be counted so, or those
-/// that take little time.
-fn are_run_each(size: u128, longest: u64, all: bool) -> bool
-    ensures { result ≡ true → size < 2 ^ 64 }
-{
-    if size > u128::from(u64::MAX) {
-        return false;
+    if outcomes && !are_run_each(size, longest, all) {
+        return Err(no_outcomes(all));
     }
-    all || (size <= MOST_SCHEDULES && size * u128::from(longest) <= MOST_GIVEN)
+    Ok(size)
 }
 
 /// The book of a family, by its schedules one after another, or by the states in which they meet, as always with loose
@@ -349,23 +409,56 @@ fn is_told(must_halt: bool, book: &Book<'_>) -> bool
     is_found(book) || (must_halt && !all_halt(book))
 }
 
+/// Tells that there is no schedule to be written, as far as the error output takes it. It takes no memory.
+fn tell_missing<E: Sink>(written: Written, err: &mut E) -> Result<(), SinkFault> {
+    let mut text = ArrayString::<64>::new();
+    let _ = match written {
+        Written::Report => Ok(()),
+        Written::Rest => writeln!(text, "jobk: no schedule comes to rest"),
+        Written::Going => writeln!(text, "jobk: no schedule is still going"),
+        Written::Find => writeln!(text, "jobk: no schedule has a text that is looked for"),
+        Written::Outcome(number) => writeln!(text, "jobk: there is no outcome {number}"),
+    };
+    put_all(err, text.as_str().as_bytes())
+}
+
+/// Puts a text. Where there is none, the error output is told so; if that fails, nothing changes.
+fn put_text<O: Sink, E: Sink>(
+    text: &Option<String>,
+    written: Written,
+    out: &mut O,
+    err: &mut E,
+) -> Result<(), SinkFault>
+    ensures ok { OnOk result (TakesAll (O.seen out.old) (O.seen out.new) (bytes_put (option_map string_bytes text.now))) }
+    ensures err { OnErr result (BreaksOff (O.seen out.old) (O.seen out.new) (bytes_put (option_map string_bytes text.now))) }
+{
+    let Some(text) = text else {
+        let _ = tell_missing(written, err);
+        return put_all(out, &[]);
+    };
+    put_all(out, text.as_str().as_bytes())
+}
+
 /// Does what is asked for. Whether a schedule has a text that is looked for, or doesn't halt where all have to.
-fn serve_request<'a, 'w, F: ReadFiles, O: Sink, P: Progress>(
+fn serve_request<'a, 'w, F: ReadFiles, O: Sink, E: Sink, P: Progress>(
     alloc: Global,
     request: &Request<'a, 'w>,
     files: &F,
     out: &mut O,
+    err: &mut E,
     progress: &mut P,
 ) -> Result<bool, Failure<'a>>
     ensures { Means (F.contents files.now) (Some (said request.now)) out.old out.new (O.seen out.old) (O.seen out.new) (answer_of result) }
 {
     let ticks = ticks_of(request.ticks)?;
+    let written = written_of(request.write)?;
     let inputs = read_inputs(alloc, files, request.world, request.events)?;
     let upto = upto_of(request.upto, inputs.events.len())?;
     let states = states_of(request.states)?;
     let put_in = events_of_words(alloc, inputs.world.consoles(), request.anywhere)?;
     let loose = put_in.as_slice();
-    fit_in(loose, upto, ticks, request.all)?;
+    let (all, outcomes) = (request.all, request.outcomes);
+    fit_in(loose, upto, ticks, all, outcomes)?;
     let family = Family {
         world: &inputs.world,
         events: &inputs.events,
@@ -373,15 +466,16 @@ fn serve_request<'a, 'w, F: ReadFiles, O: Sink, P: Progress>(
         upto,
         ticks,
         states,
-        size: size_of(upto, ticks, loose.len(), inputs.events.len())?,
+        size: size_of(upto, ticks, loose.len(), inputs.events.len(), all, outcomes)?,
     };
     let book = book_of(alloc, &family, request, progress)?;
-    let reported = report(alloc, &family, &book);
+    let world_text = inputs.world_text.as_slice();
+    let made = text_of(alloc, &family, world_text, &book, written);
     let is_told = is_told(request.must_halt, &book);
     // What is large is dropped by its name, by one function whose proof is short.
     drop(book);
-    let text = reported?;
-    put_all(out, text.as_str().as_bytes())?;
+    let text = made?;
+    put_text(&text, written, out, err)?;
     Ok(is_told)
 }
 
@@ -396,17 +490,18 @@ fn tell<E: Sink>(failure: Failure<'_>, err: &mut E) -> Result<(), SinkFault> {
 }
 
 /// Does what the words ask for, whose texts are told apart.
-fn serve_parts<'a, 'w, F: ReadFiles, O: Sink, P: Progress>(
+fn serve_parts<'a, 'w, F: ReadFiles, O: Sink, E: Sink, P: Progress>(
     alloc: Global,
     parts: &'a Parts<'w>,
     files: &F,
     out: &mut O,
+    err: &mut E,
     progress: &mut P,
 ) -> Result<bool, Failure<'a>>
     ensures { Means (F.contents files.now) (asked_by_parts (parted_as parts.entry.now)) out.old out.new (O.seen out.old) (O.seen out.new) (answer_of result) }
 {
     let request = requested(alloc, parts)?;
-    serve_request(alloc, &request, files, out, progress)
+    serve_request(alloc, &request, files, out, err, progress)
 }
 
 /// The status of the program. A failure is told.
@@ -437,7 +532,7 @@ fn serve_words<'a, F: ReadFiles, O: Sink, E: Sink, P: Progress>(
     ensures meaning { Means (F.contents files.now) (request_of_words (map (λ w. w.now) words.now)) out.old out.new (O.seen out.old) (O.seen out.new) result }
 {
     match parts_of(alloc, words) {
-        Ok(parts) => told(serve_parts(alloc, &parts, files, out, progress), err),
+        Ok(parts) => told(serve_parts(alloc, &parts, files, out, err, progress), err),
         Err(_) => told(Err(Failure::Memory), err),
     }
 }

@@ -3,10 +3,10 @@
 ghost use Rattle.std.specs.Prelude.{◌≡◌, IfOk, MatchResult, None, OnOk, Some, map, option_map};
 ghost use Rattle.clap.specs.Lexer.{name_and_value};
 ghost use Rattle.clap.specs.Words.{app_of, found_of, rows_of};
-ghost use Rattle.exploring.specs.Words.{asked_by_parts, asked_in, awaits_text, command_line as command_line_asked, nothing_parted, option_named, parted, parted_as, said, with_any, with_text, with_use, with_word, word_of};
+ghost use Rattle.exploring.specs.Words.{asked_by_parts, asked_in, awaits_text, command_line as command_line_asked, nothing_parted, option_named, parted, parted_as, said, with_any, with_text, with_use, with_word, word_of, written_named};
 
 use clap::{ArgAction, ArgMatches, Command};
-use inputs::{NoRequest, command, is_used, named_files, value_of};
+use inputs::{NoRequest, command, is_used, named_files, number, value_of};
 use std::alloc::{AllocError, Global};
 
 /// An option with a text behind it, which may begin with a hyphen.
@@ -162,6 +162,38 @@ pub fn parts_of<'a>(alloc: Global, words: &[&'a str]) -> Result<Parts<'a>, Alloc
     Ok(parts)
 }
 
+/// What is put.
+#[derive(Clone, Copy)]
+pub enum Written {
+    /// What is told of all schedules.
+    Report,
+    /// The first schedule that comes to rest.
+    Rest,
+    /// The first schedule that is still going.
+    Going,
+    /// The first schedule that has the first of the texts that any has.
+    Find,
+    /// The first schedule of the outcome with this number, from 1.
+    Outcome(u64),
+}
+
+impl Written {
+    /// The schedule that a word names, if it names one.
+    pub fn named(word: &str) -> Option<Written>
+        ensures { result ≡ written_named word.now }
+    {
+        match word {
+            "rest" => Some(Written::Rest),
+            "going" => Some(Written::Going),
+            "find" => Some(Written::Find),
+            _ => match number(word) {
+                Some(number) if number > 0 => Some(Written::Outcome(number)),
+                _ => None,
+            },
+        }
+    }
+}
+
 /// What the words ask for.
 #[derive(Drop)]
 pub struct Request<'a, 'w> {
@@ -179,10 +211,13 @@ pub struct Request<'a, 'w> {
     pub anywhere: &'a [&'w str],
     pub must_halt: bool,
     pub all: bool,
+    pub outcomes: bool,
+    /// What stands behind `--write`, as a word.
+    pub write: Option<&'a str>,
 }
 
 /// The program's options, each with what its use does.
-const OPTIONS: [(&str, ArgAction); 7] = [
+const OPTIONS: [(&str, ArgAction); 9] = [
     ("ticks", ArgAction::Set),
     ("upto", ArgAction::Set),
     ("states", ArgAction::Set),
@@ -190,6 +225,8 @@ const OPTIONS: [(&str, ArgAction); 7] = [
     ("find", ArgAction::Count),
     ("must-halt", ArgAction::SetTrue),
     ("all", ArgAction::SetTrue),
+    ("outcomes", ArgAction::SetTrue),
+    ("write", ArgAction::Set),
 ];
 
 /// The program's command line.
@@ -220,6 +257,8 @@ fn request_of<'a, 'w>(
         anywhere,
         must_halt: is_used(matches, "must-halt"),
         all: is_used(matches, "all"),
+        outcomes: is_used(matches, "outcomes"),
+        write: value_of(matches, "write"),
     })
 }
 

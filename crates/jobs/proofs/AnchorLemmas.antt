@@ -1,17 +1,16 @@
 -- What keeps the index of those right that keep their process groups from being orphaned, by what is seen of processes.
-use Rattle.std.proofs.Common.{◌≡◌, ℕ, ◌+◌, ◌<◌, ◌≤◌, ◌==◌, length, ◌&&◌, ◌||◌, true, false, not, cond, refl, ap, sym, ◌∙◌, arith, List, Option, Some, None, option_map}
+use Rattle.std.proofs.Common.{◌≡◌, ℕ, ◌<◌, ◌≤◌, ◌==◌, ◌&&◌, ◌||◌, true, false, not, cond, refl, ap, sym, ◌∙◌, arith, List, Option, Some, None, option_map}
 use Rattle.std.specs.Option.{IsSome, option_map_or}
 use Rattle.std.specs.Prelude.{option_and_then}
 use Rattle.std.proofs.lemmas.Bool.{and_parts, eqb-true, not-true}
 use Rattle.posix.specs.Processes.{Process, is_living, is_zombie}
 use Rattle.posix.specs.Groups.{is_anchor, is_outside as is_outside_of}
-use Rattle.posix.specs.Tables.{IsRising, lookup, parent_of, children_in, first_pid, left_of, next_sibling}
+use Rattle.posix.specs.Tables.{lookup, parent_of}
 use Rattle.posix.proofs.TableLemmas.{pid_looked}
-use Rattle.posix.proofs.WalkLemmas.{at_child, at_first}
 use Rattle.pidset.specs.declared.index.Pair.{Pair}
 use Rattle.pidset.specs.Indexes.{IsMoved, IsAnchorIndex, anchor_key, key_of}
 use Rattle.pidset.proofs.IndexLemmas.{IsElsewhere, unmoved}
-use Rattle.pidset.proofs.AnchorLemmas.{Stance, stance, stance_of, same_anchor, stance_stays, anchors_moved, turned_none}
+use Rattle.pidset.proofs.AnchorLemmas.{Stance, stance, stance_of, same_anchor, stance_stays, anchors_moved}
 use Rattle.jobs.specs.declared.indexes.IndexedFields.{IndexedFields}
 use Rattle.jobs.specs.Indexes.{seen_of, anchor_in, child_key, keeps_group_and_session}
 use Rattle.jobs.specs.IndexedTables.{AreWithin}
@@ -82,14 +81,3 @@ number_within n p rs h none there =
     let low = least_number rs none p r.what r.found in
     let high = (h p r.what r.found).0 in
     (omega (arith, named, low), omega (arith, named, high))
-
--- ---- a walk over the children
-
--- who comes next is there, and one less is left behind it
-pub child_there : (p c : ℕ) (rs : List Process) (next : Option ℕ) → IsRising rs → first_pid (left_of next (children_in p rs)) ≡ next → next ≡ Some c → IsSome (lookup c rs)
-child_there p c rs next up begins comes = rw (at_child rs up p c (rw comes at begins)).found refl
-
-pub child_less : (p c : ℕ) (rs : List Process) (next : Option ℕ) → IsRising rs → first_pid (left_of next (children_in p rs)) ≡ next → next ≡ Some c → length (left_of next (children_in p rs)) ≡ 1 + length (left_of (next_sibling c rs) (children_in p rs))
-child_less p c rs next up begins comes = rw (comes, (at_child rs up p c (rw comes at begins)).left) (omega arith)
-
-pub ruleset child_rules = (child_there, child_less, at_first, turned_none)

@@ -1,17 +1,16 @@
 -- The children of processes, by their index, and their adoption.
-use Rattle.std.proofs.Common.{◌≡◌, ◌≢◌, ℕ, ◌<◌, ◌≤◌, ◌==◌, ◌&&◌, nat_lt, Bool, true, false, cond, refl, ap, sym, ◌∙◌, arith, List, [], ◌∷◌, length, map, filter, Option, Some, None, ◌⊎◌, inl, inr}
-use Rattle.std.specs.List.{AllByRecursion}
+use Rattle.std.proofs.Common.{◌≡◌, ◌≢◌, ℕ, ◌<◌, ◌≤◌, ◌==◌, ◌&&◌, nat_lt, refl, ap, sym, ◌∙◌, arith, subst, List, [], ◌∷◌, map, filter, Option, Some, None, ◌⊎◌, inl, inr}
 use Rattle.std.specs.Prelude.{option_and_then}
-use Rattle.std.specs.Option.{IfSome}
-use Rattle.std.proofs.lemmas.Bool.{cases_eq, eq-eqb, ne_eqb, eqb-true, eqb-false, and_parts}
+use Rattle.std.specs.Option.{IfSome, IsSome}
+use Rattle.std.proofs.lemmas.Bool.{cases_eq, eq-eqb, eqb-true, eqb-false, and_parts}
 use Rattle.std.proofs.lemmas.Bool.Decides.{nat_tests}
 use Rattle.std.proofs.lemmas.List.Elements.{filter_agree}
 use Rattle.posix.specs.Processes.{Process}
-use Rattle.posix.specs.Tables.{IsNext, IsRising, lookup, at, changed, parent_of, above, first_pid, is_child, children_in, left_of, next_sibling, reparented, adopted, inserted, removed}
-use Rattle.posix.proofs.TableLemmas.{pid_looked, pid_reparented}
-use Rattle.posix.proofs.MapLemmas.{lookup_back, at_pid, at_keeps}
+use Rattle.posix.specs.Tables.{IsRising, lookup, at, changed, parent_of, above, first_pid, is_child, children_in, left_of, next_sibling, reparented, adopted, inserted, removed}
+use Rattle.posix.proofs.TableLemmas.{changed_id, pid_looked, pid_reparented, remove_above, rising_adopted, rising_filter}
+use Rattle.posix.proofs.MapLemmas.{adopted_changed, lookup_back, lookup_on, at_pid, at_keeps}
 use Rattle.posix.proofs.RegularLemmas.{lookup_inserted, lookup_new, lookup_left}
-use Rattle.posix.proofs.WalkLemmas.{AtChild, Passes, all_looked, both_pass, first_passes, passing_is_next}
+use Rattle.posix.proofs.WalkLemmas.{AtChild, Passes, at_first, both_pass, first_passes, passing_above}
 use Rattle.pidset.specs.declared.index.Pair.{Pair}
 use Rattle.pidset.specs.Indexes.{ArePairsRekeyed, IsAt, IsIndex, IsNextPair, is_key}
 use Rattle.pidset.proofs.IndexLemmas.{at_once, index_map, index_rekeyed, next_pair, rekeyed}
@@ -19,21 +18,25 @@ use Rattle.proctable.specs.declared.records.Record.{Record}
 use Rattle.proctable.specs.Records.{give_record, with_parent, with_record}
 use Rattle.jobs.specs.Indexes.{list_of_parent, parent_key}
 use Rattle.jobs.specs.IndexedTables.{AreKin, HaveOneRoot}
-use Rattle.jobs.proofs.NumberLemmas.{nobody_there}
+use Rattle.jobs.proofs.NumberLemmas.{least_number, nobody_there}
 
 -- ---- reading
 
 -- those that stand under a process are its children
 kids_are : (k : ℕ) → k ≢ 0 → (rs : List Process) → filter (λ r. is_key k (parent_key r)) rs ≡ children_in k rs
 unfolding children_in
-kids_are k some rs = filter_agree _ (is_child k) (λ r. elim (cases_eq r.parent 0) [
-  | inl none ↦ rw (eq-eqb r.parent 0 none) (sym (ne_eqb r.parent k (λ e. some (sym e ∙ none))))
-  | inr ne ↦ rw (ne_eqb r.parent 0 ne) refl
-]) rs
+kids_are k some rs = filter_agree _ (is_child k) (λ r. grind (arith, nat_tests, some)) rs
 
--- the next under it is its next child
-pub next_kid : (k n : ℕ) (rs : List Process) (pairs : List Pair) (next : Option ℕ) → k ≢ 0 → AreKin rs pairs → IsNextPair k n pairs next → next ≡ first_pid (above n (children_in k rs))
-next_kid k n rs pairs next some kin i = next_pair parent_key rs pairs k n next kin.rising kin.index i ∙ ap (λ l. first_pid (above n l)) (kids_are k some rs)
+-- the next under one that is there is its next child
+pub next_kid : (k n : ℕ) (rs : List Process) (pairs : List Pair) (next : Option ℕ) → AreKin rs pairs → IsSome (lookup k rs) → IsNextPair k n pairs next → next ≡ first_pid (above n (children_in k rs))
+next_kid k n rs pairs next kin there i = next_pair parent_key rs pairs k n next kin.rising kin.index i ∙ ap (λ l. first_pid (above n l)) (kids_are k (λ none. let no = rw (none, kin.none) at there in absurd (cc)) rs)
+
+-- and above 0 its first one, from which on all are left
+pub first_kid : (k : ℕ) (rs : List Process) (pairs : List Pair) (next : Option ℕ) → AreKin rs pairs → IsSome (lookup k rs) → (AreKin rs pairs → IsSome (lookup k rs) → next ≡ first_pid (above 0 (children_in k rs))) → (next ≡ first_pid (children_in k rs)) × (left_of next (children_in k rs) ≡ children_in k rs)
+unfolding children_in
+first_kid k rs pairs next kin there first =
+    let is : next ≡ first_pid (children_in k rs) = first kin there ∙ ap first_pid (passing_above (is_child k) rs kin.rising (least_number rs kin.none)) in
+    (is, rw (← is) at (at_first rs kin.rising k))
 
 -- and of a child the next sibling
 pub sibling_is : (p c : ℕ) (rs : List Process) (i : AtChild rs p c) → first_pid (above c (children_in p rs)) ≡ next_sibling c rs
@@ -46,24 +49,15 @@ by_parent p rs pairs list me index stands found = at_once p list (list_of_parent
 
 -- so it has the parent in whose list it stands
 pub in_list : (parent n : ℕ) → Some parent ≡ list_of_parent n → (parent ≢ 0) × (n ≡ parent)
-in_list parent n e = elim (cases_eq n 0) [
-  | inl none ↦ let nowhere : list_of_parent n ≡ None = rw (eq-eqb n 0 none) refl in let no : Some parent ≡ None = e ∙ nowhere in absurd (cc)
-  | inr some ↦ let there : list_of_parent n ≡ Some n = rw (ne_eqb n 0 some) refl in let is : Some parent ≡ Some n = e ∙ there in let same : n ≡ parent = cc in (λ none. some (same ∙ none), same)
-]
+in_list parent n e = grind (arith, nat_tests, e)
 
 -- or none
 pub in_none : (n : ℕ) → None ≡ list_of_parent n → n ≡ 0
-in_none n e = elim (cases_eq n 0) [
-  | inl none ↦ none
-  | inr some ↦ let there : list_of_parent n ≡ Some n = rw (ne_eqb n 0 some) refl in let no : None ≡ Some n = e ∙ there in absurd (cc)
-]
+in_none n e = grind (arith, nat_tests, e)
 
 -- there is memory for the list of a parent
 pub list_inside : (n parent : ℕ) → (parent ≡ 0) ⊎ ((1 ≤ parent) × (parent < n)) → IfSome (list_of_parent parent) (λ k. (1 ≤ k) × (k < n))
-list_inside n parent h = elim (cases_eq parent 0) [
-  | inl none ↦ rw (eq-eqb parent 0 none) tt
-  | inr some ↦ rw (ne_eqb parent 0 some) (elim h [ inl none ↦ absurd (some none) | inr inside ↦ inside ])
-]
+list_inside n parent h = grind (arith, nat_tests, h)
 
 -- who has no parent has no sibling
 pub no_sibling : (p : ℕ) (rs : List Process) (me : Process) → IsRising rs → HaveOneRoot rs → lookup p rs ≡ Some me → me.parent ≡ 0 → next_sibling p rs ≡ None
@@ -83,106 +77,40 @@ no_sibling p rs me up root found none =
 
 -- ---- adoption
 
--- whether a walk has passed a number, where this one comes next
-abbrev pub has_passed : Option ℕ → ℕ → Bool
-has_passed None q = true
-has_passed (Some n) q = nat_lt q n
-
--- the children that the walk has passed have another parent
-abbrev pub moved_to : ℕ → ℕ → Option ℕ → Process → Process
-moved_to from to next r = cond (r.parent == from && has_passed next r.pid) (with_parent to r) r
-
-pub pid_moved : (from to : ℕ) (next : Option ℕ) (r : Process) → (moved_to from to next r).pid ≡ r.pid
-pid_moved from to next r = elim (r.parent == from && has_passed next r.pid) as (λ b. (cond b (with_parent to r) r).pid ≡ r.pid) [ true ↦ refl | false ↦ refl ]
-
--- a child above n isn't passed where the next one above n comes next
-not_passed : (from n : ℕ) (rs : List Process) (next : Option ℕ) → IsNext (is_child from) n rs next → (q : ℕ) (r : Process) → lookup q rs ≡ Some r → (r.parent == from) ≡ true → n < q → has_passed next q ≡ false
-not_passed from n rs None i q r e child above = let no : true ≡ false = sym child ∙ i.between q r e above tt in absurd (cc)
-not_passed from n rs (Some m) i q r e child above = elim (nat_lt q m) as (λ b. nat_lt q m ≡ b → b ≡ false) [
-  | true ↦ λ t. let no : true ≡ false = sym child ∙ i.between q r e above (grind (arith, nat_tests, t)) in absurd (cc)
-  | false ↦ λ t. refl
-] refl
-
--- two maps that agree on all that are there
-map_all : (f g : Process → Process) (rs : List Process) → AllByRecursion (λ r. f r ≡ g r) rs → map f rs ≡ map g rs
-map_all f g [] a = refl
-map_all f g (r ∷ rs) a = rw a.0 (ap (λ l. g r ∷ l) (map_all f g rs a.1))
-
-map_looked : (f g : Process → Process) (rs : List Process) → IsRising rs → ((q : ℕ) (r : Process) → lookup q rs ≡ Some r → f r ≡ g r) → map f rs ≡ map g rs
-map_looked f g rs up h = map_all f g rs (all_looked (λ r. f r ≡ g r) rs up h)
-
-map_id : (rs : List Process) → map (λ r. r) rs ≡ rs
-map_id [] = refl
-map_id (r ∷ rs) = ap (λ l. r ∷ l) (map_id rs)
-
-map_twice : (f g : Process → Process) (rs : List Process) → map f (map g rs) ≡ map (λ r. f (g r)) rs
-map_twice f g [] = refl
-map_twice f g (r ∷ rs) = ap (λ l. f (g r) ∷ l) (map_twice f g rs)
-
--- no more are left than there are
-pub children_left : (next : Option ℕ) (rs : List Process) → length (left_of next rs) ≤ length rs
-children_left None rs = omega arith
-children_left (Some n) [] = omega arith
-children_left (Some n) (r ∷ rs) = grind (arith, nat_tests, children_left (Some n) rs)
-
--- at first none is passed
-pub none_moved : (from to : ℕ) (rs : List Process) (next : Option ℕ) → IsRising rs → ((q : ℕ) (r : Process) → lookup q rs ≡ Some r → 1 ≤ r.pid) → next ≡ first_pid (above 0 (children_in from rs)) → map (moved_to from to next) rs ≡ rs
-unfolding children_in
-none_moved from to rs next up least is = map_looked (moved_to from to next) (λ r. r) rs up (λ q r e. elim (r.parent == from) as (λ b. (r.parent == from) ≡ b → cond (b && has_passed next r.pid) (with_parent to r) r ≡ r) [
-  | true ↦ λ t.
-      let named = pid_looked q rs r e in
-      let low = least q r e in
-      rw (not_passed from 0 rs next (rw is (passing_is_next (is_child from) 0 rs up)) r.pid r (ap (λ n. lookup n rs) named ∙ e) t (omega (arith, low))) refl
-  | false ↦ λ t. refl
-] refl) ∙ map_id rs
-
--- then the next child is
-pub one_moved : (from to c : ℕ) (rs : List Process) (now next : Option ℕ) (me : Process) → IsRising rs → now ≡ Some c → lookup c rs ≡ Some me → me.parent ≡ from → next ≡ first_pid (above c (children_in from rs)) → changed c (with_parent to) (map (moved_to from to now) rs) ≡ map (moved_to from to next) rs
-unfolding children_in changed
-one_moved from to c rs now next me up comes mine its is = rw comes (map_twice (at c (with_parent to)) (moved_to from to (Some c)) rs ∙ map_looked _ (moved_to from to next) rs up (λ q r e. point q r e (pid_looked q rs r e)))
-  where
-    after : IsNext (is_child from) c rs next
-    after = rw is (passing_is_next (is_child from) c rs up)
-
-    behind : (o : Option ℕ) → IsNext (is_child from) c rs o → (q : ℕ) → q ≤ c → has_passed o q ≡ true
-    behind None i q l = refl
-    behind (Some m) i q l = let a = i.above in grind (arith, nat_tests, a, l)
-
-    point : (q : ℕ) (r : Process) → lookup q rs ≡ Some r → r.pid ≡ q → at c (with_parent to) (moved_to from to (Some c) r) ≡ moved_to from to next r
-    point q r e named = elim (r.parent == from) as (λ b. (r.parent == from) ≡ b → at c (with_parent to) (cond (b && nat_lt r.pid c) (with_parent to r) r) ≡ cond (b && has_passed next r.pid) (with_parent to r) r) [
-      | false ↦ λ t. rw (ne_eqb r.pid c (λ here.
-          let same : Some r ≡ Some me = sym e ∙ ap (λ n. lookup n rs) (sym named ∙ here) ∙ mine in
-          let one : r ≡ me = cc in
-          eqb-false r.parent from t (ap (λ (x : Process). x.parent) one ∙ its))) refl
-      | true ↦ λ t. elim (cases_eq r.pid c) [
-        | inl here ↦
-            let low : nat_lt r.pid c ≡ false = grind (arith, nat_tests, here) in
-            rw (low, behind next after r.pid (omega (arith, here)), eq-eqb r.pid c here) refl
-        | inr ne ↦ elim (nat_lt r.pid c) as (λ b. nat_lt r.pid c ≡ b → at c (with_parent to) (cond b (with_parent to r) r) ≡ cond (has_passed next r.pid) (with_parent to r) r) [
-          | true ↦ λ low. rw (behind next after r.pid (grind (arith, nat_tests, low)), ne_eqb r.pid c ne) refl
-          | false ↦ λ high. rw (not_passed from c rs next after r.pid r (ap (λ n. lookup n rs) named ∙ e) t (grind (arith, nat_tests, high, ne)), ne_eqb r.pid c ne) refl
-        ] refl
-      ]
-    ] refl
-
--- at last all are
-pub all_moved : (from to : ℕ) (rs : List Process) (next : Option ℕ) → next ≡ None → map (moved_to from to next) rs ≡ adopted from to rs
+-- a child that gets the parent before the others do
+pub one_adopted : (from to c : ℕ) (rs ts : List Process) (me : Process) → IsRising rs → lookup c rs ≡ Some me → me.parent ≡ from → adopted from to ts ≡ adopted from to rs → adopted from to (changed c (with_parent to) ts) ≡ adopted from to rs
 unfolding adopted
-all_moved from to rs next none = rw none (all rs)
-  where
-    all : (rs : List Process) → map (moved_to from to None) rs ≡ map (reparented from to) rs
-    all [] = refl
-    all (r ∷ rs) =
-        let one : moved_to from to None r ≡ reparented from to r = elim (r.parent == from) as (λ b. cond (b && true) (with_parent to r) r ≡ cond b (with_parent to r) r) [ true ↦ refl | false ↦ refl ] in
-        rw one (ap (λ l. reparented from to r ∷ l) (all rs))
+one_adopted from to c rs ts me up found its same =
+    sym (adopted_changed from to c (with_parent to) (λ r. grind (arith, nat_tests)) ts) ∙ ap (changed c (with_parent to)) same
+    ∙ changed_id c (with_parent to) (adopted from to rs) (rising_adopted from to rs up) (reparented from to me) (lookup_on (reparented from to) (pid_reparented from to) c rs me found) (rw (eq-eqb me.parent from its) refl)
+
+-- is no more among those of the other
+child_moved : (from to c : ℕ) → to ≢ from → (ts : List Process) → children_in from (changed c (with_parent to) ts) ≡ removed c (children_in from ts)
+unfolding children_in changed removed
+child_moved from to c ne [] = refl
+child_moved from to c ne (r ∷ ts) = grind (arith, ne, child_moved from to c ne ts, eqb-true, eqb-false)
+
+first_gone : (r : Process) (rs : List Process) → IsRising (r ∷ rs) → removed r.pid (r ∷ rs) ≡ rs
+unfolding IsRising removed
+first_gone r rs up = rw (eq-eqb r.pid r.pid refl) (remove_above r.pid rs up.0)
+
+-- and those behind it are left
+pub one_left : (from to c : ℕ) (rs ts : List Process) → from ≢ to → IsRising rs → (i : AtChild rs from c) → children_in from ts ≡ left_of (Some c) (children_in from rs) → children_in from (changed c (with_parent to) ts) ≡ left_of (next_sibling c rs) (children_in from rs)
+unfolding children_in
+one_left from to c rs ts ne up i left =
+    child_moved from to c (λ e. ne (sym e)) ts ∙ ap (removed c) (left ∙ i.left) ∙ ap (λ n. removed n (i.what ∷ left_of (next_sibling c rs) (children_in from rs))) (sym i.named)
+    ∙ first_gone i.what _ (subst IsRising i.left (rising_filter _ _ (rising_filter (is_child from) rs up)))
+
+-- where none is left, all have the parent
+pub all_adopted : (from to : ℕ) (ts : List Process) → children_in from ts ≡ [] → adopted from to ts ≡ ts
+unfolding children_in adopted
+all_adopted from to [] e = refl
+all_adopted from to (r ∷ ts) e = grind (arith, all_adopted from to ts)
 
 -- the children of one process stand under another
 pub kin_adopted : (from to : ℕ) → from ≢ to → from ≢ 0 → to ≢ 0 → (rs : List Process) (old new : List Pair) → IsIndex parent_key rs old → ArePairsRekeyed from to old new → IsIndex parent_key (adopted from to rs) new
 unfolding adopted
-kin_adopted from to ne some heir rs old new h is = index_map parent_key (λ r. rekeyed from to (parent_key r)) (reparented from to) (pid_reparented from to) (λ r. elim (cases_eq r.parent from) [
-  | inl child ↦ rw (eq-eqb r.parent from child, ne_eqb to 0 heir, ne_eqb r.parent 0 (λ none. some (sym child ∙ none)), eq-eqb r.parent from child) refl
-  | inr other ↦ rw (ne_eqb r.parent from other) (elim (r.parent == 0) as (λ b. cond b None (Some r.parent) ≡ rekeyed from to (cond b None (Some r.parent))) [ true ↦ refl | false ↦ rw (ne_eqb r.parent from other) refl ])
-]) rs new (index_rekeyed parent_key from to ne rs old new h is)
+kin_adopted from to ne some heir rs old new h is = index_map parent_key (λ r. rekeyed from to (parent_key r)) (reparented from to) (pid_reparented from to) (λ r. grind (arith, nat_tests, ne, some, heir)) rs new (index_rekeyed parent_key from to ne rs old new h is)
 
 -- ---- another record, births, removals and adoptions
 
@@ -203,7 +131,7 @@ root_record rs p b h = root_map (at p (give_record b)) (at_pid p (give_record b)
 
 pub root_adopted : (from to : ℕ) → to ≢ 0 → (rs : List Process) → HaveOneRoot rs → HaveOneRoot (adopted from to rs)
 unfolding adopted
-root_adopted from to heir rs h = root_map (reparented from to) (pid_reparented from to) (λ r. elim (r.parent == from) as (λ b. (cond b (with_parent to r) r).parent ≡ 0 → r.parent ≡ 0) [ true ↦ λ none. absurd (heir none) | false ↦ λ none. none ]) rs h
+root_adopted from to heir rs h = root_map (reparented from to) (pid_reparented from to) (λ r none. grind (arith, heir, none)) rs h
 
 pub root_removed : (c : ℕ) (rs : List Process) → HaveOneRoot rs → HaveOneRoot (removed c rs)
 root_removed c rs h p q r s e f none also = h p q r s (lookup_left c p rs r e) (lookup_left c q rs s f) none also

@@ -13,12 +13,11 @@ use Rattle.posix.specs.declared.process.News.TheVariants as news
 use Rattle.std.proofs.lemmas.Option.{IfSome_then}
 use Rattle.posix.specs.Processes.{Process, is_stopped}
 use Rattle.posix.specs.Tables.{IsRising, lookup, adopted, reparented, above, first_pid, is_child, children_in, is_member, members_in}
-use Rattle.posix.specs.Groups.{is_anchor}
 use Rattle.posix.specs.Waits.{WEXITED, WSTOPPED, WCONTINUED, has_option, is_something, report_life, report_of, reports, wanted_in}
 use Rattle.posix.specs.Alarms.{is_due}
-use Rattle.pidset.specs.Indexes.{IndexView, IsRekeyed, IsNextPair, IsAt, anchor_key, has_within, is_key, is_pair_in, key_of}
+use Rattle.pidset.specs.Indexes.{IndexView, IsRekeyed, IsNextPair, IsAt, has_within, is_key, is_pair_in, key_of}
 use Rattle.pidset.specs.Lists.{ListsView}
-use Rattle.pidset.proofs.IndexLemmas.{IsElsewhere, can_replace, unmoved, indexed_moved, indexed_map, indexed_rekeyed, rekeyed_none, index_moved, index_map, index_empty, rekeyed, next_pair, members_passing}
+use Rattle.pidset.proofs.IndexLemmas.{IsElsewhere, can_replace, unmoved, indexed_moved, indexed_map, indexed_rekeyed, rekeyed_none, index_moved, index_map, index_empty, rekeyed, next_pair}
 use Rattle.pidset.proofs.PairLemmas.{none_within}
 use Rattle.posix.proofs.TableLemmas.{pid_reparented, reparented_keeps, rising_filter}
 use Rattle.posix.proofs.WalkLemmas.{Passes, both_pass, filters_commute, first_passes, found_above}
@@ -26,10 +25,6 @@ use Rattle.jobs.specs.declared.indexes.Indexes.{Indexes}
 use Rattle.jobs.specs.declared.indexes.IndexedFields.{IndexedFields}
 use Rattle.jobs.specs.declared.indexes.Sort.{Sort}
 use Rattle.jobs.specs.declared.indexes.Sort.TheVariants.{End, Stop, Continue}
-use Rattle.jobs.specs.declared.groups.Sought.{Sought}
-use Rattle.jobs.specs.declared.groups.Sought.TheVariants.{Anchors, Stopped}
-use Rattle.jobs.specs.Sought.{sought_in}
-use Rattle.jobs.specs.IndexedTables.{AreAnchors}
 use Rattle.jobs.specs.Indexes.{AreIndexes, CanMove, AreMoved, lesser, room_in, seen_of, sort_of, is_living_subreaper, is_of_sort, rank, sorted, least, report_in, report_key, stopped_in, stopped_key, alarm_in, alarm_key, marked_in, marked_key, member_in, member_key}
 
 -- ---- one process
@@ -268,12 +263,3 @@ pub next_due : (tick n : ℕ) (rs : List Process) (b : Indexes) (next : Option �
 next_due tick n rs b next up h i =
     next_pair alarm_key rs b.alarmed.pairs tick n next up h.alarmed.index i
     ∙ ap (λ l. first_pid (above n l)) (filter_agree _ (λ r. is_due tick r.alarm) (λ r. elim r.alarm as (λ o. is_key tick o ≡ is_due tick o) [ None ↦ refl | Some due ↦ refl ]) rs)
-
--- the next of the members of a process group that are counted
-pub next_anchored : (what : Sought) (group n : ℕ) (rs : List Process) (b : Indexes) (next : Option ℕ) → what ≡ Anchors → IsRising rs → AreAnchors rs b → IsNextPair group n b.anchors.pairs next → next ≡ first_pid (above n (sought_in what group rs))
-next_anchored what group n rs b next e up h i = rw e (next_pair (anchor_key rs) rs b.anchors.pairs group n next up h.index i ∙ ap (λ l. first_pid (above n l)) (members_passing (is_anchor rs) (anchor_key rs) (λ r. refl) group rs))
-
-pub next_stopped : (what : Sought) (group n : ℕ) (rs : List Process) (b : Indexes) (next : Option ℕ) → what ≡ Stopped → IsRising rs → AreIndexes rs b → IsNextPair group n b.stopped.pairs next → next ≡ first_pid (above n (sought_in what group rs))
-next_stopped what group n rs b next e up h i = rw e (next_pair stopped_key rs b.stopped.pairs group n next up h.stopped.index i ∙ ap (λ l. first_pid (above n l)) (members_passing (λ r. is_stopped r.life) stopped_key (λ r. refl) group rs))
-
-pub ruleset sought_next = (next_anchored, next_stopped)

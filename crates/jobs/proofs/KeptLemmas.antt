@@ -79,13 +79,9 @@ number_kept {p = p} {rs = rs} k there = number_within _ p rs k.within (k.numbers
 pub some_number : {n p : ℕ} {rs : List Process} {indexes : Indexes} → IsKept n indexes rs → IsSome (lookup p rs) → p ≢ 0
 some_number k there none = let least = (number_kept k there).0 in omega (arith, least, none)
 
--- the process that is there
-pub who_is : (p : ℕ) (rs : List Process) → IsSome (lookup p rs) → (me : Process) × (lookup p rs ≡ Some me)
-who_is p rs h = elim (lookup p rs) as (λ o. IsSome o → (me : Process) × (o ≡ Some me)) [ None ↦ λ k. absurd (cc) | Some me ↦ λ k. (me, refl) ] h
-
 -- its children stand under it
 pub kin_kept : {n : ℕ} {rs : List Process} {indexes : Indexes} → IsKept n indexes rs → AreKin rs indexes.children.pairs
-kin_kept k = record { rising = k.rising; index = k.children.index }
+kin_kept k = record { rising = k.rising; none = k.numbers 0 (inl refl); index = k.children.index }
 
 -- ---- another record
 

@@ -41,9 +41,10 @@ pub record AreAnchors (rs : List Process) (b : Indexes) : Type 0 where
   pub wide : b.members.numbers ≤ b.anchors.numbers
   pub parents : HaveParents HasParent rs
 
--- the children of a process are those that stand under it in this index
+-- the children of a process, which hasn't number 0, are those that stand under it in this index
 pub record AreKin (rs : List Process) (pairs : List Pair) : Type 0 where
   pub rising : IsRising rs
+  pub none : lookup 0 rs ≡ None
   pub index : IsIndex parent_key rs pairs
 
 -- at most one has no parent
@@ -87,6 +88,12 @@ pub record Costs (n : ℕ) (old new : JobsView) : Type 0 where
   pub room : new.room ≡ old.room
   pub visits : new.visits ≤ old.visits + n
   pub no_fewer : old.visits ≤ new.visits
+
+-- so of a table of any kind
+pub record Spends {K : Type 0} (n : ℕ) (room_of visits_of : K → ℕ) (old new : K) : Type 0 where
+  pub room : room_of new ≡ room_of old
+  pub visits : visits_of new ≤ visits_of old + n
+  pub no_fewer : visits_of old ≤ visits_of new
 
 -- one more slot was read
 abbrev pub looked : (ℕ → ℕ) → JobsView → JobsView

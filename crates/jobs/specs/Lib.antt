@@ -1,3 +1,2 @@
 pub mod IndexedTables
 pub mod Indexes
-pub mod Sought

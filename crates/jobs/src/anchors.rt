@@ -6,7 +6,7 @@ ghost use Rattle.posix.specs.Processes.{Process};
 ghost use Rattle.posix.specs.Tables.{lookup, children_in, parent_of};
 ghost use Rattle.pidset.specs.Indexes.{AreTurned, IsAnchorIndex, IsMoved};
 ghost use Rattle.jobs.specs.Indexes.{seen_of, child_key, keeps_group_and_session as keeps_group_and_session_in};
-ghost use Rattle.jobs.specs.IndexedTables.{AreKin, AreWithin};
+ghost use Rattle.jobs.specs.IndexedTables.{AreKin, AreWithin, Spends};
 
 use crate::children::next_child;
 use crate::indexes::{Change, IndexedFields, anchor_key, is_dead, of_record, of_snapshot};
@@ -18,14 +18,9 @@ use proctable::ProcessTable;
 fn seen_in<K: ProcessTable>(table: &mut K, pid: Pid) -> Option<IndexedFields>
     ensures value { result ≡ option_map seen_of (lookup pid (K.contents table.old)) }
     ensures contents { K.contents table.new ≡ K.contents table.old }
-    ensures room { K.room table.new ≡ K.room table.old }
-    ensures visits { K.visits table.new ≤ K.visits table.old + 1 }
-    ensures no_fewer { K.visits table.old ≤ K.visits table.new }
+    ensures costs { Spends 1 K.room K.visits table.old table.new }
 {
-    match table.get(pid) {
-        Some(snapshot) => Some(of_snapshot(&snapshot)),
-        None => None,
-    }
+    Some(of_snapshot(&table.get(pid)?))
 }
 
 /// What the indexes see of a process that is there.
@@ -35,9 +30,7 @@ pub(crate) fn seen_there<K: ProcessTable>(table: &mut K, pid: Pid) -> IndexedFie
     requires { IsSome (lookup pid (K.contents table.old)) }
     ensures value { option_map seen_of (lookup pid (K.contents table.old)) ≡ Some result }
     ensures contents { K.contents table.new ≡ K.contents table.old }
-    ensures room { K.room table.new ≡ K.room table.old }
-    ensures visits { K.visits table.new ≤ K.visits table.old + 1 }
-    ensures no_fewer { K.visits table.old ≤ K.visits table.new }
+    ensures costs { Spends 1 K.room K.visits table.old table.new }
 {
     of_record(table.update(pid))
 }
@@ -49,9 +42,7 @@ pub(crate) fn seen_above<K: ProcessTable>(table: &mut K, parent: Pid) -> Option<
     requires none { lookup 0 (K.contents table.old) ≡ None }
     ensures value { result ≡ option_map seen_of (lookup parent (K.contents table.old)) }
     ensures contents { K.contents table.new ≡ K.contents table.old }
-    ensures room { K.room table.new ≡ K.room table.old }
-    ensures visits { K.visits table.new ≤ K.visits table.old + 1 }
-    ensures no_fewer { K.visits table.old ≤ K.visits table.new }
+    ensures costs { Spends 1 K.room K.visits table.old table.new }
 {
     if parent == Pid::NONE {
         return None;
@@ -81,9 +72,7 @@ fn update_anchor<K: ProcessTable>(
     ensures moved { (r : Process) → lookup pid (K.contents table.old) ≡ Some r → IsMoved pid (child_key parent.now r) anchors.old.pairs anchors.new.pairs }
     ensures numbers { anchors.new.numbers ≡ anchors.old.numbers }
     ensures contents { K.contents table.new ≡ K.contents table.old }
-    ensures room { K.room table.new ≡ K.room table.old }
-    ensures visits { K.visits table.new ≤ K.visits table.old + 1 }
-    ensures no_fewer { K.visits table.old ≤ K.visits table.new }
+    ensures costs { Spends 1 K.room K.visits table.old table.new }
 {
     let it = seen_there(table, pid);
     anchors.put(pid, anchor_key(&it, &Some(*parent)));
@@ -98,15 +87,12 @@ pub(crate) fn update_anchors_of_children<K: ProcessTable>(
     parent: &IndexedFields,
 )
     requires there { IsSome (lookup pid (K.contents table.old)) }
-    requires none { lookup 0 (K.contents table.old) ≡ None }
     requires within { AreWithin anchors.old.numbers (K.contents table.old) }
     requires kin { AreKin (K.contents table.old) children.now.pairs }
     ensures turned { AreTurned pid (child_key parent.now) (K.contents table.old) anchors.old.pairs anchors.new.pairs }
     ensures numbers { anchors.new.numbers ≡ anchors.old.numbers }
     ensures contents { K.contents table.new ≡ K.contents table.old }
-    ensures room { K.room table.new ≡ K.room table.old }
-    ensures visits { K.visits table.new ≤ K.visits table.old + 1 + 2 * length (children_in pid (K.contents table.old)) }
-    ensures no_fewer { K.visits table.old ≤ K.visits table.new }
+    ensures costs { Spends (1 + 2 * length (children_in pid (K.contents table.old))) K.room K.visits table.old table.new }
 {
     let mut next = next_child(children, pid, Pid::NONE);
     while let Some(child) = next {
@@ -126,14 +112,11 @@ pub(crate) fn update_anchors<K: ProcessTable>(
     requires kin { AreKin (K.contents table.old) children.now.pairs }
     requires after { option_map seen_of (lookup pid (K.contents table.old)) ≡ Some change.now.after }
     requires parent { change.now.parent ≡ parent_of pid (K.contents table.old) }
-    requires none { lookup 0 (K.contents table.old) ≡ None }
     requires within { AreWithin anchors.old.numbers (K.contents table.old) }
     ensures index { (rs : List Process) → ((q : ℕ) → q ≢ pid → lookup q (K.contents table.old) ≡ lookup q rs) → option_map seen_of (lookup pid rs) ≡ Some change.now.before → parent_of pid rs ≡ change.now.parent → IsAnchorIndex rs anchors.old.pairs → IsAnchorIndex (K.contents table.old) anchors.new.pairs }
     ensures numbers { anchors.new.numbers ≡ anchors.old.numbers }
     ensures contents { K.contents table.new ≡ K.contents table.old }
-    ensures room { K.room table.new ≡ K.room table.old }
-    ensures visits { K.visits table.new ≤ K.visits table.old + (if keeps_group_and_session_in change.now.before change.now.after then 0 else 2 + 2 * length (children_in pid (K.contents table.old))) }
-    ensures no_fewer { K.visits table.old ≤ K.visits table.new }
+    ensures costs { Spends (if keeps_group_and_session_in change.now.before change.now.after then 0 else 2 + 2 * length (children_in pid (K.contents table.old))) K.room K.visits table.old table.new }
 {
     let Change {
         parent,

@@ -3,17 +3,16 @@
 ghost use Rattle.std.specs.Prelude.{◌≡◌, ◌≢◌, ◌+◌, ◌≤◌, List, length, None, IsSome};
 ghost use Rattle.posix.specs.Processes.{Process};
 ghost use Rattle.posix.specs.Tables.{lookup, above, adopted, children_in, first_pid};
-ghost use Rattle.jobs.specs.IndexedTables.{AreKin};
+ghost use Rattle.jobs.specs.IndexedTables.{AreKin, Spends};
 
 use pidset::Lists;
 use posix::Pid;
 use proctable::ProcessTable;
 
-/// The child of a process with the least number above `after`, zombies included.
+/// The child of a process that is there with the least number above `after`, zombies included.
 #[inline]
 pub(crate) fn next_child(children: &Lists, parent: Pid, after: Pid) -> Option<Pid>
-    requires { parent ≢ 0 }
-    ensures { (rs : List Process) → AreKin rs children.now.pairs → result ≡ first_pid (above after (children_in parent rs)) }
+    ensures { (rs : List Process) → AreKin rs children.now.pairs → IsSome (lookup parent rs) → result ≡ first_pid (above after (children_in parent rs)) }
 {
     children.next(parent, after)
 }
@@ -21,13 +20,10 @@ pub(crate) fn next_child(children: &Lists, parent: Pid, after: Pid) -> Option<Pi
 /// Gives the children of one process, of which this is the index, to another.
 pub(crate) fn set_parents<K: ProcessTable>(table: &mut K, children: &Lists, from: Pid, to: Pid)
     requires there { IsSome (lookup from (K.contents table.old)) }
-    requires none { lookup 0 (K.contents table.old) ≡ None }
     requires apart { from ≢ to }
     requires kin { AreKin (K.contents table.old) children.now.pairs }
     ensures contents { K.contents table.new ≡ adopted from to (K.contents table.old) }
-    ensures room { K.room table.new ≡ K.room table.old }
-    ensures visits { K.visits table.new ≤ K.visits table.old + length (children_in from (K.contents table.old)) }
-    ensures no_fewer { K.visits table.old ≤ K.visits table.new }
+    ensures costs { Spends (length (children_in from (K.contents table.old))) K.room K.visits table.old table.new }
 {
     let mut next = next_child(children, from, Pid::NONE);
     while let Some(child) = next {

@@ -13,12 +13,12 @@ ghost use Rattle.posix.specs.Waits.{wanted_in};
 ghost use Rattle.proctable.specs.Records.{process_of, snapshot_of, own_of, own_row};
 ghost use Rattle.jobs.specs.contracts.indexed_table.IndexedTable.{the_row as jobs_row};
 ghost use Rattle.jobs.specs.Indexes.{is_living_subreaper, record_seen, seen_of};
-ghost use Rattle.jobs.specs.IndexedTables.{takes_signal, ChangesSignals, IsRun, StaysGrouped, lent, looked, Looks, Finds, Costs, StaysPut};
+ghost use Rattle.jobs.specs.IndexedTables.{takes_signal, ChangesSignals, IsRun, StaysGrouped, lent, looked, Looks, Finds, Costs, Spends, StaysPut};
 
 use crate::anchors::{seen_above, seen_there, update_anchors, update_anchors_of_children};
 use crate::children::{next_child, set_parents};
 use crate::indexes::{
-    Change, IndexedFields, Indexes, anchor_key, is_unseen, of_record, of_snapshot, parent_list,
+    Change, IndexedFields, Indexes, anchor_key, of_record, of_snapshot, parent_list,
 };
 use posix::{Pid, WaitidOptions};
 use proctable::{GrantedPools, OwnPart, ProcessTable, Record, Snapshot};
@@ -74,6 +74,7 @@ impl<K: ProcessTable> IndexedTable<K> {
 
     /// Makes room for one more process, with a number up to `greatest`. At an error the host has no memory for it,
     /// and the processes are unchanged.
+    #[tactic(auto, using(crate::proofs::KeptLemmas::size_of))]
     pub fn reserve(&mut self, greatest: Pid) -> Result<(), AllocError>
         ensures ok { OnOk result (0 < self.new.room) }
         ensures limit { OnOk result (greatest < self.new.limit) }
@@ -110,6 +111,7 @@ impl<K: ProcessTable> IndexedTable<K> {
     /// Puts in a process that isn't there, where there is room for one with this number. Its number isn't 0, its parent
     /// is there, or, for the first process, number 0, and there is room for the number of its process group. The others are
     /// unchanged.
+    #[tactic(auto, using(crate::proofs::KeptLemmas::size_of))]
     pub fn insert(&mut self, pid: Pid, parent: Pid, fields: Record)
         requires room { 0 < self.old.room }
         requires number { pid ≢ 0 }
@@ -142,6 +144,7 @@ impl<K: ProcessTable> IndexedTable<K> {
     }
 
     /// Takes out a process without children. Its small fields; none, and nothing changes, where it isn't there.
+    #[tactic(auto, using(crate::proofs::KeptLemmas::leave_rules))]
     pub fn remove(&mut self, pid: Pid) -> Option<Snapshot>
         requires { children_in pid self.old.processes ≡ [] }
         ensures value { result ≡ option_map snapshot_of (lookup pid self.old.processes) }
@@ -247,7 +250,7 @@ impl<K: ProcessTable> IndexedTable<K> {
     pub fn next_due(&self, tick: u64, after: Pid) -> Option<Pid>
         ensures { result ≡ first_pid (above after (filter (λ r. is_due tick r.alarm) self.now.processes)) }
     {
-        self.indexes.next_due(tick, after)
+        self.indexes.alarmed.next(tick, after)
     }
 
     // ---- changes
@@ -301,11 +304,12 @@ impl<K: ProcessTable> IndexedTable<K> {
         ensures put { StaysPut F.FnOnce change self.old.processes pid → Costs 2 self.old self.new }
     {
         let seen = change_in(&mut self.table, pid, change);
-        if is_unseen(&seen) {
+        if seen.before == seen.after {
             // It stands in each index as it did.
             return seen;
         }
-        self.indexes.reindex_change(pid, &seen);
+        let (before, after) = (Some(seen.before), Some(seen.after));
+        self.indexes.reindex(pid, seen.parent, &before, &after);
         update_anchors(
             &mut self.table,
             &self.indexes.children,
@@ -357,9 +361,7 @@ fn run_on<K: ProcessTable, T, F: FnOnce(&mut Record) -> T>(
     requires there { IsSome (lookup pid (K.contents table.old)) }
     requires callable { F.IsAlwaysCallable change }
     ensures run { (k : IsRun F.FnOnce change (K.contents table.old) (K.contents table.new) pid result.result) × (result.before ≡ record_seen k.before) × (result.after ≡ record_seen k.after) × (result.takes_signal ≡ is_some (chosen k.after.life k.after.own.signals)) }
-    ensures room { K.room table.new ≡ K.room table.old }
-    ensures visits { K.visits table.new ≤ K.visits table.old + 1 }
-    ensures no_fewer { K.visits table.old ≤ K.visits table.new }
+    ensures costs { Spends 1 K.room K.visits table.old table.new }
 {
     let it = table.update(pid);
     let before = of_record(it);
@@ -381,9 +383,7 @@ fn change_in<K: ProcessTable, F: FnOnce(&mut Record)>(table: &mut K, pid: Pid, c
     requires callable { F.IsAlwaysCallable change }
     ensures run { (k : IsRun F.FnOnce change (K.contents table.old) (K.contents table.new) pid tt) × (result.before ≡ record_seen k.before) × (result.after ≡ record_seen k.after) }
     ensures parent { result.parent ≡ parent_of pid (K.contents table.old) }
-    ensures room { K.room table.new ≡ K.room table.old }
-    ensures visits { K.visits table.new ≤ K.visits table.old + 2 }
-    ensures no_fewer { K.visits table.old ≤ K.visits table.new }
+    ensures costs { Spends 2 K.room K.visits table.old table.new }
 {
     let parent = parent_in(table, pid);
     let it = table.update(pid);
@@ -403,9 +403,7 @@ fn parent_in<K: ProcessTable>(table: &mut K, pid: Pid) -> Pid
     requires { IsSome (lookup pid (K.contents table.old)) }
     ensures value { result ≡ parent_of pid (K.contents table.old) }
     ensures contents { K.contents table.new ≡ K.contents table.old }
-    ensures room { K.room table.new ≡ K.room table.old }
-    ensures visits { K.visits table.new ≤ K.visits table.old + 1 }
-    ensures no_fewer { K.visits table.old ≤ K.visits table.new }
+    ensures costs { Spends 1 K.room K.visits table.old table.new }
 {
     match table.get(pid) {
         Some(snapshot) => snapshot.parent,

@@ -108,17 +108,9 @@ pub(crate) fn is_dead(it: &IndexedFields) -> bool
     matches!(it.life, Life::Zombie(_))
 }
 
-/// Whether the indexes see the same of a process before and after.
-#[inline(always)]
-pub(crate) fn is_unseen(change: &Change) -> bool
-    ensures { result ≡ true → change.now.before ≡ change.now.after }
-{
-    change.before == change.after
-}
-
 /// A number as a key.
 #[inline(always)]
-fn key(pid: Pid) -> u64
+pub(crate) fn key(pid: Pid) -> u64
     ensures { result ≡ pid }
 {
     u64::from(pid.number())
@@ -129,10 +121,7 @@ fn key(pid: Pid) -> u64
 fn member_key(it: &Option<IndexedFields>) -> Option<Pid>
     ensures { result ≡ member_in it.now }
 {
-    match it {
-        Some(it) => Some(it.group),
-        None => None,
-    }
+    Some(it.as_ref()?.group)
 }
 
 /// The list of the children of a process; none for number 0.
@@ -192,10 +181,7 @@ fn sorted_key(parent: Pid, sort: Sort) -> u64
 fn report_key(parent: Pid, it: &Option<IndexedFields>) -> Option<u64>
     ensures { result ≡ report_in parent it.now }
 {
-    match sort_to_report(it.as_ref()?) {
-        Some(sort) => Some(sorted_key(parent, sort)),
-        None => None,
-    }
+    Some(sorted_key(parent, sort_to_report(it.as_ref()?)?))
 }
 
 /// The key of a process among those that are stopped.
@@ -214,10 +200,7 @@ fn stopped_key(it: &Option<IndexedFields>) -> Option<u64>
 fn alarm_key(it: &Option<IndexedFields>) -> Option<u64>
     ensures { result ≡ alarm_in it.now }
 {
-    match it {
-        Some(it) => it.alarm,
-        None => None,
-    }
+    it.as_ref()?.alarm
 }
 
 /// The key of a process among the child subreapers that live, all of which have one key.
@@ -321,24 +304,6 @@ impl Indexes {
             .replace(pid, marked_key(before), marked_key(after));
     }
 
-    /// The indexes follow a change of a process that is there.
-    #[inline(always)]
-    pub(crate) fn reindex_change(&mut self, pid: Pid, change: &Change)
-        requires can { CanMove pid change.now.parent (Some change.now.before) self.old }
-        requires pid { 1 ≤ pid }
-        requires inside { IsInside pid (Some change.now.after) self.old }
-        ensures moved { AreMoved pid change.now.parent (Some change.now.after) self.old self.new }
-        ensures anchors { self.new.anchors ≡ self.old.anchors }
-        ensures children { self.new.children ≡ self.old.children }
-    {
-        self.reindex(
-            pid,
-            change.parent,
-            &Some(change.before),
-            &Some(change.after),
-        );
-    }
-
     /// Whether a child of a process has something to report.
     fn has_report(&self, parent: Pid) -> bool
         ensures { result ≡ has_within (sorted parent Sort.End) (sorted parent Sort.Continue) self.now.reporting.pairs }
@@ -354,13 +319,8 @@ impl Indexes {
     pub(crate) fn reparent(&mut self, from: Pid, to: Pid)
         requires { from ≢ to }
         ensures indexes { (rs : List Process) → AreIndexes rs self.old → AreIndexes (adopted from to rs) self.new }
-        ensures members { self.new.members ≡ self.old.members }
-        ensures anchors { self.new.anchors ≡ self.old.anchors }
-        ensures children { self.new.children ≡ self.old.children }
         ensures room { self.new.reporting.room ≡ self.old.reporting.room }
-        ensures stopped { self.new.stopped ≡ self.old.stopped }
-        ensures alarmed { self.new.alarmed ≡ self.old.alarmed }
-        ensures subreapers { self.new.subreapers ≡ self.old.subreapers }
+        ensures rest { self.new ≡ record self.old { reporting = self.new.reporting } }
     {
         if !self.has_report(from) {
             return;
@@ -373,30 +333,6 @@ impl Indexes {
             sorted_key(from, Sort::Continue),
             sorted_key(to, Sort::Continue),
         );
-    }
-
-    /// The member of a process group with the least number above `after`.
-    #[inline]
-    pub(crate) fn next_member(&self, group: Pid, after: Pid) -> Option<Pid>
-        ensures { IsNextPair group after self.now.members.pairs result }
-    {
-        self.members.next(group, after)
-    }
-
-    /// The member of a process group that keeps it from being orphaned, with the least number above `after`.
-    #[inline]
-    pub(crate) fn next_anchor(&self, group: Pid, after: Pid) -> Option<Pid>
-        ensures { IsNextPair group after self.now.anchors.pairs result }
-    {
-        self.anchors.next(group, after)
-    }
-
-    /// The member of a process group that is stopped, with the least number above `after`.
-    #[inline]
-    pub(crate) fn next_stopped(&self, group: Pid, after: Pid) -> Option<Pid>
-        ensures { IsNextPair group after self.now.stopped.pairs result }
-    {
-        self.stopped.next(key(group), after)
     }
 
     /// The child of a process that reports this sort, with the least number above `after`, where that sort is wanted.
@@ -426,13 +362,5 @@ impl Indexes {
         let stopped = self.next_of_sort(parent, Sort::Stop, stops, after);
         let continued = self.next_of_sort(parent, Sort::Continue, continues, after);
         lesser(lesser(ended, stopped), continued)
-    }
-
-    /// The process whose alarm is due at a tick, with the least number above `after`.
-    #[inline]
-    pub(crate) fn next_due(&self, tick: u64, after: Pid) -> Option<Pid>
-        ensures { IsNextPair tick after self.now.alarmed.pairs result }
-    {
-        self.alarmed.next(tick, after)
     }
 }

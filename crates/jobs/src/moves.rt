@@ -29,10 +29,7 @@ fn group_number(group: u64) -> Option<Pid>
     ensures some { IfSome result (λ g. g ≡ group) }
     ensures none { result ≡ None → 2147483647 < group }
 {
-    match u32::try_from(group) {
-        Ok(number) => Pid::new(number),
-        Err(_) => None,
-    }
+    Pid::new(u32::try_from(group).ok()?)
 }
 
 impl<K: ProcessTable> IndexedTable<K> {
@@ -74,10 +71,7 @@ impl<K: ProcessTable> IndexedTable<K> {
         if u64::from(it.pid.number()) == group {
             return Ok(it.pid);
         }
-        match self.group_of(session, group) {
-            Some(group) => Ok(group),
-            None => Err(Errno::EPERM),
-        }
+        self.group_of(session, group).ok_or(Errno::EPERM)
     }
 
     /// Which process group a process would move to for a caller, or why not: the caller may move itself, and a
@@ -151,10 +145,7 @@ impl<K: ProcessTable> IndexedTable<K> {
         let Some(caller) = self.get(me) else {
             unreachable!()
         };
-        if caller.group == me {
-            return Err(Errno::EPERM);
-        }
-        if self.is_group_of_others(me) {
+        if caller.group == me || self.is_group_of_others(me) {
             return Err(Errno::EPERM);
         }
         Ok(())

@@ -64,7 +64,13 @@ named_along f contents command (Some place) old new before after status (inl h) 
   events_name = h.events_name;
   of_world = h.of_world;
   of_events = h.of_events;
-  served = record { words = h.served.words; are = h.served.are; serves = as_along f _ (Ok h.served.words) old new before after status _ h.served.serves };
+  served = record {
+    plain = h.served.plain;
+    are_plain = h.served.are_plain;
+    words = h.served.words;
+    are = h.served.are;
+    serves = as_along f _ (Ok h.served.words) old new before after status _ h.served.serves;
+  };
 })
 
 words_along : {S T : Type 0} (f : S → T) (contents : Contents) (words : Words) (texts : List Text) (old new : S) (before after : Seen) (status : ℕ) (named : Option (Text × List Text))

@@ -1,7 +1,8 @@
 -- A table after many changes.
-use Rattle.std.proofs.Common.{◌≡◌, ℕ, ◌+◌, ◌≤◌, Bool, true, false, cond, ◌&&◌, refl, ap, sym, ◌∙◌, arith, subst, List, [], ◌∷◌, length, filter, filter_map, None, Some, unwrap_or, ◌==◌, length-set, inl, inr}
+use Rattle.std.proofs.Common.{◌≡◌, ℕ, ◌+◌, ◌≤◌, Bool, true, cond, ◌&&◌, refl, ap, sym, ◌∙◌, arith, subst, List, [], ◌∷◌, length, filter, filter_map, None, Some, unwrap_or, ◌==◌, length-set}
 use Rattle.std.specs.List.{last_or}
-use Rattle.std.proofs.lemmas.Bool.{eqb-true, eq-eqb, ne_eqb, cases_eq}
+use Rattle.std.proofs.lemmas.Bool.{eqb-true}
+use Rattle.std.proofs.lemmas.Bool.Decides.{nat_tests}
 use Rattle.std.proofs.lemmas.List.{length-replicate}
 use Rattle.posix.specs.NextPid.{next_free}
 use Rattle.pidalloc.specs.Rows.{Row, Role, Process, Group, Session, Pids, row, count_of, one_more, one_less, borne, given_up, unborne, unborne_table, is_free_in}
@@ -9,78 +10,21 @@ use Rattle.pidalloc.specs.Bags.{Change, Bear, GiveUp, after, AreAllowed, same_ro
 use Rattle.pidalloc.proofs.RowLemmas.{row_with, when, no_row}
 use Rattle.pidalloc.proofs.FreeLemmas.{next_free_same}
 
--- a Bool as a number
-one : Bool → ℕ
-one b = cond b 1 0
-
--- a number borne once more counts one more in that role, and the same in others
-count_more : (role other : Role) (r : Row) → count_of role (one_more other r) ≡ count_of role r + one (same_role role other)
-unfolding one
-count_more Process Process r = refl
-count_more Process Group r = omega arith
-count_more Process Session r = omega arith
-count_more Group Process r = omega arith
-count_more Group Group r = refl
-count_more Group Session r = omega arith
-count_more Session Process r = omega arith
-count_more Session Group r = omega arith
-count_more Session Session r = refl
-
--- a number given up once counted one more in that role, and the same in others
-count_less : (role other : Role) (r : Row) → 1 ≤ count_of other r → count_of role r ≡ count_of role (one_less other r) + one (same_role role other)
-unfolding one
-count_less Process Process r l = omega arith
-count_less Process Group r l = omega arith
-count_less Process Session r l = omega arith
-count_less Group Process r l = omega arith
-count_less Group Group r l = omega arith
-count_less Group Session r l = omega arith
-count_less Session Process r l = omega arith
-count_less Session Group r l = omega arith
-count_less Session Session r l = omega arith
-
--- a row that may be borne once more counts one more if it is, in that role
-row_more : (b : Bool) (role other : Role) (r : Row) → count_of role (when b (one_more other) r) ≡ count_of role r + one (b && same_role role other)
-unfolding one
-row_more true role other r = count_more role other r
-row_more false role other r = omega arith
-
--- a row that may be given up once counted one more if it is, in that role
-row_less : (b : Bool) (role other : Role) (r : Row) → (b ≡ true → 1 ≤ count_of other r) → count_of role r ≡ count_of role (when b (one_less other) r) + one (b && same_role role other)
-unfolding one
-row_less true role other r l = count_less role other r (l refl)
-row_less false role other r l = omega arith
-
--- a list that may get a change in front is one longer if it does
-front : (b : Bool) (c : Change) (cs : List Change) → length (cond b (c ∷ cs) cs) ≡ length cs + one b
-unfolding one
-front true c cs = omega arith
-front false c cs = omega arith
-
 -- what a row counts after any changes
 bag : (p : Pids) (cs : List Change) → length p.rows ≡ p.pidmax + 1 → AreAllowed p cs → (role : Role) (n : ℕ)
     → count_of role (row (after p cs).rows n) + times_given_up role n cs ≡ count_of role (row p.rows n) + times_borne role n cs
 unfolding after AreAllowed times_borne times_given_up borne given_up
 bag p [] size ok role n = refl
 bag p (Bear m other ∷ cs) size ok role n =
-    let changed = row_with p.rows m n (one_more other) (λ e. omega (arith, e, size, ok.0)) in
-    let s = ap (count_of role) changed ∙ row_more (m == n) role other (row p.rows n) in
     let rest = bag (borne p m other) cs (length-set p.rows m (one_more other (row p.rows m)) ∙ size) ok.1 role n in
-    let f = front (m == n && same_role role other) (Bear m other) (filter (bears_it role n) cs) in
-    omega (arith, s, rest, f)
+    grind (arith, eqb-true, rest, row_with p.rows m n (one_more other) (λ e. omega (arith, e, size, ok.0)))
 bag p (GiveUp m other ∷ cs) size ok role n =
-    let changed = row_with p.rows m n (one_less other) (λ e. omega (arith, e, size, ok.0.0)) in
-    let there : (m == n) ≡ true → 1 ≤ count_of other (row p.rows n) = λ e. subst (λ k. 1 ≤ count_of other (row p.rows k)) (eqb-true m n e) ok.0.1 in
-    let s = row_less (m == n) role other (row p.rows n) there ∙ ap (λ r. count_of role r + one (m == n && same_role role other)) (sym changed) in
     let rest = bag (given_up p m other) cs (length-set p.rows m (one_less other (row p.rows m)) ∙ size) ok.1 role n in
-    let f = front (m == n && same_role role other) (GiveUp m other) (filter (gives_it_up role n) cs) in
-    omega (arith, s, rest, f)
+    grind (arith, eqb-true, rest, ok.0.1, row_with p.rows m n (one_less other) (λ e. omega (arith, e, size, ok.0.0)))
 
 -- a row that nobody bears counts nothing
 no_count : (role : Role) → count_of role unborne ≡ 0
-no_count Process = refl
-no_count Group = refl
-no_count Session = refl
+no_count role = grind arith
 
 -- from the start on, the count of a row is the times borne less the times given up
 pub counts : (pidmax : ℕ) (cs : List Change) → AreAllowed (unborne_table pidmax) cs → (role : Role) (n : ℕ)
@@ -92,10 +36,7 @@ counts pidmax cs ok role n =
 
 -- a count is 0 where as many were given up as were borne
 even : (count given borne : ℕ) → count + given ≡ borne → (count == 0) ≡ (borne == given)
-even count given borne e = elim (cases_eq count 0) [
-  | inl z ↦ eq-eqb count 0 z ∙ sym (eq-eqb borne given (omega (arith, e, z)))
-  | inr ne ↦ ne_eqb count 0 ne ∙ sym (ne_eqb borne given (λ k. ne (omega (arith, e, k))))
-]
+even count given borne e = grind (arith, nat_tests, e)
 
 -- the next free number by the rows is the next free one by the changes
 pub next_after : (pidmax last : ℕ) (cs : List Change) → AreAllowed (unborne_table pidmax) cs

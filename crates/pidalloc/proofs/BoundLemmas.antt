@@ -12,34 +12,15 @@ use Rattle.pidalloc.proofs.PageLemmas.{row_of}
 -- nothing before the number that is found passes, and it is in the range
 pub before_found : (f : ℕ → Bool) (a n s : ℕ) → find f (range_with_len a n) ≡ Some s → (s < a + n) × ((k : ℕ) → a ≤ k → k < s → f k ≡ false)
 before_found f a zero s e = absurd (let none : None ≡ Some s = e in cc)
-before_found f a (suc n) s e = by (f a) refl e (before_found f (a + 1) n s)
-  where
-    by : (b : Bool) → f a ≡ b → cond b (Some a) (find f (range_with_len (a + 1) n)) ≡ Some s
-        → (find f (range_with_len (a + 1) n) ≡ Some s → (s < a + 1 + n) × ((k : ℕ) → a + 1 ≤ k → k < s → f k ≡ false))
-        → (s < a + suc n) × ((k : ℕ) → a ≤ k → k < s → f k ≡ false)
-    by true here e rest = let same : a ≡ s = cc in (omega (arith, same), λ k lo hi. absurd (omega (arith, same, lo, hi)))
-    by false here e rest =
-        let r = rest e in
-        let end = r.0 in (
-          omega (arith, end),
-          λ k lo hi. elim (cases_eq k a) [
-            | inl same ↦ ap f same ∙ here
-            | inr ne ↦ r.1 k (omega (arith, lo, ne)) hi
-          ],
-        )
+before_found f a (suc n) s e = elim (f a) as (λ b. f a ≡ b → cond b (Some a) (find f (range_with_len (a + 1) n)) ≡ Some s → (s < a + suc n) × ((k : ℕ) → a ≤ k → k < s → f k ≡ false)) [
+  | true ↦ λ here e. let same : a ≡ s = cc in (omega (arith, same), λ k lo hi. absurd (omega (arith, same, lo, hi)))
+  | false ↦ λ here e. let r = before_found f (a + 1) n s e in (let end = r.0 in omega (arith, end), λ k lo hi. grind (arith, here, r.1 k))
+] refl e
 
 -- where nothing is found nothing passes
 pub none_found : (f : ℕ → Bool) (a n : ℕ) → find f (range_with_len a n) ≡ None → (k : ℕ) → a ≤ k → k < a + n → f k ≡ false
 none_found f a zero e k lo hi = absurd (omega (arith, lo, hi))
-none_found f a (suc n) e k lo hi = by (f a) refl e (none_found f (a + 1) n)
-  where
-    by : (b : Bool) → f a ≡ b → cond b (Some a) (find f (range_with_len (a + 1) n)) ≡ None
-        → (find f (range_with_len (a + 1) n) ≡ None → (k : ℕ) → a + 1 ≤ k → k < a + 1 + n → f k ≡ false) → f k ≡ false
-    by true here e rest = absurd (cc)
-    by false here e rest = elim (cases_eq k a) [
-      | inl same ↦ ap f same ∙ here
-      | inr ne ↦ rest e k (omega (arith, lo, ne)) (omega (arith, hi))
-    ]
+none_found f a (suc n) e k lo hi = grind (arith, e, λ (e : find f (range_with_len (a + 1) n) ≡ None). none_found f (a + 1) n e k)
 
 -- numbers at the start that don't pass needn't be looked at
 pub find_range_from : (f : ℕ → Bool) (a n b m : ℕ) → a ≤ b → b + m ≡ a + n → ((k : ℕ) → a ≤ k → k < b → f k ≡ false) → find f (range_with_len a n) ≡ find f (range_with_len b m)

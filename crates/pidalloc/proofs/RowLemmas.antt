@@ -1,27 +1,24 @@
 -- Rows of a table of which some are changed.
-use Rattle.std.proofs.Common.{◌≡◌, ℕ, zero, suc, ◌<◌, ◌==◌, Bool, true, false, cond, List, length, refl, sym, ap, ◌∙◌, subst, arith, replicate, inl, inr, length-set}
-use Rattle.std.proofs.lemmas.Bool.{eq-eqb, ne_eqb, cases_eq}
+use Rattle.std.proofs.Common.{◌≡◌, ℕ, zero, suc, ◌<◌, ◌≤◌, ◌==◌, Bool, false, cond, List, length, refl, ap, ◌∙◌, arith, replicate, length-set}
+use Rattle.std.proofs.lemmas.Bool.{eqb-true}
+use Rattle.std.proofs.lemmas.Bool.Decides.{nat_tests}
 use Rattle.std.proofs.lemmas.List.{get_or-set_same, get_or-set_other}
-use Rattle.pidalloc.specs.Rows.{Row, unborne, row, with_row, one_more, one_less, Process, Group, Session}
+use Rattle.pidalloc.specs.Rows.{Row, Role, count_of, is_free_row, unborne, row, with_row, one_more, one_less, Process, Group, Session}
 
 abbrev pub when : Bool → (Row → Row) → Row → Row
 when b f r = cond b (f r) r
 
 -- the row q after the row n is changed
 pub row_with : (rows : List Row) (n q : ℕ) (f : Row → Row) → (n ≡ q → q < length rows) → row (with_row rows n f) q ≡ when (n == q) f (row rows q)
-row_with rows n q f within = elim (cases_eq n q) [
-  | inl e ↦ rw (eq-eqb n q e) (subst (λ m. row (with_row rows m f) q ≡ f (row rows q)) (sym e) (get_or-set_same rows q (f (row rows q)) unborne (within e)))
-  | inr ne ↦ rw (ne_eqb n q ne) (get_or-set_other rows n q (f (row rows n)) unborne (λ e. ne (sym e)))
-]
+row_with rows n q f within = grind (arith, eqb-true, λ (e : n ≡ q). get_or-set_same rows q (f (row rows q)) unborne (within e), get_or-set_other rows n q (f (row rows n)) unborne)
 
 -- the row q after three rows are changed, one after another
 pub row_with_three : (rows : List Row) (a b c q : ℕ) (f g h : Row → Row) → q < length rows
     → row (with_row (with_row (with_row rows a f) b g) c h) q ≡ when (c == q) h (when (b == q) g (when (a == q) f (row rows q)))
 row_with_three rows a b c q f g h l =
-    let one : length (with_row rows a f) ≡ length rows = length-set rows a (f (row rows a)) in
-    let two : length (with_row (with_row rows a f) b g) ≡ length rows = length-set (with_row rows a f) b (g (row (with_row rows a f) b)) ∙ one in
-    row_with (with_row (with_row rows a f) b g) c q h (λ e. subst (λ k. q < k) (sym two) l)
-    ∙ ap (when (c == q) h) (row_with (with_row rows a f) b q g (λ e. subst (λ k. q < k) (sym one) l) ∙ ap (when (b == q) g) (row_with rows a q f (λ e. l)))
+    let one : length (with_row rows a f) ≡ length rows = length-set rows a _ in
+    let two : length (with_row (with_row rows a f) b g) ≡ length (with_row rows a f) = length-set (with_row rows a f) b _ in
+    rw (row_with (with_row (with_row rows a f) b g) c q h (λ e. omega (arith, l, one, two)), row_with (with_row rows a f) b q g (λ e. omega (arith, l, one)), row_with rows a q f (λ e. l)) refl
 
 pub same_row : (a b : Row) → a.process ≡ b.process → a.group ≡ b.group → a.session ≡ b.session → a ≡ b
 same_row a b p g s =
@@ -36,14 +33,11 @@ abbrev pub less : Bool → Bool → Bool → Row → Row
 less p g s r = when s (one_less Session) (when g (one_less Group) (when p (one_less Process) r))
 
 pub less_more : (p g s : Bool) (r : Row) → less p g s (more p g s r) ≡ r
-less_more true true true r = same_row _ _ (omega arith) (omega arith) (omega arith)
-less_more true true false r = same_row _ _ (omega arith) (omega arith) refl
-less_more true false true r = same_row _ _ (omega arith) refl (omega arith)
-less_more true false false r = same_row _ _ (omega arith) refl refl
-less_more false true true r = same_row _ _ refl (omega arith) (omega arith)
-less_more false true false r = same_row _ _ refl (omega arith) refl
-less_more false false true r = same_row _ _ refl refl (omega arith)
-less_more false false false r = refl
+less_more p g s r = same_row _ _ (grind arith) (grind arith) (grind arith)
+
+-- a row that counts something is that of a number that somebody bears
+pub counted_borne : (role : Role) (r : Row) → 1 ≤ count_of role r → is_free_row r ≡ false
+counted_borne role r l = grind (arith, nat_tests, l)
 
 -- at the start nobody bears a number
 pub no_row : (k n : ℕ) → row (replicate k unborne) n ≡ unborne

@@ -1,7 +1,8 @@
 -- The rows of a table of numbers and the records of the processes that bear them.
-use Rattle.std.proofs.Common.{◌≡◌, ℕ, ◌+◌, ◌<◌, ◌≤◌, ◌^◌, Bool, true, false, cond, not, ◌&&◌, ◌||◌, refl, ap, sym, ◌∙◌, arith, List, [], ◌∷◌, length, map, filter, Some, ◌==◌}
+use Rattle.std.proofs.Common.{◌≡◌, ℕ, ◌+◌, ◌<◌, ◌≤◌, ◌^◌, Bool, false, ◌||◌, refl, ap, sym, ◌∙◌, arith, List, [], ◌∷◌, length, map, Some, ◌==◌}
 use Rattle.std.specs.List.{list_any}
-use Rattle.std.proofs.lemmas.Bool.{eq-eqb, ne_eqb}
+use Rattle.std.proofs.lemmas.Bool.{eq-eqb}
+use Rattle.std.proofs.lemmas.Bool.Decides.{nat_tests}
 use Rattle.posix.specs.Processes.{Process}
 use Rattle.posix.specs.Tables.{IsRising, lookup, inserted, removed, bears}
 use Rattle.posix.specs.NextPid.{is_free, next_free}
@@ -11,30 +12,15 @@ use Rattle.pidalloc.specs.Rows.{Row, Pids, unborne_table, row, count_of, is_free
 use Rattle.pidalloc.specs.Rows as roles
 use Rattle.pidalloc.specs.Tallies.{tally, IsTallied}
 use Rattle.pidalloc.proofs.FreeLemmas.{next_free_same}
-use Rattle.pidalloc.proofs.RowLemmas.{no_row, row_with_three, same_row, more, less, less_more}
+use Rattle.pidalloc.proofs.RowLemmas.{no_row, row_with_three, same_row, more, less, less_more, counted_borne}
 
 -- ---- free numbers
-
--- a record passes one of two tests where one passes the first or one the second
-any_or : (t u : Process → Bool) (rs : List Process) → list_any (λ r. t r || u r) rs ≡ (list_any t rs || list_any u rs)
-any_or t u [] = refl
-any_or t u (r ∷ rs) = grind (arith, any_or t u rs)
-
--- not one or the other is neither
-not_or : (a b : Bool) → not (a || b) ≡ (not a && not b)
-not_or true b = refl
-not_or false b = refl
 
 -- a row that counts nothing is that of a number that no record has
 pub free_row : (rs : List Process) (n : ℕ) → is_free_row (tally n rs) ≡ is_free rs n
 unfolding tally is_free
-free_row rs n =
-    let a = none_counted (λ r. r.pid == n) rs in
-    let b = none_counted (λ r. r.group == n) rs in
-    let c = none_counted (λ r. r.session == n) rs in
-    let all : list_any (bears n) rs ≡ ((list_any (λ r. r.pid == n) rs || list_any (λ r. r.group == n) rs) || list_any (λ r. r.session == n) rs) =
-    any_or (λ r. r.pid == n || r.group == n) (λ r. r.session == n) rs ∙ ap (λ x. x || list_any (λ r. r.session == n) rs) (any_or (λ r. r.pid == n) (λ r. r.group == n) rs) in
-    rw (a, b, c, all) (sym (not_or _ _ ∙ ap (λ x. x && not (list_any (λ r. r.session == n) rs)) (not_or _ _)))
+free_row [] n = refl
+free_row (r ∷ rs) n = grind (arith, nat_tests, free_row rs n)
 
 -- the next number is the next that no record has
 pub next_same : (p : Pids) (rs : List Process) → IsTallied p rs → next_free (is_free_in p.rows) p.last p.pidmax ≡ next_free (is_free rs) p.last p.pidmax
@@ -46,19 +32,7 @@ next_same p rs t = next_free_same _ _ p.last p.pidmax (λ k l. ap is_free_row (t
 -- the numbers of a record in front are borne once more
 pub tally_more : (n : ℕ) (r : Process) (rs : List Process) → tally n (r ∷ rs) ≡ more (r.pid == n) (r.group == n) (r.session == n) (tally n rs)
 unfolding tally
-tally_more n r rs = over (r.pid == n) (r.group == n) (r.session == n) (filter (λ r. r.pid == n) rs) (filter (λ r. r.group == n) rs) (filter (λ r. r.session == n) rs)
-  where
-    over : (p g s : Bool) (ps gs ss : List Process)
-        → (let left : Row = record { process = length (cond p (r ∷ ps) ps); group = length (cond g (r ∷ gs) gs); session = length (cond s (r ∷ ss) ss) } in left)
-        ≡ more p g s (record { process = length ps; group = length gs; session = length ss })
-    over true true true ps gs ss = same_row _ _ (omega arith) (omega arith) (omega arith)
-    over true true false ps gs ss = same_row _ _ (omega arith) (omega arith) refl
-    over true false true ps gs ss = same_row _ _ (omega arith) refl (omega arith)
-    over true false false ps gs ss = same_row _ _ (omega arith) refl refl
-    over false true true ps gs ss = same_row _ _ refl (omega arith) (omega arith)
-    over false true false ps gs ss = same_row _ _ refl (omega arith) refl
-    over false false true ps gs ss = same_row _ _ refl refl (omega arith)
-    over false false false ps gs ss = refl
+tally_more n r rs = same_row _ _ (grind arith) (grind arith) (grind arith)
 
 -- the numbers of a record that comes in are borne once more
 pub tally_inserted : (n : ℕ) (new : Process) (rs : List Process) → tally n (inserted new rs) ≡ more (new.pid == n) (new.group == n) (new.session == n) (tally n rs)
@@ -66,13 +40,15 @@ unfolding tally
 tally_inserted n new rs =
     same_row _ _ (counted_inserted (λ r. r.pid == n) new rs) (counted_inserted (λ r. r.group == n) new rs) (counted_inserted (λ r. r.session == n) new rs) ∙ tally_more n new rs
 
--- those of one that goes are given up once
-pub tally_removed : (n p : ℕ) (r : Process) (rs : List Process) → IsRising rs → lookup p rs ≡ Some r → tally n (removed p rs) ≡ less (r.pid == n) (r.group == n) (r.session == n) (tally n rs)
+-- those of one that is there, and those of the others
+pub tally_front : (n p : ℕ) (r : Process) (rs : List Process) → IsRising rs → lookup p rs ≡ Some r → tally n rs ≡ more (r.pid == n) (r.group == n) (r.session == n) (tally n (removed p rs))
 unfolding tally
-tally_removed n p r rs up e =
-    let front : tally n rs ≡ tally n (r ∷ removed p rs) =
-    same_row _ _ (counted_removed (λ r. r.pid == n) p r rs up e) (counted_removed (λ r. r.group == n) p r rs up e) (counted_removed (λ r. r.session == n) p r rs up e) in
-    sym (ap (less (r.pid == n) (r.group == n) (r.session == n)) (front ∙ tally_more n r (removed p rs)) ∙ less_more (r.pid == n) (r.group == n) (r.session == n) (tally n (removed p rs)))
+tally_front n p r rs up e =
+    same_row _ _ (counted_removed (λ r. r.pid == n) p r rs up e) (counted_removed (λ r. r.group == n) p r rs up e) (counted_removed (λ r. r.session == n) p r rs up e) ∙ tally_more n r (removed p rs)
+
+-- those of one that goes are given up once
+tally_removed : (n p : ℕ) (r : Process) (rs : List Process) → IsRising rs → lookup p rs ≡ Some r → tally n (removed p rs) ≡ less (r.pid == n) (r.group == n) (r.session == n) (tally n rs)
+tally_removed n p r rs up e = rw (tally_front n p r rs up e) (sym (less_more (r.pid == n) (r.group == n) (r.session == n) (tally n (removed p rs))))
 
 -- other changes of records leave the tallies
 pub tally_map : (n : ℕ) (g : Process → Process) → ((r : Process) → (g r).pid ≡ r.pid) → ((r : Process) → (g r).group ≡ r.group) → ((r : Process) → (g r).session ≡ r.session)
@@ -110,20 +86,6 @@ tally_found pid r rs e = record {
 }
 
 -- ---- numbers that are borne
-
--- a row that counts something is that of a number that somebody bears
-counted_borne : (role : roles.Role) (r : Row) → 1 ≤ count_of role r → is_free_row r ≡ false
-counted_borne roles.Process r l = rw (ne_eqb r.process 0 (λ e. omega (arith, e, l))) refl
-counted_borne roles.Group r l = rw (ne_eqb r.group 0 (λ e. omega (arith, e, l))) (and_none (r.process == 0) (r.session == 0))
-  where
-    and_none : (a b : Bool) → ((a && false) && b) ≡ false
-    and_none true b = refl
-    and_none false b = refl
-counted_borne roles.Session r l = rw (ne_eqb r.session 0 (λ e. omega (arith, e, l))) (none_and (r.process == 0 && r.group == 0))
-  where
-    none_and : (a : Bool) → (a && false) ≡ false
-    none_and true = refl
-    none_and false = refl
 
 -- the number of a record that is there, and those of its group and session, are borne: what a birth beside it and a move
 -- to them ask
@@ -195,10 +157,7 @@ pub tallied_gone : (p : Pids) (pid : ℕ) (r : Process) (rs : List Process) → 
     → IsTallied (gone_from p pid r.group r.session) (removed pid rs)
 unfolding gone_from given_up
 tallied_gone p pid r rs size up t e = λ q l.
-    let named = pid_looked pid rs r e in
-    row_with_three p.rows pid r.group r.session q (one_less roles.Process) (one_less roles.Group) (one_less roles.Session) (omega (arith, size, l))
-    ∙ ap (less (pid == q) (r.group == q) (r.session == q)) (t q l)
-    ∙ ap (λ n. less (n == q) (r.group == q) (r.session == q) (tally q rs)) (sym named) ∙ sym (tally_removed q pid r rs up e)
+    rw (row_with_three p.rows pid r.group r.session q (one_less roles.Process) (one_less roles.Group) (one_less roles.Session) (omega (arith, size, l)), t q l, tally_removed q pid r rs up e, pid_looked pid rs r e) refl
 
 -- other changes of records leave a table that counts them
 pub tallied_map : (p : Pids) (g : Process → Process) → ((r : Process) → (g r).pid ≡ r.pid) → ((r : Process) → (g r).group ≡ r.group) → ((r : Process) → (g r).session ≡ r.session)

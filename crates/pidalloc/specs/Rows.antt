@@ -1,5 +1,5 @@
 -- How often each number is borne as what.
-use Rattle.std.specs.Prelude.{◌≡◌, ℕ, ◌+◌, ◌-◌, ◌<◌, ◌≤◌, ◌/◌, ◌%◌, ◌⊎◌, Bool, true, false, not, if◌then◌else◌, ◌&&◌, ◌==◌, nat_lt, List, [], Option, None, is_some, IfSome, length, map, replicate, count_by, slice_index_or, slice_set}
+use Rattle.std.specs.Prelude.{◌≡◌, ℕ, ◌+◌, ◌-◌, ◌<◌, ◌≤◌, ◌/◌, ◌%◌, ◌⊎◌, Bool, true, false, not, if◌then◌else◌, ◌&&◌, ◌==◌, nat_lt, min, List, [], Option, Some, None, is_some, IfSome, length, map, replicate, count_by, slice_index_or, slice_set}
 use Rattle.std.specs.List.{range_with_len}
 pub use Rattle.pidalloc.specs.declared.row.Row.{Row}
 pub use Rattle.pidalloc.specs.declared.row.Role.{Role}
@@ -88,13 +88,26 @@ regrouped p group session to_group to_session = given_up (given_up (borne (borne
 abbrev pub row_at : List Row → ℕ → Row
 row_at rows i = slice_index_or rows i unborne
 
--- 1,024 rows or none, of which so many are of numbers that are borne
+-- at most 1,024 rows, of which so many are of numbers that are borne
 pub record IsPage (rows : List Row) (borne : ℕ) : Type 0 where
-  pub size : (length rows ≡ 0) ⊎ (length rows ≡ 1024)
+  pub size : length rows ≤ 1024
   pub count : borne ≡ count_by (λ r. not (is_free_row r)) rows
 
 abbrev pub page_at : List (List Row) → ℕ → List Row
 page_at pages k = slice_index_or pages k []
+
+-- how many rows a page has that has rows
+abbrev pub page_size : ℕ → ℕ
+page_size pidmax = min 1024 (pidmax + 1)
+
+-- a page has no rows or so many, and the spare page so many, of numbers that nobody bears
+pub record ArePages (size : ℕ) (pages : List (List Row)) (spare : Option (List Row)) : Type 0 where
+  pub sized : (k : ℕ) → (length (page_at pages k) ≡ 0) ⊎ (length (page_at pages k) ≡ size)
+  pub unused : IfSome spare (λ page. page ≡ replicate size unborne)
+
+-- pages that had so many rows have as many
+abbrev pub AreStillPages : List (List Row) → Option (List Row) → List (List Row) → Option (List Row) → Type 0
+AreStillPages old before new after = (size : ℕ) → ArePages size old before → ArePages size new after
 
 -- the row of a number
 unfoldable pub row_in : List (List Row) → ℕ → Row
@@ -112,13 +125,21 @@ is_ready pidmax pages spare = is_some spare && nat_lt (pidmax / 1024) (length pa
 abbrev pub AreAllBorne : List (List Row) → ℕ → ℕ → Type 0
 AreAllBorne pages from end = (k : ℕ) → from ≤ k → k < end → is_free_row (row_in pages k) ≡ false
 
--- what holds of a table: its numbers are in range, nobody bears a number of the spare page, and the numbers from 2 on
--- below borne_below and those from borne_from on are borne
+-- there are rows for a number, or, if nobody bears it, the spare page is there for them
+pub record HasRow (pages : List (List Row)) (spare : Option (List Row)) (n : ℕ) : Type 0 where
+  pub size : ℕ
+  pub sized : ArePages size pages spare
+  pub inside : n / 1024 < length pages
+  pub place : n % 1024 < size
+  pub page : is_free_row (row_in pages n) ≡ true → spare ≡ Some (replicate size unborne)
+
+-- what holds of a table: its numbers are in range, its pages have as many rows as there are numbers, at most 1,024, and
+-- the numbers from 2 on below borne_below and those from borne_from on are borne
 pub record IsTable (pidmax last : ℕ) (pages : List (List Row)) (spare : Option (List Row)) (borne_below borne_from : ℕ) : Type 0 where
   pub given : last ≤ pidmax
   pub least : 2 ≤ pidmax
   pub limit : pidmax ≤ 4194304
-  pub unused : IfSome spare (λ page. page ≡ replicate 1024 unborne)
+  pub sized : ArePages (page_size pidmax) pages spare
   pub bound : borne_below ≤ pidmax + 1
   pub low : AreAllBorne pages 2 borne_below
   pub high : AreAllBorne pages borne_from (pidmax + 1)
@@ -126,6 +147,12 @@ pub record IsTable (pidmax last : ℕ) (pages : List (List Row)) (spare : Option
 -- the rows are the same
 abbrev pub AreSame : List (List Row) → List (List Row) → Type 0
 AreSame old new = (n : ℕ) → row_in new n ≡ row_in old n
+
+-- as many pages have the same rows
+pub record AreKept (old : List (List Row)) (before : Option (List Row)) (new : List (List Row)) (after : Option (List Row)) : Type 0 where
+  pub rows : AreSame old new
+  pub size : length new ≡ length old
+  pub pages : AreStillPages old before new after
 
 -- the row of n changed so, and no other
 abbrev pub IsRowChanged : ℕ → (Row → Row) → List (List Row) → List (List Row) → Type 0

@@ -1,4 +1,4 @@
-//! The rows of 1,024 numbers that follow each other.
+//! The rows of up to 1,024 numbers that follow each other.
 
 ghost use Rattle.std.specs.Prelude.{◌≡◌, ◌<◌, ◌≤◌, ℕ, true, false, [], length, replicate, slice_set, IfOk};
 ghost use Rattle.pidalloc.specs.Rows.{unborne, is_free_row, count_of, one_more, one_less, row_at};
@@ -7,7 +7,7 @@ use crate::row::{Role, Row};
 use std::alloc::{AllocError, Global};
 use std::marker::Model;
 
-/// The rows of 1,024 numbers, or none while nobody bears one of these.
+/// The rows of up to 1,024 numbers, or none while nobody bears one of these.
 #[derive(Drop)]
 pub(crate) struct Page {
     rows: Vec<Row>,
@@ -37,39 +37,39 @@ impl Page {
         }
     }
 
-    /// The rows of numbers that nobody bears; an error where there is no memory for them.
-    pub fn unborne(alloc: Global) -> Result<Page, AllocError>
-        ensures { IfOk result (λ p. p ≡ replicate 1024 unborne) }
+    /// The rows of so many numbers, at most 1,024, that nobody bears; an error where there is no memory for them.
+    pub fn unborne(alloc: Global, size: usize) -> Result<Page, AllocError>
+        requires { size ≤ 1024 }
+        ensures { IfOk result (λ p. p ≡ replicate size unborne) }
     {
-        let rows = vec![in alloc; Row::unborne(); 1024]?;
+        let rows = vec![in alloc; Row::unborne(); size]?;
         Ok(Page { rows, borne: 0 })
     }
 
     /// Whether it has rows.
     pub fn is_there(&self) -> bool
-        ensures there { result ≡ true → length self.now ≡ 1024 }
+        ensures there { result ≡ true → 1 ≤ length self.now }
         ensures none { result ≡ false → self.now ≡ [] }
     {
         !self.rows.is_empty()
     }
 
-    /// Whether nobody bears any of the numbers of a page that has rows.
+    /// Whether nobody bears any of the numbers.
     pub fn is_unused(&self) -> bool
-        requires { 1 ≤ length self.now }
-        ensures { result ≡ true → self.now ≡ replicate 1024 unborne }
+        ensures { result ≡ true → self.now ≡ replicate (length self.now) unborne }
     {
         self.borne == 0
     }
 
-    /// Where the first number from one on stands that nobody bears, or 1,024.
+    /// Where the first number from one on stands that nobody bears, or 1,024. Nobody bears one beyond the rows.
     pub fn first_free(&self, from: usize) -> usize
         requires { from < 1024 }
         ensures range { (from ≤ result) × (result ≤ 1024) }
         ensures borne { (i : ℕ) → from ≤ i → i < result → is_free_row (row_at self.now i) ≡ false }
         ensures free { result < 1024 → is_free_row (row_at self.now result) ≡ true }
     {
-        if self.borne == 1024 {
-            return 1024;
+        if self.borne == self.rows.len() {
+            return from.max(self.rows.len());
         }
         let mut at = from;
         while at < self.rows.len() {

@@ -1,8 +1,8 @@
 //! The numbers up to a greatest one, and who bears them.
 
-ghost use Rattle.std.specs.Prelude.{◌≡◌, ◌+◌, ◌-◌, ◌<◌, ◌≤◌, ◌/◌, ◌%◌, ◌*◌, ◌⊎◌, ℕ, true, false, Some, None, [], IfSome, OnOk, length, replicate, slice_set};
+ghost use Rattle.std.specs.Prelude.{◌≡◌, ◌+◌, ◌-◌, ◌<◌, ◌≤◌, ◌/◌, ◌%◌, ◌*◌, ◌⊎◌, ℕ, true, false, Some, None, [], IfSome, OnOk, is_some, unwrap_or, length, replicate, slice_set};
 ghost use Rattle.posix.specs.NextPid.{next_free, first_free};
-ghost use Rattle.pidalloc.specs.Rows.{IsPids, unborne, unborne_table, row, is_free_in, count_of, borne, given_up, born_in, gone_from, regrouped, page_at, row_in, rows_in, is_free_row, one_more, one_less, last_given, AreSame, IsRowChanged, IsKeptUnlessFree};
+ghost use Rattle.pidalloc.specs.Rows.{IsPids, unborne, unborne_table, row, is_free_in, count_of, borne, given_up, born_in, gone_from, regrouped, page_at, row_in, rows_in, is_free_row, one_more, one_less, last_given, AreKept, IsRowChanged, IsKeptUnlessFree, page_size, HasRow, AreStillPages};
 
 use crate::page::Page;
 use crate::row::Role;
@@ -14,8 +14,8 @@ use std::mem::replace;
 /// How often each number from 0 to a greatest one is borne as a process's own, a group's and a
 /// session's, and the number that was given last.
 ///
-/// Each 1,024 numbers of which one is borne have a page of rows, so the size follows the processes. Memory is
-/// taken in [`PidTable::reserve`] alone.
+/// Each 1,024 numbers of which one is borne have a page of rows, so the size follows the processes. A table of fewer
+/// numbers has rows for these alone. Memory is taken in [`PidTable::reserve`] alone.
 #[derive(Drop)]
 pub struct PidTable {
     alloc: Global,
@@ -57,9 +57,16 @@ fn place_of(number: u32) -> usize
     (number % 1024) as usize
 }
 
+/// How many rows a page has that has rows: as many as there are numbers, at most 1,024.
+fn page_size(pidmax: u32) -> usize
+    ensures { result ≡ page_size pidmax }
+{
+    (pidmax as usize + 1).min(1024)
+}
+
 /// Makes `count` pages, of which the new ones have no rows. An error where there is no memory for them.
 fn make_pages(pages: &mut Vec<Page>, alloc: Global, count: usize) -> Result<(), AllocError>
-    ensures same { AreSame pages.old.items pages.new.items }
+    ensures same { (k : ℕ) → page_at pages.new.items k ≡ page_at pages.old.items k }
     ensures grows { length pages.old.items ≤ length pages.new.items }
     ensures enough { OnOk result (count ≤ length pages.new.items) }
 {
@@ -69,24 +76,25 @@ fn make_pages(pages: &mut Vec<Page>, alloc: Global, count: usize) -> Result<(), 
     Ok(())
 }
 
-/// There is a page of rows of numbers that nobody bears. An error where there is no memory for it.
-fn make_spare(spare: &mut Option<Page>, alloc: Global) -> Result<(), AllocError>
-    requires { IfSome spare.old (λ page. page ≡ replicate 1024 unborne) }
-    ensures ok { OnOk result (spare.new ≡ Some (replicate 1024 unborne)) }
+/// There is a page of `size` rows, at most 1,024, of numbers that nobody bears. An error where there is no memory for it.
+fn make_spare(spare: &mut Option<Page>, alloc: Global, size: usize) -> Result<(), AllocError>
+    requires size { size ≤ 1024 }
+    requires unused { IfSome spare.old (λ page. page ≡ replicate size unborne) }
+    ensures ok { OnOk result (spare.new ≡ Some (replicate size unborne)) }
     ensures stays { IfSome spare.old (λ page. spare.new ≡ Some page) }
-    ensures kept { IfSome spare.new (λ page. page ≡ replicate 1024 unborne) }
+    ensures kept { IfSome spare.new (λ page. page ≡ replicate size unborne) }
 {
     if spare.is_none() {
-        *spare = Some(Page::unborne(alloc)?);
+        *spare = Some(Page::unborne(alloc, size)?);
     }
     Ok(())
 }
 
-/// A page that has no rows gets those of numbers that nobody bears.
+/// The spare page takes the place of a page that has no rows.
 fn lay(pages: &mut Vec<Page>, spare: &mut Option<Page>, at: usize)
     requires inside { at < length pages.old.items }
-    requires spare { spare.old ≡ Some (replicate 1024 unborne) }
-    ensures pages { pages.new.items ≡ slice_set pages.old.items at (replicate 1024 unborne) }
+    requires there { is_some spare.old ≡ true }
+    ensures pages { pages.new.items ≡ slice_set pages.old.items at (unwrap_or spare.old []) }
     ensures spare { spare.new ≡ None }
 {
     if let Some(page) = spare.take() {
@@ -94,12 +102,11 @@ fn lay(pages: &mut Vec<Page>, spare: &mut Option<Page>, at: usize)
     }
 }
 
-/// A page that has rows, of numbers that nobody bears, has none from now on.
+/// A page that has rows, of numbers that nobody bears, is the spare page from now on.
 fn put_away(pages: &mut Vec<Page>, spare: &mut Option<Page>, alloc: Global, at: usize)
-    requires inside { at < length pages.old.items }
-    requires unused { page_at pages.old.items at ≡ replicate 1024 unborne }
+    requires { at < length pages.old.items }
     ensures pages { pages.new.items ≡ slice_set pages.old.items at [] }
-    ensures spare { spare.new ≡ Some (replicate 1024 unborne) }
+    ensures spare { spare.new ≡ Some (page_at pages.old.items at) }
 {
     let page = replace(&mut pages[at], Page::none(alloc));
     *spare = Some(page);
@@ -107,11 +114,9 @@ fn put_away(pages: &mut Vec<Page>, spare: &mut Option<Page>, alloc: Global, at: 
 
 /// There are rows for a number: if nobody bears it, the spare page is there for them.
 fn make_row(pages: &mut Vec<Page>, spare: &mut Option<Page>, number: u32)
-    requires inside { number / 1024 < length pages.old.items }
-    requires spare { is_free_row (row_in pages.old.items number) ≡ true → spare.old ≡ Some (replicate 1024 unborne) }
-    ensures same { AreSame pages.old.items pages.new.items }
+    requires { HasRow pages.old.items spare.old number }
+    ensures kept { AreKept pages.old.items spare.old pages.new.items spare.new }
     ensures there { number % 1024 < length (page_at pages.new.items (number / 1024)) }
-    ensures size { length pages.new.items ≡ length pages.old.items }
     ensures spare { IsKeptUnlessFree (row_in pages.old.items number) spare.old spare.new }
 {
     let at = page_of(number);
@@ -122,12 +127,12 @@ fn make_row(pages: &mut Vec<Page>, spare: &mut Option<Page>, number: u32)
 
 /// One process more bears a number in this role.
 fn bear_in(pages: &mut Vec<Page>, spare: &mut Option<Page>, number: u32, role: Role)
-    requires inside { number / 1024 < length pages.old.items }
+    requires row { HasRow pages.old.items spare.old number }
     requires count { count_of role (row_in pages.old.items number) < 4294967295 }
-    requires spare { is_free_row (row_in pages.old.items number) ≡ true → spare.old ≡ Some (replicate 1024 unborne) }
     ensures rows { IsRowChanged number (one_more role) pages.old.items pages.new.items }
     ensures size { length pages.new.items ≡ length pages.old.items }
     ensures spare { IsKeptUnlessFree (row_in pages.old.items number) spare.old spare.new }
+    ensures pages { AreStillPages pages.old.items spare.old pages.new.items spare.new }
 {
     make_row(pages, spare, number);
     pages[page_of(number)].bear(place_of(number), role);
@@ -141,6 +146,7 @@ fn give_up_in(pages: &mut Vec<Page>, number: u32, role: Role) -> bool
     ensures inside { number / 1024 < length pages.new.items }
     ensures there { number % 1024 < length (page_at pages.new.items (number / 1024)) }
     ensures free { result ≡ is_free_row (row_in pages.new.items number) }
+    ensures sizes { (k : ℕ) → length (page_at pages.new.items k) ≡ length (page_at pages.old.items k) }
 {
     pages[page_of(number)].give_up(place_of(number), role)
 }
@@ -149,9 +155,8 @@ fn give_up_in(pages: &mut Vec<Page>, number: u32, role: Role) -> bool
 fn tidy(pages: &mut Vec<Page>, spare: &mut Option<Page>, alloc: Global, at: usize)
     requires inside { at < length pages.old.items }
     requires there { 1 ≤ length (page_at pages.old.items at) }
-    ensures same { AreSame pages.old.items pages.new.items }
-    ensures size { length pages.new.items ≡ length pages.old.items }
-    ensures spare { (spare.new ≡ spare.old) ⊎ (spare.new ≡ Some (replicate 1024 unborne)) }
+    ensures kept { AreKept pages.old.items spare.old pages.new.items spare.new }
+    ensures spare { (spare.new ≡ spare.old) ⊎ (is_some spare.new ≡ true) }
 {
     if pages[at].is_unused() {
         put_away(pages, spare, alloc, at);
@@ -195,7 +200,7 @@ impl PidTable {
         ensures rest { self.new ≡ record (self.old) { ready = self.new.ready } }
     {
         make_pages(&mut self.pages, self.alloc, page_of(self.pidmax) + 1)?;
-        make_spare(&mut self.spare, self.alloc)
+        make_spare(&mut self.spare, self.alloc, page_size(self.pidmax))
     }
 
     /// The greatest number: 2 to 4,194,304.
@@ -296,7 +301,7 @@ impl PidTable {
 
     /// One process more bears `pid` in this role. As a process's own number it is also the one given
     /// last.
-    #[tactic(auto, unfolding(crate::specs::Rows::borne))]
+    #[tactic(auto, using(crate::proofs::PageLemmas::row_of, crate::proofs::PageLemmas::rows_size, crate::proofs::PageLemmas::given_within), unfolding(crate::specs::Rows::borne))]
     pub fn bear(&mut self, pid: Pid, role: Role)
         requires range { pid ≤ self.old.pidmax }
         requires count { count_of role (row self.old.rows pid) < 4294967295 }
@@ -313,7 +318,7 @@ impl PidTable {
     }
 
     /// One process less bears `pid` in this role.
-    #[tactic(auto, unfolding(crate::specs::Rows::given_up))]
+    #[tactic(auto, using(crate::proofs::PageLemmas::row_of, crate::proofs::PageLemmas::rows_size), unfolding(crate::specs::Rows::given_up))]
     pub fn give_up(&mut self, pid: Pid, role: Role)
         requires range { pid ≤ self.old.pidmax }
         requires count { 1 ≤ count_of role (row self.old.rows pid) }

@@ -1,7 +1,7 @@
 -- What moves in the index of those that keep their process groups from being orphaned: whose key changes where one record
 -- changes, comes or goes. It is the key of the process itself, and of its children, if what these see of it changes: its
 -- group and its session, and whether it is there.
-use Rattle.std.proofs.Common.{◌≡◌, ◌≢◌, ℕ, ◌&&◌, Bool, true, false, not, cond, map, refl, ap, sym, ◌∙◌, List, Option, Some, None, option_map, ◌==◌, inl, inr}
+use Rattle.std.proofs.Common.{◌≡◌, ◌≢◌, ℕ, ◌&&◌, Bool, false, not, cond, map, refl, ap, sym, ◌∙◌, List, Option, Some, None, option_map, ◌==◌, inl, inr, arith}
 use Rattle.std.specs.Option.{option_map_or}
 use Rattle.std.specs.List.{list_any}
 use Rattle.std.specs.Prelude.{option_and_then}
@@ -48,10 +48,7 @@ same_elsewhere p q rs ts same ne apart = ap (option_and_then (anchor_key ts)) (s
 
 -- where p takes the same stance, all do
 pub stance_stays : (p : ℕ) (rs ts : List Process) → IsElsewhere p rs ts → stance_of p ts ≡ stance_of p rs → (q : ℕ) → stance_of q ts ≡ stance_of q rs
-stance_stays p rs ts same stays q = elim (cases_eq q p) [
-  | inl e ↦ ap (λ n. stance_of n ts) e ∙ stays ∙ sym (ap (λ n. stance_of n rs) e)
-  | inr other ↦ ap (option_map stance) (same q other)
-]
+stance_stays p rs ts same stays q = grind (arith, same q, stays)
 
 -- and its children have the same key: a change of its life, say, moves it alone
 pub anchors_moved : (p : ℕ) (rs ts : List Process) (old new : List Pair) → IsElsewhere p rs ts → stance_of p ts ≡ stance_of p rs → IsAnchorIndex rs old → IsMoved p (key_of (anchor_key ts) p ts) old new → IsAnchorIndex ts new
@@ -80,10 +77,7 @@ keyed_turned p key rs keys now old new turned h children others q k = turned k q
   where
     at : (o : Option Process) → lookup q rs ≡ o → option_map_or (λ r. cond (r.parent == p) (is_key k (key r)) (is_pair_in k q old)) o (is_pair_in k q old) ≡ is_key k (now q)
     at None e = h q k ∙ ap (is_key k) (others q (λ r f. let no : None ≡ Some r = sym e ∙ f in absurd (cc)))
-    at (Some r) e = elim (cases_eq r.parent p) [
-      | inl child ↦ rw (eq-eqb r.parent p child) (ap (is_key k) (children q r e child))
-      | inr other ↦ rw (ne_eqb r.parent p other) (h q k ∙ ap (is_key k) (others q (λ x f. let one : Some x ≡ Some r = sym f ∙ e in let is : x ≡ r = cc in rw is other)))
-    ]
+    at (Some r) e = grind (arith, h q k, children q r e, λ (ne : r.parent ≢ p). others q (λ x f. let one : Some x ≡ Some r = sym f ∙ e in let is : x ≡ r = cc in rw is ne))
 
 -- p moves, and then its children, by what they see of it
 pub anchors_turned : (p : ℕ) (key : Process → Option ℕ) (rs ts : List Process) (old mid new : List Pair) → IsElsewhere p rs ts → IsMoved p (key_of (anchor_key ts) p ts) old mid → AreTurned p key ts mid new → ((r : Process) → r.parent ≡ p → key r ≡ anchor_key ts r)
@@ -138,13 +132,7 @@ turned_none p key rs old q none k = at (lookup q rs) refl
   where
     at : (o : Option Process) → lookup q rs ≡ o → is_pair_in k q old ≡ option_map_or (λ r. cond (r.parent == p) (is_key k (key r)) (is_pair_in k q old)) o (is_pair_in k q old)
     at None e = refl
-    at (Some r) e = elim (cases_eq r.parent p) [
-      | inl child ↦
-          let one = any_looked (λ r. is_child p r && has_pid q r) q rs r e (rw (eq-eqb r.parent p child) (eq-eqb r.pid q (pid_looked q rs r e))) in
-          let no : false ≡ true = sym none ∙ any_filter (is_child p) (has_pid q) rs ∙ one in
-          absurd (cc)
-      | inr other ↦ rw (ne_eqb r.parent p other) refl
-    ]
+    at (Some r) e = grind (arith, λ (child : r.parent ≡ p). any_looked (λ r. is_child p r && has_pid q r) q rs r e (rw (eq-eqb r.parent p child) (eq-eqb r.pid q (pid_looked q rs r e))), none, any_filter (is_child p) (has_pid q) rs)
 
 -- and the child c stands as it is to, with those that aren't left
 pub turned_one : (p c : ℕ) (key : Process → Option ℕ) (rs : List Process) (old mid new : List Pair) (next : Option ℕ) → (i : AtChild rs p c) → next ≡ Some c → IsMoved c (key i.what) mid new

@@ -3,19 +3,18 @@ use Rattle.std.proofs.Common.{◌≡◌, ◌≢◌, ℕ, ◌<◌, ◌≤◌, Boo
 use Rattle.std.specs.List.{AllByRecursion, list_any}
 use Rattle.std.specs.Option.{IsSome}
 use Rattle.std.specs.Prelude.{option_and_then}
-use Rattle.std.proofs.lemmas.Bool.{eqb-true, eq-eqb, ne_eqb, ltb-true, cases_eq, cases_order, and_parts}
+use Rattle.std.proofs.lemmas.Bool.{eqb-true, eq-eqb, ne_eqb, ltb-true, cases_order, and_parts, false_from_ne_true}
 use Rattle.std.proofs.lemmas.Bool.Decides.{nat_tests}
 use Rattle.std.proofs.lemmas.List.{length-map}
-use Rattle.std.proofs.Math.Bool.{and-false, or-false}
 use Rattle.posix.specs.Processes.{Process}
 use Rattle.posix.specs.Tables.{IsRising, lookup, pids, members_in, above, first_pid, changed, inserted, removed}
 use Rattle.posix.specs.States.{is_in}
-use Rattle.posix.proofs.TableLemmas.{pid_looked, lookup_changed, none_found, rising_removed}
+use Rattle.posix.proofs.TableLemmas.{pid_looked, lookup_changed, rising_removed}
 use Rattle.posix.proofs.MapLemmas.{lookup_map}
-use Rattle.posix.proofs.MemberLemmas.{in_first, in_rest, in_none}
+use Rattle.posix.proofs.MemberLemmas.{in_first, in_none}
 use Rattle.posix.proofs.RegularLemmas.{lookup_inserted, lookup_kept, lookup_removed}
 use Rattle.posix.proofs.PassingLemmas.{filter_at_most}
-use Rattle.posix.proofs.WalkLemmas.{Passes, all_looked, first_passes, none_passes_before, both_pass}
+use Rattle.posix.proofs.WalkLemmas.{Passes, any_looked, some_looked, first_passes, none_passes_before, both_pass}
 use Rattle.pidset.specs.declared.index.Pair.{Pair}
 use Rattle.pidset.specs.Numbers.{Rises}
 use Rattle.pidset.specs.Indexes.{ArePairsRekeyed, ArePairs, IndexView, IsNextPair, IsAt, IsMoved, IsKeyed, IsIndex, CanReplace, IsReplaced, IsRekeyed, IsIndexed, is_key, key_of, is_pair_in}
@@ -43,10 +42,7 @@ key_removed key p rs = ap (option_and_then key) (lookup_removed p rs)
 
 -- where the keys of all but p stay, and p moves to its key, the index stays right
 pub keyed_moved : (p : ℕ) (keys now : ℕ → Option ℕ) (old new : List Pair) → ((q : ℕ) → q ≢ p → now q ≡ keys q) → IsKeyed keys old → IsMoved p (now p) old new → IsKeyed now new
-keyed_moved p keys now old new same h moved q k = moved k q ∙ elim (cases_eq q p) [
-  | inl e ↦ rw (eq-eqb q p e) (ap (λ n. is_key k (now n)) (sym e))
-  | inr ne ↦ rw (ne_eqb q p ne) (h q k ∙ ap (is_key k) (sym (same q ne)))
-]
+keyed_moved p keys now old new same h moved q k = grind (arith, eqb-true, moved k q, h q k, same q)
 
 -- so where the record of p is changed, comes or goes
 pub index_moved : (key : Process → Option ℕ) (p : ℕ) (rs ts : List Process) (old new : List Pair) → IsElsewhere p rs ts → IsIndex key rs old → IsMoved p (key_of key p ts) old new → IsIndex key ts new
@@ -54,10 +50,7 @@ index_moved key p rs ts old new same h moved = keyed_moved p (λ q. key_of key q
 
 -- where its key stays, nothing moves
 pub unmoved : (key : Process → Option ℕ) (p : ℕ) (rs : List Process) (pairs : List Pair) (k : Option ℕ) → IsIndex key rs pairs → k ≡ key_of key p rs → IsMoved p k pairs pairs
-unmoved key p rs pairs o h same k q = elim (cases_eq q p) [
-  | inl e ↦ rw (eq-eqb q p e, same) (ap (λ n. is_pair_in k n pairs) e ∙ h p k)
-  | inr ne ↦ rw (ne_eqb q p ne) refl
-]
+unmoved key p rs pairs o h same k q = grind (arith, eqb-true, h p k, same)
 
 -- it stands under one key at most
 pub at_once : (p : ℕ) (a b : Option ℕ) (pairs : List Pair) → IsAt p a pairs → IsAt p b pairs → a ≡ b
@@ -113,13 +106,7 @@ next_pair key rs pairs k n next up h i = same next (first_pid (filter passes rs)
         let k = outside m t.0 t.1 in
         let j = inside c f in
         let l = i.least c j.1 j.0 in
-        let one : Some m ≡ Some l.0 = l.1 in
-        let is : m ≡ l.0 = cc in
-        let low = l.2 in
-        elim (cases_eq m c) [
-          | inl e ↦ ap Some e
-          | inr ne ↦ absurd (g m k.0 k.1 k.2 (grind (arith, is, low, ne)))
-        ]
+        grind (arith, l.1, l.2, λ (low : m < c). g m k.0 k.1 k.2 low)
 
 -- those that stand under a group where they pass a test are its members that pass it
 pub members_passing : (t : Process → Bool) (key : Process → Option ℕ) → ((r : Process) → key r ≡ cond (t r) (Some r.group) None) → (group : ℕ) (rs : List Process) → filter (λ r. is_key group (key r)) rs ≡ filter t (members_in group rs)
@@ -131,17 +118,14 @@ members_passing t key is group (r ∷ rs) = rw (is r) (grind (arith, members_pas
 
 -- a rising list whose numbers all stand in another rising list is no longer
 pub shorter : (ns ms : List ℕ) → Rises ns → Rises ms → ((q : ℕ) → is_in q ns ≡ true → is_in q ms ≡ true) → length ns ≤ length ms
-unfolding Rises
+unfolding Rises is_in
 shorter [] ms a b h = omega arith
 shorter (n ∷ ns) [] a b h = absurd (in_none n (h n (in_first n ns)))
 shorter (n ∷ ns) (m ∷ ms) a b h = elim (cases_order n m) [
-  | inl same ↦ let l = shorter ns ms a.1 b.1 (λ q e. let high = in_above n q ns a.0 e in sym (in_rest q m ms (λ x. omega (arith, high, same, x))) ∙ h q (sym (sym e ∙ sym (in_rest q n ns (λ x. omega (arith, high, x)))))) in omega (arith, l)
-  | inr (inl low) ↦ let l = in_above m n ms b.0 (sym (in_rest n m ms (λ x. omega (arith, low, x))) ∙ h n (in_first n ns)) in absurd (omega (arith, low, l))
-  | inr (inr high) ↦ let l = shorter (n ∷ ns) ms a b.1 (λ q e. sym (in_rest q m ms (λ x. let low = at_least q e in omega (arith, high, low, x))) ∙ h q e) in omega (arith, l)
+  | inl same ↦ let l = shorter ns ms a.1 b.1 (λ q e. grind (arith, eqb-true, in_above n q ns a.0 e, h q)) in omega (arith, l)
+  | inr (inl low) ↦ absurd (grind (arith, eqb-true, in_above m n ms b.0, h n))
+  | inr (inr high) ↦ let l = shorter (n ∷ ns) ms a b.1 (λ q e. grind (arith, eqb-true, in_above n q ns a.0, h q)) in omega (arith, l)
 ]
-  where
-    at_least : (q : ℕ) → is_in q (n ∷ ns) ≡ true → n ≤ q
-    at_least q e = elim (cases_eq n q) [ inl s ↦ omega (arith, s) | inr o ↦ let l = in_above n q ns a.0 (sym (in_rest q n ns o) ∙ e) in omega (arith, l) ]
 
 above_pids : (n : ℕ) (rs : List Process) → AllByRecursion (λ (r : Process). n < r.pid) rs → AllAbove n (pids rs)
 above_pids n [] h = tt
@@ -181,18 +165,12 @@ few_pairs key rs pairs up once h =
 shorter_removed : (p : ℕ) (rs : List Process) → IsSome (lookup p rs) → length (removed p rs) < length rs
 unfolding lookup removed
 shorter_removed p [] h = absurd (cc)
-shorter_removed p (r ∷ rs) h = elim (r.pid == p) as (λ b. IsSome (cond b (Some r) (lookup p rs)) → length (cond (not b) (r ∷ removed p rs) (removed p rs)) < length (r ∷ rs)) [
-  | true ↦ λ k. let few = filter_at_most (λ r. not (r.pid == p)) rs in omega (arith, few)
-  | false ↦ λ k. let few = shorter_removed p rs k in omega (arith, few)
-] h
+shorter_removed p (r ∷ rs) h = grind (arith, shorter_removed p rs, filter_at_most (λ (r : Process). not (r.pid == p)) rs)
 
 -- fewer pairs than processes where p has no key
 few_without : (key : Process → Option ℕ) (p : ℕ) (rs : List Process) (pairs : List Pair) → IsRising rs → ArePairs pairs → IsIndex key rs pairs → key_of key p rs ≡ None → IsSome (lookup p rs) → length pairs < length rs
 few_without key p rs pairs up once h none here =
-    let same : (q : ℕ) → key_of key q (removed p rs) ≡ key_of key q rs = λ q. elim (cases_eq q p) [
-      | inl e ↦ ap (λ n. key_of key n (removed p rs)) e ∙ key_removed key p rs ∙ sym none ∙ ap (λ n. key_of key n rs) (sym e)
-      | inr ne ↦ ap (option_and_then key) (elsewhere_removed p rs q ne)
-    ] in
+    let same : (q : ℕ) → key_of key q (removed p rs) ≡ key_of key q rs = λ q. grind (arith, key_removed key p rs, elsewhere_removed p rs q, none) in
     let few = few_pairs key (removed p rs) pairs (rising_removed p rs up) once (index_same key rs (removed p rs) pairs same h) in
     let less = shorter_removed p rs here in
     omega (arith, few, less)
@@ -228,10 +206,7 @@ indexed_rekeyed key from to ne rs old new h is = record { index = index_rekeyed 
 -- and where none does that, the index is as it was
 pub rekeyed_none : (from to : ℕ) (set : IndexView) → ArePairs set.pairs → ((p : ℕ) → is_pair_in from p set.pairs ≡ false) → IsRekeyed from to set set
 rekeyed_none from to set once none = record {
-  pairs = λ k p. elim (cases_eq k from) [
-    | inl e ↦ rw (eq-eqb k from e) (ap (λ n. is_pair_in n p set.pairs) e ∙ none p)
-    | inr ne ↦ rw (ne_eqb k from ne, none p, and-false (k == to)) (sym (or-false (is_pair_in k p set.pairs)))
-  ];
+  pairs = λ k p. grind (arith, eqb-true, none p);
   once = once;
   room = refl;
 }
@@ -244,31 +219,19 @@ indexed_none key set none once = record { index = λ p k. ap (is_pair_in k p) no
 -- nobody stands in it where nobody has a key
 pub index_empty : (key : Process → Option ℕ) (t : Process → Bool) → ((r : Process) → is_some (key r) ≡ t r) → (rs : List Process) (pairs : List Pair) → IsRising rs → IsIndex key rs pairs → (length pairs == 0) ≡ not (list_any t rs)
 unfolding is_pair_in
-index_empty key t has rs [] up h = ap not (sym (none_any t rs (all_looked (λ r. t r ≡ false) rs up (λ p r e. sym (has r) ∙ none (key r) (λ k. sym (h p k ∙ ap (λ (o : Option Process). is_key k (option_and_then key o)) e))))))
+index_empty key t has rs [] up h = ap not (sym (false_from_ne_true _ (λ e. let i = some_looked t rs up e in none (key i.0) (has i.0 ∙ i.2) (λ k. sym (h i.0.pid k ∙ ap (λ (o : Option Process). is_key k (option_and_then key o)) i.1)))))
   where
-    none : (o : Option ℕ) → ((k : ℕ) → is_key k o ≡ false) → is_some o ≡ false
-    none None f = refl
-    none (Some k) f = sym (eq-eqb k k refl) ∙ f k
-
-    none_any : (t : Process → Bool) (rs : List Process) → AllByRecursion (λ r. t r ≡ false) rs → list_any t rs ≡ false
-    none_any t [] a = refl
-    none_any t (r ∷ rs) a = rw a.0 (none_any t rs a.1)
-index_empty key t has rs (x ∷ xs) up h = ne_eqb (length (x ∷ xs)) 0 (λ e. omega (arith, e)) ∙ elim (list_any t rs) as (λ b. list_any t rs ≡ b → false ≡ not b) [
-  | true ↦ λ e. refl
-  | false ↦ λ e. absurd (there (lookup x.pid rs) refl e)
-] refl
+    none : (o : Option ℕ) → is_some o ≡ true → ((k : ℕ) → is_key k o ≡ false) → ⊥
+    none None e f = absurd (cc)
+    none (Some k) e f = let no : true ≡ false = sym (eq-eqb k k refl) ∙ f k in absurd (cc)
+index_empty key t has rs (x ∷ xs) up h =
+    let here : is_key x.key (key_of key x.pid rs) ≡ true = sym (h x.pid x.key) ∙ rw (eq-eqb x.key x.key refl, eq-eqb x.pid x.pid refl) refl in
+    ne_eqb (length (x ∷ xs)) 0 (λ e. omega (arith, e)) ∙ ap not (sym (there (lookup x.pid rs) refl here))
   where
-    here : is_key x.key (key_of key x.pid rs) ≡ true
-    here = sym (h x.pid x.key) ∙ rw (eq-eqb x.key x.key refl, eq-eqb x.pid x.pid refl) refl
-
     some : (k : ℕ) (o : Option ℕ) → is_key k o ≡ true → is_some o ≡ true
     some k None f = absurd (cc)
     some k (Some n) f = refl
 
-    there : (o : Option Process) → lookup x.pid rs ≡ o → list_any t rs ≡ false → ⊥
-    there None e none = let no : false ≡ true = sym (ap (λ (o : Option Process). is_key x.key (option_and_then key o)) e) ∙ here in absurd (cc)
-    there (Some r) e none =
-        let yes = some x.key (key r) (sym (ap (λ (o : Option Process). is_key x.key (option_and_then key o)) e) ∙ here) in
-        let no = none_found t rs none x.pid r e in
-        let both : false ≡ true = sym no ∙ sym (has r) ∙ yes in
-        absurd (cc)
+    there : (o : Option Process) → lookup x.pid rs ≡ o → is_key x.key (option_and_then key o) ≡ true → list_any t rs ≡ true
+    there None e f = absurd (cc)
+    there (Some r) e f = any_looked t x.pid rs r e (sym (has r) ∙ some x.key (key r) f)

@@ -1,12 +1,13 @@
 -- Facts on items in rising order of their numbers.
 use Rattle.std.proofs.Common.{◌≡◌, ◌≢◌, ℕ, zero, suc, ◌+◌, ◌-◌, ◌<◌, ◌≤◌, Bool, true, false, cond, not, refl, ap, sym, ◌∙◌, arith, subst, List, [], ◌∷◌, length, map, filter, find, drop, insert, remove, slice_get, slice_set, get_or, Some, None, Result, Ok, Err, IfOk, IfErr, ◌==◌, nat_lt}
+use Rattle.std.specs.List.{AllByRecursion}
 use Rattle.std.specs.List.Sorted.{IsSearchInRange, IsBinarySearchResult, IsNonDecreasingBy}
 use Rattle.std.specs.Option.{IfSome, option_map}
 use Rattle.std.specs.Ordering.{nat_cmp, ordering_index}
 use Rattle.std.proofs.lemmas.Cmp.{ranked}
 use Rattle.std.proofs.lemmas.List.{length-map, get_or-map}
 use Rattle.std.proofs.lemmas.Option.{slice_get-map, slice_get_within, slice_get_read}
-use Rattle.std.proofs.lemmas.Bool.{eqb-true, eq-eqb, ne_eqb}
+use Rattle.std.proofs.lemmas.Bool.{eqb-true, eq-eqb}
 use Rattle.std.proofs.lemmas.Bool.Decides.{nat_tests}
 use Rattle.posix.specs.States.{is_in}
 use Rattle.pidset.specs.Numbers.{Rises, with_number, IsNumberAt, IsInsertionPoint, index_behind, inserted_in_order}
@@ -43,18 +44,12 @@ others_all f (x ∷ xs) n e = grind (arith, others_all f xs n)
 -- who has another number is found among the others as among all
 pub find_other : {X : Type 0} (f : X → ℕ) (xs : List X) (p q : ℕ) → q ≢ p → find (λ x. f x == q) (filter (λ x. not (f x == p)) xs) ≡ find (λ x. f x == q) xs
 find_other f [] p q ne = refl
-find_other f (x ∷ xs) p q ne = elim (f x == p) as (λ b. (f x == p) ≡ b → find (λ x. f x == q) (cond (not b) (x ∷ filter (λ x. not (f x == p)) xs) (filter (λ x. not (f x == p)) xs)) ≡ find (λ x. f x == q) (x ∷ xs)) [
-  | true ↦ λ t. rw (ne_eqb (f x) q (λ e. ne (sym e ∙ eqb-true _ _ t))) (find_other f xs p q ne)
-  | false ↦ λ t. ap (cond (f x == q) (Some x)) (find_other f xs p q ne)
-] refl
+find_other f (x ∷ xs) p q ne = grind (arith, eqb-true, find_other f xs p q ne)
 
 -- and who has the number is not
 pub find_gone : {X : Type 0} (f : X → ℕ) (xs : List X) (p : ℕ) → find (λ x. f x == p) (filter (λ x. not (f x == p)) xs) ≡ None
 find_gone f [] p = refl
-find_gone f (x ∷ xs) p = elim (f x == p) as (λ b. (f x == p) ≡ b → find (λ x. f x == p) (cond (not b) (x ∷ filter (λ x. not (f x == p)) xs) (filter (λ x. not (f x == p)) xs)) ≡ None) [
-  | true ↦ λ t. find_gone f xs p
-  | false ↦ λ t. rw t (find_gone f xs p)
-] refl
+find_gone f (x ∷ xs) p = grind (arith, find_gone f xs p)
 
 -- the others are those at all other indexes
 pub others_at : {X : Type 0} (f : X → ℕ) (xs : List X) → Rises (map f xs) → (n i : ℕ) → IsNumberAt (map f xs) n i → filter (λ x. not (f x == n)) xs ≡ remove xs i
@@ -84,11 +79,17 @@ unfolding inserted_in_order
 find_inserted f [] new e q = refl
 find_inserted f (x ∷ xs) new e q = grind (arith, find_inserted f xs new, eqb-true, eq-eqb)
 
+-- what all have, and the new one, all have
+pub all_inserted : {X : Type 0} (P : X → Type 0) (f : X → ℕ) (new : X) (xs : List X) → P new → AllByRecursion P xs → AllByRecursion P (inserted_in_order f new xs)
+unfolding inserted_in_order
+all_inserted P f new [] p a = (p, tt)
+all_inserted P f new (x ∷ xs) p a = elim (nat_lt (f new) (f x)) as (λ b. AllByRecursion P (cond b (new ∷ x ∷ xs) (x ∷ inserted_in_order f new xs))) [ true ↦ (p, a) | false ↦ (a.0, all_inserted P f new xs p a.1) ]
+
 -- another item in the place of one with the same number is found in its stead
 pub find_set : {X : Type 0} (f : X → ℕ) (xs : List X) (i : ℕ) (new : X) → Rises (map f xs) → IsNumberAt (map f xs) (f new) i → (q : ℕ) → find (λ x. f x == q) (slice_set xs i new) ≡ cond (f new == q) (Some new) (find (λ x. f x == q) xs)
 unfolding Rises
 find_set f [] i new up e q = absurd (cc)
-find_set f (x ∷ xs) zero new up e q = let same : f x ≡ f new = cc in rw same (elim (f new == q) as (λ b. cond b (Some new) (find (λ x. f x == q) xs) ≡ cond b (Some new) (cond b (Some x) (find (λ x. f x == q) xs))) [ true ↦ refl | false ↦ refl ])
+find_set f (x ∷ xs) zero new up e q = let same : f x ≡ f new = cc in grind arith
 find_set f (x ∷ xs) (suc i) new up e q = grind (arith, find_set f xs i new up.1 e q, above_get (f x) (map f xs) up.0 i (f new) e, eqb-true)
 
 pub numbers_set : {X : Type 0} (f : X → ℕ) (xs : List X) (i : ℕ) (new : X) → IsNumberAt (map f xs) (f new) i → map f (slice_set xs i new) ≡ map f xs
@@ -103,41 +104,26 @@ all_above : {X : Type 0} (f : X → ℕ) (xs : List X) (n : ℕ) → AllAbove n 
 all_above f [] n a = refl
 all_above f (x ∷ xs) n a = let t : nat_lt n (f x) ≡ true = grind (arith, nat_tests, a.0) in rw t (ap (λ ys. x ∷ ys) (all_above f xs n a.1))
 
--- those after the index of a number are those above it
-after_index : {X : Type 0} (f : X → ℕ) (xs : List X) → Rises (map f xs) → (n i : ℕ) → IsNumberAt (map f xs) n i → drop (suc i) xs ≡ filter (λ x. nat_lt n (f x)) xs
+-- the first above a number stands behind it
+after_index : {X : Type 0} (f : X → ℕ) (xs : List X) → Rises (map f xs) → (n i : ℕ) → IsNumberAt (map f xs) n i → slice_get xs (suc i) ≡ slice_get (filter (λ x. nat_lt n (f x)) xs) 0
 unfolding Rises
 after_index f [] up n i e = absurd (cc)
 after_index f (x ∷ xs) up n zero e =
     let same : f x ≡ n = cc in
-    let t : nat_lt n (f x) ≡ false = grind (arith, nat_tests) in
-    rw t (sym (all_above f xs n (subst (λ k. AllAbove k (map f xs)) same up.0)))
+    grind (arith, nat_tests, all_above f xs n (above_less n (f x) (map f xs) (omega (arith, same)) up.0))
 after_index f (x ∷ xs) up n (suc i) e = grind (arith, nat_tests, above_get (f x) (map f xs) up.0 i n e, after_index f xs up.1 n i e)
 
-pub above_at : {X : Type 0} (f : X → ℕ) (xs : List X) → Rises (map f xs) → (n i : ℕ) → IsNumberAt (map f xs) n i → drop (i + 1) xs ≡ filter (λ x. nat_lt n (f x)) xs
-above_at f xs up n i e = let next : i + 1 ≡ suc i = omega arith in ap (λ k. drop k xs) next ∙ after_index f xs up n i e
+-- or at its insertion point
+at_point : {X : Type 0} (f : X → ℕ) (xs : List X) (n i : ℕ) → IsInsertionPoint (map f xs) n i → slice_get xs i ≡ slice_get (filter (λ x. nat_lt n (f x)) xs) 0
+at_point f [] n zero g = refl
+at_point f [] n (suc i) g = refl
+at_point f (x ∷ xs) n zero g = grind (arith, nat_tests, g.after)
+at_point f (x ∷ xs) n (suc i) g = grind (arith, nat_tests, g.before 0 (omega arith), at_point f xs n i (later (f x) (map f xs) n i g))
 
--- those from the insertion point of a number on are those above it
-above_point : {X : Type 0} (f : X → ℕ) (xs : List X) → Rises (map f xs) → (n i : ℕ) → IsInsertionPoint (map f xs) n i → drop i xs ≡ filter (λ x. nat_lt n (f x)) xs
-unfolding Rises
-above_point f [] up n zero g = refl
-above_point f [] up n (suc i) g = refl
-above_point f (x ∷ xs) up n zero g =
-    let high : n < f x = g.after in
-    let t : nat_lt n (f x) ≡ true = grind (arith, nat_tests) in
-    rw t (ap (λ ys. x ∷ ys) (sym (all_above f xs n (above_less n (f x) (map f xs) high up.0))))
-above_point f (x ∷ xs) up n (suc i) g = grind (arith, nat_tests, g.before 0 (omega arith), above_point f xs up.1 n i (later (f x) (map f xs) n i g))
-
-first_left : {X : Type 0} (xs : List X) (i : ℕ) → slice_get xs i ≡ slice_get (drop i xs) 0
-first_left [] zero = refl
-first_left [] (suc i) = refl
-first_left (x ∷ xs) zero = refl
-first_left (x ∷ xs) (suc i) = first_left xs i
-
--- so the first of them stands behind the place of the number
 pub behind_place : {X : Type 0} (f : X → ℕ) (xs : List X) → Rises (map f xs) → (n : ℕ) (place : Result ℕ ℕ) → IfOk place (IsNumberAt (map f xs) n) → IfErr place (IsInsertionPoint (map f xs) n)
     → slice_get xs (index_behind place) ≡ slice_get (filter (λ x. nat_lt n (f x)) xs) 0
-behind_place f xs up n (Ok i) at point = first_left xs (i + 1) ∙ ap (λ ys. slice_get ys 0) (above_at f xs up n i at)
-behind_place f xs up n (Err i) at point = first_left xs i ∙ ap (λ ys. slice_get ys 0) (above_point f xs up n i point)
+behind_place f xs up n (Ok i) at point = let next : i + 1 ≡ suc i = omega arith in ap (λ k. slice_get xs k) next ∙ after_index f xs up n i at
+behind_place f xs up n (Err i) at point = at_point f xs n i point
 
 -- ---- the numbers of items
 
@@ -165,12 +151,10 @@ rises_inserted f xs new up e = subst Rises (numbers_inserted f xs new e) (rises_
 -- what a binary search asks
 comparisons_rise : {X : Type 0} (f : X → ℕ) (xs : List X) → Rises (map f xs) → (n : ℕ) → IsNonDecreasingBy (λ x. ordering_index (nat_cmp (f x) n)) xs
 comparisons_rise f xs up n i j d le lt =
-    let long = length-map xs f in
     let one : get_or (map f xs) i (f d) ≡ f (get_or xs i d) = get_or-map f xs i d (f d) (omega (arith, le, lt)) in
     let two : get_or (map f xs) j (f d) ≡ f (get_or xs j d) = get_or-map f xs j d (f d) lt in
-    let rise : i < j → get_or (map f xs) i (f d) < get_or (map f xs) j (f d) = λ k. rising_or (map f xs) up i j (f d) k (omega (arith, long, lt)) in
-    let numbers : f (get_or xs i d) ≤ f (get_or xs j d) = grind (arith, one, two, rise, λ (same : i ≡ j). ap (λ k. f (get_or xs k d)) same) in
-    grind (arith, nat_tests)
+    let rise : i < j → get_or (map f xs) i (f d) < get_or (map f xs) j (f d) = λ k. rising_or (map f xs) up i j (f d) k (omega (arith, length-map xs f, lt)) in
+    grind (arith, nat_tests, one, two, rise, λ (same : i ≡ j). ap (λ k. f (get_or xs k d)) same)
 
 -- what holds at an index within the list holds of the number there, if there is one
 some_at : {X : Type 0} (f : X → ℕ) (xs : List X) (j : ℕ) (P : ℕ → Type 0) → ((d : X) → j < length xs → P (f (get_or xs j d))) → IfSome (slice_get (map f xs) j) P

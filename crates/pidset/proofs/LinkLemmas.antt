@@ -123,8 +123,3 @@ added old new k p a b l some hk one hp e place is =
 pub kept : (old new : List Node) → ((i : ℕ) → node_of new i ≡ node_of old i) → AreLinked old → AreLinked new
 unfolding list_of behind_of before_of
 kept old new same l = grind arith
-
--- no nodes
-pub linked_none : (ns : List Node) → ns ≡ [] → AreLinked ns
-unfolding list_of behind_of before_of
-linked_none ns e = grind (arith, nat_tests)

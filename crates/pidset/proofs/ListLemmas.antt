@@ -1,5 +1,5 @@
 -- Lists that grow and are read off as pairs.
-use Rattle.std.proofs.Common.{◌≡◌, ◌≢◌, ◌⊎◌, ℕ, zero, suc, ◌+◌, ◌-◌, ◌<◌, ◌≤◌, nat_lt, Bool, true, cond, not, ◌&&◌, refl, ap, arith, List, [], ◌∷◌, ◌++◌, length, ◌==◌, replicate, take, Option, Some, None}
+use Rattle.std.proofs.Common.{◌≡◌, ◌≢◌, ◌⊎◌, ℕ, zero, suc, ◌+◌, ◌-◌, ◌<◌, ◌≤◌, nat_lt, Bool, cond, not, ◌&&◌, refl, ap, arith, List, [], ◌∷◌, ◌++◌, length, ◌==◌, replicate, take, Option, Some, None}
 use Rattle.std.specs.Option.{IfSome, unwrap_or}
 use Rattle.std.proofs.lemmas.Grind.{get_or_head, get_or_tail}
 use Rattle.std.proofs.lemmas.Bool.Decides.{nat_tests}
@@ -28,9 +28,6 @@ in_from n (x ∷ xs) k q = in_step n x xs k q (in_from (n + 1) xs k q)
 -- the pairs say in which list each process stands
 pub in_pairs : (ns : List Node) (k p : ℕ) → is_pair_in k p (pairs_from 0 ns) ≡ (not (k == 0) && list_of ns p == k)
 in_pairs ns k p = grind (arith, nat_tests, in_from 0 ns k p)
-
-listed : (ns : List Node) (k p : ℕ) → is_pair_in k p (pairs_from 0 ns) ≡ true → (k ≢ 0) × (list_of ns p ≡ k)
-listed ns k p e = grind (arith, nat_tests, in_pairs ns k p)
 
 pub next_some : (ns : List Node) (k n m : ℕ) (pairs : List Pair) → pairs ≡ pairs_from 0 ns → k ≢ 0 → IsFrom ns k n m → m ≢ 0 → n < m → IsNextPair k n pairs (Some m)
 next_some ns k n m pairs is nk f some less = record { there = λ p e. grind (arith, nat_tests, in_pairs ns k p); least = λ p e h. (m, refl, grind (arith, nat_tests, in_pairs ns k p, f.least p)) }

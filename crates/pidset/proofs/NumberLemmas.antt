@@ -1,23 +1,23 @@
 -- Facts on numbers in rising order.
-use Rattle.std.proofs.Common.{◌≡◌, ℕ, zero, suc, ◌+◌, ◌-◌, ◌<◌, ◌≤◌, Bool, true, false, cond, ◌||◌, refl, ap, sym, ◌∙◌, arith, subst, List, [], ◌∷◌, length, filter, insert, slice_get, get_or, Some, inl, inr, Result, Ok, Err, is_ok, IfOk, IfErr, ◌==◌, nat_lt}
+use Rattle.std.proofs.Common.{◌≡◌, ℕ, zero, suc, ◌+◌, ◌-◌, ◌<◌, ◌≤◌, Bool, true, false, cond, ◌||◌, refl, ap, sym, ◌∙◌, arith, subst, List, [], ◌∷◌, length, filter, insert, slice_get, get_or, Some, Result, Ok, Err, is_ok, IfOk, IfErr, ◌==◌, nat_lt}
 use Rattle.std.specs.List.{AllByRecursion}
 use Rattle.std.specs.Option.{IfSome, IsSome}
 use Rattle.std.proofs.lemmas.Option.{IfSome_then, slice_get_past, get_or_from_slice_get}
-use Rattle.std.proofs.lemmas.Bool.{eqb-true, eqb-false, eq-eqb, ne_eqb, ltb-true, ltb-false, or_right, cases_eq, cases_order}
+use Rattle.std.proofs.lemmas.Bool.{eqb-true, eqb-false, eq-eqb, ne_eqb, ltb-true, ltb-false, or_right}
 use Rattle.std.proofs.lemmas.Bool.Decides.{nat_tests}
 use Rattle.posix.specs.States.{is_in, without}
 use Rattle.pidset.specs.Numbers.{Rises, with_number, numbers_above, IsNumberAt, IsInsertionPoint}
-use Rattle.posix.proofs.MemberLemmas.{in_first, in_rest, in_none, each}
+use Rattle.posix.proofs.MemberLemmas.{in_first, in_none, each}
 
 abbrev pub AllAbove : ℕ → List ℕ → Type 0
 AllAbove n ns = AllByRecursion (λ m. n < m) ns
 
 -- ---- what lies above a number
 
--- what lies above a number lies above each smaller one
-pub above_less : (m n : ℕ) (ns : List ℕ) → m < n → AllAbove n ns → AllAbove m ns
+-- what lies above a number lies above each that is no greater
+pub above_less : (m n : ℕ) (ns : List ℕ) → m ≤ n → AllAbove n ns → AllAbove m ns
 above_less m n [] l a = tt
-above_less m n (x ∷ xs) l a = (omega (arith, a.0), above_less m n xs l a.1)
+above_less m n (x ∷ xs) l a = (omega (arith, l, a.0), above_less m n xs l a.1)
 
 -- the number at any index of a list above n is above n
 pub above_get : (n : ℕ) (ns : List ℕ) → AllAbove n ns → (i m : ℕ) → slice_get ns i ≡ Some m → n < m
@@ -66,7 +66,7 @@ later x xs n i g = record { in_range = let l = g.in_range in omega arith; before
 pub out_point : (ns : List ℕ) → Rises ns → (n i : ℕ) → IsInsertionPoint ns n i → is_in n ns ≡ false
 unfolding is_in Rises
 out_point [] up n i g = refl
-out_point (x ∷ xs) up n zero g = not_in_above n n (x ∷ xs) (omega arith) (g.after, above_less n x xs g.after up.0)
+out_point (x ∷ xs) up n zero g = not_in_above n n (x ∷ xs) (omega arith) (g.after, above_less n x xs (let l = g.after in omega (arith, l)) up.0)
 out_point (x ∷ xs) up n (suc i) g = grind (arith, g.before 0 (omega arith), out_point xs up.1 n i (later x xs n i g), eqb-true x n)
 
 -- a number goes in at its insertion point
@@ -108,28 +108,22 @@ decides ns up n (Err i) e g = sym (out_point ns up n i g)
 pub point_last : (ns : List ℕ) → Rises ns → (n m : ℕ) → slice_get ns (length ns - 1) ≡ Some m → m < n → IsInsertionPoint ns n (length ns)
 point_last ns up n m last lt = record {
   in_range = omega arith;
-  before = λ j low. some_at ns j 0 (λ k. k < n) (λ h. below j h);
+  before = λ j low. some_at ns j 0 (λ k. k < n) (λ h. grind (arith, get_or_from_slice_get ns _ m 0 last, rising_or ns up j (length ns - 1) 0, λ (same : j ≡ length ns - 1). ap (λ k. get_or ns k 0) same));
   after = rw (slice_get_past ns (length ns) (omega arith)) tt;
 }
-  where
-    below : (j : ℕ) → j < length ns → get_or ns j 0 < n
-    below j h =
-        let is : get_or ns (length ns - 1) 0 ≡ m = get_or_from_slice_get ns _ m 0 last in
-        let up_to = rising_or ns up j (length ns - 1) 0 in
-        grind (arith, is, up_to, λ (same : j ≡ length ns - 1). ap (λ k. get_or ns k 0) same)
 
 -- ---- what stays in rising order
 
--- some of those above n are above n
-pub above_filter : (n : ℕ) (t : ℕ → Bool) (ns : List ℕ) → AllAbove n ns → AllAbove n (filter t ns)
-above_filter n t [] a = tt
-above_filter n t (x ∷ ns) a = elim (t x) as (λ b. AllAbove n (cond b (x ∷ filter t ns) (filter t ns))) [ true ↦ (a.0, above_filter n t ns a.1) | false ↦ above_filter n t ns a.1 ]
+-- what all have, some have
+pub all_filter : {X : Type 0} (P : X → Type 0) (t : X → Bool) (xs : List X) → AllByRecursion P xs → AllByRecursion P (filter t xs)
+all_filter P t [] a = tt
+all_filter P t (x ∷ xs) a = elim (t x) as (λ b. AllByRecursion P (cond b (x ∷ filter t xs) (filter t xs))) [ true ↦ (a.0, all_filter P t xs a.1) | false ↦ all_filter P t xs a.1 ]
 
 -- some of a rising list are in rising order
 pub rises_filter : (t : ℕ → Bool) (ns : List ℕ) → Rises ns → Rises (filter t ns)
 unfolding Rises
 rises_filter t [] u = tt
-rises_filter t (x ∷ ns) u = elim (t x) as (λ b. Rises (cond b (x ∷ filter t ns) (filter t ns))) [ true ↦ (above_filter x t ns u.0, rises_filter t ns u.1) | false ↦ rises_filter t ns u.1 ]
+rises_filter t (x ∷ ns) u = elim (t x) as (λ b. Rises (cond b (x ∷ filter t ns) (filter t ns))) [ true ↦ (all_filter (λ m. x < m) t ns u.0, rises_filter t ns u.1) | false ↦ rises_filter t ns u.1 ]
 
 -- the order stays where a number is taken out
 pub rises_without : (n : ℕ) (ns : List ℕ) → Rises ns → Rises (without n ns)
@@ -158,18 +152,13 @@ in_with q n (x ∷ xs) = grind (arith, in_with q n xs, eqb-true)
 
 -- of two rising lists that each hold the other's first number, the first is the same
 first_same : (x : ℕ) (xs : List ℕ) (y : ℕ) (ys : List ℕ) → AllAbove x xs → AllAbove y ys → is_in x (y ∷ ys) ≡ true → is_in y (x ∷ xs) ≡ true → x ≡ y
-first_same x xs y ys a b h k = elim (cases_order x y) [
-  | inl same ↦ same
-  | inr (inl low) ↦ let l = in_above y x ys b (sym (in_rest x y ys (λ e. omega (arith, low, e))) ∙ h) in absurd (omega (arith, low, l))
-  | inr (inr high) ↦ let l = in_above x y xs a (sym (in_rest y x xs (λ e. omega (arith, high, e))) ∙ k) in absurd (omega (arith, high, l))
-]
+unfolding is_in
+first_same x xs y ys a b h k = grind (arith, eqb-true, in_above y x ys b, in_above x y xs a)
 
 -- and the rest hold the same numbers, where both lists do
 rest_same : (x : ℕ) (xs : List ℕ) (y : ℕ) (ys : List ℕ) → AllAbove x xs → AllAbove y ys → x ≡ y → (q : ℕ) → is_in q (x ∷ xs) ≡ is_in q (y ∷ ys) → is_in q xs ≡ is_in q ys
-rest_same x xs y ys a b same q h = elim (cases_eq x q) [
-  | inl here ↦ not_in_above x q xs (omega (arith, here)) a ∙ sym (not_in_above y q ys (omega (arith, here, same)) b)
-  | inr apart ↦ sym (in_rest q x xs apart) ∙ h ∙ in_rest q y ys (λ e. apart (same ∙ e))
-]
+unfolding is_in
+rest_same x xs y ys a b same q h = grind (arith, eqb-true, λ (l : q ≤ x). not_in_above x q xs l a, λ (l : q ≤ y). not_in_above y q ys l b)
 
 -- rising lists with the same numbers are the same
 pub same_numbers : (xs ys : List ℕ) → Rises xs → Rises ys → ((q : ℕ) → is_in q xs ≡ is_in q ys) → xs ≡ ys
@@ -191,32 +180,26 @@ pub record IsLeastAbove (n : ℕ) (ns : List ℕ) (m : ℕ) : Type 0 where
   pub least : (q : ℕ) → is_in q ns ≡ true → n < q → m ≤ q
 
 pub next_is : (n : ℕ) (ns : List ℕ) → Rises ns → IfSome (slice_get (numbers_above n ns) 0) (IsLeastAbove n ns)
-unfolding Rises
+unfolding Rises is_in
 next_is n [] up = tt
 next_is n (x ∷ xs) up = elim (nat_lt n x) as (λ b. nat_lt n x ≡ b → IfSome (slice_get (cond b (x ∷ numbers_above n xs) (numbers_above n xs)) 0) (IsLeastAbove n (x ∷ xs))) [
   | true ↦ λ t. record {
     there = in_first x xs;
     above = ltb-true _ _ t;
-    least = λ q e l. elim (x == q) as (λ b. (x == q) ≡ b → x ≤ q) [
-      | true ↦ λ same. let k : x ≡ q = eqb-true _ _ same in omega (arith, k)
-      | false ↦ λ other. let k : x < q = in_above x q xs up.0 (sym (in_rest q x xs (eqb-false _ _ other)) ∙ e) in omega (arith, k)
-    ] refl;
+    least = λ q e l. grind (arith, eqb-true, in_above x q xs up.0);
   }
   | false ↦ λ t. let low : x ≤ n = ltb-false _ _ t in IfSome_then _ {P = IsLeastAbove n xs} (next_is n xs up.1) (λ m h. record {
-    there = in_rest m x xs (λ e. let l = h.above in omega (arith, e, l, low)) ∙ h.there;
+    there = or_right (x == m) _ h.there;
     above = h.above;
-    least = λ q e l. h.least q (sym (in_rest q x xs (λ k. omega (arith, k, l, low))) ∙ e) l;
+    least = λ q e l. h.least q (grind (arith, eqb-true)) l;
   })
 ] refl
 
 -- where one is above n, there is a first, and it is no greater
 pub next_some : (n q : ℕ) (ns : List ℕ) → Rises ns → is_in q ns ≡ true → n < q → IsSome (slice_get (numbers_above n ns) 0)
-unfolding Rises
+unfolding Rises is_in
 next_some n q [] up e l = absurd (in_none q e)
-next_some n q (x ∷ xs) up e l = elim (nat_lt n x) as (λ b. nat_lt n x ≡ b → IsSome (slice_get (cond b (x ∷ numbers_above n xs) (numbers_above n xs)) 0)) [
-  | true ↦ λ t. refl
-  | false ↦ λ t. let low : x ≤ n = ltb-false _ _ t in next_some n q xs up.1 (sym (in_rest q x xs (λ k. omega (arith, k, l, low))) ∙ e) l
-] refl
+next_some n q (x ∷ xs) up e l = grind (arith, nat_tests, next_some n q xs up.1)
 
 -- ---- how many there are
 

@@ -1,7 +1,8 @@
 -- A walk over numbers in rising order, of which some may go.
 use Rattle.std.proofs.Common.{◌≡◌, ℕ, ◌<◌, ◌==◌, true, false, cond, refl, ap, sym, ◌∙◌, arith, subst, List, [], ◌∷◌, ◌++◌, filter, Bool, Option, Some, None, slice_get, append_assoc}
 use Rattle.std.specs.Option.{IfSome}
-use Rattle.std.proofs.lemmas.Bool.{eq-eqb, ne_eqb, or_right}
+use Rattle.std.proofs.lemmas.Bool.{or_right}
+use Rattle.std.proofs.lemmas.Bool.Decides.{nat_tests}
 use Rattle.std.proofs.lemmas.Option.{IfSome_then}
 use Rattle.posix.specs.States.{is_in, without}
 use Rattle.posix.proofs.MemberLemmas.{in_first}
@@ -19,7 +20,7 @@ all_above n (m ∷ ms) a = let less = a.0 in let rest = all_above n ms a.1 in gr
 none_out : (n : ℕ) (ns : List ℕ) → AllAbove n ns → without n ns ≡ ns
 unfolding without
 none_out n [] a = refl
-none_out n (m ∷ ms) a = rw (ne_eqb m n (λ e. let less = a.0 in omega (arith, e, less))) (ap (λ ns. m ∷ ns) (none_out n ms a.1))
+none_out n (m ∷ ms) a = grind (arith, a.0, none_out n ms a.1)
 
 in_middle : (before : List ℕ) (g : ℕ) (rest : List ℕ) → is_in g (before ++ g ∷ rest) ≡ true
 unfolding is_in
@@ -30,27 +31,19 @@ in_middle (b ∷ before) g rest = or_right (b == g) _ (in_middle before g rest)
 pub above_rest : (before : List ℕ) (g : ℕ) (rest : List ℕ) → Rises (before ++ g ∷ rest) → numbers_above g (before ++ g ∷ rest) ≡ rest
 unfolding Rises
 above_rest [] g rest up = let all = all_above g rest up.0 in grind (arith, all)
-above_rest (b ∷ before) g rest up =
-    let less = in_above b g (before ++ g ∷ rest) up.0 (in_middle before g rest) in
-    let behind = above_rest before g rest up.1 in
-    grind (arith, less, behind)
+above_rest (b ∷ before) g rest up = grind (arith, in_above b g (before ++ g ∷ rest) up.0 (in_middle before g rest), above_rest before g rest up.1)
 
--- and once it has gone
-pub above_gone : (before : List ℕ) (g : ℕ) (rest : List ℕ) → Rises (before ++ g ∷ rest) → numbers_above g (before ++ rest) ≡ rest
-unfolding Rises
-above_gone [] g rest up = all_above g rest up.0
-above_gone (b ∷ before) g rest up =
-    let less = in_above b g (before ++ g ∷ rest) up.0 (in_middle before g rest) in
-    let behind = above_gone before g rest up.1 in
-    grind (arith, less, behind)
+-- and so once it has gone
+above_without : (g : ℕ) (ns : List ℕ) → numbers_above g (without g ns) ≡ numbers_above g ns
+unfolding without
+above_without g [] = refl
+above_without g (n ∷ ns) = grind (arith, nat_tests, above_without g ns)
 
 -- where it goes the others stay
 pub without_one : (before : List ℕ) (g : ℕ) (rest : List ℕ) → Rises (before ++ g ∷ rest) → without g (before ++ g ∷ rest) ≡ before ++ rest
 unfolding Rises without
-without_one [] g rest up = rw (eq-eqb g g refl) (none_out g rest up.0)
-without_one (b ∷ before) g rest up =
-    let less = in_above b g (before ++ g ∷ rest) up.0 (in_middle before g rest) in
-    rw (ne_eqb b g (λ e. omega (arith, e, less))) (ap (λ ns. b ∷ ns) (without_one before g rest up.1))
+without_one [] g rest up = grind (arith, none_out g rest up.0)
+without_one (b ∷ before) g rest up = grind (arith, in_above b g (before ++ g ∷ rest) up.0 (in_middle before g rest), without_one before g rest up.1)
 
 -- ---- a walk over them
 
@@ -68,10 +61,6 @@ pub record AtNumber (left : List ℕ) (g : ℕ) : Type 0 where
 at_number : (left : List ℕ) (g : ℕ) → slice_get left 0 ≡ Some g → AtNumber left g
 at_number [] g e = absurd (cc)
 at_number (n ∷ ns) g e = record { rest = ns; is = let same : n ≡ g = cc in ap (λ k. k ∷ ns) same }
-
--- it begins with all of them
-pub walk_of : (ns : List ℕ) (next : Option ℕ) → Rises ns → next ≡ slice_get ns 0 → IsWalking ns [] ns next
-walk_of ns next up e = record { rising = up; parts = refl; comes = e }
 
 -- it goes on behind the one that came next, where all are still there
 pub record WalksOn (ns done left : List ℕ) (g : ℕ) (after : Option ℕ) : Type 0 where
@@ -111,13 +100,8 @@ pub record IsKeeping (t : ℕ → Bool) (first ns : List ℕ) (next : Option ℕ
 keeping_stays : (t : ℕ → Bool) (first ns : List ℕ) (next after : Option ℕ) (g : ℕ) → IsKeeping t first ns next → next ≡ Some g → t g ≡ true → after ≡ slice_get (numbers_above g ns) 0 → IsKeeping t first ns after
 keeping_stays t first ns next after g k comes pass e =
     let on = walk_on ns k.done k.left next after g k.walk comes e in
-    let here : filter t (g ∷ on.rest) ≡ g ∷ filter t on.rest = rw pass refl in
-    record {
-      done = k.done ++ g ∷ [];
-      left = on.rest;
-      walk = on.walk;
-      kept = append_assoc k.done (g ∷ []) (filter t on.rest) ∙ ap (λ ms. k.done ++ ms) (sym here) ∙ ap (λ left. k.done ++ filter t left) (sym on.is) ∙ k.kept;
-    }
+    let kept = rw (on.is, pass) at k.kept in
+    record { done = k.done ++ g ∷ []; left = on.rest; walk = on.walk; kept = append_assoc k.done (g ∷ []) (filter t on.rest) ∙ kept }
 
 -- one that fails goes
 keeping_goes : (t : ℕ → Bool) (first ns now : List ℕ) (next after : Option ℕ) (g : ℕ) → IsKeeping t first ns next → next ≡ Some g → t g ≡ false → now ≡ without g ns → after ≡ slice_get (numbers_above g now) 0 → IsKeeping t first now after
@@ -126,13 +110,13 @@ keeping_goes t first ns now next after g k comes fail gone e =
     let parts : k.done ++ g ∷ at.rest ≡ ns = ap (λ left. k.done ++ left) (sym at.is) ∙ k.walk.parts in
     let up = subst Rises (sym parts) k.walk.rising in
     let others : now ≡ k.done ++ at.rest = gone ∙ ap (without g) (sym parts) ∙ without_one k.done g at.rest up in
+    let behind : numbers_above g now ≡ at.rest = ap (numbers_above g) gone ∙ above_without g ns ∙ ap (numbers_above g) (sym parts) ∙ above_rest k.done g at.rest up in
+    let kept = rw (at.is, fail) at k.kept in
     record {
       done = k.done;
       left = at.rest;
-      walk = record { rising = subst Rises (sym gone) (rises_without g ns k.walk.rising); parts = sym others; comes = e ∙ ap (λ ms. slice_get ms 0) (ap (numbers_above g) others ∙ above_gone k.done g at.rest up) };
-      kept =
-          let here : filter t (g ∷ at.rest) ≡ filter t at.rest = rw fail refl in
-          ap (λ ms. k.done ++ ms) (sym here) ∙ ap (λ left. k.done ++ filter t left) (sym at.is) ∙ k.kept;
+      walk = record { rising = subst Rises (sym gone) (rises_without g ns k.walk.rising); parts = sym others; comes = e ∙ ap (λ ms. slice_get ms 0) behind };
+      kept = kept;
     }
 
 -- so it goes on

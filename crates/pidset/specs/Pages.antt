@@ -1,4 +1,4 @@
--- Values by number, in pages of 256 numbers.
+-- Values by number, in pages of 64 numbers.
 use Rattle.std.specs.Prelude.{◌≡◌, ℕ, ◌+◌, ◌*◌, ◌/◌, ◌%◌, ◌≤◌, ◌==◌, if◌then◌else◌, Bool, List, [], ◌∷◌, ◌++◌, length, map, find, count_by, Option, Some, None, is_some, slice_get, slice_index_or, refl}
 use Rattle.std.specs.Coded.{Coded, code_by, coded×, coded_ℕ, coded_bool, coded_list}
 use Rattle.std.specs.List.{AllByRecursion}
@@ -44,18 +44,18 @@ module _ {T : Type 0} where
   entries_from n (Some v ∷ vs) = entry n v ∷ entries_from (n + 1) vs
 
   abbrev pub entries_in : Page T → List (Entry T)
-  entries_in p = entries_from (p.number * 256) p.values.items
+  entries_in p = entries_from (p.number * 64) p.values.items
 
   unfoldable pub entries_of : List (Page T) → List (Entry T)
   entries_of [] = []
   entries_of (p ∷ ps) = entries_in p ++ entries_of ps
 
-  -- a page has 256 places, and counts its values, of which none stands from its end on
+  -- a page has 64 places, and counts its values, of which none stands from its end on
   pub record IsPage (p : Page T) : Type 0 where
-    pub size : length p.values.items ≡ 256
+    pub size : length p.values.items ≡ 64
     pub count : p.used ≡ count_by is_some p.values.items
-    pub number : p.number ≤ 8388607
-    pub end : p.end ≤ 256
+    pub number : p.number ≤ 33554431
+    pub end : p.end ≤ 64
     pub none : (i : ℕ) → p.end ≤ i → value_at p.values.items i ≡ None
 
   pub record IsUsed (p : Page T) : Type 0 where
@@ -78,11 +78,11 @@ module _ {T : Type 0} where
   page_of k ps = find (λ p. p.number == k) ps
 
   abbrev pub value_in : ℕ → Option (Page T) → Option T
-  value_in n o = option_and_then (λ p. value_at p.values.items (n % 256)) o
+  value_in n o = option_and_then (λ p. value_at p.values.items (n % 64)) o
 
   -- the value of a number
   abbrev pub value_of : ℕ → List (Page T) → Option T
-  value_of n ps = value_in n (page_of (n / 256) ps)
+  value_of n ps = value_in n (page_of (n / 64) ps)
 
   -- n has another value, or none, and all others are as they were
   abbrev pub IsChanged : ℕ → Option T → List (Page T) → List (Page T) → Type 0

@@ -54,6 +54,7 @@ impl Model for Index {
 
 impl Index {
     /// No processes. It takes no memory.
+    #[tactic(auto, unfolding(crate::specs::Numbers::Rises))]
     pub fn new(alloc: Global) -> Index
         ensures pairs { result.pairs ≡ [] }
         ensures rising { ArePairs result.pairs }

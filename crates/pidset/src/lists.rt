@@ -55,7 +55,7 @@ impl Model for Lists {
 
 impl Lists {
     /// No processes. It takes no memory.
-    #[tactic(auto, unfolding(crate::specs::Lists::pairs_from))]
+    #[tactic(auto, unfolding(crate::specs::Lists::pairs_from, crate::specs::Lists::list_of, crate::specs::Lists::behind_of, crate::specs::Lists::before_of))]
     pub fn new(alloc: Global) -> Lists
         ensures { result ≡ record { pairs = []; numbers = 0 } }
     {

@@ -1,6 +1,6 @@
 //! Items of a vector that have a number each, in rising order of their numbers.
 
-ghost use Rattle.std.specs.Prelude.{◌≡◌, ◌+◌, ◌<◌, ◌≤◌, ◌==◌, ℕ, false, None, nat_lt, map, filter, insert, length, slice_get, vec_len, vec_capacity, IfOk, IfErr};
+ghost use Rattle.std.specs.Prelude.{◌≡◌, ◌+◌, ◌<◌, ◌≤◌, ◌==◌, ℕ, false, nat_lt, map, filter, insert, length, slice_get, vec_len, vec_capacity, IfOk, IfErr};
 ghost use Rattle.std.specs.Option.{option_copied, option_map_or};
 ghost use Rattle.pidset.specs.Numbers.{Rises, IsNumberAt, IsInsertionPoint, index_behind};
 

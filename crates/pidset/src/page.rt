@@ -1,4 +1,4 @@
-//! The values of 256 numbers that follow each other.
+//! The values of 64 numbers that follow each other.
 
 ghost use Rattle.std.specs.Prelude.{◌≡◌, ◌+◌, ◌*◌, ◌/◌, ◌%◌, ◌<◌, ◌≤◌, ◌==◌, None, Some, IfOk, slice_get, slice_set};
 ghost use Rattle.pidset.specs.Numbers.{numbers_above};
@@ -8,7 +8,7 @@ use crate::numbered::Numbered;
 use posix::Pid;
 use std::alloc::{AllocError, Global};
 
-/// The values of the numbers from 256 times that of the page on, each of which has one or none.
+/// The values of the numbers from 64 times that of the page on, each of which has one or none.
 #[derive(Drop)]
 pub(crate) struct Page<T: Copy> {
     number: u32,
@@ -32,7 +32,7 @@ impl<T: Copy> Page<T> {
     pub fn unused(alloc: Global) -> Result<Page<T>, AllocError>
         ensures { IfOk result IsUnused }
     {
-        let values = vec![in alloc; None; 256]?;
+        let values = vec![in alloc; None; 64]?;
         Ok(Page {
             number: 0,
             used: 0,
@@ -44,7 +44,7 @@ impl<T: Copy> Page<T> {
     /// A page of no values is of other numbers.
     pub fn renumber(&mut self, number: u32)
         requires unused { IsUnused self.old }
-        requires number { number ≤ 8388607 }
+        requires number { number ≤ 33554431 }
         ensures unused { IsUnused self.new }
         ensures number { self.new.number ≡ number }
     {
@@ -62,7 +62,7 @@ impl<T: Copy> Page<T> {
     /// The value at a place.
     pub fn get(&self, at: usize) -> Option<T>
         requires page { IsPage self.now }
-        requires at { at < 256 }
+        requires at { at < 64 }
         ensures { result ≡ value_at self.now.values.items at }
     {
         self.values[at]
@@ -71,7 +71,7 @@ impl<T: Copy> Page<T> {
     /// Puts a value in at a place that has none.
     pub fn put(&mut self, at: usize, value: T)
         requires page { IsPage self.old }
-        requires at { at < 256 }
+        requires at { at < 64 }
         requires absent { value_at self.old.values.items at ≡ None }
         ensures page { IsPage self.new }
         ensures number { self.new.number ≡ self.old.number }
@@ -86,7 +86,7 @@ impl<T: Copy> Page<T> {
     /// Takes out the value at a place, if there is one.
     pub fn take(&mut self, at: usize) -> Option<T>
         requires page { IsPage self.old }
-        requires at { at < 256 }
+        requires at { at < 64 }
         ensures value { result ≡ value_at self.old.values.items at }
         ensures page { IsPage self.new }
         ensures number { self.new.number ≡ self.old.number }
@@ -103,10 +103,10 @@ impl<T: Copy> Page<T> {
     /// The least number above another that has a value. The other isn't behind the page.
     pub fn next_above(&self, after: Pid) -> Option<Pid>
         requires page { IsPage self.now }
-        requires after { after / 256 ≤ self.now.number }
+        requires after { after / 64 ≤ self.now.number }
         ensures { result ≡ slice_get (numbers_above after (pids_of (entries_in self.now))) 0 }
     {
-        let first = self.number * 256;
+        let first = self.number * 64;
         let mut at = place_behind(after, first);
         while at < self.end {
             if self.values[at].is_some() {
@@ -118,11 +118,11 @@ impl<T: Copy> Page<T> {
     }
 }
 
-/// The place of the first number above another in a page with this first number, or 256.
+/// The place of the first number above another in a page with this first number, or 64.
 fn place_behind(after: Pid, first: u32) -> usize
-    requires first { first % 256 ≡ 0 }
-    requires after { after < first + 256 }
-    ensures most { result ≤ 256 }
+    requires first { first % 64 ≡ 0 }
+    requires after { after < first + 64 }
+    ensures most { result ≤ 64 }
     ensures behind { after < first + result }
     ensures before { 0 < result → first + result ≤ after + 1 }
 {

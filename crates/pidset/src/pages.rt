@@ -13,7 +13,7 @@ use std::marker::Model;
 
 /// Values by number, each number once, seen as the list of both in rising order of the numbers.
 ///
-/// Each 256 numbers that follow each other, of which one has a value, have a page of values, and there is one page more
+/// Each 64 numbers that follow each other, of which one has a value, have a page of values, and there is one page more
 /// at most: so the size follows how many there are, and how close, and not the greatest number. Memory is taken in
 /// [`Pages::reserve`] alone.
 #[derive(Drop)]
@@ -41,19 +41,19 @@ impl<T: Copy> Model for Pages<T> {
 /// The page of a number.
 #[inline(always)]
 fn page_of(pid: Pid) -> u32
-    ensures is { result ≡ pid / 256 }
-    ensures most { result ≤ 8388607 }
+    ensures is { result ≡ pid / 64 }
+    ensures most { result ≤ 33554431 }
 {
-    pid.number() / 256
+    pid.number() / 64
 }
 
 /// Its place in there.
 #[inline(always)]
 fn place_of(pid: Pid) -> usize
-    ensures is { result ≡ pid % 256 }
-    ensures range { result < 256 }
+    ensures is { result ≡ pid % 64 }
+    ensures range { result < 64 }
 {
-    (pid.number() % 256) as usize
+    (pid.number() % 64) as usize
 }
 
 impl<T: Copy> Pages<T> {
@@ -85,6 +85,7 @@ impl<T: Copy> Pages<T> {
 
     /// There are no more values than numbers. It reads nothing.
     #[inline(always)]
+    #[tactic(auto, using(crate::proofs::PageLemmas::few_pages))]
     pub fn size_holds(&self)
         ensures { length self.now.entries ≤ 2147483648 }
     {
@@ -147,8 +148,8 @@ impl<T: Copy> Pages<T> {
 #[inline]
 fn index_of<T: Copy>(pages: &[Page<T>], pid: Pid) -> Result<usize, usize>
     requires { Rises (numbers_of pages.now) }
-    ensures found { IfOk result (IsNumberAt (numbers_of pages.now) (pid / 256)) }
-    ensures absent { IfErr result (IsInsertionPoint (numbers_of pages.now) (pid / 256)) }
+    ensures found { IfOk result (IsNumberAt (numbers_of pages.now) (pid / 64)) }
+    ensures absent { IfErr result (IsInsertionPoint (numbers_of pages.now) (pid / 64)) }
 {
     // Mostly all pages from the first on are there.
     let number = page_of(pid);
@@ -163,8 +164,8 @@ fn index_of<T: Copy>(pages: &[Page<T>], pid: Pid) -> Result<usize, usize>
 #[inline]
 fn page<T: Copy>(pages: &[Page<T>], pid: Pid) -> Option<&Page<T>>
     requires { ArePages pages.now }
-    ensures is { option_copied result ≡ page_at (pid / 256) pages.now }
-    ensures page { IfSome (option_copied result) (λ p. IsPage p × (p.number ≡ pid / 256)) }
+    ensures is { option_copied result ≡ page_at (pid / 64) pages.now }
+    ensures page { IfSome (option_copied result) (λ p. IsPage p × (p.number ≡ pid / 64)) }
 {
     match index_of(pages, pid) {
         Ok(at) => Some(&pages[at]),
@@ -176,8 +177,8 @@ fn page<T: Copy>(pages: &[Page<T>], pid: Pid) -> Option<&Page<T>>
 #[inline]
 fn page_behind<T: Copy>(pages: &[Page<T>], pid: Pid) -> Option<&Page<T>>
     requires { ArePages pages.now }
-    ensures is { option_copied result ≡ slice_get (filter (λ p. nat_lt (pid / 256) p.number) pages.now) 0 }
-    ensures page { IfSome (option_copied result) (λ p. IsPage p × (pid / 256 < p.number)) }
+    ensures is { option_copied result ≡ slice_get (filter (λ p. nat_lt (pid / 64) p.number) pages.now) 0 }
+    ensures page { IfSome (option_copied result) (λ p. IsPage p × (pid / 64 < p.number)) }
 {
     behind(pages, index_of(pages, pid))
 }
@@ -185,7 +186,7 @@ fn page_behind<T: Copy>(pages: &[Page<T>], pid: Pid) -> Option<&Page<T>>
 /// Puts in the value of a number that has none, in the page at an index.
 fn put_at<T: Copy>(pages: &mut Vec<Page<T>>, at: usize, pid: Pid, value: T)
     requires pages { ArePages pages.old.items }
-    requires at { IsNumberAt (numbers_of pages.old.items) (pid / 256) at }
+    requires at { IsNumberAt (numbers_of pages.old.items) (pid / 64) at }
     requires absent { value_of pid pages.old.items ≡ None }
     ensures { AreChanged pid (Some value) pages.old.items pages.new.items }
 {
@@ -195,7 +196,7 @@ fn put_at<T: Copy>(pages: &mut Vec<Page<T>>, at: usize, pid: Pid, value: T)
 /// Puts in the value of a number that has no page, in a page without values, which goes to an index.
 fn lay<T: Copy>(pages: &mut Vec<Page<T>>, at: usize, page: Page<T>, pid: Pid, value: T)
     requires pages { ArePages pages.old.items }
-    requires at { IsInsertionPoint (numbers_of pages.old.items) (pid / 256) at }
+    requires at { IsInsertionPoint (numbers_of pages.old.items) (pid / 64) at }
     requires unused { IsUnused page }
     requires room { vec_len pages.old < vec_capacity pages.old }
     ensures { AreChanged pid (Some value) pages.old.items pages.new.items }
@@ -215,7 +216,7 @@ fn take_at<T: Copy>(
 ) -> Option<T>
     requires pages { ArePages pages.old.items }
     requires spare { IfSome spare.old IsUnused }
-    requires at { IsNumberAt (numbers_of pages.old.items) (pid / 256) at }
+    requires at { IsNumberAt (numbers_of pages.old.items) (pid / 64) at }
     ensures value { result ≡ value_of pid pages.old.items }
     ensures changed { AreChanged pid None pages.old.items pages.new.items }
     ensures spare { IfSome spare.new IsUnused }
@@ -234,7 +235,7 @@ fn take_at<T: Copy>(
 /// The least number above another in a page, if there is one, that isn't before it.
 #[inline]
 fn next_in<T: Copy>(page: Option<&Page<T>>, after: Pid) -> Option<Pid>
-    requires { IfSome (option_copied page) (λ p. IsPage p × (after / 256 ≤ p.number)) }
+    requires { IfSome (option_copied page) (λ p. IsPage p × (after / 64 ≤ p.number)) }
     ensures { result ≡ option_and_then (λ p. first_above after (entries_in p)) (option_copied page.entry) }
 {
     match page {

@@ -1,6 +1,6 @@
 //! Numbers of processes in rising order, each once.
 
-ghost use Rattle.std.specs.Prelude.{◌≡◌, ◌<◌, ◌^◌, ◌==◌, false, [], length, max, slice_get, OnOk, OnErr, IfOk, IfErr};
+ghost use Rattle.std.specs.Prelude.{◌≡◌, ◌<◌, ◌^◌, false, [], length, max, slice_get, OnOk, OnErr, IfOk, IfErr};
 ghost use Rattle.posix.specs.States.{is_in, without};
 ghost use Rattle.pidset.specs.Numbers.{Rises, with_number, numbers_above, IsNumberAt, IsInsertionPoint};
 
@@ -29,6 +29,7 @@ impl Model for PidSet {
 
 impl PidSet {
     /// A set of no numbers. It takes no memory.
+    #[tactic(auto, unfolding(crate::specs::Numbers::Rises))]
     pub fn new(alloc: Global) -> PidSet
         ensures { result ≡ record { pids = []; room = 0 } }
     {
@@ -63,13 +64,6 @@ impl PidSet {
         self.pids.as_slice().len()
     }
 
-    /// Whether there are none.
-    pub fn is_empty(&self) -> bool
-        ensures { result ≡ (length self.now.pids == 0) }
-    {
-        self.pids.as_slice().is_empty()
-    }
-
     /// Where a number stands, or where it would go.
     pub fn search(&self, pid: Pid) -> Result<usize, usize>
         ensures found { IfOk result (IsNumberAt self.now.pids pid) }
@@ -80,6 +74,7 @@ impl PidSet {
     }
 
     /// Whether a number is there.
+    #[tactic(auto, using(crate::proofs::NumberLemmas::decides))]
     pub fn has(&self, pid: Pid) -> bool
         ensures is { result ≡ is_in pid self.now.pids }
         ensures rising { Rises self.now.pids }
@@ -115,6 +110,7 @@ impl PidSet {
     }
 
     /// Takes a number out, where it is there.
+    #[tactic(auto, using(crate::proofs::NumberLemmas::rises_filter), unfolding(posix::specs::States::without))]
     pub fn remove(&mut self, pid: Pid)
         ensures pids { self.new.pids ≡ without pid self.old.pids }
         ensures room { self.new.room ≡ self.old.room }
@@ -123,6 +119,7 @@ impl PidSet {
     }
 
     /// Takes all numbers out.
+    #[tactic(auto, unfolding(crate::specs::Numbers::Rises))]
     pub fn clear(&mut self)
         ensures pids { self.new.pids ≡ [] }
         ensures room { self.new.room ≡ self.old.room }

@@ -15,11 +15,6 @@ pub changed_here : (rs : List Process) → IsRising rs → (p : ℕ) (b b' : Rec
 unfolding give_record
 changed_here rs up p b b' f e same = changed_same p (give_record b') f rs up (process_of p (parent_of p rs) b) e (same (parent_of p rs))
 
--- a record that was changed as f does
-pub changed_record : (rs : List Process) → IsRising rs → (p : ℕ) (b b' : Record) (f : Process → Process) → lookup p rs ≡ Some (process_of p (parent_of p rs) b)
-    → ((p q : ℕ) → process_of p q b' ≡ f (process_of p q b)) → with_record rs p b' ≡ changed p f rs
-changed_record rs up p b b' f e same = changed_here rs up p b b' f e (same p)
-
 -- a record that was only read
 pub same_record : (rs : List Process) → IsRising rs → (p : ℕ) (b : Record) → lookup p rs ≡ Some (process_of p (parent_of p rs) b) → with_record rs p b ≡ rs
 unfolding give_record
@@ -30,16 +25,12 @@ pub record_rises : (rs : List Process) → IsRising rs → (p : ℕ) (b : Record
 unfolding give_record
 record_rises rs up p b = rising_changed p (give_record b) (λ r. refl) rs up
 
--- the process that was read is the one that is there
-pub read_record : (rs : List Process) (p : ℕ) (b : Record) (me : Process) → lookup p rs ≡ Some (process_of p (parent_of p rs) b) → lookup p rs ≡ Some me → process_of p (parent_of p rs) b ≡ me
-read_record rs p b me e here = cc
-
 -- ---- a loan
 
 -- another own part in the record is another own part of the process
 pub own_record : (rs : List Process) → IsRising rs → (p : ℕ) (b : Record) (o : OwnPart) → lookup p rs ≡ Some (process_of p (parent_of p rs) b)
     → with_record rs p (record b { own = o }) ≡ changed p (give_own o) rs
-own_record rs up p b o e = changed_record rs up p b (record b { own = o }) (give_own o) e (λ p q. refl)
+own_record rs up p b o e = changed_here rs up p b (record b { own = o }) (give_own o) e (λ q. refl)
 
 -- What was lent of a process, and given back changed as f does, is the change f of the process.
 pub lent : (rs : List Process) → IsRising rs → (p : ℕ) (me : Process) (o w : OwnPart) (f : Process → Process) → lookup p rs ≡ Some me → o ≡ own_of me
@@ -58,6 +49,6 @@ pub child_groups : (rs : List Process) (p birth : ℕ) (mine b : Record) → loo
     → (me : Process) → lookup p rs ≡ Some me → (b.group ≡ me.group) × (b.session ≡ me.session)
 unfolding child_of finished
 child_groups rs p birth mine b e child me here =
-    let same = read_record rs p mine me e here in
+    let same : process_of p (parent_of p rs) mine ≡ me = cc in
     let born = child p (parent_of p rs) 0 in
     (ap (λ (r : Process). r.group) born ∙ ap (λ (r : Process). r.group) same, ap (λ (r : Process). r.session) born ∙ ap (λ (r : Process). r.session) same)

@@ -1,11 +1,12 @@
 -- The processes that an index and slots are worth.
-use Rattle.std.proofs.Common.{◌≡◌, ◌≢◌, ℕ, zero, suc, ◌<◌, true, false, cond, not, refl, ap, sym, ◌∙◌, arith, subst, List, [], ◌∷◌, length, filter, filter_map, Option, Some, None, option_map, ◌==◌, nat_lt, slice_get, slice_index_or, slice_set}
+use Rattle.std.proofs.Common.{◌≡◌, ◌≢◌, ℕ, zero, suc, ◌<◌, true, false, cond, not, refl, ap, sym, ◌∙◌, arith, subst, List, [], ◌∷◌, length, filter, Option, Some, None, option_map, ◌==◌, nat_lt, slice_get, slice_index_or, slice_set}
 use Rattle.std.specs.List.{AllByRecursion}
 use Rattle.std.specs.Prelude.{count_by}
-use Rattle.std.specs.Option.{IsSome, is_some, option_and_then}
-use Rattle.std.proofs.lemmas.Bool.{eqb-true, eqb-false, eq-eqb}
+use Rattle.std.specs.Option.{is_some, option_and_then}
+use Rattle.std.proofs.lemmas.Bool.{eqb-true, eqb-false}
+use Rattle.std.proofs.lemmas.Bool.Decides.{nat_tests}
 use Rattle.std.proofs.lemmas.Grind.{common_steps}
-use Rattle.slab.specs.Slab.{Slab, get, with_value, slab_len}
+use Rattle.slab.specs.Slab.{ContainsKey, Slab, get, with_value, slab_len}
 use Rattle.posix.specs.Processes.{Process}
 use Rattle.posix.specs.Tables.{IsRising, lookup, at, changed, inserted, removed, next_above, parent_of}
 use Rattle.posix.proofs.TableLemmas.{pid_looked}
@@ -22,93 +23,74 @@ AllStand slab es = AllByRecursion (Stands slab) es
 
 -- ---- what is read
 
-pub process_found : (p : ℕ) (es : List (Entry ℕ)) (slab : Slab Process) → AllStand slab es → lookup p (processes_in es slab) ≡ option_and_then (λ (e : Entry ℕ). get slab e.value) (entry_of p es)
+process_found : (p : ℕ) (es : List (Entry ℕ)) (slab : Slab Process) → AllStand slab es → lookup p (processes_in es slab) ≡ option_and_then (get slab) (option_map (λ (e : Entry ℕ). e.value) (entry_of p es))
 unfolding lookup processes_in
 process_found p [] slab a = refl
-process_found p (e ∷ es) slab a =
-    let rest = process_found p es slab a.1 in
-    let s = a.0 in
-    elim (e.pid == p) as (λ b. (e.pid == p) ≡ b → lookup p (processes_in (e ∷ es) slab) ≡ option_and_then (λ (e : Entry ℕ). get slab e.value) (cond b (Some e) (entry_of p es))) [
-      | true ↦ λ t. let u : (s.what.pid == p) ≡ true = ap (λ n. n == p) s.named ∙ t in rw (s.at, u) refl
-      | false ↦ λ t. let u : (s.what.pid == p) ≡ false = ap (λ n. n == p) s.named ∙ t in rw (s.at, u) rest
-    ] refl
+process_found p (e ∷ es) slab a = grind (arith, a.0.at, a.0.named, process_found p es slab a.1)
 
 -- who is above a number, as the index says
-pub next_of : (p : ℕ) (es : List (Entry ℕ)) (slab : Slab Process) → AllStand slab es → next_above p (processes_in es slab) ≡ slice_get (numbers_above p (pids_of es)) 0
+next_of : (p : ℕ) (es : List (Entry ℕ)) (slab : Slab Process) → AllStand slab es → next_above p (processes_in es slab) ≡ slice_get (numbers_above p (pids_of es)) 0
 unfolding next_above processes_in
 next_of p [] slab a = refl
-next_of p (e ∷ es) slab a =
-    let rest = next_of p es slab a.1 in
-    let s = a.0 in
-    elim (nat_lt p e.pid) as (λ b. nat_lt p e.pid ≡ b → next_above p (processes_in (e ∷ es) slab) ≡ slice_get (cond b (e.pid ∷ numbers_above p (pids_of es)) (numbers_above p (pids_of es))) 0) [
-      | true ↦ λ t. let u : nat_lt p s.what.pid ≡ true = ap (λ n. nat_lt p n) s.named ∙ t in rw (s.at, u) (ap Some s.named)
-      | false ↦ λ t. let u : nat_lt p s.what.pid ≡ false = ap (λ n. nat_lt p n) s.named ∙ t in rw (s.at, u) rest
-    ] refl
+next_of p (e ∷ es) slab a = grind (arith, nat_tests, a.0.at, a.0.named, next_of p es slab a.1)
 
 all_above : (n : ℕ) (es : List (Entry ℕ)) (slab : Slab Process) → AllStand slab es → AllAbove n (pids_of es) → AllByRecursion (λ (q : Process). n < q.pid) (processes_in es slab)
 unfolding processes_in
 all_above n [] slab a h = tt
 all_above n (e ∷ es) slab a h = let s = a.0 in let rest = all_above n es slab a.1 h.1 in rw s.at (rw s.named h.0, rest)
 
-pub rising_processes : (es : List (Entry ℕ)) (slab : Slab Process) → AllStand slab es → Rises (pids_of es) → IsRising (processes_in es slab)
+rising_processes : (es : List (Entry ℕ)) (slab : Slab Process) → AllStand slab es → Rises (pids_of es) → IsRising (processes_in es slab)
 unfolding IsRising Rises processes_in
 rising_processes [] slab a up = tt
 rising_processes (e ∷ es) slab a up = let s = a.0 in let rest = rising_processes es slab a.1 up.1 in let low = all_above e.pid es slab a.1 up.0 in rw (s.at, s.named) (low, rest)
 
-pub as_many : (es : List (Entry ℕ)) (slab : Slab Process) → AllStand slab es → length (processes_in es slab) ≡ length es
+as_many : (es : List (Entry ℕ)) (slab : Slab Process) → AllStand slab es → length (processes_in es slab) ≡ length es
 unfolding processes_in
 as_many [] slab a = refl
 as_many (e ∷ es) slab a = let s = a.0 in let rest = as_many es slab a.1 in rw s.at (ap suc rest)
 
 -- ---- the slot of a process
 
-pub record Slotted (es : List (Entry ℕ)) (slab : Slab Process) (p slot : ℕ) : Type 0 where
-  pub what : Process
-  pub at : get slab slot ≡ Some what
-  pub named : what.pid ≡ p
-  pub found : lookup p (processes_in es slab) ≡ Some what
-
-all_found : (es : List (Entry ℕ)) (slab : Slab Process) (p : ℕ) (e : Entry ℕ) → AllStand slab es → entry_of p es ≡ Some e → Stands slab e × (e.pid ≡ p)
-all_found [] slab p e a h = absurd (cc)
-all_found (x ∷ es) slab p e a h = elim (x.pid == p) as (λ b. (x.pid == p) ≡ b → cond b (Some x) (entry_of p es) ≡ Some e → Stands slab e × (e.pid ≡ p)) [
-  | true ↦ λ t k. let same : x ≡ e = cc in subst (λ (e : Entry ℕ). Stands slab e × (e.pid ≡ p)) same (a.0, eqb-true _ _ t)
-  | false ↦ λ t k. all_found es slab p e a.1 k
+pub standing : (es : List (Entry ℕ)) (slab : Slab Process) (p slot : ℕ) → AllStand slab es → option_map (λ (e : Entry ℕ). e.value) (entry_of p es) ≡ Some slot → (n : Process) × (get slab slot ≡ Some n) × (n.pid ≡ p)
+standing [] slab p slot a h = absurd (cc)
+standing (x ∷ es) slab p slot a h = elim (x.pid == p) as (λ b. (x.pid == p) ≡ b → option_map (λ (e : Entry ℕ). e.value) (cond b (Some x) (entry_of p es)) ≡ Some slot → (n : Process) × (get slab slot ≡ Some n) × (n.pid ≡ p)) [
+  | true ↦ λ t k. let same : x.value ≡ slot = cc in (a.0.what, ap (get slab) (sym same) ∙ a.0.at, a.0.named ∙ eqb-true _ _ t)
+  | false ↦ λ t k. standing es slab p slot a.1 k
 ] refl h
 
--- where the index names a slot
-pub slotted : (es : List (Entry ℕ)) (slab : Slab Process) (p slot : ℕ) → AllStand slab es → option_map (λ (e : Entry ℕ). e.value) (entry_of p es) ≡ Some slot → Slotted es slab p slot
-slotted es slab p slot a h =
-    elim (entry_of p es) as (λ o. entry_of p es ≡ o → option_map (λ (e : Entry ℕ). e.value) o ≡ Some slot → Slotted es slab p slot) [
-      | None ↦ λ w k. absurd (cc)
-      | Some e ↦ λ w k.
-          let same : e.value ≡ slot = cc in
-          let s = all_found es slab p e a w in
-          let at : get slab slot ≡ Some s.0.what = ap (get slab) (sym same) ∙ s.0.at in
-          record { what = s.0.what; at = at; named = s.0.named ∙ s.1; found = process_found p es slab a ∙ ap (option_and_then (λ (e : Entry ℕ). get slab e.value)) w ∙ s.0.at }
-    ] refl h
+unindexed : (es : List (Entry ℕ)) (slab : Slab Process) (p : ℕ) → AllStand slab es → lookup p (processes_in es slab) ≡ None → entry_of p es ≡ None
+unfolding lookup processes_in
+unindexed [] slab p a h = refl
+unindexed (e ∷ es) slab p a h = grind (arith, a.0.at, a.0.named, h, unindexed es slab p a.1)
 
--- where it names none
-pub unslotted : (es : List (Entry ℕ)) (slab : Slab Process) (p : ℕ) → AllStand slab es → option_map (λ (e : Entry ℕ). e.value) (entry_of p es) ≡ None → lookup p (processes_in es slab) ≡ None
-unslotted es slab p a h =
-    process_found p es slab a ∙ elim (entry_of p es) as (λ o. option_map (λ (e : Entry ℕ). e.value) o ≡ None → option_and_then (λ (e : Entry ℕ). get slab e.value) o ≡ None) [ None ↦ λ k. refl | Some e ↦ λ k. absurd (cc) ] h
+-- what the calls ask of an index and slots
+pub rising_in : (es : List (Entry ℕ)) (slab : Slab Process) → IsIndexed es slab → IsRising (processes_in es slab)
+rising_in es slab i = rising_processes es slab i.standing i.rising
 
--- who is there is in the index
-pub indexed : (es : List (Entry ℕ)) (slab : Slab Process) (p : ℕ) → AllStand slab es → IsSome (lookup p (processes_in es slab)) → IsSome (entry_of p es)
-indexed es slab p a h =
-    elim (entry_of p es) as (λ o. entry_of p es ≡ o → IsSome o) [
-      | None ↦ λ w. let n : lookup p (processes_in es slab) ≡ None = process_found p es slab a ∙ ap (option_and_then (λ (e : Entry ℕ). get slab e.value)) w in rw n at h
-      | Some e ↦ λ w. refl
-    ] refl
+pub size_in : (es : List (Entry ℕ)) (slab : Slab Process) → IsIndexed es slab → length (processes_in es slab) ≡ length es
+size_in es slab i = as_many es slab i.standing
 
-pub unindexed : (es : List (Entry ℕ)) (slab : Slab Process) (p : ℕ) → AllStand slab es → lookup p (processes_in es slab) ≡ None → entry_of p es ≡ None
-unindexed es slab p a h =
-    elim (entry_of p es) as (λ o. entry_of p es ≡ o → o ≡ None) [
-      | None ↦ λ w. refl
-      | Some e ↦ λ w.
-          let s = all_found es slab p e a w in
-          let n : lookup p (processes_in es slab) ≡ Some s.0.what = process_found p es slab a ∙ ap (option_and_then (λ (e : Entry ℕ). get slab e.value)) w ∙ s.0.at in
-          absurd (cc)
-    ] refl
+pub next_in : (p : ℕ) (es : List (Entry ℕ)) (slab : Slab Process) → IsIndexed es slab → next_above p (processes_in es slab) ≡ slice_get (numbers_above p (pids_of es)) 0
+next_in p es slab i = next_of p es slab i.standing
+
+pub found_in : (p : ℕ) (es : List (Entry ℕ)) (slab : Slab Process) → IsIndexed es slab → lookup p (processes_in es slab) ≡ option_and_then (get slab) (option_map (λ (e : Entry ℕ). e.value) (entry_of p es))
+found_in p es slab i = process_found p es slab i.standing
+
+pub absent_in : (p : ℕ) (es : List (Entry ℕ)) (slab : Slab Process) → IsIndexed es slab → lookup p (processes_in es slab) ≡ None → entry_of p es ≡ None
+absent_in p es slab i h = unindexed es slab p i.standing h
+
+pub slot_in : (es : List (Entry ℕ)) (slab : Slab Process) (p slot : ℕ) → IsIndexed es slab → option_map (λ (e : Entry ℕ). e.value) (entry_of p es) ≡ Some slot → ContainsKey slab slot
+slot_in es slab p slot i h = rw (standing es slab p slot i.standing h).1 refl
+
+pub ruleset insert_rules = (rising_in, absent_in)
+
+pub ruleset get_rules = (rising_in, size_in, found_in, slot_in)
+
+pub ruleset slot_rules = (rising_in, found_in, slot_in)
+
+pub ruleset remove_rules = (rising_in, slot_in)
+
+pub ruleset next_rules = (rising_in, next_in)
 
 -- ---- a slot written
 
@@ -126,29 +108,19 @@ only_above : (p slot : ℕ) (es : List (Entry ℕ)) → AllAbove p (pids_of es) 
 only_above p slot [] h = tt
 only_above p slot (x ∷ es) h = (λ e. absurd (omega (arith, h.0, e)), only_above p slot es h.1)
 
-pub only : (p : ℕ) (es : List (Entry ℕ)) (e : Entry ℕ) → Rises (pids_of es) → entry_of p es ≡ Some e → Only p e.value es
+-- the one entry of a process
+only_slot : (es : List (Entry ℕ)) (p slot : ℕ) → Rises (pids_of es) → option_map (λ (e : Entry ℕ). e.value) (entry_of p es) ≡ Some slot → Only p slot es
 unfolding Rises
-only p [] e up h = tt
-only p (x ∷ es) e up h = elim (x.pid == p) as (λ b. (x.pid == p) ≡ b → cond b (Some x) (entry_of p es) ≡ Some e → (x.pid ≡ p → x.value ≡ e.value) × Only p e.value es) [
-  | true ↦ λ t k. let same : x ≡ e = cc in (λ i. ap (λ (e : Entry ℕ). e.value) same, only_above p e.value es (subst (λ n. AllAbove n (pids_of es)) (eqb-true _ _ t) up.0))
-  | false ↦ λ t k. (λ i. absurd (eqb-false _ _ t i), only p es e up.1 k)
+only_slot [] p slot up h = tt
+only_slot (x ∷ es) p slot up h = elim (x.pid == p) as (λ b. (x.pid == p) ≡ b → option_map (λ (e : Entry ℕ). e.value) (cond b (Some x) (entry_of p es)) ≡ Some slot → (x.pid ≡ p → x.value ≡ slot) × Only p slot es) [
+  | true ↦ λ t k. (λ i. cc, only_above p slot es (subst (λ n. AllAbove n (pids_of es)) (eqb-true _ _ t) up.0))
+  | false ↦ λ t k. (λ i. absurd (eqb-false _ _ t i), only_slot es p slot up.1 k)
 ] refl h
 
 -- what one entry finds after a slot was written
 point : (slab : Slab Process) (p slot : ℕ) (f : Process → Process) (n : Process) (x : Entry ℕ) → Stands slab x → (x.pid ≡ p → x.value ≡ slot) → get slab slot ≡ Some n → n.pid ≡ p
     → get (with_value slab slot (f n)) x.value ≡ option_map (at p f) (get slab x.value)
-point slab p slot f n x s one g named =
-    elim (x.pid == p) as (λ b. (x.pid == p) ≡ b → get (with_value slab slot (f n)) x.value ≡ option_map (at p f) (get slab x.value)) [
-      | true ↦ λ t.
-          let same = one (eqb-true _ _ t) in
-          rw (same, here slab slot n (f n) g, g, eq-eqb n.pid p named) refl
-      | false ↦ λ t.
-          let d : x.value ≢ slot = λ i.
-          let k : Some s.what ≡ Some n = sym s.at ∙ ap (get slab) i ∙ g in
-          let w : s.what ≡ n = cc in
-          eqb-false _ _ t (sym s.named ∙ ap (λ (n : Process). n.pid) w ∙ named) in
-          rw (elsewhere slab slot x.value (f n) d, s.at, s.named, t) refl
-    ] refl
+point slab p slot f n x s one g named = grind (arith, s.at, s.named, one, g, named, here slab slot n (f n) g, elsewhere slab slot x.value (f n), eqb-true x.pid p)
 
 processes_put : (es : List (Entry ℕ)) (slab : Slab Process) (p slot : ℕ) (f : Process → Process) (n : Process) → AllStand slab es → Only p slot es → get slab slot ≡ Some n → n.pid ≡ p
     → processes_in es (with_value slab slot (f n)) ≡ changed p f (processes_in es slab)
@@ -176,36 +148,29 @@ Others old new slot = (other : ℕ) → other ≢ slot → get new other ≡ get
 stays : (old new : Slab Process) (slot : ℕ) (x : Entry ℕ) → Others old new slot → get old slot ≡ None → Stands old x → get new x.value ≡ get old x.value
 stays old new slot x others vacant s = others x.value (λ i. let k : get old slot ≡ Some s.what = ap (get old) (sym i) ∙ s.at in let no = sym vacant ∙ k in cc)
 
-pub processes_same : (es : List (Entry ℕ)) (old new : Slab Process) (slot : ℕ) → Others old new slot → get old slot ≡ None → AllStand old es → processes_in es new ≡ processes_in es old
-unfolding processes_in
-processes_same [] old new slot others vacant a = refl
-processes_same (x ∷ es) old new slot others vacant a = rw (stays old new slot x others vacant a.0, processes_same es old new slot others vacant a.1) refl
+-- where each who stands stands in other slots too
+stand_as : (es : List (Entry ℕ)) (old new : Slab Process) → ((x : Entry ℕ) → Stands old x → get new x.value ≡ get old x.value) → AllStand old es → AllStand new es
+stand_as [] old new same a = tt
+stand_as (x ∷ es) old new same a = let s = a.0 in (record { what = s.what; at = same x s ∙ s.at; named = s.named }, stand_as es old new same a.1)
 
-stand_same : (es : List (Entry ℕ)) (old new : Slab Process) (slot : ℕ) → Others old new slot → get old slot ≡ None → AllStand old es → AllStand new es
-stand_same [] old new slot others vacant a = tt
-stand_same (x ∷ es) old new slot others vacant a = let s = a.0 in (record { what = s.what; at = stays old new slot x others vacant s ∙ s.at; named = s.named }, stand_same es old new slot others vacant a.1)
+processes_as : (es : List (Entry ℕ)) (old new : Slab Process) → ((x : Entry ℕ) → Stands old x → get new x.value ≡ get old x.value) → AllStand old es → processes_in es new ≡ processes_in es old
+unfolding processes_in
+processes_as [] old new same a = refl
+processes_as (x ∷ es) old new same a = rw (same x a.0, processes_as es old new same a.1) refl
 
 pub processes_inserted : (es : List (Entry ℕ)) (old new : Slab Process) (e : Entry ℕ) (n : Process) → Others old new e.value → get old e.value ≡ None → get new e.value ≡ Some n → n.pid ≡ e.pid → AllStand old es
     → processes_in (inserted_in_order (λ (e : Entry ℕ). e.pid) e es) new ≡ inserted n (processes_in es old)
 unfolding processes_in inserted_in_order inserted
 processes_inserted [] old new e n others vacant g named a = rw g refl
 processes_inserted (x ∷ es) old new e n others vacant g named a =
-    let s = a.0 in
-    let rest = processes_inserted es old new e n others vacant g named a.1 in
-    let same : filter_map (λ (e : Entry ℕ). get new e.value) es ≡ filter_map (λ (e : Entry ℕ). get old e.value) es = processes_same es old new e.value others vacant a.1 in
-    let at : get new x.value ≡ Some s.what = stays old new e.value x others vacant s ∙ s.at in
-    let u : nat_lt n.pid s.what.pid ≡ nat_lt e.pid x.pid = ap (λ k. nat_lt k s.what.pid) named ∙ ap (nat_lt e.pid) s.named in
-    elim (nat_lt e.pid x.pid) as (λ b. nat_lt e.pid x.pid ≡ b → filter_map (λ (e : Entry ℕ). get new e.value) (cond b (e ∷ x ∷ es) (x ∷ inserted_in_order (λ (e : Entry ℕ). e.pid) e es)) ≡ inserted n (filter_map (λ (e : Entry ℕ). get old e.value) (x ∷ es))) [
-      | true ↦ λ t. let v : nat_lt n.pid s.what.pid ≡ true = u ∙ t in rw (g, at, same, s.at, v) refl
-      | false ↦ λ t. let v : nat_lt n.pid s.what.pid ≡ false = u ∙ t in rw (at, s.at, v) (ap (λ l. s.what ∷ l) rest)
-    ] refl
+    grind (arith, nat_tests, a.0.at, a.0.named, named, g, stays old new e.value x others vacant a.0, processes_as es old new (λ x s. stays old new e.value x others vacant s) a.1, processes_inserted es old new e n others vacant g named a.1)
 
 pub stand_inserted : (es : List (Entry ℕ)) (old new : Slab Process) (e : Entry ℕ) (n : Process) → Others old new e.value → get old e.value ≡ None → get new e.value ≡ Some n → n.pid ≡ e.pid → AllStand old es
     → AllStand new (inserted_in_order (λ (e : Entry ℕ). e.pid) e es)
 unfolding inserted_in_order
 stand_inserted [] old new e n others vacant g named a = (record { what = n; at = g; named = named }, tt)
 stand_inserted (x ∷ es) old new e n others vacant g named a =
-    let all = stand_same (x ∷ es) old new e.value others vacant a in
+    let all = stand_as (x ∷ es) old new (λ x s. stays old new e.value x others vacant s) a in
     elim (nat_lt e.pid x.pid) as (λ b. AllStand new (cond b (e ∷ x ∷ es) (x ∷ inserted_in_order (λ (e : Entry ℕ). e.pid) e es))) [
       | true ↦ (record { what = n; at = g; named = named }, all)
       | false ↦ (all.0, stand_inserted es old new e n others vacant g named a.1)
@@ -223,13 +188,7 @@ pub processes_removed : (es : List (Entry ℕ)) (old new : Slab Process) (p slot
     → processes_in (filter (λ (r : Entry ℕ). not (r.pid == p)) es) new ≡ removed p (processes_in es old)
 unfolding processes_in removed
 processes_removed [] old new p slot n others g named a = refl
-processes_removed (x ∷ es) old new p slot n others g named a =
-    let s = a.0 in
-    let rest = processes_removed es old new p slot n others g named a.1 in
-    elim (x.pid == p) as (λ b. (x.pid == p) ≡ b → filter_map (λ (e : Entry ℕ). get new e.value) (cond (not b) (x ∷ filter (λ (r : Entry ℕ). not (r.pid == p)) es) (filter (λ (r : Entry ℕ). not (r.pid == p)) es)) ≡ filter (λ (r : Process). not (r.pid == p)) (filter_map (λ (e : Entry ℕ). get old e.value) (x ∷ es))) [
-      | true ↦ λ t. let u : (s.what.pid == p) ≡ true = ap (λ n. n == p) s.named ∙ t in rw (s.at, u) rest
-      | false ↦ λ t. let u : (s.what.pid == p) ≡ false = ap (λ n. n == p) s.named ∙ t in rw (gone old new p slot n x others g named s t, s.at, u) (ap (λ l. s.what ∷ l) rest)
-    ] refl
+processes_removed (x ∷ es) old new p slot n others g named a = grind (arith, a.0.at, a.0.named, gone old new p slot n x others g named a.0, processes_removed es old new p slot n others g named a.1)
 
 pub stand_removed : (es : List (Entry ℕ)) (old new : Slab Process) (p slot : ℕ) (n : Process) → Others old new slot → get old slot ≡ Some n → n.pid ≡ p → AllStand old es → AllStand new (filter (λ (r : Entry ℕ). not (r.pid == p)) es)
 stand_removed [] old new p slot n others g named a = tt
@@ -241,43 +200,25 @@ stand_removed (x ∷ es) old new p slot n others g named a =
       | false ↦ λ t. (record { what = s.what; at = gone old new p slot n x others g named s t ∙ s.at; named = s.named }, rest)
     ] refl
 
-pub no_processes : (slab : Slab Process) (es : List (Entry ℕ)) → es ≡ [] → processes_in es slab ≡ []
-unfolding processes_in
-no_processes slab es e = rw e refl
-
-pub no_index : (slab : Slab Process) (es : List (Entry ℕ)) → es ≡ [] → slab.slots ≡ [] → IsIndexed es slab
-unfolding Rises
-no_index slab es e k = rw e (record { rising = tt; standing = tt; counted = ap (count_by is_some) k })
-
 pub processes_kept : (es : List (Entry ℕ)) (old new : Slab Process) → new.slots ≡ old.slots → processes_in es new ≡ processes_in es old
 unfolding processes_in
 processes_kept es old new e = rw e refl
 
-stand_kept : (es : List (Entry ℕ)) (old new : Slab Process) → new.slots ≡ old.slots → AllStand old es → AllStand new es
-stand_kept [] old new k a = tt
-stand_kept (e ∷ es) old new k a = let s = a.0 in (record { what = s.what; at = ap (λ xs. slice_index_or xs e.value None) k ∙ s.at; named = s.named }, stand_kept es old new k a.1)
-
 pub kept_index : (es xs : List (Entry ℕ)) (old new : Slab Process) → xs ≡ es → new.slots ≡ old.slots → IsIndexed es old → IsIndexed xs new
-kept_index es xs old new e k i = rw e (record { rising = i.rising; standing = stand_kept es old new k i.standing; counted = ap (count_by is_some) k ∙ i.counted })
+kept_index es xs old new e k i = rw e (record { rising = i.rising; standing = stand_as es old new (λ x s. ap (λ xs. slice_index_or xs x.value None) k) i.standing; counted = ap (count_by is_some) k ∙ i.counted })
 
 -- ---- as the calls have it
 
 pub length_left : (es : List (Entry ℕ)) (p slot : ℕ) → Rises (pids_of es) → option_map (λ (e : Entry ℕ). e.value) (entry_of p es) ≡ Some slot → suc (length (filter (λ (r : Entry ℕ). not (r.pid == p)) es)) ≡ length es
 unfolding Rises
 length_left [] p slot up h = absurd (cc)
-length_left (x ∷ es) p slot up h = elim (x.pid == p) as (λ b. (x.pid == p) ≡ b → option_map (λ (e : Entry ℕ). e.value) (cond b (Some x) (entry_of p es)) ≡ Some slot → suc (length (cond (not b) (x ∷ filter (λ (r : Entry ℕ). not (r.pid == p)) es) (filter (λ (r : Entry ℕ). not (r.pid == p)) es))) ≡ suc (length es)) [
-  | true ↦ λ t k. let same = eqb-true _ _ t in ap (λ l. suc (length l)) (others_all (λ (e : Entry ℕ). e.pid) es p (find_none (λ (e : Entry ℕ). e.pid) es p (not_in_above x.pid p (pids_of es) (omega (arith, same)) up.0)))
-  | false ↦ λ t k. ap suc (length_left es p slot up.1 k)
-] refl h
-
-pub no_entry : (es : List (Entry ℕ)) (p : ℕ) → option_map (λ (e : Entry ℕ). e.value) (entry_of p es) ≡ None → entry_of p es ≡ None
-no_entry es p h = elim (entry_of p es) as (λ o. option_map (λ (e : Entry ℕ). e.value) o ≡ None → o ≡ None) [ None ↦ λ k. refl | Some e ↦ λ k. absurd (cc) ] h
+length_left (x ∷ es) p slot up h = grind (arith, h, length_left es p slot up.1, λ (i : x.pid ≡ p). others_all (λ (e : Entry ℕ). e.pid) es p (find_none (λ (e : Entry ℕ). e.pid) es p (not_in_above x.pid p (pids_of es) (omega (arith, i)) up.0)))
 
 -- one entry more
 pub length_put : (e : Entry ℕ) (es : List (Entry ℕ)) → length (inserted_in_order (λ (e : Entry ℕ). e.pid) e es) ≡ suc (length es)
 unfolding inserted_in_order
 length_put e [] = refl
-length_put e (x ∷ es) = elim (nat_lt e.pid x.pid) as (λ b. length (cond b (e ∷ x ∷ es) (x ∷ inserted_in_order (λ (e : Entry ℕ). e.pid) e es)) ≡ suc (suc (length es))) [ true ↦ refl | false ↦ ap suc (length_put e es) ]
+length_put e (x ∷ es) = grind (arith, length_put e es)
 
 -- the slots are as many after a slot was written
 count_set : (xs : List (Option Process)) (i : ℕ) (v n : Process) → slice_index_or xs i None ≡ Some n → count_by is_some (slice_set xs i (Some v)) ≡ count_by is_some xs
@@ -288,14 +229,6 @@ count_set (x ∷ xs) (suc i) v n e = let rest = count_set xs i v n e in grind (a
 pub len_put : (slab : Slab Process) (slot : ℕ) (n v : Process) → get slab slot ≡ Some n → slab_len (with_value slab slot v) ≡ slab_len slab
 len_put slab slot n v g = count_set slab.slots slot v n g
 
--- the one entry of a process
-only_slot : (es : List (Entry ℕ)) (p slot : ℕ) → Rises (pids_of es) → option_map (λ (e : Entry ℕ). e.value) (entry_of p es) ≡ Some slot → Only p slot es
-only_slot es p slot up h =
-    elim (entry_of p es) as (λ o. entry_of p es ≡ o → option_map (λ (e : Entry ℕ). e.value) o ≡ Some slot → Only p slot es) [
-      | None ↦ λ w k. absurd (cc)
-      | Some e ↦ λ w k. let s : e.value ≡ slot = cc in subst (λ n. Only p n es) s (only p es e up w)
-    ] refl h
-
 -- f changes the process p, which is n in its slot
 pub record IsWritten (es : List (Entry ℕ)) (slab : Slab Process) (p slot : ℕ) (f : Process → Process) (n : Process) : Type 0 where
   pub index : IsIndexed es (with_value slab slot (f n))
@@ -303,23 +236,23 @@ pub record IsWritten (es : List (Entry ℕ)) (slab : Slab Process) (p slot : ℕ
 
 pub written : (es : List (Entry ℕ)) (slab : Slab Process) (p slot : ℕ) (f : Process → Process) (n : Process) → ((n : Process) → (f n).pid ≡ n.pid) → IsIndexed es slab → option_map (λ (e : Entry ℕ). e.value) (entry_of p es) ≡ Some slot → get slab slot ≡ Some n → IsWritten es slab p slot f n
 written es slab p slot f n keeps i is g =
-    let s = slotted es slab p slot i.standing is in
+    let s = standing es slab p slot i.standing is in
     let one = only_slot es p slot i.rising is in
-    let named : n.pid ≡ p = let k = sym g ∙ s.at in let it : n ≡ s.what = cc in ap (λ (n : Process). n.pid) it ∙ s.named in
+    let named : n.pid ≡ p = let k = sym g ∙ s.1 in let it : n ≡ s.0 = cc in ap (λ (n : Process). n.pid) it ∙ s.2 in
     record {
       index = record { rising = i.rising; standing = stand_put es slab p slot f n keeps i.standing one g named; counted = len_put slab slot n (f n) g ∙ i.counted };
       processes = processes_put es slab p slot f n i.standing one g named;
     }
 
 -- nothing goes where nobody is
-pub nobody_goes : (es : List (Entry ℕ)) (slab : Slab Process) (p : ℕ) → entry_of p es ≡ None → AllStand slab es → processes_in (filter (λ (e : Entry ℕ). not (e.pid == p)) es) slab ≡ removed p (processes_in es slab)
+pub nobody_goes : (p : ℕ) (es : List (Entry ℕ)) (slab : Slab Process) → option_map (λ (e : Entry ℕ). e.value) (entry_of p es) ≡ None → IsIndexed es slab → processes_in (filter (λ (e : Entry ℕ). not (e.pid == p)) es) slab ≡ removed p (processes_in es slab)
 unfolding lookup removed
-nobody_goes es slab p e a =
-    ap (λ l. processes_in l slab) (others_all (λ (e : Entry ℕ). e.pid) es p e)
-    ∙ sym (others_all (λ (n : Process). n.pid) (processes_in es slab) p (process_found p es slab a ∙ ap (option_and_then (λ (e : Entry ℕ). get slab e.value)) e))
+nobody_goes p es slab none i =
+    ap (λ l. processes_in l slab) (others_all (λ (e : Entry ℕ). e.pid) es p (grind (arith, none)))
+    ∙ sym (others_all (λ (n : Process). n.pid) (processes_in es slab) p (found_in p es slab i ∙ ap (option_and_then (get slab)) none))
 
-pub stand_rest : (es : List (Entry ℕ)) (slab : Slab Process) (p : ℕ) → entry_of p es ≡ None → IsIndexed es slab → IsIndexed (filter (λ (e : Entry ℕ). not (e.pid == p)) es) slab
-stand_rest es slab p e i = subst (λ l. IsIndexed l slab) (sym (others_all (λ (e : Entry ℕ). e.pid) es p e)) i
+pub index_stays : (p : ℕ) (es : List (Entry ℕ)) (slab : Slab Process) → option_map (λ (e : Entry ℕ). e.value) (entry_of p es) ≡ None → IsIndexed es slab → IsIndexed (filter (λ (e : Entry ℕ). not (e.pid == p)) es) slab
+index_stays p es slab none i = subst (λ l. IsIndexed l slab) (sym (others_all (λ (e : Entry ℕ). e.pid) es p (grind (arith, none)))) i
 
 -- ---- a record in its slot
 

@@ -60,6 +60,7 @@ impl ProcessTable for SlabTable {
 
     ghost no_less = { λ n. Prim.omega arith };
 
+    #[tactic(auto, unfolding(crate::specs::Tables::processes_in, pidset::specs::Numbers::Rises))]
     fn empty(alloc: Global) -> Self {
         SlabTable {
             index: Pages::new(alloc),
@@ -68,6 +69,7 @@ impl ProcessTable for SlabTable {
         }
     }
 
+    #[tactic(auto, using(crate::proofs::SlabLemmas::rising_in))]
     fn reserve(&mut self) -> Result<(), AllocError> {
         self.index.size_holds();
         self.spares.reserve(self.slots.len() + 1)?;
@@ -83,11 +85,13 @@ impl ProcessTable for SlabTable {
         granted_pools.reserve(count)
     }
 
+    #[tactic(auto, using(crate::proofs::SlabLemmas::insert_rules))]
     fn insert(&mut self, pid: Pid, parent: Pid, fields: Record) {
         let slot = self.slots.insert(Slot::new(pid, parent, fields));
         self.index.put(pid, slot);
     }
 
+    #[tactic(auto, using(crate::proofs::SlabLemmas::get_rules))]
     #[inline(always)]
     fn get(&mut self, pid: Pid) -> Option<Snapshot> {
         self.index.size_holds();
@@ -97,6 +101,7 @@ impl ProcessTable for SlabTable {
         }
     }
 
+    #[tactic(auto, using(crate::proofs::SlabLemmas::slot_rules))]
     #[inline]
     fn update(&mut self, pid: Pid) -> &mut Record {
         let Some(slot) = self.index.get(pid) else {
@@ -106,6 +111,7 @@ impl ProcessTable for SlabTable {
         process.record_mut()
     }
 
+    #[tactic(auto, using(crate::proofs::SlabLemmas::slot_rules))]
     fn set_parent(&mut self, pid: Pid, parent: Pid) {
         let Some(slot) = self.index.get(pid) else {
             unreachable!()
@@ -118,6 +124,7 @@ impl ProcessTable for SlabTable {
         self.spares.take()
     }
 
+    #[tactic(auto, using(crate::proofs::SlabLemmas::remove_rules))]
     fn remove(&mut self, pid: Pid) {
         if let Some(slot) = self.index.remove(pid) {
             let gone = self.slots.remove(slot);
@@ -125,6 +132,7 @@ impl ProcessTable for SlabTable {
         }
     }
 
+    #[tactic(auto, using(crate::proofs::SlabLemmas::next_rules))]
     fn next_after(&mut self, pid: Pid) -> Option<Pid> {
         self.index.next_above(pid)
     }

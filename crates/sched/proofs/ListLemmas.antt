@@ -50,19 +50,16 @@ known ns n p v k view e =
 -- a number is added
 pub list_added : (old new : List Node) (n p : ℕ) (v : Linked) → IsKept old (read_off n old 0) → seen old n ≡ v → 1 ≤ p → p < v.room → is_in p v.numbers ≡ false → IsJoinedLast old new 0 p
     → IsList new (n + 1) (record { numbers = v.numbers ++ p ∷ []; room = v.room })
-list_added old new n p v k view low = subst (λ (l : Linked). p < l.room → is_in p l.numbers ≡ false → IsJoinedLast old new 0 p → IsList new (n + 1) (record { numbers = l.numbers ++ p ∷ []; room = l.room })) view
-    (λ less o j.
-    let count = read_length n old 0 in
-    let more = length-append (read_off n old 0) (p ∷ []) in
-    listed (kept_added old new p (read_off n old 0) k low less o j) (n + 1) (omega (arith, count, more)) (j.after.size ∙ j.before.size))
+list_added old new n p v k view low less o j =
+    let now = kept_added old new p (read_off n old 0) k low (rw (← view) at less) (rw (← view) at o) j in
+    rw (← view) (listed now (n + 1) (omega (arith, read_length n old 0, length-append (read_off n old 0) (p ∷ []))) (j.after.size ∙ j.before.size))
 
 -- a number is taken out
 pub list_removed : (old mid : List Node) (n p : ℕ) (v : Linked) → IsKept old (read_off n old 0) → seen old n ≡ v → IsThere old n p → IsJoined old mid (prev_of old p) (next_of old p)
     → IsList (slice_set mid p unlinked) (n - 1) (record { numbers = without p v.numbers; room = v.room })
-list_removed old mid n p v k view f j = subst (λ (l : Linked). IsList (slice_set mid p unlinked) (n - 1) (record { numbers = without p l.numbers; room = l.room })) view
-    (let count = read_length n old 0 in
+list_removed old mid n p v k view f j =
     let less = one_less p (read_off n old 0) k.ring.distinct f.there in
-    listed (kept_removed old mid p (read_off n old 0) k f.there j) (n - 1) (omega (arith, count, less)) (length-set mid p unlinked ∙ j.size))
+    rw (← view) (listed (kept_removed old mid p (read_off n old 0) k f.there j) (n - 1) (omega (arith, read_length n old 0, less)) (length-set mid p unlinked ∙ j.size))
 
 -- what is left has a last node
 pub last_left : (old mid : List Node) (n p : ℕ) → IsKept old (read_off n old 0) → IsThere old n p → IsJoined old mid (prev_of old p) (next_of old p) → prev_of mid 0 < length mid
@@ -75,17 +72,14 @@ last_left old mid n p k f j =
 -- a number goes to the end
 pub list_moved : (old mid new : List Node) (n p : ℕ) (v : Linked) → IsKept old (read_off n old 0) → seen old n ≡ v → IsThere old n p → IsJoined old mid (prev_of old p) (next_of old p) → IsJoinedLast mid new 0 p
     → IsList new n (record { numbers = without p v.numbers ++ p ∷ []; room = v.room })
-list_moved old mid new n p v k view f j h = subst (λ (l : Linked). IsList new n (record { numbers = without p l.numbers ++ p ∷ []; room = l.room })) view
-    (let count = read_length n old 0 in
+list_moved old mid new n p v k view f j h =
     let less = one_less p (read_off n old 0) k.ring.distinct f.there in
-    let more = length-append (without p (read_off n old 0)) (p ∷ []) in
-    listed (kept_moved old mid new p (read_off n old 0) k f.there j h) n (omega (arith, count, less, more)) (h.after.size ∙ h.before.size ∙ j.size))
+    rw (← view) (listed (kept_moved old mid new p (read_off n old 0) k f.there j h) n (omega (arith, read_length n old 0, less, length-append (without p (read_off n old 0)) (p ∷ []))) (h.after.size ∙ h.before.size ∙ j.size))
 
 -- more nodes
 pub list_grown : (old new : List Node) (n count : ℕ) (v : Linked) → IsKept old (read_off n old 0) → seen old n ≡ v → IsGrown old new count → length old ≤ count → count ≤ 2147483648
     → IsList new n (record { numbers = v.numbers; room = count })
-list_grown old new n count v k view g more few = subst (λ (l : Linked). IsList new n (record { numbers = l.numbers; room = count })) view
-    (listed (kept_grown old new (read_off n old 0) count k g more few) n (sym (read_length n old 0)) g.size)
+list_grown old new n count v k view g more few = rw (← view) (listed (kept_grown old new (read_off n old 0) count k g more few) n (sym (read_length n old 0)) g.size)
 
 -- nothing changes without a number that isn't there
 pub list_same : (p : ℕ) (v : Linked) → is_in p v.numbers ≡ false → v ≡ record { numbers = without p v.numbers; room = v.room }

@@ -47,6 +47,7 @@ impl Model for Links {
 
 impl Links {
     /// An empty list. It takes no memory.
+    #[tactic(auto, using(crate::proofs::RingLemmas::kept_new), unfolding(crate::specs::Links::read_off))]
     pub fn new(alloc: Global) -> Links
         ensures { result ≡ record { numbers = []; room = 0 } }
     {
@@ -73,6 +74,7 @@ impl Links {
     }
 
     /// How many numbers stand in the list.
+    #[tactic(auto, using(crate::proofs::LinkLemmas::read_length))]
     pub fn len(&self) -> usize
         ensures value { result ≡ length self.now.numbers }
         ensures distinct { IsDistinct self.now.numbers }

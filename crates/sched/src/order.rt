@@ -52,13 +52,6 @@ impl Order {
         self.links.len()
     }
 
-    /// Whether no process has a place.
-    pub fn is_empty(&self) -> bool
-        ensures { result ≡ (length self.now.pids == 0) }
-    {
-        self.links.len() == 0
-    }
-
     /// The current process: the first; none where nobody has a place.
     #[inline]
     pub fn current(&self) -> Option<Pid>

@@ -1,13 +1,14 @@
 -- Lines that are added, one after another, while some keys wait.
-use Rattle.std.proofs.Common.{◌≡◌, ℕ, zero, suc, ◌+◌, ◌-◌, ◌<◌, ◌≤◌, true, List, [], ◌∷◌, ◌++◌, length, take, get_or, map, ap, sym, ◌∙◌, refl, subst, append_assoc, append-nil, arith}
+use Rattle.std.proofs.Common.{◌≡◌, ℕ, zero, suc, ◌+◌, ◌-◌, ◌<◌, ◌≤◌, true, List, [], ◌∷◌, ◌++◌, length, length-append, take, drop, get_or, map, ap, sym, ◌∙◌, refl, subst, append_assoc, append-nil, arith}
 use Rattle.std.specs.Prelude.{codes, decimal, replicate, nat_lt, Result, Ok, Err, OnOk}
 use Rattle.std.specs.List.{list_all}
 use Rattle.std.proofs.lemmas.Bool.{lt-ltb}
 use Rattle.std.proofs.lemmas.Grind.{common_steps}
-use Rattle.std.proofs.lemmas.List.{replicate-append-replicate, take_all, take_more}
+use Rattle.std.proofs.lemmas.List.{length-replicate, replicate-append-replicate, take-append-drop, take_all, take_more}
+use Rattle.std.proofs.lemmas.List.Concat.{flat_map-append}
 use Rattle.posix.specs.declared.event.Event.{Event}
 use Rattle.posix.specs.declared.event.Event.TheVariants.{Key, Hangup}
-use Rattle.text.specs.EventLists.{CountedEvent, expanded}
+use Rattle.text.specs.EventLists.{CountedEvent, expanded, run_events}
 use Rattle.text.specs.EventTexts.{most_events}
 use Rattle.text.proofs.EventLemmas.{expanded_push}
 use Rattle.schedules.specs.EventLines.{AddsLines, AddsFirst, AddsText, IsWordOf, two_digits}
@@ -124,12 +125,11 @@ hangup_added a b console small e = (line (codes "hangup" ∷ decimal console ∷
 pub hangups_more : (a b c : List ℕ) (console i : ℕ) → AddsLines a (replicate i (Hangup console)) b → AddsLines b (Hangup console ∷ []) c → AddsLines a (replicate (i + 1) (Hangup console)) c
 hangups_more a b c console i p q = subst (λ (es : List Event). AddsLines a es c) (replicate-append-replicate i 1 (Hangup console)) (adds_joined a b c (replicate i (Hangup console)) (Hangup console ∷ []) p q)
 
-pub hangups_put_ok : {T E : Type 0} (r : Result T E) (a b c : List ℕ) (u : List Event) (console m n : ℕ) (bytes : List ℕ) (event is : Event)
-    → AddsFirst a u [] b (map (Key console) bytes) → bytes ≡ [] → is ≡ event → m ≡ n → OnOk r (AddsLines b (replicate m event) c)
+pub hangups_put_ok : {T E : Type 0} (r : Result T E) (a b c : List ℕ) (u : List Event) (console n : ℕ) (bytes : List ℕ) (event is : Event)
+    → AddsFirst a u [] b (map (Key console) bytes) → bytes ≡ [] → is ≡ event → OnOk r (AddsLines b (replicate n event) c)
     → OnOk r (AddsFirst a u (replicate n is) c (map (Key console) bytes))
-hangups_put_ok (Ok x) a b c u console m n bytes event is h none same count k =
-    counted_put a b c u console n bytes event is h none same (subst (λ (i : ℕ). AddsLines b (replicate i event) c) count k)
-hangups_put_ok (Err e) a b c u console m n bytes event is h none same count k = k
+hangups_put_ok (Ok x) a b c u console n bytes event is h none same k = counted_put a b c u console n bytes event is h none same k
+hangups_put_ok (Err e) a b c u console n bytes event is h none same k = k
 
 -- a run more
 pub run_put : (a b c : List ℕ) (u v : List Event) (runs : List CountedEvent) (i : ℕ) (d : CountedEvent) → i < length runs → AddsFirst a [] (expanded (take i runs)) b u
@@ -139,12 +139,31 @@ run_put a b c u v runs i d lt h k =
     (first_joined a b c [] u v (expanded (take i runs)) (replicate (get_or runs i d).count (get_or runs i d).event) h k)
 
 -- where that succeeds
-pub counted_put_ok : {T E : Type 0} (r : Result T E) (a b c : List ℕ) (u : List Event) (console m n : ℕ) (bytes word : List ℕ) (event is : Event) → IsWordOf event word
-    → AddsFirst a u [] b (map (Key console) bytes) → bytes ≡ [] → is ≡ event → m ≡ n → OnOk r ((e : Event) → IsWordOf e word → AddsLines b (replicate m e) c)
+pub counted_put_ok : {T E : Type 0} (r : Result T E) (a b c : List ℕ) (u : List Event) (console n : ℕ) (bytes word : List ℕ) (event is : Event) → IsWordOf event word
+    → AddsFirst a u [] b (map (Key console) bytes) → bytes ≡ [] → is ≡ event → OnOk r ((e : Event) → IsWordOf e word → AddsLines b (replicate n e) c)
     → OnOk r (AddsFirst a u (replicate n is) c (map (Key console) bytes))
-counted_put_ok (Ok x) a b c u console m n bytes word event is named h none same count k =
-    counted_put a b c u console n bytes event is h none same (subst (λ (i : ℕ). AddsLines b (replicate i event) c) count (k event named))
-counted_put_ok (Err e) a b c u console m n bytes word event is named h none same count k = k
+counted_put_ok (Ok x) a b c u console n bytes word event is named h none same k = counted_put a b c u console n bytes event is h none same (k event named)
+counted_put_ok (Err e) a b c u console n bytes word event is named h none same k = k
+
+-- so many more
+pub many_put : (a b c : List ℕ) (u v w : List Event) (event : Event) (m n k : ℕ) → m + n ≡ k → AddsFirst a u (replicate m event) b v → AddsFirst b v (replicate n event) c w → AddsFirst a u (replicate k event) c w
+many_put a b c u v w event m n k sum h more =
+    subst (λ (es : List Event). AddsFirst a u es c w) (replicate-append-replicate m n event ∙ ap (λ i. replicate i event) sum)
+    (first_joined a b c u v w (replicate m event) (replicate n event) h more)
+
+-- behind a comment, too
+pub remarked_put : (a b c d : List ℕ) (u v w : List Event) (event : Event) (n : ℕ) → AddsFirst a u [] b v → AddsLines b [] c → AddsFirst c v (replicate n event) d w → AddsFirst a u (replicate n event) d w
+remarked_put a b c d u v w event n ended comment h = first_joined a b d u v w [] (replicate n event) ended (first_joined b c d v v w [] (replicate n event) ([], comment, sym (append-nil v)) h)
+
+-- where a run ends: where the next one begins, within the list
+pub run_ends : (runs : List CountedEvent) (i start : ℕ) (r : CountedEvent) (events : List Event) → i < length runs → r ≡ get_or runs i r → expanded runs ≡ events → start ≡ length (expanded (take i runs))
+    → (start + r.count ≡ length (expanded (take (i + 1) runs))) × (start + r.count ≤ length events)
+run_ends runs i start r events lt is same at =
+    let before = expanded (take i runs) in
+    let more : expanded (take (i + 1) runs) ≡ before ++ replicate r.count r.event = ap expanded (take_more runs i r lt ∙ ap (λ q. take i runs ++ q ∷ []) (sym is)) ∙ expanded_push (take i runs) r in
+    let one : start + r.count ≡ length (expanded (take (i + 1) runs)) = omega (arith, at, ap length more, length-append before (replicate r.count r.event), length-replicate r.count r.event) in
+    let all : expanded (take (i + 1) runs) ++ expanded (drop (i + 1) runs) ≡ events = sym (flat_map-append run_events (take (i + 1) runs) (drop (i + 1) runs)) ∙ ap expanded (take-append-drop (i + 1) runs) ∙ same in
+    (one, omega (arith, one, ap length all, length-append (expanded (take (i + 1) runs)) (expanded (drop (i + 1) runs))))
 
 pub nothing_yet : (a : List ℕ) (console : ℕ) (bytes : List ℕ) → bytes ≡ [] → AddsFirst a [] [] a (map (Key console) bytes)
 nothing_yet a console [] none = first_nothing a []

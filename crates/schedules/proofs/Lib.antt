@@ -7,4 +7,4 @@ pub mod Rows
 mod LineLemmas
 mod NumberLemmas
 mod SayLemmas
-mod AddLemmas
+pub mod AddLemmas

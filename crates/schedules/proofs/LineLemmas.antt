@@ -1,7 +1,7 @@
 -- Lines of words are read back.
 use Rattle.std.proofs.Common.{◌≡◌, ℕ, ◌≤◌, ◌==◌, Bool, true, false, not, List, [], ◌∷◌, ◌++◌, length, refl, ap, sym, ◌∙◌, append_assoc, append-nil, arith, Ok}
 use Rattle.std.specs.Prelude.{◌&&◌, ◌||◌, nat_le, nat_lt, codes, flat_map}
-use Rattle.std.specs.List.{list_all, prefix_len}
+use Rattle.std.specs.List.{list_all, list_any, prefix_len}
 use Rattle.std.proofs.lemmas.Bool.{and_parts}
 use Rattle.std.proofs.lemmas.Bool.Decides.{nat_tests}
 use Rattle.std.proofs.lemmas.List.{take_all}
@@ -66,7 +66,11 @@ spaced_bytes (w ∷ ws) h =
 
 -- ---- the first line
 
-first_line : (begun bs rest : List ℕ) → list_all (λ b. not (b == 10)) bs ≡ true → all_from begun (bs ++ 10 ∷ rest) ≡ (begun ++ bs) ∷ all_lines rest
+pub no_feeds : (bs : List ℕ) → list_any (λ b. b == 10) bs ≡ false → list_all (λ b. not (b == 10)) bs ≡ true
+no_feeds [] h = refl
+no_feeds (b ∷ bs) h = grind (arith, nat_tests, no_feeds bs)
+
+pub first_line : (begun bs rest : List ℕ) → list_all (λ b. not (b == 10)) bs ≡ true → all_from begun (bs ++ 10 ∷ rest) ≡ (begun ++ bs) ∷ all_lines rest
 first_line begun [] rest h = all_from-end begun 10 rest refl ∙ ap (λ (l : List ℕ). l ∷ all_lines rest) (sym (append-nil begun))
 first_line begun (b ∷ bs) rest h =
     let both = and_parts (not (b == 10)) (list_all (λ c. not (c == 10)) bs) h in

@@ -1,7 +1,7 @@
 -- What lines say, one after another.
-use Rattle.std.proofs.Common.{◌≡◌, ℕ, ◌+◌, ◌-◌, ◌*◌, ◌<◌, ◌≤◌, true, List, [], ◌∷◌, ◌++◌, length, map, refl, ap, sym, ◌∙◌, append_assoc, append-nil, arith, length-append, Ok}
+use Rattle.std.proofs.Common.{◌≡◌, ℕ, ◌+◌, ◌-◌, ◌*◌, ◌<◌, ◌≤◌, ◌==◌, true, false, List, [], ◌∷◌, ◌++◌, length, map, refl, ap, sym, ◌∙◌, append_assoc, append-nil, arith, length-append, Ok}
 use Rattle.std.specs.Prelude.{◌&&◌, nat_le, nat_lt, codes, decimal, replicate}
-use Rattle.std.specs.List.{list_all}
+use Rattle.std.specs.List.{list_all, list_any}
 use Rattle.std.proofs.lemmas.Bool.{and_parts, leb-true}
 use Rattle.std.proofs.lemmas.Bool.Decides.{nat_tests}
 use Rattle.std.proofs.lemmas.Fmt.{length-decimal-le}
@@ -13,7 +13,7 @@ use Rattle.text.specs.Lines.{all_lines}
 use Rattle.text.specs.Reading.{◌>>=◌}
 use Rattle.text.specs.EventTexts.{read_lines, start, answer, event_text, event_words, judged, judged_line, counted, keys, hangup, most_events}
 use Rattle.schedules.specs.EventLines.{Says, StandsFor, IsWordOf, read_well, is_possible, two_digits}
-use Rattle.schedules.proofs.LineLemmas.{is_plain_word, spaced, line, line_first, words_back}
+use Rattle.schedules.proofs.LineLemmas.{is_plain_word, spaced, line, first_line, line_first, no_feeds, words_back}
 use Rattle.schedules.proofs.NumberLemmas.{decimal_plain, number_back, bytes_plain, bytes_back}
 
 -- ---- of any lines
@@ -53,6 +53,23 @@ line_says ws events plain short said consoles lines before rest fine room =
     in (
       lines + 1,
       ap (read_lines consoles (read_well lines before)) (line_first ws rest plain)
+          ∙ ap (λ r. read_lines consoles r (all_lines rest)) judges,
+    )
+
+-- ---- of a comment
+
+-- a comment behind four blanks
+abbrev pub comment_line : List ℕ → List ℕ
+comment_line comment = codes "    # " ++ (comment ++ 10 ∷ [])
+
+pub comment_says : (comment : List ℕ) → length comment ≤ 194 → list_any (λ b. b == 10) comment ≡ false → Says (comment_line comment) []
+comment_says comment short whole consoles lines before rest fine room =
+    let fits : nat_lt 200 (length (codes "    # " ++ comment)) ≡ false = grind (arith, nat_tests, short) in
+    let judges : judged_line consoles (read_well lines before) (codes "    # " ++ comment) ≡ read_well (lines + 1) (before ++ []) = rw fits refl in
+    let shape : comment_line comment ++ rest ≡ (codes "    # " ++ comment) ++ 10 ∷ rest = ap (λ (l : List ℕ). codes "    # " ++ l) (append_assoc comment (10 ∷ []) rest) in (
+      lines + 1,
+      ap (λ (l : List ℕ). read_lines consoles (read_well lines before) (all_lines l)) shape
+          ∙ ap (read_lines consoles (read_well lines before)) (first_line [] (codes "    # " ++ comment) rest (no_feeds comment whole))
           ∙ ap (λ r. read_lines consoles r (all_lines rest)) judges,
     )
 

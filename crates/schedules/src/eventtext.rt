@@ -1,6 +1,6 @@
-//! Lists of events as the texts that stand for them.
+//! Lists of events as the texts that stand for them, with comments.
 
-ghost use Rattle.std.specs.Prelude.{◌≡◌, ◌<◌, ◌≤◌, [], ◌∷◌, ◌++◌, length, map, replicate, OnOk};
+ghost use Rattle.std.specs.Prelude.{◌≡◌, ◌+◌, ◌<◌, ◌≤◌, [], ◌∷◌, ◌++◌, length, map, replicate, OnOk};
 ghost use Rattle.std.specs.String.{string_bytes};
 ghost use Rattle.arrayvec.specs.ArrayVec.{array_vec_len};
 ghost use Rattle.posix.specs.declared.event.Event.{Event as AnEvent};
@@ -19,6 +19,18 @@ const MOST_COUNTED: u64 = 1_000_000;
 
 /// The most bytes of a line `key C B ..`: so it stays short.
 const MOST_KEYS: usize = 16;
+
+/// A comment with more bytes has no room in a line.
+const MOST_COMMENT: usize = 194;
+
+/// A comment on an event of a list.
+#[derive(Drop)]
+pub struct Remark {
+    /// The place of the event, from 0 on.
+    pub place: u64,
+    /// At most 194 bytes, without a line feed; any other is left out.
+    pub text: String,
+}
 
 /// Keys of one console that wait for the line of keys to end.
 #[derive(Drop)]
@@ -123,30 +135,88 @@ fn put_keys(
     Ok(())
 }
 
-/// Adds a run of one event.
-fn put_run(text: &mut String, keys: &mut Keys, run: EventRun) -> Result<(), AllocError>
-    ensures { OnOk result (AddsFirst (string_bytes text.old) (map (Key keys.old.console) keys.old.bytes.items) (replicate run.count run.event) (string_bytes text.new) (map (Key keys.new.console) keys.new.bytes.items)) }
+/// Adds an event so many times.
+fn put_many(text: &mut String, keys: &mut Keys, event: Event, count: u64) -> Result<(), AllocError>
+    ensures { OnOk result (AddsFirst (string_bytes text.old) (map (Key keys.old.console) keys.old.bytes.items) (replicate count event) (string_bytes text.new) (map (Key keys.new.console) keys.new.bytes.items)) }
 {
-    match run.event() {
+    match event {
         Event::Step => {
             end_keys(text, keys)?;
-            write_counted(text, "step", run.count())
+            write_counted(text, "step", count)
         }
         Event::Tick => {
             end_keys(text, keys)?;
-            write_counted(text, "tick", run.count())
+            write_counted(text, "tick", count)
         }
-        Event::Key { console, byte } => put_keys(text, keys, console, byte, run.count()),
+        Event::Key { console, byte } => put_keys(text, keys, console, byte, count),
         Event::Hangup { console } => {
             end_keys(text, keys)?;
-            write_hangups(text, console, run.count())
+            write_hangups(text, console, count)
         }
     }
 }
 
-/// Writes a list of events as a text that stands for them, each line behind four blanks. Without memory a part of
-/// the text may have been added.
-pub fn write_events(text: &mut String, events: &EventList) -> Result<(), AllocError>
+/// Writes a comment in a line of its own; nothing, where a line has no room for it.
+fn write_comment(text: &mut String, comment: &str) -> Result<(), AllocError>
+    ensures { OnOk result (AddsLines (string_bytes text.old) [] (string_bytes text.new)) }
+{
+    if comment.len() > MOST_COMMENT || comment.as_bytes().contains(&b'\n') {
+        return Ok(());
+    }
+    writeln!(text, "    # {comment}")?;
+    Ok(())
+}
+
+/// Adds an event so many times, and once more behind a comment.
+fn put_remarked(
+    text: &mut String,
+    keys: &mut Keys,
+    event: Event,
+    count: u64,
+    comment: &str,
+) -> Result<(), AllocError>
+    ensures { OnOk result (AddsFirst (string_bytes text.old) (map (Key keys.old.console) keys.old.bytes.items) (replicate (count + 1) event) (string_bytes text.new) (map (Key keys.new.console) keys.new.bytes.items)) }
+{
+    put_many(text, keys, event, count)?;
+    end_keys(text, keys)?;
+    write_comment(text, comment)?;
+    put_many(text, keys, event, 1)?;
+    Ok(())
+}
+
+/// Adds a run of one event, the first of which has the place `start`, with the remarks on its events.
+fn put_run(
+    text: &mut String,
+    keys: &mut Keys,
+    start: u64,
+    run: EventRun,
+    remarks: &[Remark],
+) -> Result<(), AllocError>
+    requires { start + run.count ≤ most_events }
+    ensures { OnOk result (AddsFirst (string_bytes text.old) (map (Key keys.old.console) keys.old.bytes.items) (replicate run.count run.event) (string_bytes text.new) (map (Key keys.new.console) keys.new.bytes.items)) }
+{
+    let end = start + run.count();
+    let mut next = start;
+    for remark in remarks {
+        let place = remark.place;
+        if place < next || end <= place {
+            continue;
+        }
+        put_remarked(text, keys, run.event(), place - next, remark.text.as_str())?;
+        next = place + 1;
+    }
+    put_many(text, keys, run.event(), end - next)?;
+    Ok(())
+}
+
+/// Writes a list of events as a text that stands for them, each line behind four blanks. Before an event that has a
+/// remark it has a comment, and the event in a line of its own; the places of the remarks rise strictly, and a remark out
+/// of this order is left out. Without memory a part of the text may have been added.
+pub fn write_events(
+    text: &mut String,
+    events: &EventList,
+    remarks: &[Remark],
+) -> Result<(), AllocError>
     requires { length events.now ≤ most_events }
     ensures { OnOk result (AddsText (string_bytes text.old) events.now (string_bytes text.new)) }
 {
@@ -154,8 +224,10 @@ pub fn write_events(text: &mut String, events: &EventList) -> Result<(), AllocEr
         console: 0,
         bytes: ArrayVec::new(),
     };
+    let mut start = 0;
     for run in events.runs() {
-        put_run(text, &mut keys, *run)?;
+        put_run(text, &mut keys, start, *run, remarks)?;
+        start += run.count();
     }
     end_keys(text, &mut keys)?;
     Ok(())

@@ -1,5 +1,5 @@
 //! Schedules: the ways to put ticks and loose events into a list of events, which ones there are, and each in turn; and
-//! lists of events as texts.
+//! lists of events as texts, with comments.
 #![tactic(auto)]
 
 ghost use Rattle.std.specs.Prelude.{◌≡◌, ◌≢◌, ◌+◌, ◌*◌, ◌≤◌, ◌↔◌, ℕ, List, length, map, All, AllPairs, Contains};
@@ -8,16 +8,16 @@ ghost use Rattle.posix.specs.declared.event.Event.{Event};
 ghost use Rattle.schedules.specs.Families.{Spots, family, IsSchedule, IsBefore, choose, place_of, ways};
 ghost use Rattle.schedules.specs.Schedules.{scheduled, from_front};
 
-mod eventtext;
+pub mod eventtext;
 mod places;
 pub mod schedule;
 pub mod sizes;
 pub mod spots;
 
-pub use eventtext::write_events;
+pub use eventtext::{Remark, write_events};
 pub use schedule::Schedule;
 pub use sizes::family_size;
-pub use spots::{event_of, place_of, put_at, spot};
+pub use spots::{event_of, is_tick, place_of, put_at, spot};
 
 /// The most spots that a schedule has.
 pub const MOST_SPOTS: usize = 32;

@@ -1,7 +1,7 @@
 //! Spots: before which event of a list something is put in, and what.
 
-ghost use Rattle.std.specs.Prelude.{◌≡◌, ◌<◌, ◌≤◌, ◌^◌, length};
-ghost use Rattle.schedules.specs.Families.{place_of as place_of_spot, spot as spot_of};
+ghost use Rattle.std.specs.Prelude.{◌≡◌, ◌==◌, ◌<◌, ◌≤◌, ◌^◌, length};
+ghost use Rattle.schedules.specs.Families.{kind_of, place_of as place_of_spot, spot as spot_of};
 ghost use Rattle.schedules.specs.Schedules.{event_of as event_of_kind, put_at as put_at_spot};
 
 use crate::MOST_SPOTS;
@@ -22,6 +22,14 @@ pub fn place_of(loose: usize, spot: u64) -> u64
     ensures { result ≡ place_of_spot loose spot }
 {
     spot / (loose as u64 + 1)
+}
+
+/// Whether a tick is put in at a spot, and no loose event.
+pub fn is_tick(loose: usize, spot: u64) -> bool
+    requires { loose ≤ MOST_SPOTS }
+    ensures { result ≡ (kind_of loose spot == 0) }
+{
+    spot % (loose as u64 + 1) == 0
 }
 
 /// What is put in, of a kind: a tick for 0, and else one of the loose events, from 1.

@@ -1,9 +1,9 @@
 -- The queue of real-time signals, and the bits that say which of them are queued.
-use Rattle.std.proofs.Common.{◌≡◌, ◌≢◌, ℕ, zero, suc, ◌-◌, ◌^◌, ◌<◌, ◌≤◌, Bool, true, false, not, ◌&&◌, ◌||◌, ◌==◌, nat_le, nat_lt, List, [], ◌∷◌, ◌++◌, length, refl, sym, ap, ◌∙◌, subst, arith, bit_and, filter, get_or, Option, Some, None, is_some, inl, inr}
+use Rattle.std.proofs.Common.{◌≡◌, ◌≢◌, ℕ, zero, suc, ◌-◌, ◌^◌, ◌<◌, ◌≤◌, Bool, true, false, not, ◌&&◌, ◌==◌, nat_le, nat_lt, List, [], ◌∷◌, ◌++◌, length, refl, sym, ap, ◌∙◌, subst, arith, bit_and, filter, get_or, Option, Some, None, is_some, inl, inr}
 use Rattle.std.specs.Prelude.{if◌then◌else◌}
 use Rattle.std.specs.Int.{bit_at}
 use Rattle.std.specs.List.{list_any, position, position_or_len, remove}
-use Rattle.std.proofs.lemmas.Bool.{and_parts, and_right, cases_eq, cond_both, cond-true, eq-eqb, eqb-true, false_from_ne_true, leb-true, lt-leb, ltb-false, ne_eqb, not-true, or_left, or_right}
+use Rattle.std.proofs.lemmas.Bool.{and_parts, and_right, cases_eq, cond-true, eq-eqb, eqb-true, false_from_ne_true, leb-true, lt-leb, ltb-false, ne_eqb, not-true, or_left, or_right}
 use Rattle.std.proofs.lemmas.List.Folds.{list_any-append}
 use Rattle.std.proofs.lemmas.List.Quantifiers.{position-Some}
 use Rattle.std.proofs.lemmas.List.Sums.{fails_before_first}
@@ -38,16 +38,11 @@ first_at : (s i : ℕ) (q : List PendingSignal) (d : PendingSignal) → i < leng
     → (first_carried s q ≡ Some (get_or q i d).carried) × (without_first s q ≡ remove q i)
 unfolding first_carried without_first
 first_at s i [] d l e before = absurd (omega arith)
-first_at s zero (m ∷ q) d l e before = (
-  ap (λ b. if b then Some m.carried else first_carried s q) e,
-  ap (λ b. if b then q else m ∷ without_first s q) e,
-)
+first_at s zero (m ∷ q) d l e before = (grind (arith, e), grind (arith, e))
 first_at s (suc i) (m ∷ q) d l e before =
     let here : has_sig s m ≡ false = before 0 (omega arith) in
-    let later = first_at s i q d (omega (arith, l)) e (λ k low. before (suc k) (omega (arith, low))) in (
-      ap (λ b. if b then Some m.carried else first_carried s q) here ∙ later.0,
-      ap (λ b. if b then q else m ∷ without_first s q) here ∙ ap (λ (ms : List PendingSignal). m ∷ ms) later.1,
-    )
+    let later = first_at s i q d (omega (arith, l)) e (λ k low. before (suc k) (omega (arith, low))) in
+    (grind (arith, here, later.0), grind (arith, here, later.1))
 
 -- without one nothing is taken
 none_at : (s : ℕ) (q : List PendingSignal) (d : PendingSignal) → ((k : ℕ) → k < length q → has_sig s (get_or q k d) ≡ false) → (first_carried s q ≡ None) × (without_first s q ≡ q)
@@ -55,10 +50,8 @@ unfolding first_carried without_first
 none_at s [] d none = (refl, refl)
 none_at s (m ∷ q) d none =
     let here : has_sig s m ≡ false = none 0 (omega arith) in
-    let later = none_at s q d (λ k low. none (suc k) (omega (arith, low))) in (
-      ap (λ b. if b then Some m.carried else first_carried s q) here ∙ later.0,
-      ap (λ b. if b then q else m ∷ without_first s q) here ∙ ap (λ (ms : List PendingSignal). m ∷ ms) later.1,
-    )
+    let later = none_at s q d (λ k low. none (suc k) (omega (arith, low))) in
+    (grind (arith, here, later.0), grind (arith, here, later.1))
 
 -- what is taken where a search finds its place, and where it finds none
 pub taken_at : (s i : ℕ) (q : List PendingSignal) (d : PendingSignal) → position (has_sig s) q ≡ Some i → (first_carried s q ≡ Some (get_or q i d).carried) × (without_first s q ≡ remove q i)
@@ -82,11 +75,7 @@ pub queued_own : (m : PendingSignal) (q : List PendingSignal) → list_any (has_
 queued_own m q = list_any-append (has_sig m.sig) q (m ∷ []) ∙ or_right _ _ (or_left _ _ (eq-eqb m.sig m.sig refl))
 
 pub queued_others : (m : PendingSignal) (q : List PendingSignal) (n : ℕ) → n ≢ m.sig → list_any (has_sig n) (q ++ m ∷ []) ≡ list_any (has_sig n) q
-queued_others m q n ne = list_any-append (has_sig n) q (m ∷ []) ∙ no_more (list_any (has_sig n) q) (has_sig n m) (ne_eqb m.sig n (λ e. ne (sym e)))
-  where
-    no_more : (b c : Bool) → c ≡ false → (b || (c || false)) ≡ b
-    no_more true c e = refl
-    no_more false c e = ap (λ x. x || false) e
+queued_others m q n ne = list_any-append (has_sig n) q (m ∷ []) ∙ grind (arith, ne_eqb m.sig n (λ e. ne (sym e)))
 
 -- a signal with one number has no other
 no_other : (s n : ℕ) (m : PendingSignal) → n ≢ s → has_sig s m ≡ true → has_sig n m ≡ false
@@ -96,22 +85,12 @@ no_other s n m ne e = ne_eqb m.sig n (λ is. ne (sym is ∙ eqb-true m.sig s e))
 pub taken_others : (s n : ℕ) (q : List PendingSignal) → n ≢ s → list_any (has_sig n) (without_first s q) ≡ list_any (has_sig n) q
 unfolding without_first
 taken_others s n [] ne = refl
-taken_others s n (m ∷ q) ne = cond_both (has_sig s m) q (m ∷ without_first s q) (λ ms. list_any (has_sig n) ms ≡ list_any (has_sig n) (m ∷ q))
-    (λ is. ap (λ b. b || list_any (has_sig n) q) (sym (no_other s n m ne is)))
-    (λ _. ap (λ b. has_sig n m || b) (taken_others s n q ne))
+taken_others s n (m ∷ q) ne = grind (arith, no_other s n m ne, taken_others s n q ne)
 
 pub taken_own : (s : ℕ) (q : List PendingSignal) → list_any (has_sig s) (without_first s q) ≡ true → list_any (has_sig s) q ≡ true
 unfolding without_first
 taken_own s [] e = e
-taken_own s (m ∷ q) e = by_first (has_sig s m) (taken_own s q) e
-  where
-    by_rest : (b : Bool) → (list_any (has_sig s) (without_first s q) ≡ true → list_any (has_sig s) q ≡ true) → (b || list_any (has_sig s) (without_first s q)) ≡ true → (b || list_any (has_sig s) q) ≡ true
-    by_rest true later e = refl
-    by_rest false later e = later e
-
-    by_first : (b : Bool) → (list_any (has_sig s) (without_first s q) ≡ true → list_any (has_sig s) q ≡ true) → list_any (has_sig s) (if b then q else m ∷ without_first s q) ≡ true → list_any (has_sig s) (m ∷ q) ≡ true
-    by_first true later e = or_right _ _ e
-    by_first false later e = by_rest (has_sig s m) later e
+taken_own s (m ∷ q) e = grind (arith, e, taken_own s q)
 
 abbrev pub has_other : ℕ → PendingSignal → Bool
 has_other s m = not (has_sig s m)
@@ -119,21 +98,11 @@ has_other s m = not (has_sig s m)
 -- once all with a number are discarded the others are queued as before, and none of that number is
 pub discarded_others : (s n : ℕ) (q : List PendingSignal) → n ≢ s → list_any (has_sig n) (filter (has_other s) q) ≡ list_any (has_sig n) q
 discarded_others s n [] ne = refl
-discarded_others s n (m ∷ q) ne = by_first (has_sig s m) (no_other s n m ne) (discarded_others s n q ne)
-  where
-    by_first : (b : Bool) → (b ≡ true → has_sig n m ≡ false) → list_any (has_sig n) (filter (has_other s) q) ≡ list_any (has_sig n) q
-        → list_any (has_sig n) (if not b then m ∷ filter (has_other s) q else filter (has_other s) q) ≡ (has_sig n m || list_any (has_sig n) q)
-    by_first true fails later = later ∙ ap (λ b. b || list_any (has_sig n) q) (sym (fails refl))
-    by_first false fails later = ap (λ b. has_sig n m || b) later
+discarded_others s n (m ∷ q) ne = grind (arith, no_other s n m ne, discarded_others s n q ne)
 
 pub discarded_own : (s : ℕ) (q : List PendingSignal) → list_any (has_sig s) (filter (has_other s) q) ≡ false
 discarded_own s [] = refl
-discarded_own s (m ∷ q) = by_first (has_sig s m) refl (discarded_own s q)
-  where
-    by_first : (b : Bool) → has_sig s m ≡ b → list_any (has_sig s) (filter (has_other s) q) ≡ false
-        → list_any (has_sig s) (if not b then m ∷ filter (has_other s) q else filter (has_other s) q) ≡ false
-    by_first true e later = later
-    by_first false e later = ap (λ b. b || list_any (has_sig s) (filter (has_other s) q)) e ∙ later
+discarded_own s (m ∷ q) = grind (arith, discarded_own s q)
 
 -- ---- what is generated
 

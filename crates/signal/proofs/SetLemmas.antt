@@ -1,9 +1,10 @@
 -- The set of the signals that are pending, bit by bit.
-use Rattle.std.proofs.Common.{◌≡◌, ◌≢◌, ℕ, zero, suc, ◌+◌, ◌-◌, ◌*◌, ◌/◌, ◌^◌, ◌<◌, ◌≤◌, min, max, Bool, true, false, not, ◌&&◌, ◌==◌, nat_le, List, [], ◌∷◌, ◌++◌, length, map, refl, sym, ap, ◌∙◌, arith, get_or, set, Option, Some, None, is_some, find, bit_and, bit_or, inl, inr}
+use Rattle.std.proofs.Common.{◌≡◌, ◌≢◌, ℕ, zero, suc, ◌+◌, ◌-◌, ◌*◌, ◌/◌, ◌^◌, ◌<◌, ◌≤◌, min, max, Bool, true, false, not, ◌&&◌, ◌==◌, List, [], ◌∷◌, ◌++◌, length, map, refl, sym, ap, ◌∙◌, arith, get_or, set, Option, Some, None, is_some, find, bit_and, bit_or, inl, inr}
 use Rattle.std.specs.Prelude.{replicate, if◌then◌else◌, unwrap_or}
 use Rattle.std.specs.Int.{bit_at, trailing_zeros, w64}
 use Rattle.std.specs.List.{list_any, range_with_len}
-use Rattle.std.proofs.lemmas.Bool.{cases_lt, and_from, le-leb, lt-leb, or_left, or_right}
+use Rattle.std.proofs.lemmas.Bool.Decides.{nat_tests}
+use Rattle.std.proofs.lemmas.Bool.{cases_lt}
 use Rattle.std.proofs.lemmas.List.{get_or-replicate, get_or-set_same, get_or-set_other, get_or_past, length-replicate}
 use Rattle.std.proofs.lemmas.List.FromFn.{get_or-map-range_with_len, length-map-range_with_len, fill_by_all}
 use Rattle.std.proofs.lemmas.Nat.Bits.{bit_at_lowest, bit_at-suc, bit_at-zero, bit_at_and, bit_at_or, bit_at_not, bit_at-pow_same, bit_at-pow_other, bit_at-trailing_zeros, bit_at-lt, bit_at_above, same_from_bits}
@@ -20,8 +21,7 @@ use Rattle.signal.specs.SignalTables.{TablesView, MarksQueued, pending_at, signa
 use Rattle.signal.proofs.FieldLemmas.{made_at, made_same, set_made}
 
 bit_below : (b : Bool) → bit_of b < 2
-bit_below false = omega arith
-bit_below true = omega arith
+bit_below b = grind arith
 
 -- bit i is the i-th of a set's bits
 bit_of_set : (bs : List Bool) (i : ℕ) → bit_at (set_of bs) i ≡ bit_of (get_or bs i false)
@@ -36,9 +36,7 @@ bit_of_set (b ∷ bs) (suc i) =
     bit_at-suc (2 * set_of bs + bit_of b) i ∙ ap (λ n. bit_at n i) others ∙ bit_of_set bs i
 
 bit_kept : (n : ℕ) → n < 2 → bit_of (n == 1) ≡ n
-bit_kept zero l = refl
-bit_kept (suc zero) l = refl
-bit_kept (suc (suc n)) l = absurd (omega (arith, l))
+bit_kept n l = grind (arith, nat_tests)
 
 one_back : (j : ℕ) → j + 1 - 1 ≡ j
 one_back j = omega arith
@@ -141,7 +139,7 @@ carried_there p cs i e = elim (cases_lt i 31) [
 -- ---- what the set says of one signal
 
 no_realtime : (s : ℕ) → s ≤ 31 → is_realtime s ≡ false
-no_realtime s l = ap (λ b. b && nat_le s 64) (lt-leb 34 s (omega (arith, l)))
+no_realtime s l = grind (arith, nat_tests, l)
 
 pub is_pending_by : (mask p : ℕ) (t : TablesView) → MarksQueued p t.queue → (s : ℕ) → is_pending (signals_of mask p t) s ≡ has p s
 is_pending_by mask p t marks s = elim (cases_lt 31 s) [
@@ -150,16 +148,13 @@ is_pending_by mask p t marks s = elim (cases_lt 31 s) [
 ]
   where
     above : (b x y z : Bool) → y ≡ false → z ≡ (b && x) → (if b then x else y) ≡ z
-    above true x y z e f = sym f
-    above false x y z e f = e ∙ sym f
+    above b x y z e f = grind (arith, e, f)
 
     below : (b x y z : Bool) → b ≡ false → y ≡ z → (if b then x else y) ≡ z
-    below true x y z e f = absurd (cc)
-    below false x y z e f = f
+    below b x y z e f = grind (arith, e, f)
 
     by_bit : (b : Bool) (c : Carried) → is_some (if b then Some c else None) ≡ b
-    by_bit true c = refl
-    by_bit false c = refl
+    by_bit b c = grind arith
 
 -- what a standard signal that is pending came with
 pub carried_standard : (mask p : ℕ) (t : TablesView) (s : ℕ) → is_realtime s ≡ false → is_pending (signals_of mask p t) s ≡ true → get_or t.carried (s - 1) from_kernel ≡ carried_by s (signals_of mask p t)
@@ -175,13 +170,7 @@ abbrev pub ready_set : ℕ → ℕ → ℕ
 ready_set p mask = bit_and p (2 ^ 64 - 1 - mask)
 
 two_bits : (m n : ℕ) → m < 2 → n < 2 → (min m (1 - n) == 1) ≡ ((m == 1) && not (n == 1))
-two_bits zero zero l k = refl
-two_bits zero (suc zero) l k = refl
-two_bits (suc zero) zero l k = refl
-two_bits (suc zero) (suc zero) l k = refl
-two_bits (suc (suc m)) n l k = absurd (omega arith)
-two_bits zero (suc (suc n)) l k = absurd (omega arith)
-two_bits (suc zero) (suc (suc n)) l k = absurd (omega arith)
+two_bits m n l k = grind (arith, nat_tests)
 
 -- signal s is in the set of those that are ready
 pub is_ready_by : (mask p : ℕ) (t : TablesView) → MarksQueued p t.queue → mask < 2 ^ 64 → (s : ℕ) → s < 65 → is_ready (signals_of mask p t) s ≡ has (ready_set p mask) s
@@ -204,10 +193,7 @@ find_signal f e e2 = gap (range_with_len 1 31)
 
 -- the number of a signal but for 32 and 33
 is_number : (s : ℕ) → 1 ≤ s → s ≤ 64 → s ≢ 32 → s ≢ 33 → is_signal s ≡ true
-is_number s lo hi ne ne2 = elim (cases_lt s 32) [
-  | inl low ↦ or_left _ _ (and_from _ _ (le-leb 1 s lo) (le-leb s 31 (omega (arith, low))))
-  | inr past ↦ or_right _ _ (and_from _ _ (le-leb 34 s (omega (arith, past, ne, ne2))) (le-leb s 64 hi))
-]
+is_number s lo hi ne ne2 = grind (arith, nat_tests, lo, hi, ne, ne2)
 
 -- where the set of those that are ready is empty there is none
 pub none_ready : (f : ℕ → Bool) (r : ℕ) → ((s : ℕ) → s < 65 → f s ≡ has r s) → f 32 ≡ false → f 33 ≡ false → r ≡ 0 → find f all_signals ≡ None

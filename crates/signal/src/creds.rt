@@ -4,7 +4,6 @@ ghost use Rattle.std.specs.Prelude.{◌≡◌, true, OnOk, OnErr, IfErr, Ok, Err
 ghost use Rattle.posix.specs.Processes.{root as root_credentials};
 ghost use Rattle.posix.specs.Credentials.{is_privileged as is_privileged_by, id_in, may_signal as may_signal_by, setuid as setuid_of, seteuid as seteuid_of, setgid as setgid_of, setegid as setegid_of, on_exec as on_exec_of};
 
-use crate::sameness::{are_same_groups, are_same_users};
 use posix::{Errno, Gid, Ids, Sig, Uid};
 use std::marker::Model;
 
@@ -49,7 +48,12 @@ impl Creds {
     pub fn is_same(&self, other: &Creds) -> bool
         ensures { result ≡ true → self.now ≡ other.now }
     {
-        are_same_users(self.user, other.user) && are_same_groups(self.group, other.group)
+        self.user.real == other.user.real
+            && self.user.effective == other.user.effective
+            && self.user.saved == other.user.saved
+            && self.group.real == other.group.real
+            && self.group.effective == other.group.effective
+            && self.group.saved == other.group.saved
     }
 
     /// The user ids.

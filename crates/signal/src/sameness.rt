@@ -2,7 +2,7 @@
 
 ghost use Rattle.std.specs.Prelude.{◌≡◌, true};
 
-use posix::{Blocked, Carried, Frame, Gid, Handler, Ids, PendingSignal, SigSet, Uid, WaitCall};
+use posix::{Blocked, Carried, Frame, Handler, PendingSignal, SigSet, WaitCall};
 use umach::memory::are_equal;
 
 /// Whether two sets have the same bits.
@@ -74,20 +74,6 @@ pub fn are_all_same_frames(mine: &[Frame], others: &[Frame]) -> bool
         }
     }
     true
-}
-
-/// Whether the real, effective and saved user ids are the same.
-pub fn are_same_users(mine: Ids<Uid>, other: Ids<Uid>) -> bool
-    ensures { result ≡ true → mine ≡ other }
-{
-    mine.real == other.real && mine.effective == other.effective && mine.saved == other.saved
-}
-
-/// Whether the real, effective and saved group ids are the same.
-pub fn are_same_groups(mine: Ids<Gid>, other: Ids<Gid>) -> bool
-    ensures { result ≡ true → mine ≡ other }
-{
-    mine.real == other.real && mine.effective == other.effective && mine.saved == other.saved
 }
 
 /// Whether two processes are blocked in the same call, or both in none; of sigsuspend with the same signal mask

@@ -8,8 +8,8 @@ use bitflags::Flags;
 use posix::{Action, Blocked, Handler, Life, News, Pid, Sig, SigSet};
 use proctable::{OwnPart, Snapshot};
 use wording::{
-    Arguments, Listing, Prose, Source, place_of, put_address, put_call, put_flags, put_label,
-    put_set, put_set_or_none, put_signal, put_status,
+    Arguments, Listing, Prose, Source, put_address, put_call, put_flags, put_place, put_set,
+    put_set_or_none, put_signal, put_status,
 };
 
 /// A process that is there, as it is now.
@@ -46,21 +46,6 @@ fn put_set_cell(text: &mut Prose, name: &str, set: SigSet, width: usize) {
     text.push_str(name);
     put_set_or_none(text, set);
     end_cell(text, start, width);
-}
-
-/// Writes where a process stands in its program: the line of the world, and the label before it.
-fn put_place(text: &mut Prose, shown: &Shown<'_, '_>, own: &OwnPart) {
-    let pc = own.cpu.frame(SigSet::EMPTY).pc;
-    let (Some(place), Some(source)) = (place_of(pc), shown.source) else {
-        return text.push_with(", at address ", pc);
-    };
-    match source.at(place) {
-        Some(written) => text.push_with(", at line ", written.line),
-        None => text.push_str(", outside its program"),
-    }
-    if put_label(text, shown.source, place, " (") {
-        text.push_str(")");
-    }
 }
 
 /// Writes the call that a process waits in; `pause` alone has no arguments.
@@ -116,7 +101,8 @@ fn put_doing(text: &mut Prose, shown: &Shown<'_, '_>, own: &OwnPart, listing: &L
         }
         (Life::Running, None) => text.push_str("runs"),
     }
-    put_place(text, shown, own);
+    text.push_str(", ");
+    put_place(text, shown.source, own.cpu.frame(SigSet::EMPTY).pc);
     if let News::Continued = shown.it.news {
         text.push_str(", continued, not reported yet");
     }

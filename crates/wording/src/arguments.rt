@@ -72,6 +72,20 @@ pub fn put_label(text: &mut Prose, source: Option<&Source<'_>>, place: usize, ma
     true
 }
 
+/// Writes where a process with this pc stands in its program: the line of the world, and the label before it.
+pub fn put_place(text: &mut Prose, source: Option<&Source<'_>>, pc: i64) {
+    let (Some(place), Some(source)) = (place_of(pc), source) else {
+        return text.push_with("at address ", pc);
+    };
+    match source.at(place) {
+        Some(written) => text.push_with("at line ", written.line),
+        None => text.push_str("outside its program"),
+    }
+    if put_label(text, Some(source), place, " (") {
+        text.push_str(")");
+    }
+}
+
 /// Writes a code address by the label before it, `@ended`; as a number where there is none.
 pub fn put_address(text: &mut Prose, source: Option<&Source<'_>>, address: i64) {
     if let Some(place) = place_of(address) {

@@ -10,7 +10,7 @@ mod prose;
 mod table;
 
 pub use arguments::{
-    Arguments, place_of, put_address, put_byte, put_call, put_label, put_look, put_moved,
+    Arguments, place_of, put_address, put_byte, put_call, put_look, put_moved, put_place,
     put_quoted, put_report, put_result,
 };
 pub use listing::{Label, Listing, Source, Written};

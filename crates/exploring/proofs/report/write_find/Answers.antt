@@ -1,5 +1,5 @@
 use Rattle.std.proofs.Common.{◌∙◌, ap, sym}
-use Rattle.exploring.specs.Tallies.{TallyView}
+use Rattle.counting.specs.Tallies.{TallyView}
 use Rattle.exploring.proofs.ReportLemmas.{find_alone, find_with_first}
 use Rattle.exploring.proofs.report.write_find.Goals as goal
 

@@ -6,10 +6,10 @@ use Rattle.jobs.proofs.SnapshotLemmas.{is_there}
 use Rattle.jobs.proofs.anchors.update_anchors.Goals as goal
 
 pub put-requires-clause-pid : goal.put-requires-clause-pid
-put-requires-clause-pid g c = number_within _ c.args.pid _ c.requires.within c.requires.none (is_there _ _ (seen_found c.args.pid _ _ c.requires.after).1)
+put-requires-clause-pid g c = number_within _ c.args.pid _ c.requires.within c.requires.kin.none (is_there _ _ (seen_found c.args.pid _ _ c.requires.after).1)
 
 pub put-requires-then-is_dead-clause-pid : goal.put-requires-then-is_dead-clause-pid
-put-requires-then-is_dead-clause-pid g c = number_within _ c.args.pid _ c.requires.within c.requires.none (is_there _ _ (seen_found c.args.pid _ _ c.requires.after).1)
+put-requires-then-is_dead-clause-pid g c = number_within _ c.args.pid _ c.requires.within c.requires.kin.none (is_there _ _ (seen_found c.args.pid _ _ c.requires.after).1)
 
 pub returns-then-not-keeps_group_and_session-clause-index : goal.returns-then-not-keeps_group_and_session-clause-index
 returns-then-not-keeps_group_and_session-clause-index g c = λ rs same was its h.

@@ -1,6 +1,5 @@
-use Rattle.std.proofs.Common.{◌≡◌, ◌+◌, ◌≤◌, length, map}
-use Rattle.posix.specs.Tables.{children_in, first_pid, left_of}
-use Rattle.jobs.proofs.ChildLemmas.{moved_to}
+use Rattle.std.proofs.Common.{◌≡◌, ◌+◌, ◌≤◌, length}
+use Rattle.posix.specs.Tables.{adopted, children_in, first_pid, left_of}
 use Rattle.jobs.proofs.children.set_parents.Given as goal
 
 -- the children that were passed have their new parent
@@ -9,7 +8,8 @@ invariant-loop-next g l =
     let rs = g.K.ProcessTable.contents l.fn.table in
     let children = children_in l.from rs in
     record {
-      contents : g.K.ProcessTable.contents l.table ≡ map (moved_to l.from l.to l.next) rs;
+      adopted : adopted l.from l.to (g.K.ProcessTable.contents l.table) ≡ adopted l.from l.to rs;
+      left : children_in l.from (g.K.ProcessTable.contents l.table) ≡ left_of l.next children;
       room : g.K.ProcessTable.room l.table ≡ g.K.ProcessTable.room l.fn.table;
       read : g.K.ProcessTable.visits l.table + length (left_of l.next children) ≤ g.K.ProcessTable.visits l.fn.table + length children;
       no_fewer : g.K.ProcessTable.visits l.fn.table ≤ g.K.ProcessTable.visits l.table;

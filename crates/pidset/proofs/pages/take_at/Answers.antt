@@ -17,7 +17,7 @@ returns-then-is_unused g c =
     record {
       value = e.value ∙ h.was;
       changed = subst (AreChanged c.args.pid None ps) (sym c.remove.ensures.items) (page_goes ps c.args.pid c.args.at c.place_of.result c.index_mut-page.result.now new c.requires.pages c.requires.at h free);
-      spare = subst IsUnused (sym (c.remove.ensures.value ∙ get_or-set_same ps c.args.at new c.remove.result (at_below (λ p. p.number) ps (c.args.pid / 256) c.args.at c.requires.at))) free;
+      spare = subst IsUnused (sym (c.remove.ensures.value ∙ get_or-set_same ps c.args.at new c.remove.result (at_below (λ p. p.number) ps (c.args.pid / 64) c.args.at c.requires.at))) free;
       stays = λ _. refl;
       len = search rules;
       capacity = search rules;

@@ -8,15 +8,11 @@ returns-then-first-clause-ok c =
     let ok = c.args.nodes.now.ok.0 in
     let none = eqb-true _ 0 (sym c.if-first.ensures) in
     let z = c.in_ok-resize.ensures.by_index in
-    let size = c.in_ok-resize.ensures.len in
-    let fit = c.resize.new.self.ok.0 in
-    grown_first c.args.nodes.now.items c.resize.new.self.items c.join.new.nodes.items c.args.count (omega (arith, ok, none)) (omega (arith, size, fit)) (λ k d l m. z.1 k d refl (omega (arith, ok, l)) m) c.join.ensures
+    grown_first c.args.nodes.now.items c.resize.new.self.items c.join.new.nodes.items c.args.count (omega (arith, ok, none)) (omega (arith, c.in_ok-resize.ensures.len, c.resize.new.self.ok.0)) (λ k d l m. z.1 k d refl (omega (arith, ok, l)) m) c.join.ensures
 
 pub returns-else-first-clause-ok : goal.returns-else-first-clause-ok
 returns-else-first-clause-ok c =
     let ok = c.args.nodes.now.ok.0 in
     let some = eqb-false _ 0 (sym c.if-first.ensures) in
     let z = c.in_ok-resize.ensures.by_index in
-    let size = c.in_ok-resize.ensures.len in
-    let fit = c.resize.new.self.ok.0 in
-    grown_more c.args.nodes.now.items c.resize.new.self.items c.args.count (omega (arith, ok, some)) c.requires (omega (arith, size, fit)) (λ k d m l. z.0 k d m (omega (arith, ok, l))) (λ k d l m. z.1 k d refl (omega (arith, ok, l)) m)
+    grown_more c.args.nodes.now.items c.resize.new.self.items c.args.count (omega (arith, ok, some)) c.requires (omega (arith, c.in_ok-resize.ensures.len, c.resize.new.self.ok.0)) (λ k d m l. z.0 k d m (omega (arith, ok, l))) (λ k d l m. z.1 k d refl (omega (arith, ok, l)) m)

@@ -3,16 +3,13 @@ use Rattle.posix.specs.Tables.{inserted}
 use Rattle.proctable.specs.Records.{process_of}
 use Rattle.jobs.proofs.ChildLemmas.{list_inside}
 use Rattle.jobs.proofs.IndexLemmas.{fits_more, can_move, room_less, sees_none}
-use Rattle.jobs.proofs.KeptLemmas.{kept_inserted, number_kept, size_of}
+use Rattle.jobs.proofs.KeptLemmas.{kept_inserted, number_kept}
 use Rattle.jobs.proofs.indexed_table.IndexedTable.insert.Goals as goal
 
 pub reindex-requires-clause-can : goal.reindex-requires-clause-can
 reindex-requires-clause-can g c =
     let free = fits_more (g.K.ProcessTable.room c.self.inside.table) c.self.inside.count c.self.inside.indexes (rw (← c.self.view_is) at c.requires.room) in
     can_move c.args.pid c.args.parent None _ c.self.inside.indexes c.self.invariant.rising c.self.invariant.indexes (sees_none c.args.pid c.args.parent _ (rw (← c.self.view_is) at c.requires.fresh)) (λ e. rw (← c.self.invariant.count) free)
-
-pub overflow_add-self : goal.overflow_add-self
-overflow_add-self g c = grind (arith, size_of)
 
 pub invariant_of-self : goal.invariant_of-self
 invariant_of-self g c =
@@ -27,4 +24,4 @@ put-requires-2-clause-list g c =
     rw (c.parent_list.ensures, c.reindex.ensures.children) (list_inside _ c.args.parent (⊎_elim (λ first. inl first.0) (λ there. let number = number_kept c.self.invariant there in let wide = c.self.invariant.children.wide in inr (number.0, omega (arith, number.1, wide))) (rw (← c.self.view_is) at c.requires.parent)))
 
 pub returns-clause-room : goal.returns-clause-room
-returns-clause-room g c = rw (← c.self.view_is) (room_less _ _ c.self.inside.count c.self.inside.indexes c.reindex.new.self (rw c.seen_above-above.ensures.room at c.insert.ensures.room) c.reindex.ensures.moved)
+returns-clause-room g c = rw (← c.self.view_is) (room_less _ _ c.self.inside.count c.self.inside.indexes c.reindex.new.self (rw c.seen_above-above.ensures.costs.room at c.insert.ensures.room) c.reindex.ensures.moved)

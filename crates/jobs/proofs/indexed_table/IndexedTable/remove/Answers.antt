@@ -1,6 +1,6 @@
 use Rattle.std.proofs.Common.{◌∙◌, ap, arith, sym}
 use Rattle.posix.specs.Tables.{removed}
-use Rattle.jobs.proofs.KeptLemmas.{can_leave, kept_removed, leave_rules}
+use Rattle.jobs.proofs.KeptLemmas.{can_leave, kept_removed}
 use Rattle.jobs.proofs.indexed_table.IndexedTable.remove.Goals as goal
 
 pub reindex-requires-clause-can : goal.reindex-requires-clause-can
@@ -20,12 +20,6 @@ put-requires-2-clause-pid g c =
     let number = (can_leave (sym c.in-Some.is ∙ c.get.ensures.value) c.self.invariant).1 in
     let wide = c.self.invariant.children.wide in
     rw c.reindex.ensures.children (number.0, omega (arith, number.1, wide))
-
-pub returns-in_default-clause-processes : goal.returns-in_default-clause-processes
-returns-in_default-clause-processes g c = grind (arith, leave_rules)
-
-pub overflow_sub-self : goal.overflow_sub-self
-overflow_sub-self g c = grind (arith, leave_rules)
 
 pub invariant_of-self-2 : goal.invariant_of-self-2
 invariant_of-self-2 g c =

@@ -8,10 +8,7 @@ use Rattle.pidset.proofs.index.Index.has_within.Goals as goal
 -- what the first pair tells whose key isn't above
 told : (low high : ℕ) (from : Pair) (items pairs seen : List Pair) (first : Option Pair) → high ≤ 18446744073709551615 → ArePairs pairs → from ≡ record { key = high; pid = 0 } → items ≡ pairs → seen ≡ pairs
     → first ≡ slice_get (filter (λ y. nat_lt (pair_number from) (pair_number y)) items) 0 → option_map_or (λ (x : Pair). nat_le low x.key) first false ≡ has_within low high seen
-told low high from items pairs seen first most are is same view read =
-    ap (λ o. option_map_or (λ (x : Pair). nat_le low x.key) o false) (read ∙ ap (λ xs. slice_get (filter (λ y. nat_lt (pair_number from) (pair_number y)) xs) 0) same ∙ ap (λ (x : Pair). slice_get (filter (λ y. nat_lt (pair_number x) (pair_number y)) pairs) 0) is)
-    ∙ sym (within_first low high pairs most are)
-    ∙ ap (has_within low high) (sym view)
+told low high from items pairs seen first most are is same view read = rw (read, is, same, view) (sym (within_first low high pairs most are))
 
 pub returns-in-Some : goal.returns-in-Some
 returns-in-Some c =

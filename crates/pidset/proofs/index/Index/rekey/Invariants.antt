@@ -1,20 +1,19 @@
-use Rattle.std.proofs.Common.{◌≡◌, ◌≢◌, ◌-◌, ◌<◌, ◌≤◌, ◌||◌, ℕ, true, Some}
-use Rattle.std.specs.Option.{IfSome, option_map_or}
-use Rattle.pidset.specs.Indexes.{ArePairs, is_pair_in}
+use Rattle.std.proofs.Common.{◌≡◌, ◌≢◌, ◌-◌, ◌||◌, ◌&&◌, ◌==◌, not, ℕ, true}
+use Rattle.std.specs.Option.{option_map_or}
+use Rattle.pidset.specs.Indexes.{ArePairs, IsNextPair, is_pair_in}
 use Rattle.pidset.proofs.index.Index.rekey.Given as goal
 
--- from the next on, the children of the one are left to move
+-- those stand under the other key that stood under the one and do so no more; the next of the one is the first that is left
 abbrev pub invariant-loop-next : goal.invariant-loop-next
 invariant-loop-next l =
     let old = l.fn.self.pairs in
     let now = l.self.pairs in
     record {
       room : l.self.room ≡ l.fn.self.room;
-      pairs : ArePairs now;
-      others : (p c : ℕ) → p ≢ l.from → p ≢ l.to → is_pair_in p c now ≡ is_pair_in p c old;
-      moved : (c : ℕ) → (is_pair_in l.to c now || is_pair_in l.from c now) ≡ (is_pair_in l.to c old || is_pair_in l.from c old);
-      here : IfSome l.next (λ c. (is_pair_in l.from c now ≡ true) × (c < 4294967296) × (1 ≤ c));
-      left : (c : ℕ) → is_pair_in l.from c now ≡ true → (m : ℕ) × (l.next ≡ Some m) × (m ≤ c);
+      once : ArePairs now;
+      among : (p : ℕ) → is_pair_in l.from p now ≡ true → is_pair_in l.from p old ≡ true;
+      moved : (k p : ℕ) → k ≢ l.from → is_pair_in k p now ≡ (is_pair_in k p old || k == l.to && is_pair_in l.from p old && not (is_pair_in l.from p now));
+      next : IsNextPair l.from 0 now l.next;
     }
 
 abbrev pub decreases-loop-next : goal.decreases-loop-next

@@ -23,5 +23,5 @@ pub returns-clause-left : goal.returns-clause-left
 returns-clause-left c = λ e.
     let items = c.self.inside.pairs.items in
     let gone : Pair = record { key = c.args.key; pid = c.args.pid } in
-    let some = child_found gone items c.keyed-pair.ensures.range c.self.invariant.within (ap (λ (s : IndexView). is_pair_in c.args.key c.args.pid s.pairs) c.self.view_is ∙ e) in
+    let some = sym (child_found gone items c.keyed-pair.ensures.range c.self.invariant.within) ∙ ap (λ (s : IndexView). is_pair_in c.args.key c.args.pid s.pairs) c.self.view_is ∙ e in
     c.take_out.ensures.left (subst (λ x. IsSome (find (λ y. pair_number y == pair_number x) items)) (sym c.keyed-pair.ensures.is) some)

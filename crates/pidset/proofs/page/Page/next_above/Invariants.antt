@@ -5,7 +5,7 @@ use Rattle.pidset.proofs.page.Page.next_above.Given as goal
 -- none so far that is above has a value
 abbrev pub invariant-loop-at : goal.invariant-loop-at
 invariant-loop-at g l = record {
-  high : l.at ≤ 256;
+  high : l.at ≤ 64;
   above : l.fn.after < l.first + l.at;
   none : (i : ℕ) → i < l.at → l.fn.after < l.first + i → value_at l.self.values.items i ≡ None;
 }

@@ -6,13 +6,13 @@ use Rattle.pidset.proofs.PageLemmas.{no_entry, entries_put}
 use Rattle.pidset.proofs.pages.Pages.put.Goals as goal
 
 pub put_at-requires-clause-at : goal.put_at-requires-clause-at
-put_at-requires-clause-at g c = subst (λ ps. IsNumberAt (numbers_of ps) (c.args.pid / 256) c.in-Ok.at) c.deref.ensures.value c.in-Ok.ensures.found
+put_at-requires-clause-at g c = subst (λ ps. IsNumberAt (numbers_of ps) (c.args.pid / 64) c.in-Ok.at) c.deref.ensures.value c.in-Ok.ensures.found
 
 pub put_at-requires-clause-absent : goal.put_at-requires-clause-absent
 put_at-requires-clause-absent g c = no_entry c.self.inside.pages.items c.args.pid c.self.invariant.0 (rw (← c.self.view_is) at c.requires.absent)
 
 pub lay-requires-clause-at : goal.lay-requires-clause-at
-lay-requires-clause-at g c = subst (λ ps. IsInsertionPoint (numbers_of ps) (c.args.pid / 256) c.in-Err.at) c.deref.ensures.value c.in-Err.ensures.absent
+lay-requires-clause-at g c = subst (λ ps. IsInsertionPoint (numbers_of ps) (c.args.pid / 64) c.in-Err.at) c.deref.ensures.value c.in-Err.ensures.absent
 
 pub lay-requires-clause-unused : goal.lay-requires-clause-unused
 lay-requires-clause-unused g c = subst (λ o. IfSome o IsUnused) (sym c.take.ensures.value ∙ c.in-Some.is) c.self.invariant.1

@@ -2,11 +2,8 @@ use Rattle.std.proofs.Common.{ap, arith}
 use Rattle.pidset.specs.Pages.{entry}
 use Rattle.pidset.proofs.ItemLemmas.{rises_inserted}
 use Rattle.posix.specs.Processes.{Process}
-use Rattle.proctable.proofs.SlabLemmas.{unindexed, processes_inserted, stand_inserted, rising_processes, length_put}
+use Rattle.proctable.proofs.SlabLemmas.{absent_in, processes_inserted, stand_inserted, length_put}
 use Rattle.proctable.proofs.slab_table.SlabTableProcessTable.insert.Goals as goal
-
-pub put-requires-clause-absent : goal.put-requires-clause-absent
-put-requires-clause-absent c = unindexed c.self.inside.index.entries c.self.inside.slots.processes c.args.pid c.self.invariant.standing (rw (← c.self.view_is) at c.requires.fresh)
 
 pub invariant_of-self : goal.invariant_of-self
 invariant_of-self c =
@@ -14,7 +11,7 @@ invariant_of-self c =
     let old = c.self.inside.slots.processes in
     let new = c.insert-slot.new.self.processes in
     let e = entry c.args.pid c.insert-slot.result in
-    let absent = unindexed es old c.args.pid c.self.invariant.standing (rw (← c.self.view_is) at c.requires.fresh) in
+    let absent = absent_in c.args.pid es old c.self.invariant (rw (← c.self.view_is) at c.requires.fresh) in
     let u = c.insert-slot.ensures.updates in
     let named = ap (λ (r : Process). r.pid) c.new.ensures in
     rw c.put.ensures (record {
@@ -22,9 +19,6 @@ invariant_of-self c =
       standing = stand_inserted es old new e c.new.result u.others c.insert-slot.ensures.was_vacant u.changed named c.self.invariant.standing;
       counted = omega (arith, length_put e es, c.insert-slot.ensures.len, c.self.invariant.counted);
     })
-
-pub returns-clause-rising : goal.returns-clause-rising
-returns-clause-rising c = rw (← c.self.view_is) (rising_processes c.self.inside.index.entries c.self.inside.slots.processes c.self.invariant.standing c.self.invariant.rising)
 
 pub returns-clause-contents : goal.returns-clause-contents
 returns-clause-contents c =

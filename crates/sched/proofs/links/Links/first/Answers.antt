@@ -1,22 +1,19 @@
-use Rattle.std.proofs.Common.{◌≡◌, ◌<◌, length, subst, ap, arith, sym, slice_get, None, Some, ◌∙◌}
+use Rattle.std.proofs.Common.{◌≡◌, ◌≤◌, length, ap, arith, sym, slice_get, None, ◌∙◌}
 use Rattle.std.specs.Option.{option_copied}
-use Rattle.sched.specs.Links.{next_of}
+use Rattle.posix.proofs.MemberLemmas.{in_first}
 use Rattle.sched.proofs.LinkLemmas.{next_read}
 use Rattle.sched.proofs.RingLemmas.{first_none, first_some, no_first, next_inside}
-use Rattle.posix.proofs.MemberLemmas.{in_first}
 use Rattle.sched.proofs.links.Links.first.Goals as goal
 
 pub returns-in-Some-clause-value : goal.returns-in-Some-clause-value
 returns-in-Some-clause-value c =
     let x = c.in-Some.ensures.item in
-    let same = next_read c.deref.result.now 0 c.in-Some.node.now x.3.0 (x.3.1 c.in-Some.node.now) ∙ ap (λ ns. next_of ns 0) c.deref.ensures.value in
-    ap Some same ∙ first_some _ _ c.self.invariant.ring (λ e. c.if-node-ne0.true (same ∙ e)) ∙ ap (λ v. slice_get v.numbers 0) c.self.view_is
+    rw (← c.self.view_is) (grind (arith, next_read c.deref.result.now 0 c.in-Some.node.now x.3.0 (x.3.1 c.in-Some.node.now), first_some _ _ c.self.invariant.ring))
 
 pub returns-in_default-clause-value : goal.returns-in_default-clause-value
 returns-in_default-clause-value c =
     let x = c.in-Some.ensures.item in
-    let same = next_read c.deref.result.now 0 c.in-Some.node.now x.3.0 (x.3.1 c.in-Some.node.now) ∙ ap (λ ns. next_of ns 0) c.deref.ensures.value in
-    first_none _ _ c.self.invariant.ring (sym same ∙ c.if-node-ne0.false) ∙ ap (λ v. slice_get v.numbers 0) c.self.view_is
+    rw (← c.self.view_is) (grind (arith, next_read c.deref.result.now 0 c.in-Some.node.now x.3.0 (x.3.1 c.in-Some.node.now), first_none _ _ c.self.invariant.ring))
 
 pub returns-in_default-2-clause-value : goal.returns-in_default-2-clause-value
 returns-in_default-2-clause-value c =
@@ -26,8 +23,5 @@ returns-in_default-2-clause-value c =
 pub returns-in-Some-clause-range : goal.returns-in-Some-clause-range
 returns-in-Some-clause-range c =
     let x = c.in-Some.ensures.item in
-    let same = next_read c.deref.result.now 0 c.in-Some.node.now x.3.0 (x.3.1 c.in-Some.node.now) ∙ ap (λ ns. next_of ns 0) c.deref.ensures.value in
-    let some = subst (λ ns. 0 < length ns) c.deref.ensures.value x.3.0 in
     let r = c.self.invariant.ring in
-    let n = next_inside r (omega (arith, some)) 0 (in_first 0 _) in
-    omega (arith, same, n, r.limit)
+    grind (arith, next_read c.deref.result.now 0 c.in-Some.node.now x.3.0 (x.3.1 c.in-Some.node.now), λ (s : 1 ≤ length c.self.inside.nodes.items). next_inside r s 0 (in_first 0 _), r.limit)

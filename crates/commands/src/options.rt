@@ -1,0 +1,110 @@
+//! The options of a command over texts that may have names, with numbers for the names in the events among them.
+
+ghost use Rattle.std.specs.Prelude.{◌≡◌, ◌∷◌, ◌++◌, None, IfOk, List, [], MatchOption, map};
+ghost use Rattle.std.specs.String.{string_bytes};
+ghost use Rattle.exploring.specs.Words.{nothing_parted, with_cut};
+ghost use Rattle.exploring.specs.declared.words.Next.TheVariants.{Any};
+ghost use Rattle.commands.specs.Options.{ArePlain, EndsPlain, first_option, next_as, read as read_as};
+
+use naming::name_text;
+use std::alloc::{AllocError, Global};
+
+/// What an option is, by the words before it.
+#[derive(Clone, Copy)]
+enum Next {
+    /// An option, or its value.
+    Any,
+    /// The text behind `--find`.
+    Text,
+    /// The event behind `--anywhere`.
+    Event,
+    /// The name of a file, behind `--`.
+    File,
+}
+
+/// What stands before an event in a word, and the event, if it has one; and what the word behind it is.
+type Read<'a> = (Option<(&'a str, &'a str)>, Next);
+
+/// What the option behind a word without `=` is.
+fn behind_whole(word: &str) -> Next
+    ensures { next_as result ≡ (with_cut nothing_parted word.now (word.now, None)).next }
+{
+    match word {
+        "--find" => Next::Text,
+        "--anywhere" => Next::Event,
+        "--" => Next::File,
+        _ => Next::Any,
+    }
+}
+
+/// Reads an option, or its value.
+fn read_any<'a>(word: &'a str) -> Read<'a>
+    ensures event { MatchOption result.0 ((read_as Any word.entry.now).anywhere ≡ []) (λ e. (word.entry.now ≡ e.0.now ++ e.1.now) × ((read_as Any word.entry.now).anywhere ≡ e.1.now ∷ [])) }
+    ensures next { next_as result.1 ≡ (read_as Any word.entry.now).next }
+{
+    let Some((name, text)) = word.split_once('=') else {
+        return (None, behind_whole(word));
+    };
+    if name == "--anywhere" {
+        (Some(("--anywhere=", text)), Next::Any)
+    } else {
+        (None, Next::Any)
+    }
+}
+
+impl Next {
+    /// What the first option of a command is. No other command than `explore` has events among its options: they all stay
+    /// as they are, as the names of files do.
+    fn first(command: &str) -> Next
+        ensures { next_as result ≡ first_option command.now }
+    {
+        if command == "explore" {
+            Next::Any
+        } else {
+            Next::File
+        }
+    }
+
+    /// Reads a word that is this.
+    fn read<'a>(self, word: &'a str) -> Read<'a>
+        ensures event { MatchOption result.0 ((read_as (next_as self) word.entry.now).anywhere ≡ []) (λ e. (word.entry.now ≡ e.0.now ++ e.1.now) × ((read_as (next_as self) word.entry.now).anywhere ≡ e.1.now ∷ [])) }
+        ensures next { next_as result.1 ≡ (read_as (next_as self) word.entry.now).next }
+    {
+        match self {
+            Next::Any => read_any(word),
+            Next::Text => (None, Next::Any),
+            Next::Event => (Some(("", word)), Next::Any),
+            Next::File => (None, Next::File),
+        }
+    }
+}
+
+/// An event behind some text, with numbers for its names.
+fn plain_event(alloc: Global, before: &str, event: &str) -> Result<String, AllocError>
+    ensures { IfOk result (λ plain. EndsPlain before.now event.now (string_bytes plain)) }
+{
+    let named = name_text(alloc, event.as_bytes())?;
+    let plain = String::from_utf8_lossy(alloc, named.text.as_slice())?;
+    format!(in alloc; "{before}{plain}")
+}
+
+/// The options of a command, with numbers for the names in the events among them.
+pub fn plain_options(
+    alloc: Global,
+    command: &str,
+    options: &[&str],
+) -> Result<Vec<String>, AllocError>
+    ensures { IfOk result (λ plain. ArePlain (first_option command.now) (map (λ w. w.now) options.now) (map string_bytes plain.items)) }
+{
+    let mut plain = Vec::new(alloc);
+    let mut next = Next::first(command);
+    for word in options {
+        let (parts, behind) = next.read(word);
+        plain.push(match parts {
+            Some((before, event)) => plain_event(alloc, before, event)?,
+            None => String::from_str(alloc, word)?,
+        })?;
+        next = behind;
+    }
+    Ok(plain)
+}

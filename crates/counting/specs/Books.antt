@@ -1,0 +1,46 @@
+-- What is kept of the runs of schedules.
+use Rattle.std.specs.Prelude.{ℕ, ◌+◌, ◌≤◌, Bool, false, List, map}
+use Rattle.std.specs.List.{All}
+use Rattle.posix.specs.Entries.{Line}
+use Rattle.schedules.specs.Families.{Spots}
+use Rattle.counting.specs.declared.ending.Ending.{Ending}
+use Rattle.counting.specs.declared.ending.Endings.{Endings}
+use Rattle.counting.specs.Tallies.{TallyView, no_schedules}
+use Rattle.counting.specs.Texts.{FindView, saw, tally_of, after_run, with_marked}
+use Rattle.counting.specs.Endings.{no_endings, with_ending, with_many_endings}
+
+pub record BookView : Type 0 where
+  pub endings : Endings
+  pub finds : List FindView
+  pub total : ℕ
+
+-- a text that no schedule was seen to have
+abbrev pub unseen : List ℕ → FindView
+unseen text = record { text = text; is_there = false; tally = no_schedules }
+
+abbrev pub empty_book : List (List ℕ) → BookView
+empty_book texts = record { endings = no_endings; finds = map unseen texts; total = 0 }
+
+-- with one more schedule, whose run shows these lines and ends so
+abbrev pub with_run : List Line → Ending → Spots → BookView → BookView
+with_run lines ending ps b = record {
+  endings = with_ending ending ps b.endings;
+  finds = map (after_run ps) (map (saw lines) b.finds);
+  total = b.total + 1;
+}
+
+-- with the schedules of t, which end so, and whose lines have the texts that are marked
+abbrev pub with_many_runs : Ending → List Bool → TallyView → BookView → BookView
+with_many_runs ending marks t b = record {
+  endings = with_many_endings ending t b.endings;
+  finds = with_marked t marks b.finds;
+  total = b.total + t.count;
+}
+
+-- Each count is at most the number of schedules.
+pub record AreCounted (endings : Endings) (finds : List FindView) (total : ℕ) : Type 0 where
+  pub halted : endings.halted.count ≤ total
+  pub at_rest : endings.at_rest.count ≤ total
+  pub alarmed : endings.alarmed.count ≤ total
+  pub going : endings.going.count ≤ total
+  pub each : All (λ t. t.count ≤ total) (map tally_of finds)

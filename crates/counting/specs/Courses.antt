@@ -1,0 +1,76 @@
+-- The run of a list of events in a world, where all memory is granted.
+use Rattle.std.specs.Prelude.{◌≡◌, ℕ, ◌+◌, Bool, true, false, List, [], ◌∷◌, ◌++◌, map}
+use Rattle.std.specs.List.{list_any}
+use Rattle.posix.specs.declared.event.Event.{Event}
+use Rattle.posix.specs.declared.entry.Entry.{Entry}
+use Rattle.posix.specs.declared.entry.Entry.TheVariants.{Noted, Called, Moved, Reported, Looked, NoMemory, Marked, Handled, Discarded, Stopped, Returned, Ended, Halted}
+use Rattle.posix.specs.Entries.{Line, line, numbered}
+use Rattle.posix.specs.States.{State, World, boot}
+use Rattle.posix.specs.Step.{next}
+use Rattle.posix.specs.Runs.{RunsFrom}
+use Rattle.schedules.specs.Families.{Spots}
+use Rattle.schedules.specs.Schedules.{scheduled}
+use Rattle.counting.specs.declared.ending.Ending.{Ending}
+use Rattle.counting.specs.Endings.{ending_of}
+
+-- ---- what the definitions say
+
+-- the lines and the last state of a run
+pub record Course : Type 0 where
+  pub lines : List Line
+  pub last : State
+
+-- The run of the events, numbered from k on, where all memory is granted.
+abbrev pub course_from : ℕ → State → List Event → Course
+course_from k s [] = record { lines = []; last = s }
+course_from k s (event ∷ events) =
+    let one = next true s event in
+    let rest = course_from (k + 1) one.state events in
+    record { lines = numbered k one.entries ++ rest.lines; last = rest.last }
+
+-- The run of a schedule: of a list of events with ticks and loose events put in.
+unfoldable pub course_of : World → List Event → List Event → Spots → Course
+course_of world loose events ps = course_from 1 (boot world) (scheduled loose events ps)
+
+-- ---- how it is told
+
+-- it says of a call that there was no memory for it
+abbrev pub denies_memory : Entry → Bool
+denies_memory (Noted pid value) = false
+denies_memory (Called pid call result) = false
+denies_memory (Moved pid call bytes) = false
+denies_memory (Reported pid call child status) = false
+denies_memory (Looked pid child status) = false
+denies_memory (NoMemory pid call) = true
+denies_memory (Marked pid mark) = false
+denies_memory (Handled pid sig value sender) = false
+denies_memory (Discarded pid sig) = false
+denies_memory (Stopped pid sig) = false
+denies_memory (Returned pid) = false
+denies_memory (Ended pid status) = false
+denies_memory Halted = false
+
+-- a line says so
+abbrev pub one_denies_memory : List Line → Bool
+one_denies_memory lines = list_any (λ l. denies_memory l.entry) lines
+
+-- the lines with numbers that are greater by n
+abbrev pub later : ℕ → List Line → List Line
+later n lines = map (λ l. line (n + l.event) l.entry) lines
+
+-- From old, the events with the numbers from k on show these lines, where all memory is granted, and lead to new.
+pub record RunsGranted (k : ℕ) (old : State) (events : List Event) (lines : List Line) (new : State) : Type 0 where
+  pub runs : RunsFrom k old events lines new
+  pub all : one_denies_memory lines ≡ false
+
+-- In a world the events show these lines, where all memory is granted, and the run ends so.
+pub record IsCourse (world : World) (events : List Event) (lines : List Line) (ending : Ending) : Type 0 where
+  pub last : State
+  pub grants : RunsGranted 1 (boot world) events lines last
+  pub ends : ending ≡ ending_of last
+
+-- To the lines before, the events with the numbers from k on, where all memory is granted, add what they show, and lead from old to new.
+pub record Adds (k : ℕ) (old : State) (events : List Event) (new : State) (before after : List Line) : Type 0 where
+  pub shows : List Line
+  pub added : after ≡ before ++ shows
+  pub grants : RunsGranted k old events shows new

@@ -1,0 +1,6 @@
+pub mod Tallies
+pub mod Texts
+pub mod Endings
+pub mod Courses
+pub mod Books
+pub mod Counts

@@ -1,0 +1,68 @@
+-- Texts that are looked for in the lines of a trace.
+use Rattle.std.specs.Prelude.{ℕ, ◌==◌, ◌||◌, ◌&&◌, Bool, true, false, List, [], ◌∷◌, map, if◌then◌else◌}
+use Rattle.std.specs.List.{join_with_byte, list_any}
+use Rattle.posix.specs.declared.entry.Entry.{Entry}
+use Rattle.posix.specs.Entries.{Line}
+use Rattle.posix.specs.Printing.{words_of}
+use Rattle.schedules.specs.Families.{Spots}
+use Rattle.counting.specs.Tallies.{TallyView, both, with_schedule_if}
+
+-- what stands in a line behind the number of the event and the space
+abbrev pub shown : Entry → List ℕ
+shown entry = join_with_byte 32 (words_of entry)
+
+abbrev pub begins_with : List ℕ → List ℕ → Bool
+begins_with line [] = true
+begins_with [] (x ∷ text) = false
+begins_with (y ∷ line) (x ∷ text) = y == x && begins_with line text
+
+-- the text stands somewhere in the line
+abbrev pub has_text : List ℕ → List ℕ → Bool
+has_text text [] = begins_with [] text
+has_text text (y ∷ line) = begins_with (y ∷ line) text || has_text text line
+
+-- one of the lines has the text, behind the number of its event
+abbrev pub have_text : List ℕ → List Line → Bool
+have_text text lines = list_any (λ l. has_text text (shown l.entry)) lines
+
+-- What is known of a text: whether the lines that were looked at since the last schedule have it, and how many schedules have it.
+pub record FindView : Type 0 where
+  pub text : List ℕ
+  pub is_there : Bool
+  pub tally : TallyView
+
+abbrev pub tally_of : FindView → TallyView
+tally_of f = f.tally
+
+-- after a line was looked at
+abbrev pub looked_at : List ℕ → FindView → FindView
+looked_at line f = record f { is_there = f.is_there || has_text f.text line }
+
+-- after the last line of the run of a schedule
+abbrev pub after_run : Spots → FindView → FindView
+after_run ps f = record f { is_there = false; tally = with_schedule_if f.is_there ps f.tally }
+
+-- after the lines of a run were looked at
+abbrev pub saw : List Line → FindView → FindView
+saw lines f = record f { is_there = f.is_there || have_text f.text lines }
+
+-- ---- texts that are marked
+
+-- of each text whether it was marked, or one of these lines has it
+abbrev pub marked : List (List ℕ) → List Line → List Bool → List Bool
+marked [] lines marks = marks
+marked (t ∷ ts) lines [] = []
+marked (t ∷ ts) lines (m ∷ marks) = (m || have_text t lines) ∷ marked ts lines marks
+
+abbrev pub unmarked : List (List ℕ) → List Bool
+unmarked texts = map (λ t. false) texts
+
+-- with the schedules of t
+abbrev pub with_many : TallyView → FindView → FindView
+with_many t f = record f { tally = both f.tally t }
+
+-- with the schedules of t, whose lines have the texts that are marked
+abbrev pub with_marked : TallyView → List Bool → List FindView → List FindView
+with_marked t marks [] = []
+with_marked t [] (f ∷ fs) = f ∷ fs
+with_marked t (m ∷ marks) (f ∷ fs) = (if m then with_many t f else f) ∷ with_marked t marks fs

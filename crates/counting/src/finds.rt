@@ -1,0 +1,151 @@
+//! Texts that are looked for in the lines of runs.
+
+ghost use Rattle.std.specs.Prelude.{◌≡◌, ◌<◌, ◌≤◌, ◌^◌, ◌-◌, ◌+◌, false, length, map, All, Some};
+ghost use Rattle.counting.specs.Tallies.{no_schedules};
+ghost use Rattle.counting.specs.Texts.{FindView, has_text, have_text, looked_at, after_run, marked, with_many, with_marked};
+
+use crate::lines::{Line, shown};
+use crate::tally::Tally;
+use memchr::memmem;
+use std::marker::Model;
+
+/// A text that is looked for, and what is known of it from the runs so far.
+#[derive(Drop)]
+pub struct Find<'a> {
+    text: &'a str,
+    /// Whether a line of the run that is looked at has it.
+    is_there: bool,
+    tally: Tally,
+}
+
+impl<'a> Model for Find<'a> {
+    ghost use Rattle.counting.specs.Texts.{FindView};
+
+    ghost Value = { FindView };
+
+    ghost view = { λ f. record { text = f.text.now; is_there = f.is_there; tally = f.tally } };
+}
+
+/// Whether a text stands in a line.
+pub fn stands_in(text: &str, line: &[u8]) -> bool
+    ensures { result ≡ has_text text.now line.now }
+{
+    memmem::find(line, text.as_bytes()).is_some()
+}
+
+/// Whether a text stands in one of the lines.
+fn stands_in_any(text: &str, lines: &[Line]) -> bool
+    ensures { result ≡ have_text text.now lines.now }
+{
+    for line in lines {
+        let mut room = [0; 128];
+        if stands_in(text, shown(line.entry(), &mut room)) {
+            return true;
+        }
+    }
+    false
+}
+
+/// Marks each text that one of the lines has.
+pub fn mark(texts: &[&str], lines: &[Line], marks: &mut [bool])
+    ensures marks { marks.new ≡ marked (map (λ t. t.now) texts.now) lines.now marks.old }
+{
+    let Some((text, texts)) = texts.split_first() else {
+        return;
+    };
+    let Some((first, marks)) = marks.split_first_mut() else {
+        return;
+    };
+    *first = *first || stands_in_any(text, lines);
+    mark(texts, lines, marks);
+}
+
+impl<'a> Find<'a> {
+    /// Before the first run.
+    pub fn new(text: &'a str) -> Self
+        ensures { result ≡ record { text = text.entry.now; is_there = false; tally = no_schedules } }
+    {
+        Find {
+            text,
+            is_there: false,
+            tally: Tally::new(),
+        }
+    }
+
+    /// The text.
+    pub fn text(&self) -> &'a str
+        ensures { result.now ≡ self.now.text }
+    {
+        self.text
+    }
+
+    /// The schedules that have it in a line of their run.
+    pub fn tally(&self) -> &Tally
+        ensures { result.now ≡ self.now.tally }
+    {
+        &self.tally
+    }
+
+    /// Looks at a line.
+    fn look(&mut self, line: &[u8])
+        ensures { self.new ≡ looked_at line.now self.old }
+    {
+        if !self.is_there {
+            self.is_there = stands_in(self.text, line);
+        }
+    }
+
+    /// Counts the schedule whose run was looked at.
+    fn end_run(&mut self, spots: &[u64])
+        requires few { length spots.now ≤ 32 }
+        requires count { self.old.tally.count < 2 ^ 64 - 1 }
+        ensures { self.new ≡ after_run spots.now self.old }
+    {
+        if self.is_there {
+            self.tally.add(spots);
+        }
+        self.is_there = false;
+    }
+
+    /// Counts so many schedules that have it, the first of which has these spots.
+    fn add_many(&mut self, spots: &[u64], count: u128)
+        requires few { length spots.now ≤ 32 }
+        requires count { self.old.tally.count + count < 2 ^ 128 }
+        ensures { self.new ≡ with_many (record { count = count; first = Some spots.now }) self.old }
+    {
+        self.tally.add_many(spots, count);
+    }
+}
+
+/// Looks for each text in a line.
+pub fn look_all(finds: &mut [Find<'_>], line: &[u8])
+    ensures { finds.new ≡ map (looked_at line.now) finds.old }
+{
+    for find in finds.iter_mut() {
+        find.look(line);
+    }
+}
+
+/// Counts the schedule whose run was looked at with each text.
+pub fn end_run_all(finds: &mut [Find<'_>], spots: &[u64])
+    requires few { length spots.now ≤ 32 }
+    requires counts { All (λ f. f.tally.count < 2 ^ 64 - 1) finds.old }
+    ensures { finds.new ≡ map (after_run spots.now) finds.old }
+{
+    for find in finds.iter_mut() {
+        find.end_run(spots);
+    }
+}
+
+/// Counts so many schedules with each text that is marked; the first of them has these spots.
+pub fn add_to_marked(finds: &mut [Find<'_>], marks: &[bool], spots: &[u64], count: u128)
+    requires few { length spots.now ≤ 32 }
+    requires counts { All (λ f. f.tally.count + count < 2 ^ 128) finds.old }
+    ensures { finds.new ≡ with_marked (record { count = count; first = Some spots.now }) marks.now finds.old }
+{
+    for (number, mark) in marks.iter().enumerate() {
+        if *mark && number < finds.len() {
+            finds[number].add_many(spots, count);
+        }
+    }
+}

@@ -1,0 +1,22 @@
+//! What is counted of the schedules of a family: how they end, and which texts their lines have. They are run one after
+//! another.
+#![tactic(auto)]
+
+pub mod book;
+pub mod course;
+pub mod ending;
+pub mod families;
+pub mod finds;
+pub mod lines;
+pub mod outcomes;
+pub mod placing;
+pub mod tally;
+
+pub use book::Book;
+pub use course::{run_all, run_list, run_one};
+pub use ending::{Ending, Endings};
+pub use families::{Family, Progress, events_of, explore, is_schedule, run_schedule};
+pub use finds::{Find, mark};
+pub use lines::{Line, process_number, shown};
+pub use placing::{event_at, events_from};
+pub use tally::{Spots, Tally, copied, is_before};

@@ -1,0 +1,95 @@
+//! The outcomes of schedules: schedules are alike where each process shows the same lines, without their numbers.
+
+ghost use Rattle.std.specs.Prelude.{◌≡◌, ◌+◌, ◌<◌, ◌≤◌, ◌^◌, ◌-◌, length, map, IfOk, OnOk, OnErr};
+ghost use Rattle.counting.specs.Tallies.{total_of};
+
+use crate::tally::Tally;
+use std::alloc::{AllocError, Global};
+use std::collections::HashMap;
+use std::marker::Model;
+
+/// Counts a schedule to the outcome that has this number.
+fn add_to(outcomes: &mut [Tally], number: usize, spots: &[u64])
+    requires few { length spots.now ≤ 32 }
+    requires there { number < length outcomes.old }
+    requires total { total_of outcomes.old < 2 ^ 64 - 1 }
+    ensures { total_of outcomes.new ≡ total_of outcomes.old + 1 }
+{
+    outcomes[number].add(spots);
+}
+
+/// The outcomes so far, in the order of their first schedules.
+#[derive(Drop)]
+pub struct Outcomes {
+    alloc: Global,
+    /// Which outcome has these lines.
+    numbers: HashMap<Vec<u8>, usize>,
+    outcomes: Vec<Tally>,
+    /// How many schedules have been counted.
+    total: u64,
+}
+
+impl Model for Outcomes {
+    ghost use Rattle.std.specs.Prelude.{ℕ, ◌≡◌};
+    ghost use Rattle.counting.specs.Tallies.{total_of};
+
+    ghost Value = { ℕ };
+
+    ghost view = { λ o. o.total };
+
+    ghost invariant = { λ o. total_of o.outcomes.items ≡ o.total };
+}
+
+impl Outcomes {
+    /// No outcomes.
+    pub fn new(alloc: Global) -> Self
+        ensures { result ≡ 0 }
+    {
+        Outcomes {
+            alloc,
+            numbers: HashMap::new(alloc),
+            outcomes: Vec::new(alloc),
+            total: 0,
+        }
+    }
+
+    /// Counts a schedule whose run has these lines: those of each process after those of the processes with lesser
+    /// numbers.
+    pub fn add(&mut self, lines: &[u8], spots: &[u64]) -> Result<(), AllocError>
+        requires few { length spots.now ≤ 32 }
+        requires total { self.old < 2 ^ 64 - 1 }
+        ensures ok { OnOk result (self.new ≡ self.old + 1) }
+        ensures err { OnErr result (self.new ≡ self.old) }
+    {
+        let number = match self.numbers.get(lines) {
+            Some(number) if *number < self.outcomes.len() => *number,
+            _ => {
+                let key = Vec::from_slice(self.alloc, lines)?;
+                let number = self.outcomes.len();
+                self.outcomes.push(Tally::new())?;
+                self.numbers.insert(key, number)?;
+                number
+            }
+        };
+        add_to(self.outcomes.as_mut_slice(), number, spots);
+        self.total += 1;
+        Ok(())
+    }
+
+    /// How many schedules were counted.
+    pub fn total(&self) -> u64
+        ensures { result ≡ self.now }
+    {
+        self.total
+    }
+
+    /// The outcomes, the most frequent first, and else in the order of their first schedules. Together they count all
+    /// schedules.
+    pub fn by_count(&self) -> Result<Vec<&Tally>, AllocError>
+        ensures { IfOk result (λ sorted. total_of (map (λ t. t.now) sorted.items) ≡ self.now) }
+    {
+        let mut sorted: Vec<&Tally> = self.outcomes.iter().collect(self.alloc)?;
+        sorted.sort_by_key(|outcome| u128::MAX - outcome.count())?;
+        Ok(sorted)
+    }
+}

@@ -1,9 +1,0 @@
-use Rattle.exploring.specs.Merging.{AreSameNodes, IsSameNode}
-use Rattle.exploring.proofs.layer.Layer.find.Given as goal
-
--- nothing changed but counts of reads
-abbrev pub invariant-loop-alike : goal.invariant-loop-alike
-invariant-loop-alike l = record {
-  nodes : AreSameNodes l.fn.self.nodes.items l.self.nodes.items;
-  node : IsSameNode l.fn.node l.node;
-}

@@ -1,5 +1,0 @@
-use Rattle.std.proofs.Common.{length}
-use Rattle.exploring.proofs.node.+mark.Given as goal
-
-abbrev pub decreases-mark : goal.decreases-mark
-decreases-mark l = length l.texts.now

@@ -1,0 +1,13 @@
+use Rattle.std.proofs.Common.{◌≤◌, ◌+◌, length}
+use Rattle.posix.specs.Regular.{IsRegular}
+use Rattle.posix.specs.Settle.{IsSettled}
+use Rattle.exploring.proofs.turns.add_turns.Given as goal
+
+-- so many events of the list are given, and what is put in at the spots so far
+abbrev pub invariant-loop-before : goal.invariant-loop-before
+invariant-loop-before l = record {
+  given : l.given ≤ length l.family.events.now;
+  some : l.kernel.events ≤ l.given + l.before;
+  regular : IsRegular l.kernel.state;
+  settled : IsSettled l.kernel.state;
+}

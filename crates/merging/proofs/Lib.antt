@@ -1,0 +1,11 @@
+mod TallyLemmas
+mod MergeLemmas
+mod OutlookLemmas
+mod WorldLemmas
+mod NodeLemmas
+mod LayerLemmas
+mod SpreadLemmas
+mod RowLemmas
+mod NodeCountLemmas
+mod NodeBookLemmas
+mod MergedLemmas

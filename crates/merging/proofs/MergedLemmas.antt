@@ -1,0 +1,92 @@
+-- From the start of a world to the book of a family.
+use Rattle.std.proofs.Common.{◌≡◌, ℕ, ◌+◌, ◌-◌, ◌<◌, ◌^◌, List, [], length, drop, refl, ap, ap₂, sym, ◌∙◌, arith, subst}
+use Rattle.std.specs.List.{All}
+use Rattle.std.proofs.lemmas.List.Elements.{All-weaker}
+use Rattle.posix.specs.declared.event.Event.{Event}
+use Rattle.posix.specs.States.{World, boot}
+use Rattle.schedules.specs.Families.{family, kinds_of}
+use Rattle.merging.specs.declared.node.Node.{Node}
+use Rattle.merging.specs.declared.search.Search.{Search}
+use Rattle.counting.specs.Books.{empty_book}
+use Rattle.counting.specs.Counts.{book_over}
+use Rattle.counting.specs.Texts.{unmarked}
+use Rattle.merging.specs.Merging.{IsNode, Outlook, Property, always, behind, counted_all, goes_on_once, list_of, loose_of, most_of, nodes_tally, outlook_of, tally_from, tally_of_node, tally_of_nodes, texts_of, world_of}
+use Rattle.counting.specs.Tallies.{TallyView, both}
+use Rattle.merging.proofs.NodeBookLemmas.{all_counted, counted_book}
+use Rattle.merging.proofs.OutlookLemmas.{once_within}
+use Rattle.merging.proofs.MergeLemmas.{merged_tally}
+use Rattle.merging.proofs.TallyLemmas.{behind_nothing, none_and}
+
+-- of no nodes everything holds
+pub of_none : (P : Node → Type 0) (none : List Node) → none ≡ [] → All P none
+of_none P none empty = subst (All P) (sym empty) (λ k d l. absurd (omega (arith, l)))
+
+-- all schedules go on from the first node
+pub begun : (go_on : Outlook) (most : ℕ) (world : World) (loose : ℕ) (texts : List (List ℕ)) (none nodes : List Node) (n : Node) → none ≡ [] → n.count ≡ 1 → n.spots.items ≡ [] → n.left.items ≡ kinds_of loose
+    → n.kernel.state ≡ boot world → n.marks.items ≡ unmarked texts → tally_of_nodes go_on most nodes ≡ both (tally_of_nodes go_on most none) (tally_of_node go_on most n)
+    → tally_of_nodes go_on most nodes ≡ go_on most (kinds_of loose) (boot world) (unmarked texts)
+begun go_on most world loose texts none nodes n empty one spots left state marks came =
+    let all : most - 0 ≡ most = omega arith in
+    came
+    ∙ ap (λ ns. both (tally_of_nodes go_on most ns) (tally_of_node go_on most n)) empty
+    ∙ none_and (tally_of_node go_on most n)
+    ∙ ap (λ c. behind c n.spots.items (go_on (most - length n.spots.items) n.left.items n.kernel.state n.marks.items)) one
+    ∙ ap (λ q. behind 1 q (go_on (most - length q) n.left.items n.kernel.state n.marks.items)) spots
+    ∙ behind_nothing (go_on (most - 0) n.left.items n.kernel.state n.marks.items)
+    ∙ ap₂ (λ k kinds. go_on k kinds n.kernel.state n.marks.items) all left
+    ∙ ap₂ (go_on most (kinds_of loose)) state marks
+
+-- ---- what goes on before the first event, and behind the last one before which something is put in
+
+-- all schedules of the search
+abbrev pub from_start : Property → Search → TallyView
+from_start has s = outlook_of has s 0 (most_of s) (kinds_of (length (loose_of s))) (boot (world_of s)) (unmarked (texts_of s))
+
+outlook_first : (has : Property) (s : Search) → outlook_of has s 0 ≡ tally_from has (texts_of s) (loose_of s) s.family.now.upto 0 (list_of s)
+outlook_first has s =
+    let all : s.family.now.upto - 0 ≡ s.family.now.upto = omega arith in
+    ap (λ places. tally_from has (texts_of s) (loose_of s) places 0 (list_of s)) all
+
+outlook_last : (has : Property) (s : Search) (rest : List Event) → rest ≡ drop s.family.now.upto (list_of s)
+    → outlook_of has s s.family.now.upto ≡ tally_from has (texts_of s) (loose_of s) 0 s.family.now.upto rest
+outlook_last has s rest is =
+    let none : s.family.now.upto - s.family.now.upto ≡ 0 = omega arith in
+    ap₂ (λ places events. tally_from has (texts_of s) (loose_of s) places s.family.now.upto events) none (sym is)
+
+-- no loose event is left of the last nodes
+none_left : (s : Search) (nodes : List Node) → All (IsNode s s.family.now.upto 0) nodes → All (λ n. n.left.items ≡ []) nodes
+none_left s nodes all = All-weaker (IsNode s s.family.now.upto 0) (λ n. n.left.items ≡ []) (λ n i. i.last refl) nodes all
+
+-- ---- they are those of the family
+
+-- so they can be counted
+pub family_countable : (s : Search) (t : TallyView) → s.family.now.size < 2 ^ 128 → t ≡ from_start always s → t.count < 2 ^ 128
+family_countable s t fits all =
+    let f = s.family.now in
+    let counts = ap (λ (u : TallyView). u.count)
+    (all
+    ∙ ap (λ (go_on : Outlook). go_on (most_of s) (kinds_of (length (loose_of s))) (boot (world_of s)) (unmarked (texts_of s))) (outlook_first always s)
+    ∙ merged_tally always (texts_of s) (world_of s) (loose_of s) (list_of s) f.upto f.ticks f.within) in
+    let each = all_counted (family f.upto f.ticks (length (loose_of s))) in
+    omega (arith, counts, each, f.counted, fits)
+
+-- and those of the last nodes
+pub last_countable : (s : Search) (nodes : List Node) (total : ℕ) → s.family.now.size < 2 ^ 128 → All (IsNode s s.family.now.upto 0) nodes → total ≡ 0
+    → nodes_tally always s s.family.now.upto nodes ≡ from_start always s
+    → total + (tally_of_nodes goes_on_once (most_of s) nodes).count < 2 ^ 128
+last_countable s nodes total fits all none same =
+    let once = once_within s s.family.now.upto 0 nodes all (omega arith) in
+    let counts = family_countable s (nodes_tally always s s.family.now.upto nodes) fits same in
+    omega (arith, once, counts, none)
+
+-- and the book of the last nodes is that of the family
+pub merged_book : (s : Search) (rest : List Event) (nodes : List Node) → rest ≡ drop s.family.now.upto (list_of s) → All (IsNode s s.family.now.upto 0) nodes
+    → ((has : Property) → nodes_tally has s s.family.now.upto nodes ≡ from_start has s)
+    → counted_all (texts_of s) rest nodes (empty_book (texts_of s))
+    ≡ book_over (world_of s) (loose_of s) (list_of s) (texts_of s) (family s.family.now.upto s.family.now.ticks (length (loose_of s)))
+merged_book s rest nodes is all same =
+    let f = s.family.now in
+    counted_book (texts_of s) (world_of s) (loose_of s) (list_of s) rest f.upto f.ticks nodes f.within is (none_left s nodes all)
+    (λ has. ap (λ (go_on : Outlook). tally_of_nodes go_on (most_of s) nodes) (sym (outlook_last has s rest is))
+    ∙ same has
+    ∙ ap (λ (go_on : Outlook). go_on (most_of s) (kinds_of (length (loose_of s))) (boot (world_of s)) (unmarked (texts_of s))) (outlook_first has s))

@@ -1,0 +1,50 @@
+use Rattle.std.proofs.Common.{◌∙◌, ap, sym, arith}
+use Rattle.merging.specs.Merging.{IsNode, always, most_of, outlook_of, tally_around, tally_of_node, tally_of_nodes}
+use Rattle.counting.specs.Tallies.{TallyView, both}
+use Rattle.merging.proofs.LayerLemmas.{tallies_more}
+use Rattle.merging.proofs.NodeCountLemmas.{of_last, of_others}
+use Rattle.merging.proofs.TallyLemmas.{both_regrouped, both_swapped}
+use Rattle.merging.proofs.spreading.spread_all.Goals as goal
+
+pub spread-requires-clause-node : goal.spread-requires-clause-node
+spread-requires-clause-node c =
+    let l = c.loop-node in
+    let r = c.requires.nodes in (
+      r.0,
+      of_last (IsNode c.args.search.now c.args.place r.0) l.nodes.items c.pop.new.self.items c.in-Some.node c.in-Some.ensures.items (l.invariant.nodes r.0 r.1),
+      l.invariant.more r.0 r.1 r.2,
+      l.invariant.next r.0 r.1 r.3,
+    )
+
+pub spread-requires-clause-countable : goal.spread-requires-clause-countable
+spread-requires-clause-countable c =
+    let s = c.args.search.now in
+    let l = c.loop-node in
+    let go_on = outlook_of always s c.args.place in
+    let all = ap (λ (t : TallyView). t.count) (l.invariant.tally always) in
+    let parts = ap (λ (t : TallyView). t.count) (ap (tally_of_nodes go_on (most_of s)) c.in-Some.ensures.items ∙ tallies_more c.pop.new.self.items c.in-Some.node go_on (most_of s)) in
+    omega (arith, all, parts, c.requires.countable)
+
+pub loop-node-preserved : goal.loop-node-preserved
+loop-node-preserved c =
+    let s = c.args.search.now in
+    let place = c.args.place in
+    let l = c.loop-node in
+    let rest = c.pop.new.self.items in
+    let n = c.in-Some.node in
+    let is = c.in-Some.ensures.items in
+    let e = c.in_ok-spread.ensures in
+    record {
+      nodes = λ least all. of_others (IsNode s place least) l.nodes.items rest n is (l.invariant.nodes least all);
+      more = λ least all above. e.more least (of_last (IsNode s place least) l.nodes.items rest n is (l.invariant.nodes least all)) (l.invariant.more least all above);
+      next = λ least all later. e.next least (of_last (IsNode s place least) l.nodes.items rest n is (l.invariant.nodes least all)) (l.invariant.next least all later);
+      tally = λ has.
+          let go_on = outlook_of has s place in
+          let here = tally_of_node go_on (most_of s) n in
+          let others = tally_of_nodes go_on (most_of s) rest in
+          let around = tally_around has s place l.more.nodes.items l.next.nodes.items in
+          ap (λ t. both t others) (e.tally has)
+          ∙ both_regrouped around here others
+          ∙ ap (both around) (both_swapped here others ∙ sym (ap (tally_of_nodes go_on (most_of s)) is ∙ tallies_more rest n go_on (most_of s)))
+          ∙ l.invariant.tally has;
+    }

@@ -1,0 +1,248 @@
+-- Schedules that meet in one state: how many of those that go on from there have a property, and which is the first.
+use Rattle.std.specs.Prelude.{◌≡◌, ◌<◌, ◌^◌, ◌≤◌, ◌-◌, ℕ, zero, suc, ◌+◌, ◌*◌, Bool, true, List, [], ◌∷◌, ◌++◌, length, map, drop, nat_lt, remove, slice_index_or, Some, option_map, if◌then◌else◌}
+use Rattle.std.specs.List.{All}
+use Rattle.posix.specs.declared.event.Event.{Event}
+use Rattle.posix.specs.declared.event.Event.TheVariants.{Tick}
+use Rattle.posix.specs.Entries.{numbered}
+use Rattle.posix.specs.States.{State, World, boot}
+use Rattle.posix.specs.Step.{next}
+use Rattle.posix.specs.Regular.{IsRegular}
+use Rattle.posix.specs.Settle.{IsSettled}
+use Rattle.schedules.specs.Families.{Spots, spot}
+use Rattle.schedules.specs.Schedules.{event_of}
+use Rattle.counting.specs.declared.ending.Ending.{Ending}
+use Rattle.counting.specs.Courses.{course_from}
+use Rattle.counting.specs.Endings.{ending_of}
+use Rattle.counting.specs.Tallies.{TallyView, both, no_schedules}
+use Rattle.counting.specs.Books.{BookView, with_many_runs}
+use Rattle.counting.specs.Texts.{marked}
+use Rattle.merging.specs.declared.layer.Layer.{Layer}
+use Rattle.merging.specs.declared.search.Search.{Search}
+use Rattle.merging.specs.declared.node.Node.{Node}
+
+-- What is asked of a schedule: how its run ends, and of each text whether a line has it.
+abbrev pub Property : Type 0
+Property = Ending → List Bool → Bool
+
+-- ---- tallies
+
+-- of one schedule in which no more is put in
+abbrev pub one_if : Bool → TallyView
+one_if has = if has then record { count = 1; first = Some [] } else no_schedules
+
+-- with this spot before all others
+abbrev pub from_spot : ℕ → TallyView → TallyView
+from_spot q t = record { count = t.count; first = option_map (λ ps. q ∷ ps) t.first }
+
+-- behind each of so many beginnings, of which these are the spots of the first
+abbrev pub behind : ℕ → Spots → TallyView → TallyView
+behind count begun t = record { count = count * t.count; first = option_map (λ ps. begun ++ ps) t.first }
+
+-- ---- what goes on from a state
+
+-- How many of the schedules that go on from a state have a property, and which is the first, by how many spots more there may be, the kinds of
+-- the loose events that are left, the state and the marks.
+abbrev pub Outlook : Type 0
+Outlook = ℕ → List ℕ → State → List Bool → TallyView
+
+abbrev pub state_after : Event → State → State
+state_after x s = (next true s x).state
+
+abbrev pub marks_after : List (List ℕ) → Event → State → List Bool → List Bool
+marks_after texts x s marks = marked texts (numbered 1 (next true s x).entries) marks
+
+-- nothing more is put in, and these events are left
+unfoldable pub tally_of_rest : Property → List (List ℕ) → List Event → State → List Bool → TallyView
+tally_of_rest has texts events s marks =
+    let c = course_from 1 s events in
+    one_if (has (ending_of c.last) (marked texts c.lines marks))
+
+-- where no loose event is left
+abbrev pub if_none_left : List ℕ → TallyView → TallyView
+if_none_left [] t = t
+if_none_left (kind ∷ left) t = no_schedules
+
+-- of the schedules with each of the first so many kinds that are left, by the kind and the others
+abbrev pub over_kinds : (ℕ → List ℕ → TallyView) → ℕ → List ℕ → TallyView
+over_kinds f zero left = no_schedules
+over_kinds f (suc i) left = both (over_kinds f i left) (f (slice_index_or left i 0) (remove left i))
+
+-- Before the event x with place p: a tick or a loose event, and on from there; or x, and what goes on behind it.
+unfoldable pub tally_at_place : Outlook → List (List ℕ) → List Event → Event → ℕ → Outlook
+tally_at_place go_on texts loose x p zero left s marks = go_on zero left (state_after x s) (marks_after texts x s marks)
+tally_at_place go_on texts loose x p (suc n) left s marks =
+    both
+    (both
+    (from_spot (spot (length loose) p 0) (tally_at_place go_on texts loose x p n left (state_after Tick s) (marks_after texts Tick s marks)))
+    (over_kinds (λ kind others. from_spot (spot (length loose) p kind)
+    (tally_at_place go_on texts loose x p n others (state_after (event_of loose kind) s) (marks_after texts (event_of loose kind) s marks))) (length left) left))
+    (go_on (suc n) left (state_after x s) (marks_after texts x s marks))
+
+-- These events, of which the first has place p, with ticks and what is left of the loose events put in before the next so many of them.
+unfoldable pub tally_from : Property → List (List ℕ) → List Event → ℕ → ℕ → List Event → Outlook
+tally_from has texts loose zero p events n left s marks = if_none_left left (tally_of_rest has texts events s marks)
+tally_from has texts loose (suc places) p [] n left s marks = if_none_left left (tally_of_rest has texts [] s marks)
+tally_from has texts loose (suc places) p (x ∷ events) n left s marks =
+    tally_at_place (tally_from has texts loose places (p + 1) events) texts loose x p n left s marks
+
+-- ---- what is searched
+
+abbrev pub world_of : Search → World
+world_of s = s.family.now.world.now
+
+abbrev pub list_of : Search → List Event
+list_of s = s.family.now.events.now
+
+abbrev pub loose_of : Search → List Event
+loose_of s = s.family.now.loose.now
+
+abbrev pub texts_of : Search → List (List ℕ)
+texts_of s = map (λ t. t.now) s.texts.now
+
+-- so many spots a schedule has at most
+abbrev pub most_of : Search → ℕ
+most_of s = s.family.now.ticks + length (loose_of s)
+
+-- what goes on before the event with this place
+abbrev pub outlook_of : Property → Search → ℕ → Outlook
+outlook_of has s place = tally_from has (texts_of s) (loose_of s) (s.family.now.upto - place) place (drop place (list_of s))
+
+-- ---- states, and the beginnings of schedules that lead to them
+
+-- of the schedules of a node
+abbrev pub tally_of_node : Outlook → ℕ → Node → TallyView
+tally_of_node go_on most n = behind n.count n.spots.items (go_on (most - length n.spots.items) n.left.items n.kernel.state n.marks.items)
+
+-- of the schedules of all nodes
+abbrev pub tally_of_nodes : Outlook → ℕ → List Node → TallyView
+tally_of_nodes go_on most [] = no_schedules
+tally_of_nodes go_on most (n ∷ ns) = both (tally_of_node go_on most n) (tally_of_nodes go_on most ns)
+
+-- of the schedules of the nodes of all layers
+abbrev pub tally_of_rows : Outlook → ℕ → List Layer → TallyView
+tally_of_rows go_on most [] = no_schedules
+tally_of_rows go_on most (row ∷ rows) = both (tally_of_nodes go_on most row.nodes.items) (tally_of_rows go_on most rows)
+
+-- one schedule goes on from each state
+abbrev pub goes_on_once : Outlook
+goes_on_once n left s marks = one_if true
+
+-- each schedule has it
+abbrev pub always : Property
+always ending marks = true
+
+-- A node stands before the event with this place: it was given all events before it, and what it put in, at so many spots at least. Its events
+-- lead to its state in the world of the search. Its kernel was given no more than these, there is a mark for each text, and what is left can
+-- still be put in.
+pub record IsNode (s : Search) (place fewest : ℕ) (n : Node) : Type 0 where
+  pub reached : n.kernel.state ≡ (course_from 1 (boot (world_of s)) n.given).last
+  pub regular : IsRegular n.kernel.state
+  pub settled : IsSettled n.kernel.state
+  pub events : n.kernel.events ≤ length n.given
+  pub marks : length n.marks.items ≡ length (texts_of s)
+  pub given : length n.given ≡ place + length n.spots.items
+  pub least : fewest ≤ length n.spots.items
+  pub few : length n.spots.items + length n.left.items ≤ most_of s
+  pub last : place ≡ s.family.now.upto → n.left.items ≡ []
+
+-- Before the event with this place stand rows of nodes, each with one spot more at least than the row before.
+abbrev pub AreRows : Search → ℕ → ℕ → List Layer → Type 0
+AreRows s place least [] = Unit {0}
+AreRows s place least (row ∷ rows) = All (IsNode s place least) row.nodes.items × AreRows s place (least + 1) rows
+
+-- But for the count of reads a node is as it was.
+pub record IsSameNode (old new : Node) : Type 0 where
+  pub state : new.kernel.state ≡ old.kernel.state
+  pub events : new.kernel.events ≡ old.kernel.events
+  pub count : new.count ≡ old.count
+  pub spots : new.spots ≡ old.spots
+  pub left : new.left ≡ old.left
+  pub given : new.given ≡ old.given
+  pub marks : new.marks ≡ old.marks
+
+-- Two nodes are the same state, led to by as many spots, with the same loose events left and the same marks.
+pub record IsOne (node other : Node) : Type 0 where
+  pub state : node.kernel.state ≡ other.kernel.state
+  pub marks : node.marks.items ≡ other.marks.items
+  pub spots : length node.spots.items ≡ length other.spots.items
+  pub left : node.left.items ≡ other.left.items
+
+-- But for the counts of reads these nodes are as they were.
+abbrev pub AreSameNodes : List Node → List Node → Type 0
+AreSameNodes [] new = new ≡ []
+AreSameNodes (n ∷ ns) [] = ⊥
+AreSameNodes (n ∷ ns) (m ∷ ms) = IsSameNode n m × AreSameNodes ns ms
+
+-- The schedules of some nodes and of one more can be counted in 128 bits, if one goes on from each.
+abbrev pub AreCountable : ℕ → List Node → Node → Type 0
+AreCountable most nodes n = (tally_of_nodes goes_on_once most nodes).count + n.count < 2 ^ 128
+
+-- of the schedules of a node before the event with this place
+abbrev pub node_tally : Property → Search → ℕ → Node → TallyView
+node_tally has s place n = tally_of_node (outlook_of has s place) (most_of s) n
+
+-- of those of nodes before it
+abbrev pub nodes_tally : Property → Search → ℕ → List Node → TallyView
+nodes_tally has s place nodes = tally_of_nodes (outlook_of has s place) (most_of s) nodes
+
+-- of those of rows before it
+abbrev pub rows_tally : Property → Search → ℕ → List Layer → TallyView
+rows_tally has s place rows = tally_of_rows (outlook_of has s place) (most_of s) rows
+
+-- of the schedules of nodes before the event with this place, and of nodes behind it
+abbrev pub tally_around : Property → Search → ℕ → List Node → List Node → TallyView
+tally_around has s place nodes next = both (nodes_tally has s place nodes) (nodes_tally has s (place + 1) next)
+
+-- with those of one more node before it
+abbrev pub tally_with : Property → Search → ℕ → List Node → List Node → Node → TallyView
+tally_with has s place nodes next n = both (tally_around has s place nodes next) (node_tally has s place n)
+
+-- of the schedules of the nodes of a row, of the rows with more spots, and of those behind the event
+abbrev pub tally_of_all : Property → Search → ℕ → List Node → List Layer → List Layer → TallyView
+tally_of_all has s place nodes rows next =
+    both (both (nodes_tally has s place nodes) (rows_tally has s place rows)) (rows_tally has s (place + 1) next)
+
+-- of the schedules of a node once it is given this event, and stands before the one with this place
+abbrev pub given_tally : Property → Search → ℕ → Event → Node → TallyView
+given_tally has s place x n =
+    behind n.count n.spots.items
+    (outlook_of has s place (most_of s - length n.spots.items) n.left.items (state_after x n.kernel.state) (marks_after (texts_of s) x n.kernel.state n.marks.items))
+
+-- once this is put in at this spot before the event with this place, with these loose events left
+abbrev pub put_tally : Property → Search → ℕ → ℕ → Event → List ℕ → Node → TallyView
+put_tally has s place q x left n =
+    behind n.count (n.spots.items ++ q ∷ [])
+    (outlook_of has s place (most_of s - (length n.spots.items + 1)) left (state_after x n.kernel.state) (marks_after (texts_of s) x n.kernel.state n.marks.items))
+
+-- with a tick put in before the event with this place, if there may be one more
+abbrev pub tick_tally : Property → Search → ℕ → Node → TallyView
+tick_tally has s place n =
+    if nat_lt (length n.spots.items + length n.left.items) (most_of s)
+    then put_tally has s place (spot (length (loose_of s)) place 0) Tick n.left.items n
+    else no_schedules
+
+-- with a loose event of this kind put in, so that these others are left
+abbrev pub kind_tally : Property → Search → ℕ → Node → ℕ → List ℕ → TallyView
+kind_tally has s place n kind others =
+    put_tally has s place (spot (length (loose_of s)) place kind) (event_of (loose_of s) kind) others n
+
+-- with the loose event of this number put in
+abbrev pub with_kind : Property → Search → ℕ → Node → ℕ → TallyView
+with_kind has s place n i = kind_tally has s place n (slice_index_or n.left.items i 0) (remove n.left.items i)
+
+-- with each of the loose events put in that are left
+abbrev pub loose_tally : Property → Search → ℕ → Node → TallyView
+loose_tally has s place n = over_kinds (kind_tally has s place n) (length n.left.items) n.left.items
+
+-- ---- the book of many schedules
+
+-- with the schedules of a node that has these events left, and no more ticks
+abbrev pub counted : List (List ℕ) → List Event → Node → BookView → BookView
+counted texts events n b =
+    let c = course_from 1 n.kernel.state events in
+    with_many_runs (ending_of c.last) (marked texts c.lines n.marks.items) (record { count = n.count; first = Some n.spots.items }) b
+
+-- with those of all nodes, the last node first
+abbrev pub counted_all : List (List ℕ) → List Event → List Node → BookView → BookView
+counted_all texts events [] b = b
+counted_all texts events (n ∷ ns) b = counted texts events n (counted_all texts events ns b)

@@ -1,0 +1,116 @@
+//! Nodes that are kept together, so that those that are one become one.
+
+ghost use Rattle.std.specs.Prelude.{◌≡◌, ◌≤◌, ◌++◌, List, ℕ, [], ◌∷◌, All, IfOk, IfSome, OnOk, slice_get, Some};
+ghost use Rattle.counting.specs.Tallies.{both};
+ghost use Rattle.merging.specs.declared.node.Node.{Node as NodeValue};
+ghost use Rattle.merging.specs.declared.search.Search.{Search as SearchValue};
+ghost use Rattle.merging.specs.Merging.{AreCountable, AreSameNodes, IsNode, IsOne, IsSameNode, Outlook, tally_of_node, tally_of_nodes};
+
+use crate::digest::digest_of;
+use crate::node::Node;
+use std::alloc::{AllocError, Global};
+use std::collections::HashMap;
+
+/// What is nearly never the same of nodes that aren't one.
+fn digest(node: &mut Node) -> u64
+    ensures { IsSameNode node.old node.new }
+{
+    digest_of(
+        node.spots.len(),
+        node.left.as_slice(),
+        node.marks.as_slice(),
+        &mut node.kernel,
+    )
+}
+
+/// So many states whose digests are the same are told apart.
+const MOST_ALIKE: usize = 1_000;
+
+/// States before one event of a list. Where more than so many have one digest, a state can stand there twice: then less is
+/// merged, and all counts are the same.
+#[derive(Drop)]
+pub struct Layer {
+    pub nodes: Vec<Node>,
+    /// Which node has this key: its digest, or, where another state has that, the next that is free.
+    numbers: HashMap<u64, usize>,
+}
+
+impl Layer {
+    /// No states.
+    pub fn new(alloc: Global) -> Layer
+        ensures { result.nodes.items ≡ [] }
+    {
+        Layer {
+            nodes: Vec::new(alloc),
+            numbers: HashMap::new(alloc),
+        }
+    }
+
+    /// The number of the node with this key, if it is one with another.
+    fn find_at(&mut self, key: u64, node: &mut Node) -> Option<usize>
+        requires { All (λ n. n.kernel.state.world ≡ node.old.kernel.state.world) self.old.nodes.items }
+        ensures one { IfSome result (λ i. (n : NodeValue) × (slice_get self.new.nodes.items i ≡ Some n) × IsOne n node.new) }
+        ensures nodes { AreSameNodes self.old.nodes.items self.new.nodes.items }
+        ensures node { IsSameNode node.old node.new }
+    {
+        let number = *self.numbers.get(&key)?;
+        if number < self.nodes.len() && self.nodes[number].is_one(node) {
+            return Some(number);
+        }
+        None
+    }
+
+    /// The number of the node that is one with another, or the key that the other has, if none is found.
+    fn find(&mut self, digest: u64, node: &mut Node) -> Result<usize, u64>
+        requires { All (λ n. n.kernel.state.world ≡ node.old.kernel.state.world) self.old.nodes.items }
+        ensures one { IfOk result (λ i. (n : NodeValue) × (slice_get self.new.nodes.items i ≡ Some n) × IsOne n node.new) }
+        ensures nodes { AreSameNodes self.old.nodes.items self.new.nodes.items }
+        ensures node { IsSameNode node.old node.new }
+    {
+        let mut key = digest;
+        for _alike in 0..MOST_ALIKE {
+            if !self.numbers.contains_key(&key) {
+                return Err(key);
+            }
+            if let Some(number) = self.find_at(key, node) {
+                return Ok(number);
+            }
+            key = key.wrapping_add(1);
+        }
+        Err(key)
+    }
+
+    /// A node with this key comes behind the others.
+    fn push(&mut self, key: u64, node: Node) -> Result<(), AllocError>
+        ensures { OnOk result (self.new.nodes.items ≡ self.old.nodes.items ++ node ∷ []) }
+    {
+        match self.numbers.insert(key, self.nodes.len()) {
+            Ok(_) => {
+                self.nodes.push(node)?;
+                Ok(())
+            }
+            Err(e) => {
+                drop(node);
+                Err(e.into())
+            }
+        }
+    }
+
+    /// A node comes to those of the layer.
+    pub fn insert(&mut self, node: Node) -> Result<(), AllocError>
+        requires worlds { All (λ n. n.kernel.state.world ≡ node.kernel.state.world) self.old.nodes.items }
+        requires countable { (most : ℕ) × AreCountable most self.old.nodes.items node }
+        ensures tally { OnOk result ((go_on : Outlook) (most : ℕ) → tally_of_nodes go_on most self.new.nodes.items ≡ both (tally_of_nodes go_on most self.old.nodes.items) (tally_of_node go_on most node)) }
+        ensures nodes { OnOk result ((search : SearchValue) (place least : ℕ) → All (IsNode search place least) self.old.nodes.items → IsNode search place least node → All (IsNode search place least) self.new.nodes.items) }
+    {
+        let mut node = node;
+        let digest = digest(&mut node);
+        match self.find(digest, &mut node) {
+            Ok(number) => {
+                self.nodes[number].join(node);
+                Ok(())
+            }
+            Err(key) => self.push(key, node),
+        }
+    }
+}

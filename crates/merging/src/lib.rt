@@ -1,0 +1,12 @@
+//! Schedules of a family that meet in one state are gone on with once. What is counted is the same.
+#![tactic(auto)]
+
+mod digest;
+mod layer;
+mod merging;
+mod node;
+mod search;
+mod spreading;
+
+pub use merging::merge;
+pub use search::Stop;

@@ -1,0 +1,275 @@
+//! States, and the beginnings of schedules that lead to them.
+
+ghost use Rattle.std.specs.Prelude.{◌≡◌, ◌+◌, ◌<◌, ◌≤◌, ◌^◌, ◌++◌, [], ◌∷◌, List, ℕ, true, length, map, IfOk, OnOk};
+ghost use Rattle.posix.specs.States.{World as WorldValue, boot};
+ghost use Rattle.posix.specs.Regular.{IsRegular};
+ghost use Rattle.posix.specs.Settle.{IsSettled};
+ghost use Rattle.text.specs.EventTexts.{most_events};
+ghost use Rattle.schedules.specs.Families.{kinds_of as all_kinds};
+ghost use Rattle.counting.specs.Courses.{course_from};
+ghost use Rattle.counting.specs.Tallies.{both};
+ghost use Rattle.counting.specs.Texts.{unmarked};
+ghost use Rattle.merging.specs.declared.search.Search.{Search as SearchValue};
+ghost use Rattle.merging.specs.Merging.{IsNode, IsOne, IsSameNode, Outlook, marks_after, state_after, tally_of_node, texts_of};
+
+use arrayvec::ArrayVec;
+use counting::{Line, Spots, copied, events_from, is_before, mark, run_all, run_one};
+use kernel::Kernel;
+use posix::Event;
+use schedules::MOST_SPOTS;
+use std::alloc::{AllocError, Global};
+use std::mem::swap;
+use text::{EventList, World};
+
+/// The kinds of loose events, from 1.
+pub type Kinds = ArrayVec<u8, MOST_SPOTS>;
+
+/// A state of a machine, and the beginnings of schedules that lead to it.
+#[derive(Drop)]
+pub struct Node {
+    /// In this state.
+    pub kernel: Kernel,
+    /// How many they are.
+    pub count: u128,
+    /// The spots of the first of them.
+    pub spots: Spots,
+    /// The kinds of the loose events that they haven't put in.
+    pub left: Kinds,
+    /// The events of the first of them.
+    pub given: EventList,
+    /// Of each text, whether a line has it.
+    pub marks: Vec<bool>,
+}
+
+/// A kernel after these events, from the start of its world on. An error where there is no memory for it, or for what a
+/// process of the world asks.
+fn kernel_after(
+    alloc: Global,
+    world: &World,
+    events: &EventList,
+    lines: &mut Vec<Line>,
+) -> Result<Kernel, AllocError>
+    requires { length events.now ≤ most_events }
+    ensures state { IfOk result (λ kernel. kernel.state ≡ (course_from 1 (boot world.now) events.now).last) }
+    ensures events { IfOk result (λ kernel. kernel.events ≤ length events.now) }
+    ensures regular { IfOk result (λ kernel. IsRegular kernel.state) }
+    ensures settled { IfOk result (λ kernel. IsSettled kernel.state) }
+{
+    lines.clear();
+    let mut kernel = Kernel::boot(alloc, world)?;
+    match run_all(&mut kernel, events, lines) {
+        Ok(_) => Ok(kernel),
+        Err(e) => {
+            drop(kernel);
+            Err(e)
+        }
+    }
+}
+
+/// Gives an event to a kernel, and marks the texts that its lines have.
+fn give(
+    kernel: &mut Kernel,
+    event: Event,
+    texts: &[&str],
+    marks: &mut [bool],
+    lines: &mut Vec<Line>,
+) -> Result<(), AllocError>
+    requires few { kernel.old.events < most_events }
+    ensures state { OnOk result (kernel.new.state ≡ state_after event kernel.old.state) }
+    ensures events { OnOk result (kernel.new.events ≡ kernel.old.events + 1) }
+    ensures marks { OnOk result (marks.new ≡ marks_after (map (λ t. t.now) texts.now) event kernel.old.state marks.old) }
+    ensures regular { OnOk result (IsRegular kernel.new.state) }
+    ensures settled { OnOk result (IsSettled kernel.new.state) }
+{
+    lines.clear();
+    run_one(kernel, event, lines)?;
+    mark(texts, lines.as_slice(), marks);
+    Ok(())
+}
+
+/// The kinds of so many loose events.
+fn kinds_of(loose: usize) -> Kinds
+    requires { loose ≤ 32 }
+    ensures { result.items ≡ all_kinds loose }
+{
+    let mut kinds = Kinds::new();
+    for kind in 0..loose {
+        kinds.push(kind as u8 + 1);
+    }
+    kinds
+}
+
+/// The kinds, copied.
+fn copied_kinds(kinds: &[u8]) -> Kinds
+    requires { length kinds.now ≤ 32 }
+    ensures { result.items ≡ kinds.now }
+{
+    let mut copy = Kinds::new();
+    let _ = copy.try_extend_from_slice(kinds);
+    copy
+}
+
+impl Node {
+    /// The start of a world, where no schedule has begun, with so many loose events to put in.
+    pub fn first(
+        alloc: Global,
+        world: &World,
+        loose: usize,
+        texts: &[&str],
+    ) -> Result<Node, AllocError>
+        requires { loose ≤ 32 }
+        ensures state { IfOk result (λ n. n.kernel.state ≡ boot world.now) }
+        ensures regular { IfOk result (λ n. IsRegular n.kernel.state) }
+        ensures settled { IfOk result (λ n. IsSettled n.kernel.state) }
+        ensures events { IfOk result (λ n. n.kernel.events ≡ 0) }
+        ensures one { IfOk result (λ n. n.count ≡ 1) }
+        ensures spots { IfOk result (λ n. n.spots.items ≡ []) }
+        ensures left { IfOk result (λ n. n.left.items ≡ all_kinds loose) }
+        ensures given { IfOk result (λ n. n.given ≡ []) }
+        ensures marks { IfOk result (λ n. n.marks.items ≡ unmarked (map (λ t. t.now) texts.now)) }
+    {
+        let marks = vec![in alloc; false; texts.len()]?;
+        Ok(Node {
+            kernel: Kernel::boot(alloc, world)?,
+            count: 1,
+            spots: Spots::new(),
+            left: kinds_of(loose),
+            given: EventList::new(alloc),
+            marks,
+        })
+    }
+
+    /// One more event is given.
+    pub fn give(
+        &mut self,
+        event: Event,
+        texts: &[&str],
+        lines: &mut Vec<Line>,
+    ) -> Result<(), AllocError>
+        requires few { self.old.kernel.events ≤ length self.old.given }
+        requires given { length self.old.given < most_events }
+        ensures node { (search : SearchValue) (place least : ℕ) → IsNode search place least self.old → texts_of search ≡ map (λ t. t.now) texts.now → (place + 1 ≡ search.family.now.upto → self.old.left.items ≡ [])
+            → OnOk result (IsNode search (place + 1) least self.new) }
+        ensures state { OnOk result (self.new.kernel.state ≡ state_after event self.old.kernel.state) }
+        ensures regular { OnOk result (IsRegular self.new.kernel.state) }
+        ensures settled { OnOk result (IsSettled self.new.kernel.state) }
+        ensures events { OnOk result (self.new.kernel.events ≡ self.old.kernel.events + 1) }
+        ensures marks { OnOk result (self.new.marks.items ≡ marks_after (map (λ t. t.now) texts.now) event self.old.kernel.state self.old.marks.items) }
+        ensures given { OnOk result (self.new.given ≡ self.old.given ++ event ∷ []) }
+        ensures count { self.new.count ≡ self.old.count }
+        ensures spots { self.new.spots ≡ self.old.spots }
+        ensures left { self.new.left ≡ self.old.left }
+    {
+        give(
+            &mut self.kernel,
+            event,
+            texts,
+            self.marks.as_mut_slice(),
+            lines,
+        )?;
+        self.given.push(event, 1)?;
+        Ok(())
+    }
+
+    /// The same beginnings, with a kernel of their own.
+    fn again(&self, alloc: Global, world: &World, lines: &mut Vec<Line>) -> Result<Node, AllocError>
+        requires few { length self.now.given ≤ most_events }
+        requires spots { length self.now.spots.items ≤ 32 }
+        requires left { length self.now.left.items ≤ 32 }
+        requires reached { self.now.kernel.state ≡ (course_from 1 (boot world.now) self.now.given).last }
+        ensures state { IfOk result (λ n. n.kernel.state ≡ self.now.kernel.state) }
+        ensures events { IfOk result (λ n. n.kernel.events ≤ length self.now.given) }
+        ensures regular { IfOk result (λ n. IsRegular n.kernel.state) }
+        ensures settled { IfOk result (λ n. IsSettled n.kernel.state) }
+        ensures count { IfOk result (λ n. n.count ≡ self.now.count) }
+        ensures spots { IfOk result (λ n. n.spots.items ≡ self.now.spots.items) }
+        ensures left { IfOk result (λ n. n.left.items ≡ self.now.left.items) }
+        ensures given { IfOk result (λ n. n.given ≡ self.now.given) }
+        ensures marks { IfOk result (λ n. n.marks.items ≡ self.now.marks.items) }
+    {
+        let given = events_from(alloc, &self.given, 0)?;
+        let marks = Vec::from_slice(alloc, self.marks.as_slice())?;
+        Ok(Node {
+            kernel: kernel_after(alloc, world, &self.given, lines)?,
+            count: self.count,
+            spots: copied(self.spots.as_slice()),
+            left: copied_kinds(self.left.as_slice()),
+            given,
+            marks,
+        })
+    }
+
+    /// The beginnings with one more event, which is put in at this spot.
+    pub fn with(
+        &self,
+        alloc: Global,
+        world: &World,
+        spot: u64,
+        event: Event,
+        texts: &[&str],
+        lines: &mut Vec<Line>,
+    ) -> Result<Node, AllocError>
+        requires few { length self.now.given < most_events }
+        requires spots { length self.now.spots.items < 32 }
+        requires left { length self.now.left.items ≤ 32 }
+        requires reached { self.now.kernel.state ≡ (course_from 1 (boot world.now) self.now.given).last }
+        ensures state { IfOk result (λ n. n.kernel.state ≡ state_after event self.now.kernel.state) }
+        ensures regular { IfOk result (λ n. IsRegular n.kernel.state) }
+        ensures settled { IfOk result (λ n. IsSettled n.kernel.state) }
+        ensures events { IfOk result (λ n. n.kernel.events ≤ length self.now.given + 1) }
+        ensures marks { IfOk result (λ n. n.marks.items ≡ marks_after (map (λ t. t.now) texts.now) event self.now.kernel.state self.now.marks.items) }
+        ensures given { IfOk result (λ n. n.given ≡ self.now.given ++ event ∷ []) }
+        ensures count { IfOk result (λ n. n.count ≡ self.now.count) }
+        ensures spots { IfOk result (λ n. n.spots.items ≡ self.now.spots.items ++ spot ∷ []) }
+        ensures left { IfOk result (λ n. n.left.items ≡ self.now.left.items) }
+    {
+        let mut node = self.again(alloc, world, lines)?;
+        node.spots.push(spot);
+        match node.give(event, texts, lines) {
+            Ok(()) => Ok(node),
+            Err(e) => {
+                drop(node);
+                Err(e)
+            }
+        }
+    }
+
+    /// Whether two nodes are one: the same state of a world, led to by as many spots, with the same loose events left and
+    /// the same marks.
+    pub fn is_one(&mut self, other: &mut Node) -> bool
+        requires world { self.old.kernel.state.world ≡ other.old.kernel.state.world }
+        ensures one { result ≡ true → IsOne self.old other.old }
+        ensures same { IsSameNode self.old self.new }
+        ensures other { IsSameNode other.old other.new }
+    {
+        self.spots.len() == other.spots.len()
+            && self.left.as_slice() == other.left.as_slice()
+            && self.marks.as_slice() == other.marks.as_slice()
+            && self.kernel.is_same(&mut other.kernel)
+    }
+
+    /// The beginnings of another node that is one with this are counted with its own, of which the first stay.
+    fn join_first(&mut self, other: &mut Node)
+        requires count { self.old.count + other.old.count < 2 ^ 128 }
+        requires one { IsOne self.old other.old }
+        ensures tally { (go_on : Outlook) (most : ℕ) → tally_of_node go_on most self.new ≡ both (tally_of_node go_on most self.old) (tally_of_node go_on most other.old) }
+        ensures node { (search : SearchValue) (place least : ℕ) → IsNode search place least self.old → IsNode search place least other.old → IsNode search place least self.new }
+    {
+        let count = self.count + other.count;
+        if is_before(other.spots.as_slice(), self.spots.as_slice()) {
+            swap(self, other);
+        }
+        self.count = count;
+    }
+
+    /// The beginnings of another node that is one with this come to its own.
+    pub fn join(&mut self, mut other: Node)
+        requires count { self.old.count + other.count < 2 ^ 128 }
+        requires one { IsOne self.old other }
+        ensures tally { (go_on : Outlook) (most : ℕ) → tally_of_node go_on most self.new ≡ both (tally_of_node go_on most self.old) (tally_of_node go_on most other) }
+        ensures node { (search : SearchValue) (place least : ℕ) → IsNode search place least self.old → IsNode search place least other → IsNode search place least self.new }
+    {
+        self.join_first(&mut other);
+        drop(other);
+    }
+}

@@ -1,0 +1,33 @@
+//! What is searched, and why a search stops.
+
+use counting::Family;
+use std::alloc::{AllocError, Global};
+
+/// Why schedules aren't gone on with.
+#[derive(Clone, Copy)]
+pub enum Stop {
+    /// There is no memory.
+    Memory,
+    /// There are more than so many states behind the event with this number.
+    States(usize, u64),
+}
+
+impl From<AllocError> for Stop {
+    ghost use Rattle.std.specs.Prelude.{◌≡◌};
+    ghost use Rattle.merging.specs.declared.search.Stop.TheVariants.{Memory};
+
+    ghost from_gives = { λ _ stop. stop ≡ Memory };
+
+    fn from(_: AllocError) -> Self {
+        Stop::Memory
+    }
+}
+
+/// What is searched: the schedules of a family, for texts in their lines.
+#[derive(Clone, Copy)]
+pub struct Search<'a, 'f, 't> {
+    pub alloc: Global,
+    pub family: &'a Family<'f>,
+    /// The texts that are looked for.
+    pub texts: &'a [&'t str],
+}
