@@ -200,11 +200,17 @@ def compile_all(folder):
         return [said for said in pool.map(lambda path: c_program.compile_file(path, folder), c_files()) if said]
 
 
+# Outcomes on Linux alone. The shell comes too late to make a group for a job that has called exec, and the terminal goes to
+# a group that nobody is in, so the job reads EIO (CONFORMANCE, "tcsetpgrp of a process").
+ON_LINUX_ALONE = {'shell_alone': {(((2, (0,)), (3, (-1,))), 0)}}
+
+
 def compare_runs(path, runs, program):
     """What is wrong with the runs of a program: what they note is what no schedule notes."""
+    shown = set(runs) - ON_LINUX_ALONE.get(name_of(path), set())
     with tempfile.TemporaryDirectory() as folder:
-        possible = schedules.outcomes(program, folder, world_of(path), events_beside(path), set(runs))
-    others = sorted(set(runs) - possible, key=str)
+        possible = schedules.outcomes(program, folder, world_of(path), events_beside(path), shown)
+    others = sorted(shown - possible, key=str)
     return [f'{name_of(path)}.c on Linux: {outcome}, of {possible}' for outcome in others]
 
 
