@@ -14,11 +14,11 @@ const NOTE_AND_EXIT: &[u8] =
 #[derive(Drop)]
 struct Heard {
     times: u64,
-    last: (u128, u128),
+    last: (u64, u64),
 }
 
 impl Progress for Heard {
-    fn run(&mut self, done: u128, size: u128) {
+    fn run(&mut self, done: u64, size: u64) {
         self.times = self.times.wrapping_add(1);
         self.last = (done, size);
     }
@@ -42,9 +42,8 @@ fn heard_of(alloc: Global, world: &World, events: &EventList) -> Result<Heard, A
             upto: 3,
             ticks: 2,
             states: 10,
-            size,
         };
-        drop(explore(alloc, &family, &[], &mut heard)?);
+        drop(explore(alloc, &family, size, &[], &mut heard)?);
     }
     Ok(heard)
 }

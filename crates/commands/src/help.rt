@@ -9,7 +9,7 @@ pub const HELP: &[u8] =
     jobk explain TRACE         prints a trace, and behind each line what its numbers say
     jobk lanes TRACE [--svg]   draws a trace, with a lane for each process
     jobk explore WORLD EVENTS  runs all schedules: the events with a few ticks put in; no other choice is varied
-        --ticks K              at most K of them, 0 to 32; 2 if not named
+        --ticks K              at most K of them, 0 to 1000000; 2 if not named
         --upto N               before the first N events alone
         --states N             keeps up to N states before one event; 50000 if not named
         --anywhere EVENT       puts in EVENT once, as key 1 1A or hangup 1, anywhere before these

@@ -1,3 +1,4 @@
+mod NumberLemmas
 mod TextLemmas
 mod LineLemmas
 mod MarkLemmas

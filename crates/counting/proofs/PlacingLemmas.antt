@@ -1,17 +1,15 @@
--- Places in a list of events, run by run: a schedule that is given, the event with a place, and the events from a place on.
-use Rattle.std.proofs.Common.{zero, suc, Result, Ok, Err, IfOk, Some, ◌≡◌, ℕ, ◌+◌, ◌-◌, ◌<◌, ◌≤◌, ◌⊎◌, inl, inr, List, [], ◌∷◌, ◌++◌, length, map, replicate, take, drop, get_or, slice_get, slice_index, refl, ap, sym, subst, ◌∙◌, arith, length-append}
+-- Places in a list of events, run by run: a schedule that is given, the event with a place, and the events from one place up to another.
+use Rattle.std.proofs.Common.{min, max, ap₂, zero, suc, Result, Ok, Err, IfOk, Some, ◌≡◌, ℕ, ◌+◌, ◌-◌, ◌<◌, ◌≤◌, List, [], ◌∷◌, ◌++◌, length, map, replicate, take, drop, get_or, slice_get, slice_index, refl, ap, sym, subst, ◌∙◌, arith, length-append}
 use Rattle.std.specs.List.{All}
 use Rattle.std.specs.List.Sorted.{IsNonDecreasing}
-use Rattle.std.proofs.Math.Seq.{drop-append-add}
-use Rattle.std.proofs.lemmas.Bool.{cases_lt}
-use Rattle.std.proofs.lemmas.List.{drop-append-le, drop-replicate, length-drop, length-replicate, take_all}
+use Rattle.std.proofs.lemmas.List.{drop-replicate, length-drop, length-replicate, length-take, take-replicate, take_all, take_min}
 use Rattle.posix.specs.declared.event.Event.{Event}
 use Rattle.schedules.specs.Families.{Spots, place_of, IsSchedule}
 use Rattle.schedules.specs.Schedules.{put_at, scheduled, given, IsGiven}
 use Rattle.schedules.proofs.ScheduledLemmas.{length_scheduled}
 use Rattle.schedules.proofs.GivenLemmas.{all_are_given, given_all, given_of_run, given_put, more_are_given, put_is_given}
 use Rattle.text.specs.EventLists.{CountedEvent, expanded}
-use Rattle.kernel.proofs.EventLemmas.{events_more, expanded_more, expanded_split, run_fits}
+use Rattle.kernel.proofs.EventLemmas.{expanded_more, expanded_split}
 
 -- the events of a run from the one with index done up to a later one
 run_given : (loose : List Event) (start done later used count : ℕ) (event : Event) (before behind events : List Event) (spots : Spots)
@@ -63,17 +61,6 @@ pub around_run : (rs : List CountedEvent) (i : ℕ) (r : CountedEvent) (all : Li
     → all ≡ expanded (take i rs) ++ replicate r.count r.event ++ expanded (drop (i + 1) rs)
 around_run rs i r all lt is same = sym (expanded_split rs i r lt is ∙ same)
 
-from_start : {n m : ℕ} → n ≡ m → n ≡ 0 + m
-from_start e = omega (arith, e)
-
--- the run at i ends within the events
-pub ends_within : (rs : List CountedEvent) (i now : ℕ) (r : CountedEvent) (all : List Event) → i < length rs → r ≡ get_or rs i r → expanded rs ≡ all → now ≡ length (expanded (take i rs))
-    → now + r.count ≤ length all
-ends_within rs i now r all lt is same at = run_fits rs r now 0 i (length all) all lt is same (from_start at) (omega arith)
-
-pub one_more_run : (rs : List CountedEvent) (i now : ℕ) (r : CountedEvent) → i < length rs → r ≡ get_or rs i r → now ≡ length (expanded (take i rs)) → now + r.count ≡ length (expanded (take (i + 1) rs))
-one_more_run rs i now r lt is at = let more = events_more rs r i 0 now (now + r.count) lt is (from_start at) refl in omega (arith, more)
-
 -- all runs are all events
 pub all_runs : (rs : List CountedEvent) (i now : ℕ) (all : List Event) → length rs ≤ i → expanded rs ≡ all → now ≡ length (expanded (take i rs)) → now ≡ length all
 all_runs rs i now all end same at = at ∙ ap (λ (qs : List CountedEvent). length (expanded qs)) (take_all i rs end) ∙ ap length same
@@ -118,53 +105,48 @@ event_in_run rs i now place r all lt is same at from within =
     ∙ got_in_front (before ++ run) (expanded (drop (i + 1) rs)) place r.event
     (got_behind before run (place - now) place (omega (arith, at, from)) ∙ replicate_got r.count (place - now) r.event within))
 
--- ---- the events from a place on
+-- ---- the events from one place up to another
 
-drop_past : (xs : List Event) (p : ℕ) → length xs ≤ p → drop p xs ≡ []
-drop_past [] zero l = refl
-drop_past [] (suc p) l = refl
-drop_past (x ∷ xs) zero l = absurd (omega arith)
-drop_past (x ∷ xs) (suc p) l = drop_past xs p (omega arith)
+take_appended : (n : ℕ) (xs ys : List Event) → take n (xs ++ ys) ≡ take n xs ++ take (n - length xs) ys
+take_appended zero xs ys = ap (λ m. take m ys) {x = 0} {y = 0 - length xs} (omega arith)
+take_appended (suc n) [] ys = ap (λ m. take m ys) {x = suc n} {y = suc n - 0} (omega arith)
+take_appended (suc n) (x ∷ xs) ys = ap (λ zs. x ∷ zs) (take_appended n xs ys ∙ ap (λ m. take n xs ++ take m ys) {x = n - length xs} {y = suc n - length (x ∷ xs)} (omega arith))
 
--- those of one more run, of which some lie before the place
-pub rest_more : (rs : List CountedEvent) (i now end place low : ℕ) (r : CountedEvent) (old new : List Event) → i < length rs → r ≡ get_or rs i r → now ≡ length (expanded (take i rs)) → end ≡ now + r.count → place < end
-    → old ≡ drop place (expanded (take i rs)) → (place ≤ now → low ≡ now) → (now ≤ place → low ≡ place) → new ≡ old ++ replicate (end - low) r.event → new ≡ drop place (expanded (take (i + 1) rs))
-rest_more rs i now end place low r old new lt is at ends within was a b more =
-    more ∙ ap (λ (xs : List Event). xs ++ replicate (end - low) r.event) was ∙ by (cases_lt now place) ∙ ap (drop place) (sym (expanded_more rs i r lt is))
-  where
-    before : List Event
-    before = expanded (take i rs)
+drop_appended : (n : ℕ) (xs ys : List Event) → drop n (xs ++ ys) ≡ drop n xs ++ drop (n - length xs) ys
+drop_appended zero xs ys = ap (λ m. xs ++ drop m ys) {x = 0} {y = 0 - length xs} (omega arith)
+drop_appended (suc n) [] ys = ap (λ m. drop m ys) {x = suc n} {y = suc n - 0} (omega arith)
+drop_appended (suc n) (x ∷ xs) ys = drop_appended n xs ys ∙ ap (λ m. drop n xs ++ drop m ys) {x = n - length xs} {y = suc n - length (x ∷ xs)} (omega arith)
 
-    by : (now < place) ⊎ (place ≤ now) → drop place before ++ replicate (end - low) r.event ≡ drop place (before ++ replicate r.count r.event)
-    by (inr l) = ap (λ (n : ℕ). drop place before ++ replicate n r.event) (omega (arith, a l, ends)) ∙ sym (drop-append-le place before (replicate r.count r.event) (omega (arith, l, at)))
-    by (inl l) =
-        ap (λ (xs : List Event). xs ++ replicate (end - low) r.event) (drop_past before place (omega (arith, l, at)))
-        ∙ ap (λ (n : ℕ). replicate n r.event) (omega (arith, b (omega (arith, l)), ends, at))
-        ∙ sym (drop-replicate (place - now) r.count r.event)
-        ∙ sym (drop-append-add before (replicate r.count r.event) (place - now))
-        ∙ ap (λ (n : ℕ). drop n (before ++ replicate r.count r.event)) (omega (arith, l, at))
+take_replicated : (m n : ℕ) (x : Event) → take m (replicate n x) ≡ replicate (min m n) x
+take_replicated m n x = sym (take_min m (replicate n x)) ∙ ap (λ k. take (min m k) (replicate n x)) (length-replicate n x) ∙ take-replicate (min m n) n x (omega arith)
 
--- a run that lies before the place
-pub rest_same : (rs : List CountedEvent) (i now place : ℕ) (r : CountedEvent) (old : List Event) → i < length rs → r ≡ get_or rs i r → now ≡ length (expanded (take i rs)) → now + r.count ≤ place
-    → old ≡ drop place (expanded (take i rs)) → old ≡ drop place (expanded (take (i + 1) rs))
-rest_same rs i now place r old lt is at before was =
-    was
-    ∙ drop_past (expanded (take i rs)) place (omega (arith, at, before))
-    ∙ sym (ap (drop place) (expanded_more rs i r lt is) ∙ drop_past (expanded (take i rs) ++ replicate r.count r.event) place (omega (arith, at, before, length-append (expanded (take i rs)) (replicate r.count r.event), length-replicate r.count r.event)))
-
--- all runs are gone through
-pub rest_all : (rs : List CountedEvent) (i place : ℕ) (rest all : List Event) → length rs ≤ i → expanded rs ≡ all → rest ≡ drop place (expanded (take i rs)) → rest ≡ drop place all
-rest_all rs i place rest all end same was = was ∙ ap (λ (qs : List CountedEvent). drop place (expanded qs)) (take_all i rs end) ∙ ap (drop place) same
+-- with those of one more run
+pub part_more : (rs : List CountedEvent) (i now from to n : ℕ) (r : CountedEvent) (event : Event) (old new : List Event) → i < length rs → r ≡ get_or rs i r → now ≡ length (expanded (take i rs)) → event ≡ r.event
+    → n ≡ min to (now + r.count) - max from now → old ≡ take (to - from) (drop from (expanded (take i rs))) → new ≡ old ++ replicate n event → new ≡ take (to - from) (drop from (expanded (take (i + 1) rs)))
+part_more rs i now from to n r event old new lt is at its some was more =
+    let before = expanded (take i rs) in
+    let left = r.count - (from - length before) in
+    more
+    ∙ ap₂ (λ xs (x : Event). xs ++ replicate n x) was its
+    ∙ ap (λ k. take (to - from) (drop from before) ++ replicate k r.event) {x = n} {y = min (to - from - length (drop from before)) left} (omega (arith, some, at, length-drop from before))
+    ∙ sym
+    (ap (λ xs. take (to - from) (drop from xs)) (expanded_more rs i r lt is)
+    ∙ ap (take (to - from)) (drop_appended from before (replicate r.count r.event) ∙ ap (λ ys. drop from before ++ ys) (drop-replicate (from - length before) r.count r.event))
+    ∙ take_appended (to - from) (drop from before) (replicate left r.event)
+    ∙ ap (λ ys. take (to - from) (drop from before) ++ ys) (take_replicated (to - from - length (drop from before)) left r.event))
 
 -- what is pushed, with what is there, is not more than all events
-pub rest_fits : (rest before : List Event) (now end place low most : ℕ) → rest ≡ drop place before → now ≡ length before → now ≤ end → place < end → end ≤ most → (place ≤ now → low ≡ now) → (now ≤ place → low ≡ place) → length rest + (end - low) ≤ most
-rest_fits rest before now end place low most is at more within fits a b =
-    let shorter : length rest ≤ now - place = omega (arith, ap length is, length-drop place before, at) in
-    by (cases_lt now place) shorter
-  where
-    by : (now < place) ⊎ (place ≤ now) → length rest ≤ now - place → length rest + (end - low) ≤ most
-    by (inr l) s = omega (arith, a l, s, fits, more)
-    by (inl l) s = omega (arith, b (omega (arith, l)), s, fits, within)
+pub part_fits : (part before : List Event) (now from to count n most : ℕ) → part ≡ take (to - from) (drop from before) → now ≡ length before → now + count ≤ most → n ≡ min to (now + count) - max from now → length part + n ≤ most
+part_fits part before now from to count n most is at fits some = omega (arith, ap length is, length-take (to - from) (drop from before), length-drop from before, at, fits, some)
+
+-- all runs are gone through
+pub part_of_all : (rs : List CountedEvent) (i from to : ℕ) (part all : List Event) → length rs ≤ i → expanded rs ≡ all → part ≡ take (to - from) (drop from (expanded (take i rs))) → part ≡ take (to - from) (drop from all)
+part_of_all rs i from to part all end same was = was ∙ ap (λ (qs : List CountedEvent). take (to - from) (drop from (expanded qs))) (take_all i rs end) ∙ ap (λ xs. take (to - from) (drop from xs)) same
+
+-- up to the end
+pub rest_of_all : {E : Type 0} (r : Result (List Event) E) (place end : ℕ) (all : List Event) → end ≡ length all → IfOk r (λ part. part ≡ take (end - place) (drop place all)) → IfOk r (λ rest. rest ≡ drop place all)
+rest_of_all (Ok part) place end all long is = is ∙ take_all (end - place) (drop place all) (omega (arith, long, length-drop place all))
+rest_of_all (Err e) place end all long is = tt
 
 -- ---- schedules without loose events
 

@@ -1,12 +1,11 @@
 -- What is kept of the runs of schedules.
-use Rattle.std.specs.Prelude.{ℕ, ◌+◌, ◌≤◌, Bool, false, List, map}
-use Rattle.std.specs.List.{All}
+use Rattle.std.specs.Prelude.{ℕ, ◌+◌, Bool, false, List, map}
 use Rattle.posix.specs.Entries.{Line}
 use Rattle.schedules.specs.Families.{Spots}
 use Rattle.counting.specs.declared.ending.Ending.{Ending}
 use Rattle.counting.specs.declared.ending.Endings.{Endings}
 use Rattle.counting.specs.Tallies.{TallyView, no_schedules}
-use Rattle.counting.specs.Texts.{FindView, saw, tally_of, after_run, with_marked}
+use Rattle.counting.specs.Texts.{FindView, saw, after_run, with_marked}
 use Rattle.counting.specs.Endings.{no_endings, with_ending, with_many_endings}
 
 pub record BookView : Type 0 where
@@ -36,11 +35,3 @@ with_many_runs ending marks t b = record {
   finds = with_marked t marks b.finds;
   total = b.total + t.count;
 }
-
--- Each count is at most the number of schedules.
-pub record AreCounted (endings : Endings) (finds : List FindView) (total : ℕ) : Type 0 where
-  pub halted : endings.halted.count ≤ total
-  pub at_rest : endings.at_rest.count ≤ total
-  pub alarmed : endings.alarmed.count ≤ total
-  pub going : endings.going.count ≤ total
-  pub each : All (λ t. t.count ≤ total) (map tally_of finds)

@@ -1,3 +1,4 @@
+pub mod Numbers
 pub mod Tallies
 pub mod Texts
 pub mod Endings

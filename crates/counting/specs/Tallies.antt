@@ -2,6 +2,7 @@
 use Rattle.std.specs.Prelude.{ℕ, ◌+◌, ◌==◌, ◌&&◌, ◌||◌, nat_lt, Bool, true, false, List, [], ◌∷◌, length, Option, Some, None, if◌then◌else◌}
 use Rattle.std.specs.List.{sum_by}
 use Rattle.schedules.specs.Families.{Spots}
+use Rattle.counting.specs.declared.outcomes.Outcome.{Outcome}
 
 pub record TallyView : Type 0 where
   pub count : ℕ
@@ -10,9 +11,9 @@ pub record TallyView : Type 0 where
 abbrev pub no_schedules : TallyView
 no_schedules = record { count = 0; first = None }
 
--- how many schedules these count together
-abbrev pub total_of : List TallyView → ℕ
-total_of tallies = sum_by (λ t. t.count) tallies
+-- how many schedules have these outcomes
+abbrev pub total_of : List Outcome → ℕ
+total_of outcomes = sum_by (λ o. o.count) outcomes
 
 -- this one, where none was before
 abbrev pub or_else : Option Spots → Spots → Option Spots

@@ -31,9 +31,6 @@ pub record FindView : Type 0 where
   pub is_there : Bool
   pub tally : TallyView
 
-abbrev pub tally_of : FindView → TallyView
-tally_of f = f.tally
-
 -- after a line was looked at
 abbrev pub looked_at : List ℕ → FindView → FindView
 looked_at line f = record f { is_there = f.is_there || has_text f.text line }

@@ -1,10 +1,11 @@
 //! What is kept of the runs of schedules.
 
-ghost use Rattle.std.specs.Prelude.{◌≡◌, ◌+◌, ◌<◌, ◌≤◌, ◌^◌, ◌-◌, ℕ, length, map, IfOk, OnOk, Some};
+ghost use Rattle.std.specs.Prelude.{◌≡◌, ◌+◌, ◌<◌, ◌≤◌, ◌^◌, ◌-◌, map, IfOk, OnOk, Some};
 ghost use Rattle.counting.specs.Endings.{with_ending};
-ghost use Rattle.counting.specs.Texts.{after_run, saw, tally_of};
-ghost use Rattle.counting.specs.Books.{AreCounted, empty_book, with_run, unseen, with_many_runs};
+ghost use Rattle.counting.specs.Texts.{after_run, saw};
+ghost use Rattle.counting.specs.Books.{empty_book, with_run, unseen, with_many_runs};
 
+use crate::count::Count;
 use crate::ending::{Ending, Endings};
 use crate::finds::{Find, add_to_marked, end_run_all, look_all};
 use crate::lines::{Line, process_number, shown};
@@ -14,8 +15,7 @@ use std::marker::Model;
 
 /// Looks at the lines of a run in some order, and adds them to a text, a line each.
 fn look_at(lines: &[Line], finds: &mut [Find<'_>], text: &mut Vec<u8>) -> Result<(), AllocError>
-    ensures ok { OnOk result (finds.new ≡ map (saw lines.now) finds.old) }
-    ensures tallies { map tally_of finds.new ≡ map tally_of finds.old }
+    ensures { OnOk result (finds.new ≡ map (saw lines.now) finds.old) }
 {
     for line in lines {
         let mut room = [0; 128];
@@ -33,13 +33,13 @@ fn finds_of<'a>(alloc: Global, texts: &[&'a str]) -> Result<Vec<Find<'a>>, Alloc
 {
     let mut finds = Vec::new(alloc);
     for text in texts {
-        finds.push(Find::new(text))?;
+        finds.push(Find::new(alloc, text))?;
     }
     Ok(finds)
 }
 
 /// Counts a schedule whose run shows these lines, in some order, and ends so; the text is room for them. After an error
-/// nothing is known of what was seen, but that it was counted nowhere.
+/// nothing is known of what was seen.
 fn count_run(
     lines: &[Line],
     ending: Ending,
@@ -49,10 +49,7 @@ fn count_run(
     outcomes: &mut Outcomes,
     endings: &mut Endings,
 ) -> Result<(), AllocError>
-    requires few { length spots.now ≤ 32 }
-    requires total { outcomes.old < 2 ^ 64 - 1 }
-    requires counted { AreCounted endings.old finds.old (2 ^ 64 - 2) }
-    ensures counted { (met : ℕ) → AreCounted endings.old finds.old (outcomes.old + met) → AreCounted endings.new finds.new (outcomes.new + met) }
+    requires { outcomes.old < 2 ^ 64 - 1 }
     ensures most { outcomes.new ≤ outcomes.old + 1 }
     ensures endings { OnOk result (endings.new ≡ with_ending ending spots.now endings.old) }
     ensures finds { OnOk result (finds.new ≡ map (after_run spots.now) (map (saw lines.now) finds.old)) }
@@ -60,9 +57,8 @@ fn count_run(
 {
     look_at(lines, finds, text)?;
     outcomes.add(text.as_slice(), spots)?;
-    endings.add(ending, spots);
-    end_run_all(finds, spots);
-    Ok(())
+    endings.add(ending, spots)?;
+    end_run_all(finds, spots)
 }
 
 /// What is kept of the runs of schedules.
@@ -71,23 +67,23 @@ pub struct Book<'a> {
     endings: Endings,
     finds: Vec<Find<'a>>,
     outcomes: Outcomes,
-    /// How many schedules were counted by the states in which they meet.
-    met: u128,
-    /// How many states these were in behind the last tick.
+    /// How many schedules were counted, one by one or by the states in which they meet.
+    total: Count,
+    /// How many states these were in where no more is put in.
     states: u64,
     /// Room for the lines of a run.
     text: Vec<u8>,
 }
 
 impl<'a> Model for Book<'a> {
-    ghost use Rattle.std.specs.Prelude.{◌+◌, ◌<◌, ◌^◌};
-    ghost use Rattle.counting.specs.Books.{AreCounted, BookView};
+    ghost use Rattle.std.specs.Prelude.{◌≤◌};
+    ghost use Rattle.counting.specs.Books.{BookView};
 
     ghost Value = { BookView };
 
-    ghost view = { λ b. record { endings = b.endings; finds = b.finds.items; total = b.outcomes + b.met } };
+    ghost view = { λ b. record { endings = b.endings; finds = b.finds.items; total = b.total } };
 
-    ghost invariant = { λ b. AreCounted b.endings b.finds.items (b.outcomes + b.met) × (b.outcomes + b.met < 2 ^ 128) };
+    ghost invariant = { λ b. b.outcomes ≤ b.total };
 }
 
 impl<'a> Book<'a> {
@@ -96,10 +92,10 @@ impl<'a> Book<'a> {
         ensures { IfOk result (λ b. b ≡ empty_book (map (λ t. t.now) texts.now)) }
     {
         Ok(Book {
-            endings: Endings::new(),
+            endings: Endings::new(alloc),
             finds: finds_of(alloc, texts)?,
             outcomes: Outcomes::new(alloc),
-            met: 0,
+            total: Count::zero(alloc),
             states: 0,
             text: Vec::new(alloc),
         })
@@ -112,12 +108,12 @@ impl<'a> Book<'a> {
         ending: Ending,
         spots: &[u64],
     ) -> Result<(), AllocError>
-        requires few { length spots.now ≤ 32 }
-        requires total { self.old.total < 2 ^ 64 - 1 }
+        requires { self.old.total < 2 ^ 64 - 1 }
         ensures { OnOk result (self.new ≡ with_run lines.old.items ending spots.now self.old) }
     {
         self.text.clear();
         lines.sort_by_key(process_number)?;
+        self.total.add_one()?;
         count_run(
             lines.as_slice(),
             ending,
@@ -130,22 +126,26 @@ impl<'a> Book<'a> {
     }
 
     /// How many schedules were counted.
-    pub fn total(&self) -> u128
-        ensures { result ≡ self.now.total }
+    pub fn total(&self) -> &Count
+        ensures { result.now ≡ self.now.total }
     {
-        u128::from(self.outcomes.total()) + self.met
+        &self.total
     }
 
     /// Counts so many schedules that end so, and whose lines have the texts that are marked. The first of them has these
     /// spots.
-    pub fn add_many(&mut self, ending: Ending, marks: &[bool], spots: &[u64], count: u128)
-        requires few { length spots.now ≤ 32 }
-        requires total { self.old.total + count < 2 ^ 128 }
-        ensures { self.new ≡ with_many_runs ending marks.now (record { count = count; first = Some spots.now }) self.old }
+    pub fn add_many(
+        &mut self,
+        ending: Ending,
+        marks: &[bool],
+        spots: &[u64],
+        count: &Count,
+    ) -> Result<(), AllocError>
+        ensures { OnOk result (self.new ≡ with_many_runs ending marks.now (record { count = count.now; first = Some spots.now }) self.old) }
     {
-        self.endings.add_many(ending, spots, count);
-        add_to_marked(self.finds.as_mut_slice(), marks, spots, count);
-        self.met += count;
+        self.total.add(count)?;
+        self.endings.add_many(ending, spots, count)?;
+        add_to_marked(self.finds.as_mut_slice(), marks, spots, count)
     }
 
     /// Notes that schedules are counted by so many states.

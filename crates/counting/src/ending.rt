@@ -1,9 +1,11 @@
 //! How a run ends.
 
-ghost use Rattle.std.specs.Prelude.{◌≡◌, ◌<◌, ◌≤◌, ◌^◌, ◌-◌, ◌+◌, Some, length};
+ghost use Rattle.std.specs.Prelude.{◌≡◌, OnOk, Some};
 ghost use Rattle.counting.specs.Endings.{no_endings, with_ending, with_many_endings};
 
+use crate::count::Count;
 use crate::tally::Tally;
+use std::alloc::{AllocError, Global};
 
 /// How it stands with a machine when the list of events ends.
 #[derive(Clone, Copy)]
@@ -31,52 +33,47 @@ pub struct Endings {
 
 impl Endings {
     /// Before the first schedule.
-    pub fn new() -> Self
+    pub fn new(alloc: Global) -> Self
         ensures { result ≡ no_endings }
     {
         Endings {
-            halted: Tally::new(),
-            at_rest: Tally::new(),
-            alarmed: Tally::new(),
-            going: Tally::new(),
+            halted: Tally::new(alloc),
+            at_rest: Tally::new(alloc),
+            alarmed: Tally::new(alloc),
+            going: Tally::new(alloc),
         }
     }
 
     /// Counts a schedule that ends so.
-    pub fn add(&mut self, ending: Ending, spots: &[u64])
-        requires few { length spots.now ≤ 32 }
-        requires halted { self.old.halted.count < 2 ^ 64 - 1 }
-        requires at_rest { self.old.at_rest.count < 2 ^ 64 - 1 }
-        requires alarmed { self.old.alarmed.count < 2 ^ 64 - 1 }
-        requires going { self.old.going.count < 2 ^ 64 - 1 }
-        ensures { self.new ≡ with_ending ending spots.now self.old }
+    pub fn add(&mut self, ending: Ending, spots: &[u64]) -> Result<(), AllocError>
+        ensures { OnOk result (self.new ≡ with_ending ending spots.now self.old) }
     {
         match ending {
             Ending::Halted => self.halted.add(spots),
             Ending::AtRest => self.at_rest.add(spots),
             Ending::AwaitsAlarm => {
-                self.at_rest.add(spots);
-                self.alarmed.add(spots);
+                self.at_rest.add(spots)?;
+                self.alarmed.add(spots)
             }
             Ending::Going => self.going.add(spots),
         }
     }
 
     /// Counts so many schedules that end so, the first of which has these spots.
-    pub fn add_many(&mut self, ending: Ending, spots: &[u64], count: u128)
-        requires few { length spots.now ≤ 32 }
-        requires halted { self.old.halted.count + count < 2 ^ 128 }
-        requires at_rest { self.old.at_rest.count + count < 2 ^ 128 }
-        requires alarmed { self.old.alarmed.count + count < 2 ^ 128 }
-        requires going { self.old.going.count + count < 2 ^ 128 }
-        ensures { self.new ≡ with_many_endings ending (record { count = count; first = Some spots.now }) self.old }
+    pub fn add_many(
+        &mut self,
+        ending: Ending,
+        spots: &[u64],
+        count: &Count,
+    ) -> Result<(), AllocError>
+        ensures { OnOk result (self.new ≡ with_many_endings ending (record { count = count.now; first = Some spots.now }) self.old) }
     {
         match ending {
             Ending::Halted => self.halted.add_many(spots, count),
             Ending::AtRest => self.at_rest.add_many(spots, count),
             Ending::AwaitsAlarm => {
-                self.at_rest.add_many(spots, count);
-                self.alarmed.add_many(spots, count);
+                self.at_rest.add_many(spots, count)?;
+                self.alarmed.add_many(spots, count)
             }
             Ending::Going => self.going.add_many(spots, count),
         }

@@ -1,6 +1,6 @@
 //! All schedules of a family, run one after another, and counted.
 
-ghost use Rattle.std.specs.Prelude.{◌≡◌, ◌≤◌, ◌<◌, ◌+◌, ◌^◌, [], All, length, map, IsTrue, IfOk};
+ghost use Rattle.std.specs.Prelude.{◌≡◌, ◌≤◌, ◌<◌, ◌+◌, [], All, length, map, IsTrue, IfOk};
 ghost use Rattle.std.specs.List.Sorted.{IsNonDecreasing};
 ghost use Rattle.text.specs.EventTexts.{most_events};
 ghost use Rattle.schedules.specs.Families.{IsSchedule, family as family_of};
@@ -21,7 +21,7 @@ use text::{EventList, World};
 /// Hears how far the schedules have come.
 pub trait Progress {
     /// So many of them have been run, of so many.
-    fn run(&mut self, done: u128, size: u128);
+    fn run(&mut self, done: u64, size: u64);
 
     /// So many events were gone through, of so many, and so many states are there.
     fn reach(&mut self, events: u64, upto: u64, states: u64);
@@ -32,21 +32,19 @@ pub trait Progress {
 pub struct Family<'a> {
     pub world: &'a World,
     pub events: &'a EventList,
-    /// Each of these is put in once.
+    /// Each of these is put in once; there are `schedules::MOST_LOOSE` at most.
     pub loose: &'a [Event],
     /// Something is put in before the first so many events alone.
     pub upto: u64,
-    /// At most so many ticks are put in.
+    /// At most so many ticks are put in, of which there are `schedules::MOST_TICKS` at most.
     pub ticks: usize,
     /// At most so many states are kept before one event.
     pub states: usize,
-    /// How many schedules these are.
-    pub size: u128,
     ghost within: { upto ≤ length events.now },
     ghost placed: { upto ≡ 0 → loose.now ≡ [] },
-    ghost few: { ticks + length loose.now ≤ 32 },
+    ghost few: { ticks ≤ 1000000 },
+    ghost few_loose: { length loose.now ≤ 32 },
     ghost short: { length events.now + (ticks + length loose.now) ≤ most_events },
-    ghost counted: { size ≡ length (family_of upto ticks (length loose.now)) },
 }
 
 /// Whether the spots rise, not strictly.
@@ -96,28 +94,28 @@ pub fn run_schedule(
     run_list(alloc, family.world, &events, lines)
 }
 
-/// Runs all schedules of a family without loose events, with texts that are looked for in their lines. The book tells of all of them, in the
-/// family's order.
+/// Runs all schedules of a family without loose events, of which there are so many, with texts that are looked for in
+/// their lines. The book tells of all of them, in the family's order.
 pub fn explore<'a, P: Progress>(
     alloc: Global,
     family: &Family<'_>,
+    size: u64,
     texts: &[&'a str],
     progress: &mut P,
 ) -> Result<Book<'a>, AllocError>
-    requires size { family.now.size < 2 ^ 64 }
+    requires size { size ≡ length (family_of family.now.upto family.now.ticks (length family.now.loose.now)) }
     requires none { family.now.loose.now ≡ [] }
     ensures { IfOk result (λ book. book ≡ book_over family.now.world.now family.now.loose.now family.now.events.now (map (λ t. t.now) texts.now) (family_of family.now.upto family.now.ticks (length family.now.loose.now))) }
 {
     let mut book = Book::new(alloc, texts)?;
-    let mut schedule = Schedule::first(family.upto, family.ticks);
+    let mut schedule = Schedule::first(alloc, family.upto, family.ticks);
     let mut lines = Vec::new(alloc);
-    let size = family.size;
     let mut is_more = true;
     while is_more {
         let ending = run_schedule(alloc, family, schedule.places(), &mut lines)?;
         book.add(&mut lines, ending, schedule.places())?;
-        progress.run(book.total(), size);
-        is_more = schedule.next();
+        progress.run(book.outcomes().total(), size);
+        is_more = schedule.next()?;
     }
     Ok(book)
 }

@@ -1,12 +1,14 @@
 //! Texts that are looked for in the lines of runs.
 
-ghost use Rattle.std.specs.Prelude.{◌≡◌, ◌<◌, ◌≤◌, ◌^◌, ◌-◌, ◌+◌, false, length, map, All, Some};
+ghost use Rattle.std.specs.Prelude.{◌≡◌, OnOk, Some, false, map};
 ghost use Rattle.counting.specs.Tallies.{no_schedules};
 ghost use Rattle.counting.specs.Texts.{FindView, has_text, have_text, looked_at, after_run, marked, with_many, with_marked};
 
+use crate::count::Count;
 use crate::lines::{Line, shown};
 use crate::tally::Tally;
 use memchr::memmem;
+use std::alloc::{AllocError, Global};
 use std::marker::Model;
 
 /// A text that is looked for, and what is known of it from the runs so far.
@@ -62,13 +64,13 @@ pub fn mark(texts: &[&str], lines: &[Line], marks: &mut [bool])
 
 impl<'a> Find<'a> {
     /// Before the first run.
-    pub fn new(text: &'a str) -> Self
+    pub fn new(alloc: Global, text: &'a str) -> Self
         ensures { result ≡ record { text = text.entry.now; is_there = false; tally = no_schedules } }
     {
         Find {
             text,
             is_there: false,
-            tally: Tally::new(),
+            tally: Tally::new(alloc),
         }
     }
 
@@ -96,24 +98,21 @@ impl<'a> Find<'a> {
     }
 
     /// Counts the schedule whose run was looked at.
-    fn end_run(&mut self, spots: &[u64])
-        requires few { length spots.now ≤ 32 }
-        requires count { self.old.tally.count < 2 ^ 64 - 1 }
-        ensures { self.new ≡ after_run spots.now self.old }
+    fn end_run(&mut self, spots: &[u64]) -> Result<(), AllocError>
+        ensures { OnOk result (self.new ≡ after_run spots.now self.old) }
     {
         if self.is_there {
-            self.tally.add(spots);
+            self.tally.add(spots)?;
         }
         self.is_there = false;
+        Ok(())
     }
 
     /// Counts so many schedules that have it, the first of which has these spots.
-    fn add_many(&mut self, spots: &[u64], count: u128)
-        requires few { length spots.now ≤ 32 }
-        requires count { self.old.tally.count + count < 2 ^ 128 }
-        ensures { self.new ≡ with_many (record { count = count; first = Some spots.now }) self.old }
+    fn add_many(&mut self, spots: &[u64], count: &Count) -> Result<(), AllocError>
+        ensures { OnOk result (self.new ≡ with_many (record { count = count.now; first = Some spots.now }) self.old) }
     {
-        self.tally.add_many(spots, count);
+        self.tally.add_many(spots, count)
     }
 }
 
@@ -127,25 +126,28 @@ pub fn look_all(finds: &mut [Find<'_>], line: &[u8])
 }
 
 /// Counts the schedule whose run was looked at with each text.
-pub fn end_run_all(finds: &mut [Find<'_>], spots: &[u64])
-    requires few { length spots.now ≤ 32 }
-    requires counts { All (λ f. f.tally.count < 2 ^ 64 - 1) finds.old }
-    ensures { finds.new ≡ map (after_run spots.now) finds.old }
+pub fn end_run_all(finds: &mut [Find<'_>], spots: &[u64]) -> Result<(), AllocError>
+    ensures { OnOk result (finds.new ≡ map (after_run spots.now) finds.old) }
 {
     for find in finds.iter_mut() {
-        find.end_run(spots);
+        find.end_run(spots)?;
     }
+    Ok(())
 }
 
 /// Counts so many schedules with each text that is marked; the first of them has these spots.
-pub fn add_to_marked(finds: &mut [Find<'_>], marks: &[bool], spots: &[u64], count: u128)
-    requires few { length spots.now ≤ 32 }
-    requires counts { All (λ f. f.tally.count + count < 2 ^ 128) finds.old }
-    ensures { finds.new ≡ with_marked (record { count = count; first = Some spots.now }) marks.now finds.old }
+pub fn add_to_marked(
+    finds: &mut [Find<'_>],
+    marks: &[bool],
+    spots: &[u64],
+    count: &Count,
+) -> Result<(), AllocError>
+    ensures { OnOk result (finds.new ≡ with_marked (record { count = count.now; first = Some spots.now }) marks.now finds.old) }
 {
     for (number, mark) in marks.iter().enumerate() {
         if *mark && number < finds.len() {
-            finds[number].add_many(spots, count);
+            finds[number].add_many(spots, count)?;
         }
     }
+    Ok(())
 }

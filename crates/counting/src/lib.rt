@@ -3,6 +3,7 @@
 #![tactic(auto)]
 
 pub mod book;
+pub mod count;
 pub mod course;
 pub mod ending;
 pub mod families;
@@ -13,10 +14,12 @@ pub mod placing;
 pub mod tally;
 
 pub use book::Book;
-pub use course::{run_all, run_list, run_one};
+pub use count::Count;
+pub use course::{is_idle, run_all, run_list, run_one};
 pub use ending::{Ending, Endings};
 pub use families::{Family, Progress, events_of, explore, is_schedule, run_schedule};
 pub use finds::{Find, mark};
 pub use lines::{Line, process_number, shown};
-pub use placing::{event_at, events_from};
-pub use tally::{Spots, Tally, copied, is_before};
+pub use outcomes::Outcome;
+pub use placing::{event_at, events_between, events_from};
+pub use tally::Tally;

@@ -1,21 +1,42 @@
 //! The outcomes of schedules: schedules are alike where each process shows the same lines, without their numbers.
 
-ghost use Rattle.std.specs.Prelude.{◌≡◌, ◌+◌, ◌<◌, ◌≤◌, ◌^◌, ◌-◌, length, map, IfOk, OnOk, OnErr};
+ghost use Rattle.std.specs.Prelude.{◌≡◌, ◌+◌, ◌<◌, ◌^◌, ◌-◌, length, map, IfOk, OnOk, OnErr};
 ghost use Rattle.counting.specs.Tallies.{total_of};
 
-use crate::tally::Tally;
 use std::alloc::{AllocError, Global};
 use std::collections::HashMap;
 use std::marker::Model;
 
+/// How many schedules have an outcome, and the first of them.
+#[derive(Drop)]
+pub struct Outcome {
+    count: u64,
+    first: Vec<u64>,
+}
+
+impl Outcome {
+    /// How many schedules have it, one at least.
+    pub fn count(&self) -> u64
+        ensures { result ≡ self.now.count }
+    {
+        self.count
+    }
+
+    /// The spots of the first of them.
+    pub fn first(&self) -> &[u64]
+        ensures { result.now ≡ self.now.first.items }
+    {
+        self.first.as_slice()
+    }
+}
+
 /// Counts a schedule to the outcome that has this number.
-fn add_to(outcomes: &mut [Tally], number: usize, spots: &[u64])
-    requires few { length spots.now ≤ 32 }
+fn add_to(outcomes: &mut [Outcome], number: usize)
     requires there { number < length outcomes.old }
     requires total { total_of outcomes.old < 2 ^ 64 - 1 }
     ensures { total_of outcomes.new ≡ total_of outcomes.old + 1 }
 {
-    outcomes[number].add(spots);
+    outcomes[number].count += 1;
 }
 
 /// The outcomes so far, in the order of their first schedules.
@@ -24,7 +45,7 @@ pub struct Outcomes {
     alloc: Global,
     /// Which outcome has these lines.
     numbers: HashMap<Vec<u8>, usize>,
-    outcomes: Vec<Tally>,
+    outcomes: Vec<Outcome>,
     /// How many schedules have been counted.
     total: u64,
 }
@@ -56,22 +77,22 @@ impl Outcomes {
     /// Counts a schedule whose run has these lines: those of each process after those of the processes with lesser
     /// numbers.
     pub fn add(&mut self, lines: &[u8], spots: &[u64]) -> Result<(), AllocError>
-        requires few { length spots.now ≤ 32 }
-        requires total { self.old < 2 ^ 64 - 1 }
+        requires { self.old < 2 ^ 64 - 1 }
         ensures ok { OnOk result (self.new ≡ self.old + 1) }
         ensures err { OnErr result (self.new ≡ self.old) }
     {
         let number = match self.numbers.get(lines) {
             Some(number) if *number < self.outcomes.len() => *number,
             _ => {
-                let key = Vec::from_slice(self.alloc, lines)?;
                 let number = self.outcomes.len();
-                self.outcomes.push(Tally::new())?;
+                let first = Vec::from_slice(self.alloc, spots)?;
+                self.outcomes.push(Outcome { count: 0, first })?;
+                let key = Vec::from_slice(self.alloc, lines)?;
                 self.numbers.insert(key, number)?;
                 number
             }
         };
-        add_to(self.outcomes.as_mut_slice(), number, spots);
+        add_to(self.outcomes.as_mut_slice(), number);
         self.total += 1;
         Ok(())
     }
@@ -85,11 +106,11 @@ impl Outcomes {
 
     /// The outcomes, the most frequent first, and else in the order of their first schedules. Together they count all
     /// schedules.
-    pub fn by_count(&self) -> Result<Vec<&Tally>, AllocError>
+    pub fn by_count(&self) -> Result<Vec<&Outcome>, AllocError>
         ensures { IfOk result (λ sorted. total_of (map (λ t. t.now) sorted.items) ≡ self.now) }
     {
-        let mut sorted: Vec<&Tally> = self.outcomes.iter().collect(self.alloc)?;
-        sorted.sort_by_key(|outcome| u128::MAX - outcome.count())?;
+        let mut sorted: Vec<&Outcome> = self.outcomes.iter().collect(self.alloc)?;
+        sorted.sort_by_key(|outcome| u64::MAX - outcome.count())?;
         Ok(sorted)
     }
 }

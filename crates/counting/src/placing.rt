@@ -1,6 +1,6 @@
 //! Places in a list of events: what stands there, and the ticks and loose events that are put in there.
 
-ghost use Rattle.std.specs.Prelude.{◌≡◌, ◌+◌, ◌-◌, ◌<◌, ◌≤◌, ◌^◌, ◌++◌, List, All, length, map, OnOk, IfOk, drop, replicate, slice_get};
+ghost use Rattle.std.specs.Prelude.{◌≡◌, ◌+◌, ◌-◌, ◌<◌, ◌≤◌, ◌^◌, ◌++◌, List, All, length, map, OnOk, IfOk, take, drop, replicate, slice_get};
 ghost use Rattle.std.specs.List.Sorted.{IsNonDecreasing};
 ghost use Rattle.posix.specs.declared.event.Event.{Event};
 ghost use Rattle.text.specs.EventTexts.{most_events};
@@ -8,7 +8,7 @@ ghost use Rattle.schedules.specs.Families.{place_of as place_of_spot};
 ghost use Rattle.schedules.specs.Schedules.{scheduled as scheduled_events, given, IsGiven};
 
 use posix::Event;
-use schedules::{place_of, put_at};
+use schedules::{MOST_LOOSE, place_of, put_at};
 use std::alloc::{AllocError, Global};
 use text::{EventList, EventRun};
 
@@ -26,21 +26,32 @@ pub fn event_at(events: &EventList, place: u64) -> Option<Event>
     None
 }
 
+/// The events from one place up to another, or up to the end of the list.
+pub fn events_between(
+    alloc: Global,
+    events: &EventList,
+    from: u64,
+    to: u64,
+) -> Result<EventList, AllocError>
+    requires { length events.now ≤ most_events }
+    ensures { IfOk result (λ part. part ≡ take (to - from) (drop from events.now)) }
+{
+    let mut part = EventList::new(alloc);
+    let mut before = 0;
+    for run in events.runs() {
+        let first = from.max(before);
+        before += run.count();
+        part.push(run.event(), to.min(before).saturating_sub(first))?;
+    }
+    Ok(part)
+}
+
 /// The events from a place on.
 pub fn events_from(alloc: Global, events: &EventList, place: u64) -> Result<EventList, AllocError>
     requires { length events.now ≤ most_events }
     ensures { IfOk result (λ rest. rest ≡ drop place events.now) }
 {
-    let mut rest = EventList::new(alloc);
-    let mut before = 0;
-    for run in events.runs() {
-        let end = before + run.count();
-        if place < end {
-            rest.push(run.event(), end - place.max(before))?;
-        }
-        before = end;
-    }
-    Ok(rest)
+    events_between(alloc, events, place, events.len())
 }
 
 /// Adds one event so many times, which may be none.
@@ -64,7 +75,7 @@ fn push_run(
     spots: &[u64],
     used: usize,
 ) -> Result<usize, AllocError>
-    requires loose { length loose.now ≤ 32 }
+    requires loose { length loose.now ≤ MOST_LOOSE }
     requires rising { IsNonDecreasing (map (place_of_spot (length loose.now)) spots.now) }
     requires given { IsGiven (length loose.now) start used spots.now }
     requires used { used ≤ length spots.now }
@@ -97,7 +108,7 @@ pub fn scheduled(
     events: &EventList,
     spots: &[u64],
 ) -> Result<EventList, AllocError>
-    requires loose { length loose.now ≤ 32 }
+    requires loose { length loose.now ≤ MOST_LOOSE }
     requires rising { IsNonDecreasing (map (place_of_spot (length loose.now)) spots.now) }
     requires below { All (λ q. place_of_spot (length loose.now) q < length events.now) spots.now }
     requires few { length events.now + length spots.now < 2 ^ 40 }

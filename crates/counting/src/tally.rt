@@ -1,23 +1,11 @@
 //! How many schedules have a property, and which is the first.
 
-ghost use Rattle.std.specs.Prelude.{◌≡◌, ◌<◌, ◌≤◌, ◌^◌, ◌-◌, length, option_map, ◌+◌, Some};
+ghost use Rattle.std.specs.Prelude.{◌≡◌, OnOk, Some, option_map};
 ghost use Rattle.counting.specs.Tallies.{both, is_before as comes_before, is_earlier as has_earlier, no_schedules, with_schedule};
 
-use arrayvec::ArrayVec;
+use crate::count::Count;
+use std::alloc::{AllocError, Global};
 use std::marker::Model;
-
-/// The spots of a schedule.
-pub type Spots = ArrayVec<u64, 32>;
-
-/// The spots, copied.
-pub fn copied(spots: &[u64]) -> Spots
-    requires { length spots.now ≤ 32 }
-    ensures { result.items ≡ spots.now }
-{
-    let mut copy = Spots::new();
-    let _ = copy.try_extend_from_slice(spots);
-    copy
-}
 
 /// Whether the one list, of as many spots, has the earlier spot where they first differ.
 fn is_earlier(spots: &[u64], others: &[u64]) -> bool
@@ -31,7 +19,7 @@ fn is_earlier(spots: &[u64], others: &[u64]) -> bool
 }
 
 /// Whether a schedule comes before another in a family.
-pub fn is_before(spots: &[u64], others: &[u64]) -> bool
+fn is_before(spots: &[u64], others: &[u64]) -> bool
     ensures { result ≡ comes_before spots.now others.now }
 {
     spots.len() < others.len() || (spots.len() == others.len() && is_earlier(spots, others))
@@ -40,8 +28,9 @@ pub fn is_before(spots: &[u64], others: &[u64]) -> bool
 /// How many schedules have a property, and the first of them.
 #[derive(Drop)]
 pub struct Tally {
-    count: u128,
-    first: Option<Spots>,
+    alloc: Global,
+    count: Count,
+    first: Option<Vec<u64>>,
 }
 
 impl Model for Tally {
@@ -55,20 +44,21 @@ impl Model for Tally {
 
 impl Tally {
     /// Before the first schedule.
-    pub fn new() -> Self
+    pub fn new(alloc: Global) -> Self
         ensures { result ≡ no_schedules }
     {
         Tally {
-            count: 0,
+            alloc,
+            count: Count::zero(alloc),
             first: None,
         }
     }
 
     /// How many schedules have the property.
-    pub fn count(&self) -> u128
-        ensures { result ≡ self.now.count }
+    pub fn count(&self) -> &Count
+        ensures { result.now ≡ self.now.count }
     {
-        self.count
+        &self.count
     }
 
     /// The spots of the first of them.
@@ -82,30 +72,28 @@ impl Tally {
     }
 
     /// Counts a schedule that has the property.
-    pub fn add(&mut self, spots: &[u64])
-        requires few { length spots.now ≤ 32 }
-        requires count { self.old.count < 2 ^ 128 - 1 }
-        ensures { self.new ≡ with_schedule spots.now self.old }
+    pub fn add(&mut self, spots: &[u64]) -> Result<(), AllocError>
+        ensures { OnOk result (self.new ≡ with_schedule spots.now self.old) }
     {
-        self.count += 1;
+        self.count.add_one()?;
         if self.first.is_none() {
-            self.first = Some(copied(spots));
+            self.first = Some(Vec::from_slice(self.alloc, spots)?);
         }
+        Ok(())
     }
 
     /// Counts so many schedules that have the property, the first of which has these spots.
-    pub fn add_many(&mut self, spots: &[u64], count: u128)
-        requires few { length spots.now ≤ 32 }
-        requires count { self.old.count + count < 2 ^ 128 }
-        ensures { self.new ≡ both self.old (record { count = count; first = Some spots.now }) }
+    pub fn add_many(&mut self, spots: &[u64], count: &Count) -> Result<(), AllocError>
+        ensures { OnOk result (self.new ≡ both self.old (record { count = count.now; first = Some spots.now })) }
     {
-        self.count += count;
+        self.count.add(count)?;
         let is_first = match &self.first {
             Some(first) => is_before(spots, first.as_slice()),
             None => true,
         };
         if is_first {
-            self.first = Some(copied(spots));
+            self.first = Some(Vec::from_slice(self.alloc, spots)?);
         }
+        Ok(())
     }
 }

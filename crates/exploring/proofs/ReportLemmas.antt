@@ -1,9 +1,8 @@
 -- What is printed of counts, and of first schedules.
-use Rattle.std.proofs.Common.{◌+◌, ◌<◌, codes, get_or, take, subst, Option, Some, None, ◌≡◌, ◌∙◌, ℕ, zero, suc, ◌-◌, List, [], ◌∷◌, ◌++◌, length, replicate, false, refl, ap, sym, arith, append_assoc, append-nil}
-use Rattle.std.specs.Char.{encode_utf8}
-use Rattle.std.specs.Fmt.{char_count, decimal, format_spec, padded_integral}
-use Rattle.std.specs.List.{concat, repeat}
-use Rattle.std.specs.Prelude.{◌^◌, ◌==◌, if◌then◌else◌, OnOk, Result, Ok, Err}
+use Rattle.std.proofs.Common.{◌+◌, ◌<◌, codes, get_or, take, subst, Option, Some, None, ◌≡◌, ◌∙◌, ℕ, List, [], ◌∷◌, ◌++◌, length, false, refl, ap, sym, append_assoc, append-nil}
+use Rattle.std.specs.Fmt.{decimal}
+use Rattle.std.specs.List.{concat}
+use Rattle.std.specs.Prelude.{◌==◌, if◌then◌else◌, OnOk, Result, Ok, Err}
 use Rattle.posix.specs.declared.event.Event.{Event}
 use Rattle.schedules.specs.Families.{Spots}
 use Rattle.schedules.specs.Schedules.{scheduled}
@@ -11,22 +10,10 @@ use Rattle.schedules.specs.EventLines.{AddsText}
 use Rattle.std.proofs.lemmas.List.{take_more}
 use Rattle.std.proofs.lemmas.List.Folds.{concat-append}
 use Rattle.counting.specs.Books.{BookView}
+use Rattle.counting.specs.Numbers.{in_decimal}
 use Rattle.counting.specs.declared.ending.Endings.{Endings}
-use Rattle.exploring.specs.Reports.{Adds, Reports, at_rest_lines, ending_line, first_lines, first_that, plural, ShowsFind, ShowsFinds, ShowsFirst, find_line, first_that_has_it, size_line, to_the_right}
+use Rattle.exploring.specs.Reports.{Adds, Reports, at_rest_lines, ending_line, first_lines, first_that, plural, ShowsFind, ShowsFinds, ShowsFirst, find_line, first_that_has_it, size_line}
 use Rattle.counting.specs.Texts.{FindView}
-
-blanks : (n : ℕ) → repeat {A = ℕ} n (32 ∷ []) ≡ replicate n 32
-blanks zero = refl
-blanks (suc n) = ap (λ (xs : List ℕ). 32 ∷ xs) (blanks n)
-
-laid : (m p : ℕ) (number : List ℕ) → p ≡ m → replicate p 32 ++ [] ++ [] ++ [] ++ (number ++ replicate (p - p) 32) ≡ replicate m 32 ++ number
-laid m p number is = let none : m - m ≡ 0 = omega arith in rw (is, none) (simp append-nil)
-
-pub to_the_right_is : (n : ℕ) → padded_integral (format_spec 32 3 0 8 (2 ^ 64 - 1)) false [] (decimal n) ≡ to_the_right n
-unfolding padded_integral char_count encode_utf8
-to_the_right_is n =
-    let all : 8 - length (decimal n) - 0 - 0 ≡ 8 - length (decimal n) = omega arith in
-    simp blanks (laid (8 - length (decimal n)) (8 - length (decimal n) - 0 - 0) (decimal n) all)
 
 four : (old a b c d s1 s2 s3 s4 : List ℕ) → s1 ≡ old ++ a → s2 ≡ s1 ++ b → s3 ≡ s2 ++ c → s4 ≡ s3 ++ d → s4 ≡ old ++ (a ++ (b ++ (c ++ d)))
 four old a b c d s1 s2 s3 s4 is1 is2 is3 is4 = is4 ∙ ap (λ s. s ++ d) (is3 ∙ ap (λ s. s ++ c) (is2 ∙ ap (λ s. s ++ b) is1)) ∙ simp append_assoc
@@ -37,22 +24,22 @@ four_lines old a b c d s1 s2 s3 s4 (Ok x) is1 is2 is3 is4 = four old a b c d s1 
 four_lines old a b c d s1 s2 s3 s4 (Err e) is1 is2 is3 is4 = tt
 
 -- how many schedules there are was told of, without loose events
-pub size_alone : {E : Type 0} (old new : List ℕ) (size upto ticks loose : ℕ) (s t e : List ℕ) (r : Result (Unit {0}) E) → loose ≡ 0 → s ≡ plural size → t ≡ plural ticks → e ≡ plural upto
-    → OnOk r (new ≡ old ++ concat (decimal size ∷ codes " schedule" ∷ s ∷ codes ": at most " ∷ decimal ticks ∷ codes " tick" ∷ t ∷ codes ", each before one of the first " ∷ decimal upto ∷ codes " event" ∷ e ∷ codes "\n" ∷ []))
+pub size_alone : {E : Type 0} (old new : List ℕ) (size upto ticks loose : ℕ) (d s t e : List ℕ) (r : Result (Unit {0}) E) → loose ≡ 0 → d ≡ in_decimal size → s ≡ plural size → t ≡ plural ticks → e ≡ plural upto
+    → OnOk r (new ≡ old ++ concat (d ∷ codes " schedule" ∷ s ∷ codes ": at most " ∷ decimal ticks ∷ codes " tick" ∷ t ∷ codes ", each before one of the first " ∷ decimal upto ∷ codes " event" ∷ e ∷ codes "\n" ∷ []))
     → OnOk r (new ≡ old ++ size_line size upto ticks loose)
-size_alone old new size upto ticks loose s t e r none is_s is_t is_e h = rw (none, sym is_s, sym is_t, sym is_e) h
+size_alone old new size upto ticks loose d s t e r none is_d is_s is_t is_e h = rw (none, sym is_d, sym is_s, sym is_t, sym is_e) h
 
 -- and with some
-pub size_with : {E : Type 0} (old mid new : List ℕ) (size upto ticks loose : ℕ) (s t l e : List ℕ) (r : Result (Unit {0}) E) → (loose == 0) ≡ false → s ≡ plural size → t ≡ plural ticks → l ≡ plural loose
-    → e ≡ plural upto → mid ≡ old ++ concat (decimal size ∷ codes " schedule" ∷ s ∷ codes ": at most " ∷ decimal ticks ∷ codes " tick" ∷ t ∷ codes " and " ∷ [])
+pub size_with : {E : Type 0} (old mid new : List ℕ) (size upto ticks loose : ℕ) (d s t l e : List ℕ) (r : Result (Unit {0}) E) → (loose == 0) ≡ false → d ≡ in_decimal size → s ≡ plural size → t ≡ plural ticks → l ≡ plural loose
+    → e ≡ plural upto → mid ≡ old ++ concat (d ∷ codes " schedule" ∷ s ∷ codes ": at most " ∷ decimal ticks ∷ codes " tick" ∷ t ∷ codes " and " ∷ [])
     → OnOk r (new ≡ mid ++ concat (decimal loose ∷ codes " event" ∷ l ∷ codes " anywhere, each before one of the first " ∷ decimal upto ∷ codes " event" ∷ e ∷ codes "\n" ∷ []))
     → OnOk r (new ≡ old ++ size_line size upto ticks loose)
-size_with old mid new size upto ticks loose s t l e (Ok x) some is_s is_t is_l is_e first last =
-    let head : List (List ℕ) = decimal size ∷ codes " schedule" ∷ s ∷ codes ": at most " ∷ decimal ticks ∷ codes " tick" ∷ t ∷ codes " and " ∷ [] in
+size_with old mid new size upto ticks loose d s t l e (Ok x) some is_d is_s is_t is_l is_e first last =
+    let head : List (List ℕ) = d ∷ codes " schedule" ∷ s ∷ codes ": at most " ∷ decimal ticks ∷ codes " tick" ∷ t ∷ codes " and " ∷ [] in
     let tail : List (List ℕ) = decimal loose ∷ codes " event" ∷ l ∷ codes " anywhere, each before one of the first " ∷ decimal upto ∷ codes " event" ∷ e ∷ codes "\n" ∷ [] in
     let whole : new ≡ old ++ concat (head ++ tail) = last ∙ ap (λ m. m ++ concat tail) first ∙ append_assoc old (concat head) (concat tail) ∙ ap (λ m. old ++ m) (sym (concat-append head tail)) in
-    rw (some, sym is_s, sym is_t, sym is_l, sym is_e) whole
-size_with old mid new size upto ticks loose s t l e (Err why) some is_s is_t is_l is_e first last = tt
+    rw (some, sym is_d, sym is_s, sym is_t, sym is_l, sym is_e) whole
+size_with old mid new size upto ticks loose d s t l e (Err why) some is_d is_s is_t is_l is_e first last = tt
 
 -- those at rest were told of, some of which wait for an alarm
 pub at_rest_added : {E : Type 0} (old s1 s2 : List ℕ) (e : Endings) (r : Result (Unit {0}) E) → (e.alarmed.count == 0) ≡ false → s1 ≡ old ++ ending_line e.at_rest.count (codes "come to rest: no process can act")
@@ -112,15 +99,15 @@ finds_added old mid new loose events finds i f within is h one =
     )
 
 -- all of it was added to an empty text
-pub reported : (loose events : List Event) (size upto ticks : ℕ) (b : BookView) (s0 s1 s2 s3 s4 s5 outcomes : List ℕ) → s0 ≡ [] → s1 ≡ s0 ++ first_lines size upto ticks (length loose) b.endings
+pub reported : (loose events : List Event) (upto ticks : ℕ) (b : BookView) (s0 s1 s2 s3 s4 s5 outcomes : List ℕ) → s0 ≡ [] → s1 ≡ s0 ++ first_lines b.total upto ticks (length loose) b.endings
     → Adds s1 (ShowsFirst loose events (first_that (codes "comes to rest")) b.endings.at_rest.first) s2 → Adds s2 (ShowsFirst loose events (first_that (codes "is still going")) b.endings.going.first) s3
-    → Adds s3 (ShowsFinds loose events b.finds) s4 → s5 ≡ s4 ++ outcomes → Reports loose events size upto ticks b s5
-reported loose events size upto ticks b s0 s1 s2 s3 s4 s5 outcomes is0 is1 h2 h3 h4 is5 = record {
+    → Adds s3 (ShowsFinds loose events b.finds) s4 → s5 ≡ s4 ++ outcomes → Reports loose events upto ticks b s5
+reported loose events upto ticks b s0 s1 s2 s3 s4 s5 outcomes is0 is1 h2 h3 h4 is5 = record {
   at_rest = h2.0;
   going = h3.0;
   finds = h4.0;
   outcomes = outcomes;
-  whole = is5 ∙ ap (λ s. s ++ outcomes) (h4.1 ∙ ap (λ s. s ++ h4.0) (h3.1 ∙ ap (λ s. s ++ h3.0) (h2.1 ∙ ap (λ s. s ++ h2.0) (is1 ∙ ap (λ s. s ++ first_lines size upto ticks (length loose) b.endings) is0)))) ∙ simp append_assoc;
+  whole = is5 ∙ ap (λ s. s ++ outcomes) (h4.1 ∙ ap (λ s. s ++ h4.0) (h3.1 ∙ ap (λ s. s ++ h3.0) (h2.1 ∙ ap (λ s. s ++ h2.0) (is1 ∙ ap (λ s. s ++ first_lines b.total upto ticks (length loose) b.endings) is0)))) ∙ simp append_assoc;
   shows_at_rest = h2.2;
   shows_going = h3.2;
   shows_finds = h4.2;

@@ -43,7 +43,7 @@ means_alike contents p q old new before after status known same is h =
 -- ---- what is put in
 
 pub in_range : (a : Asked) (consoles n : ℕ) (p : Put) (states : ℕ) → ticks_asked a.ticks ≡ Some p.ticks → upto_asked n a.upto ≡ Some p.upto → states_asked a.states ≡ Some states
-    → loose_asked consoles a.anywhere ≡ Some p.loose → can_be_put (a.all || a.outcomes) p.upto p.ticks (length p.loose) ≡ true
+    → loose_asked consoles a.anywhere ≡ Some p.loose → can_be_put (a.all || a.outcomes) p.upto (length p.loose) ≡ true
     → are_run a.all a.outcomes (length (schedules_of p)) (n + (p.ticks + length p.loose)) ≡ true → family_asked a consoles n ≡ Some p
 in_range a consoles n p states ticks_are upto_is states_are loose_are put run = rw (ticks_are, upto_is, states_are, loose_are, put, run) refl
 
@@ -54,12 +54,12 @@ no_event a consoles n ticks upto states ticks_are upto_is states_are none = rw (
 
 -- the loose events can't be put in
 pub no_place : (a : Asked) (consoles n : ℕ) (p : Put) (states : ℕ) → ticks_asked a.ticks ≡ Some p.ticks → upto_asked n a.upto ≡ Some p.upto → states_asked a.states ≡ Some states
-    → loose_asked consoles a.anywhere ≡ Some p.loose → can_be_put (a.all || a.outcomes) p.upto p.ticks (length p.loose) ≡ false → family_asked a consoles n ≡ None
+    → loose_asked consoles a.anywhere ≡ Some p.loose → can_be_put (a.all || a.outcomes) p.upto (length p.loose) ≡ false → family_asked a consoles n ≡ None
 no_place a consoles n p states ticks_are upto_is states_are loose_are put = rw (ticks_are, upto_is, states_are, loose_are, put) refl
 
 -- there are too many schedules
 pub too_many : (a : Asked) (consoles n : ℕ) (p : Put) (states : ℕ) → ticks_asked a.ticks ≡ Some p.ticks → upto_asked n a.upto ≡ Some p.upto → states_asked a.states ≡ Some states
-    → loose_asked consoles a.anywhere ≡ Some p.loose → can_be_put (a.all || a.outcomes) p.upto p.ticks (length p.loose) ≡ true
+    → loose_asked consoles a.anywhere ≡ Some p.loose → can_be_put (a.all || a.outcomes) p.upto (length p.loose) ≡ true
     → are_run a.all a.outcomes (length (schedules_of p)) (n + (p.ticks + length p.loose)) ≡ false → family_asked a consoles n ≡ None
 too_many a consoles n p states ticks_are upto_is states_are loose_are put run = rw (ticks_are, upto_is, states_are, loose_are, put, run) refl
 
@@ -81,12 +81,12 @@ means_refused contents a old before after world events (Err f) e A h read none (
     }
 
 -- all schedules of the family were run, and the text was put that is asked for
-pub explored : (contents : Contents) (a : Asked) (world : World) (events : List Event) (p : Put) (states size : ℕ) (written : Written) (book : BookView) (told : Bool) (text : List ℕ) (IsPut : List ℕ → Type 0)
+pub explored : (contents : Contents) (a : Asked) (world : World) (events : List Event) (p : Put) (states : ℕ) (written : Written) (book : BookView) (told : Bool) (text : List ℕ) (IsPut : List ℕ → Type 0)
     → AreRead contents (a.world, a.events) world events → ticks_asked a.ticks ≡ Some p.ticks → upto_asked (length events) a.upto ≡ Some p.upto → states_asked a.states ≡ Some states
-    → loose_asked world.consoles a.anywhere ≡ Some p.loose → can_be_put (a.all || a.outcomes) p.upto p.ticks (length p.loose) ≡ true
-    → are_run a.all a.outcomes (length (schedules_of p)) (length events + (p.ticks + length p.loose)) ≡ true → size ≡ length (schedules_of p) → book ≡ book_asked world events a.finds p
-    → told ≡ is_told a.must_halt book → written_asked a.write ≡ Some written → IsAsFor written p.loose events size p.upto p.ticks book text → IsPut text → IsExplored contents a told IsPut
-explored contents a world events p states size written book told text IsPut read ticks_are upto_is states_are loose_are put_in run counted is answer asked is_as_asked put = record {
+    → loose_asked world.consoles a.anywhere ≡ Some p.loose → can_be_put (a.all || a.outcomes) p.upto (length p.loose) ≡ true
+    → are_run a.all a.outcomes (length (schedules_of p)) (length events + (p.ticks + length p.loose)) ≡ true → book ≡ book_asked world events a.finds p
+    → told ≡ is_told a.must_halt book → written_asked a.write ≡ Some written → IsAsFor written p.loose events p.upto p.ticks book text → IsPut text → IsExplored contents a told IsPut
+explored contents a world events p states written book told text IsPut read ticks_are upto_is states_are loose_are put_in run is answer asked is_as_asked put = record {
   world = world;
   events = events;
   put_in = p;
@@ -96,6 +96,6 @@ explored contents a world events p states size written book told text IsPut read
   answer = answer ∙ ap (is_told a.must_halt) is;
   asked = asked;
   text = text;
-  is_as_asked = subst (λ n. IsAsFor written p.loose events n p.upto p.ticks (book_asked world events a.finds p) text) counted (subst (λ b. IsAsFor written p.loose events size p.upto p.ticks b text) is is_as_asked);
+  is_as_asked = subst (λ b. IsAsFor written p.loose events p.upto p.ticks b text) is is_as_asked;
   put = put;
 }

@@ -7,6 +7,7 @@ use Rattle.schedules.specs.Schedules.{scheduled}
 use Rattle.schedules.specs.EventLines.{StandsFor}
 use Rattle.counting.specs.declared.ending.Endings.{Endings}
 use Rattle.counting.specs.Books.{BookView}
+use Rattle.counting.specs.Numbers.{in_decimal}
 use Rattle.counting.specs.Tallies.{TallyView}
 use Rattle.counting.specs.Texts.{FindView}
 use Rattle.exploring.specs.declared.words.Written.{Written}
@@ -18,9 +19,9 @@ use Rattle.exploring.specs.declared.words.Written.TheVariants as written
 abbrev pub plural : ℕ → List ℕ
 plural count = if count == 1 then [] else codes "s"
 
--- a number in digits, behind blanks up to eight places
+-- a count in digits, behind blanks up to eight places
 abbrev pub to_the_right : ℕ → List ℕ
-to_the_right number = replicate (8 - length (decimal number)) 32 ++ decimal number
+to_the_right count = replicate (8 - length (in_decimal count)) 32 ++ in_decimal count
 
 -- the parts of a line, behind so many loose events, if there are any
 abbrev pub with_loose : ℕ → List (List ℕ) → List (List ℕ)
@@ -28,7 +29,7 @@ with_loose loose parts = if loose == 0 then parts else codes " and " ∷ decimal
 
 -- how many schedules there are
 abbrev pub size_line : ℕ → ℕ → ℕ → ℕ → List ℕ
-size_line size upto ticks loose = concat (decimal size ∷ codes " schedule" ∷ plural size ∷ codes ": at most " ∷ decimal ticks ∷ codes " tick" ∷ plural ticks
+size_line size upto ticks loose = concat (in_decimal size ∷ codes " schedule" ∷ plural size ∷ codes ": at most " ∷ decimal ticks ∷ codes " tick" ∷ plural ticks
     ∷ with_loose loose (codes ", each before one of the first " ∷ decimal upto ∷ codes " event" ∷ plural upto ∷ codes "\n" ∷ []))
 
 -- how many of them end so
@@ -51,7 +52,7 @@ first_lines size upto ticks loose e = size_line size upto ticks loose
 
 -- how many schedules have a text
 abbrev pub find_line : List ℕ → ℕ → List ℕ
-find_line text count = concat (codes "\n`" ∷ text ∷ codes "` is in " ∷ decimal count ∷ codes " schedule" ∷ plural count ∷ codes "\n" ∷ [])
+find_line text count = concat (codes "\n`" ∷ text ∷ codes "` is in " ∷ in_decimal count ∷ codes " schedule" ∷ plural count ∷ codes "\n" ∷ [])
 
 -- ---- the first schedule of a count
 
@@ -92,12 +93,12 @@ pub record AreOfFamily (upto ticks loose : ℕ) (b : BookView) : Type 0 where
   pub finds : All (λ f. IsFirstOf upto ticks loose f.tally) b.finds
 
 -- The text tells of the schedules of a family what the book does, and then of their outcomes, of which nothing is said.
-pub record Reports (loose events : List Event) (size upto ticks : ℕ) (b : BookView) (text : List ℕ) : Type 0 where
+pub record Reports (loose events : List Event) (upto ticks : ℕ) (b : BookView) (text : List ℕ) : Type 0 where
   pub at_rest : List ℕ
   pub going : List ℕ
   pub finds : List ℕ
   pub outcomes : List ℕ
-  pub whole : text ≡ first_lines size upto ticks (length loose) b.endings ++ (at_rest ++ (going ++ (finds ++ outcomes)))
+  pub whole : text ≡ first_lines b.total upto ticks (length loose) b.endings ++ (at_rest ++ (going ++ (finds ++ outcomes)))
   pub shows_at_rest : ShowsFirst loose events (first_that (codes "comes to rest")) b.endings.at_rest.first at_rest
   pub shows_going : ShowsFirst loose events (first_that (codes "is still going")) b.endings.going.first going
   pub shows_finds : ShowsFinds loose events b.finds finds
@@ -123,12 +124,12 @@ abbrev pub StandsForSome : List Event → List Event → ℕ → ℕ → List �
 StandsForSome loose events upto ticks text = (text ≡ []) ⊎ ((ps : Spots) × IsSchedule upto ticks (length loose) ps × StandsFor text (scheduled loose events ps))
 
 -- The text is what is to be written.
-abbrev pub IsAsFor : Written → List Event → List Event → ℕ → ℕ → ℕ → BookView → List ℕ → Type 0
-IsAsFor written.Report loose events size upto ticks b text = Reports loose events size upto ticks b text
-IsAsFor written.Rest loose events size upto ticks b text = StandsForFirst loose events b.endings.at_rest.first text
-IsAsFor written.Going loose events size upto ticks b text = StandsForFirst loose events b.endings.going.first text
-IsAsFor written.Find loose events size upto ticks b text = StandsForFirst loose events (first_found b.finds) text
-IsAsFor (written.Outcome number) loose events size upto ticks b text = StandsForSome loose events upto ticks text
+abbrev pub IsAsFor : Written → List Event → List Event → ℕ → ℕ → BookView → List ℕ → Type 0
+IsAsFor written.Report loose events upto ticks b text = Reports loose events upto ticks b text
+IsAsFor written.Rest loose events upto ticks b text = StandsForFirst loose events b.endings.at_rest.first text
+IsAsFor written.Going loose events upto ticks b text = StandsForFirst loose events b.endings.going.first text
+IsAsFor written.Find loose events upto ticks b text = StandsForFirst loose events (first_found b.finds) text
+IsAsFor (written.Outcome number) loose events upto ticks b text = StandsForSome loose events upto ticks text
 
 -- nothing, where there is no text
 abbrev pub bytes_put : Option (List ℕ) → List ℕ

@@ -14,7 +14,7 @@ use Rattle.inputs.specs.declared.words.NoRequest.TheVariants as no_request
 use Rattle.merging.specs.declared.search.Stop.{Stop}
 use Rattle.merging.specs.declared.search.Stop.TheVariants as stop
 use Rattle.exploring.specs.declared.serving.Failure.{Failure}
-use Rattle.exploring.specs.declared.serving.Failure.TheVariants.{Usage, Ticks, Upto, States, UptoAbove, NotOneEvent, TooMuchPutIn, NoEventBehind, AllAnywhere, OutcomesAnywhere, Which, TooManyOutcomes, TooManyForAll, TooManySchedules, TooManyEvents, ManyStates, Input, Memory, Write}
+use Rattle.exploring.specs.declared.serving.Failure.TheVariants.{Usage, Ticks, Upto, States, UptoAbove, NotOneEvent, TooManyAnywhere, NoEventBehind, AllAnywhere, OutcomesAnywhere, Which, TooManyOutcomes, TooManyForAll, TooManyEvents, ManyStates, Input, Memory, Write}
 use Rattle.counting.specs.Books.{BookView}
 use Rattle.counting.specs.Counts.{book_over}
 use Rattle.exploring.specs.declared.words.Written.{Written}
@@ -27,19 +27,18 @@ use Rattle.exploring.specs.Words.{Asked, Put, family_asked, request_of_words, ti
 abbrev pub status_of : Failure → ℕ
 status_of (Input why) = status_of_input why
 status_of Usage = 2
-status_of Ticks = 2
+status_of (Ticks most) = 2
 status_of Upto = 2
 status_of (States most) = 2
 status_of (UptoAbove upto events) = 2
 status_of NotOneEvent = 2
-status_of (TooMuchPutIn most) = 2
+status_of (TooManyAnywhere most) = 2
 status_of NoEventBehind = 2
 status_of AllAnywhere = 2
 status_of OutcomesAnywhere = 2
 status_of Which = 2
 status_of (TooManyOutcomes schedules given) = 2
 status_of (TooManyForAll most) = 2
-status_of (TooManySchedules most) = 2
 status_of (TooManyEvents longest most) = 2
 status_of (ManyStates most place) = 3
 status_of Memory = 3
@@ -91,7 +90,7 @@ pub record IsExplored (contents : Contents) (a : Asked) (told : Bool) (IsPut : L
   pub answer : told ≡ is_told a.must_halt (book_asked world events a.finds put_in)
   pub asked : written_asked a.write ≡ Some written
   pub text : List ℕ
-  pub is_as_asked : IsAsFor written put_in.loose events (length (schedules_of put_in)) put_in.upto put_in.ticks (book_asked world events a.finds put_in) text
+  pub is_as_asked : IsAsFor written put_in.loose events put_in.upto put_in.ticks (book_asked world events a.finds put_in) text
   pub put : IsPut text
 
 -- A number that is asked for is out of range, a word isn't an event or a schedule, or there are too many schedules.

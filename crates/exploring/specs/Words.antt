@@ -167,7 +167,7 @@ up_to most number = option_and_then (λ n. if nat_le n most then Some n else Non
 -- at most so many ticks: 2, if not named
 abbrev pub ticks_asked : Option Text → Option ℕ
 ticks_asked None = Some 2
-ticks_asked (Some word) = up_to 32 (number_of word)
+ticks_asked (Some word) = up_to 1000000 (number_of word)
 
 -- before the first so many events: all, if not named
 abbrev pub upto_asked : ℕ → Option Text → Option ℕ
@@ -184,10 +184,10 @@ states_asked (Some word) = up_to 10000000 (number_of word)
 abbrev pub are_run_each : Bool → ℕ → ℕ → Bool
 are_run_each all size longest = nat_le size (2 ^ 64 - 1) && (all || nat_le size 10000000 && nat_le (size * longest) 10000000000)
 
--- So many schedules are told of, the longest of so many events: not more than can be at all, and where outcomes are to be told, not more than are run
--- one after another.
+-- So many schedules are told of, the longest of so many events: it isn't too long for a run, and where outcomes are to be told, these are not more
+-- than are run one after another.
 abbrev pub are_run : Bool → Bool → ℕ → ℕ → Bool
-are_run all outcomes size longest = nat_le size (2 ^ 128 - 1) && nat_le longest 1000000000000 && (not outcomes || are_run_each all size longest)
+are_run all outcomes size longest = nat_le longest 1000000000000 && (not outcomes || are_run_each all size longest)
 
 -- what is put in: before how many events, how many ticks at most, and which events once each
 pub record Put : Type 0 where
@@ -207,13 +207,13 @@ abbrev pub loose_asked : ℕ → List Text → Option (List Event)
 loose_asked consoles [] = Some []
 loose_asked consoles (word ∷ words) = option_and_then (λ event. option_map (λ events. event ∷ events) (loose_asked consoles words)) (only (event_text consoles word))
 
--- So many ticks and loose events can be put in: there is an event that the loose ones stand before, and schedules aren't to be run one after another.
-abbrev pub can_be_put : Bool → ℕ → ℕ → ℕ → Bool
-can_be_put each upto ticks loose = nat_le (ticks + loose) 32 && (loose == 0 || not (upto == 0) && not each)
+-- So many loose events can be put in: there is an event that they stand before, and schedules aren't to be run one after another.
+abbrev pub can_be_put : Bool → ℕ → ℕ → Bool
+can_be_put each upto loose = nat_le loose 32 && (loose == 0 || not (upto == 0) && not each)
 
 -- So many of so many events are put in, and the schedules can be told of, one after another with `--all`, and by outcomes with `--outcomes`.
 abbrev pub fits : Bool → Bool → ℕ → Put → Bool
-fits all outcomes events p = can_be_put (all || outcomes) p.upto p.ticks (length p.loose)
+fits all outcomes events p = can_be_put (all || outcomes) p.upto (length p.loose)
     && are_run all outcomes (length (family p.upto p.ticks (length p.loose))) (events + (p.ticks + length p.loose))
 
 abbrev pub if_fits : Bool → Bool → ℕ → Put → Option Put

@@ -5,12 +5,13 @@ ghost use Rattle.std.specs.String.{string_bytes};
 ghost use Rattle.schedules.specs.Families.{IsSchedule};
 ghost use Rattle.schedules.specs.Schedules.{scheduled as scheduled_events};
 ghost use Rattle.schedules.specs.EventLines.{AddsText};
-ghost use Rattle.exploring.specs.Reports.{Adds, AreOfFamily, IsFirstOf, Reports, ShowsFind, ShowsFinds, ShowsFirst, at_rest_lines, ending_line, first_lines, first_that, plural as plural_of, size_line};
+ghost use Rattle.exploring.specs.Reports.{Adds, AreOfFamily, IsFirstOf, Reports, ShowsFind, ShowsFinds, ShowsFirst, at_rest_lines, ending_line, first_lines, first_that, plural as plural_of, size_line, to_the_right as right_aligned};
 
 use crate::apart::{Unlike, first_unlike};
 use crate::turns::turns_of;
 use counting::{
-    Book, Ending, Endings, Family, Find, Line, Tally, events_of, is_schedule, run_schedule,
+    Book, Count, Ending, Endings, Family, Find, Line, Outcome, Tally, events_of, is_schedule,
+    run_schedule,
 };
 use schedules::write_events;
 use std::alloc::{AllocError, Global};
@@ -25,10 +26,17 @@ const MOST_SHOWN: usize = 20;
 const LAST_LINES: usize = 6;
 
 /// `s`, or nothing behind one.
-pub fn plural(count: u128) -> &'static str
+pub fn plural(count: u64) -> &'static str
     ensures { result.now ≡ plural_of count }
 {
     if count == 1 { "" } else { "s" }
+}
+
+/// The same behind a count.
+fn plural_behind(count: &Count) -> &'static str
+    ensures { result.now ≡ plural_of count.now }
+{
+    if count.is_one() { "" } else { "s" }
 }
 
 /// How a run ends, in words.
@@ -57,22 +65,19 @@ pub fn write_schedule(
 }
 
 /// Writes how many schedules there are.
-fn write_size(text: &mut String, family: &Family<'_>) -> Result<(), AllocError>
-    ensures { OnOk result (string_bytes text.new ≡ string_bytes text.old ++ size_line family.now.size family.now.upto family.now.ticks (length family.now.loose.now)) }
+fn write_size(text: &mut String, size: &Count, family: &Family<'_>) -> Result<(), AllocError>
+    ensures { OnOk result (string_bytes text.new ≡ string_bytes text.old ++ size_line size.now family.now.upto family.now.ticks (length family.now.loose.now)) }
 {
-    let (size, upto, ticks, loose) = (family.size, family.upto, family.ticks, family.loose.len());
-    let (s, t, e) = (
-        plural(size),
-        plural(ticks as u128),
-        plural(u128::from(upto)),
-    );
+    let (upto, ticks, loose) = (family.upto, family.ticks, family.loose.len());
+    let (s, t, e) = (plural_behind(size), plural(ticks as u64), plural(upto));
+    let size = size.to_text()?;
     if loose == 0 {
         return writeln!(
             text,
             "{size} schedule{s}: at most {ticks} tick{t}, each before one of the first {upto} event{e}"
         );
     }
-    let l = plural(loose as u128);
+    let l = plural(loose as u64);
     write!(text, "{size} schedule{s}: at most {ticks} tick{t} and ")?;
     writeln!(
         text,
@@ -80,11 +85,23 @@ fn write_size(text: &mut String, family: &Family<'_>) -> Result<(), AllocError>
     )
 }
 
-/// Writes how many of them end so.
-fn write_ending(text: &mut String, count: u128, words: &str) -> Result<(), AllocError>
-    ensures { OnOk result (string_bytes text.new ≡ string_bytes text.old ++ ending_line count words.now) }
+/// Writes a count in digits, behind blanks up to eight places.
+fn write_to_the_right(text: &mut String, count: &Count) -> Result<(), AllocError>
+    ensures { OnOk result (string_bytes text.new ≡ string_bytes text.old ++ right_aligned count.now) }
 {
-    writeln!(text, "{count:>8} {words}")
+    let digits = count.to_text()?;
+    for _blank in 0..8_usize.saturating_sub(digits.len()) {
+        text.push(' ')?;
+    }
+    text.push_str(digits.as_str())
+}
+
+/// Writes how many of them end so.
+fn write_ending(text: &mut String, count: &Count, words: &str) -> Result<(), AllocError>
+    ensures { OnOk result (string_bytes text.new ≡ string_bytes text.old ++ ending_line count.now words.now) }
+{
+    write_to_the_right(text, count)?;
+    writeln!(text, " {words}")
 }
 
 /// Writes how many come to rest, and how many of these wait for an alarm, if any do.
@@ -94,7 +111,7 @@ fn write_at_rest(text: &mut String, endings: &Endings) -> Result<(), AllocError>
     let resting = endings.at_rest.count();
     write_ending(text, resting, "come to rest: no process can act")?;
     let alarmed = endings.alarmed.count();
-    if alarmed == 0 {
+    if alarmed.is_zero() {
         return Ok(());
     }
     write_ending(text, alarmed, "of these wait for an alarm: give ticks")
@@ -103,12 +120,13 @@ fn write_at_rest(text: &mut String, endings: &Endings) -> Result<(), AllocError>
 /// Writes how many schedules there are, and how they end.
 fn write_endings(
     text: &mut String,
+    size: &Count,
     family: &Family<'_>,
     endings: &Endings,
 ) -> Result<(), AllocError>
-    ensures { OnOk result (string_bytes text.new ≡ string_bytes text.old ++ first_lines family.now.size family.now.upto family.now.ticks (length family.now.loose.now) endings.now) }
+    ensures { OnOk result (string_bytes text.new ≡ string_bytes text.old ++ first_lines size.now family.now.upto family.now.ticks (length family.now.loose.now) endings.now) }
 {
-    write_size(text, family)?;
+    write_size(text, size, family)?;
     write_ending(text, endings.halted.count(), "halt")?;
     write_at_rest(text, endings)?;
     write_ending(text, endings.going.count(), "are still going")
@@ -146,7 +164,8 @@ fn write_find(
 {
     let sought = find.text();
     let count = find.tally().count();
-    let s = plural(count);
+    let s = plural_behind(count);
+    let count = count.to_text()?;
     writeln!(text, "\n`{sought}` is in {count} schedule{s}")?;
     let Some(spots) = find.tally().first() else {
         return Ok(());
@@ -260,16 +279,13 @@ fn write_outcome(
     family: &Family<'_>,
     listing: &Listing<'_>,
     number: usize,
-    outcome: &Tally,
+    outcome: &Outcome,
     first: Option<&[Line]>,
 ) -> Result<Vec<Line>, AllocError> {
     let count = outcome.count();
     let s = plural(count);
     write!(text, "\n{number}. {count} schedule{s}")?;
-    match outcome.first() {
-        Some(spots) => write_run(alloc, text, family, listing, spots, first),
-        None => Ok(Vec::new(alloc)),
-    }
+    write_run(alloc, text, family, listing, outcome.first(), first)
 }
 
 /// Writes the most frequent outcomes.
@@ -278,7 +294,7 @@ fn write_some(
     text: &mut String,
     family: &Family<'_>,
     listing: &Listing<'_>,
-    outcomes: &[&Tally],
+    outcomes: &[&Outcome],
 ) -> Result<(), AllocError> {
     let Some((first, others)) = outcomes.split_first() else {
         return Ok(());
@@ -301,7 +317,7 @@ fn outcomes_of(
     let mut text = String::new(alloc);
     let states = book.states();
     if states > 0 {
-        let s = plural(u128::from(states));
+        let s = plural(states);
         writeln!(
             text,
             "\ntold apart by {states} state{s} where no more is put in"
@@ -310,7 +326,7 @@ fn outcomes_of(
     }
     let outcomes = book.outcomes().by_count()?;
     let count = outcomes.len();
-    let s = plural(count as u128);
+    let s = plural(count as u64);
     writeln!(text, "\n{count} outcome{s}")?;
     let shown = count.min(MOST_SHOWN);
     write_some(
@@ -335,11 +351,11 @@ pub fn report(
     book: &Book<'_>,
 ) -> Result<String, AllocError>
     requires { AreOfFamily family.now.upto family.now.ticks (length family.now.loose.now) book.now }
-    ensures { IfOk result (λ text. Reports family.now.loose.now family.now.events.now family.now.size family.now.upto family.now.ticks book.now (string_bytes text)) }
+    ensures { IfOk result (λ text. Reports family.now.loose.now family.now.events.now family.now.upto family.now.ticks book.now (string_bytes text)) }
 {
     let mut text = String::new(alloc);
     let endings = book.endings();
-    write_endings(&mut text, family, endings)?;
+    write_endings(&mut text, book.total(), family, endings)?;
     let (resting, going) = (&endings.at_rest, &endings.going);
     write_first(alloc, &mut text, family, listing, "comes to rest", resting)?;
     write_first(alloc, &mut text, family, listing, "is still going", going)?;

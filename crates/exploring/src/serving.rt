@@ -1,6 +1,6 @@
 //! What the program does: its texts and its statuses.
 
-ghost use Rattle.std.specs.Prelude.{◌≡◌, ◌⊎◌, ◌+◌, ◌≤◌, ◌||◌, false, true, List, [], length, Result, Err, MatchResult, None, OnErr, OnOk, Some, map, option_map};
+ghost use Rattle.std.specs.Prelude.{◌≡◌, ◌⊎◌, ◌+◌, ◌<◌, ◌≤◌, ◌||◌, false, true, List, [], length, Result, Err, MatchResult, IfOk, IfSome, IsNone, None, OnErr, OnOk, Some, map, option_map};
 ghost use Rattle.std.specs.String.{string_bytes};
 ghost use Rattle.sink.specs.Sinks.{BreaksOff, TakesAll};
 ghost use Rattle.inputs.specs.declared.command_line.WordsFault.{WordsFault};
@@ -22,7 +22,7 @@ use inputs::{InputFault, NoRequest, ReadFiles, WordsFault, number, read_inputs, 
 use kernel::{Sink, SinkFault, put_all};
 use merging::{Stop, merge};
 use posix::Event;
-use schedules::family_size;
+use schedules::{MOST_LOOSE, MOST_TICKS, family_size};
 use std::alloc::{AllocError, Global};
 use std::fmt::Write;
 use text::{Reason, TextFault, read_events};
@@ -33,8 +33,8 @@ use thiserror::Error;
 enum Failure<'a> {
     #[error("usage: jobk explore WORLD EVENTS [--ticks K] [--upto N] [--states N] [--anywhere EVENT].. [--find TEXT].. [--must-halt] [--all] [--outcomes] [--write WHICH]")]
     Usage,
-    #[error("jobk: --ticks takes a number from 0 to 32")]
-    Ticks,
+    #[error("jobk: --ticks takes a number from 0 to {0}")]
+    Ticks(usize),
     #[error("jobk: --upto takes a number")]
     Upto,
     #[error("jobk: --states takes a number up to {0}")]
@@ -43,8 +43,8 @@ enum Failure<'a> {
     UptoAbove(u64, u64),
     #[error("jobk: --anywhere takes one event, as a line of an event text has it")]
     NotOneEvent,
-    #[error("jobk: --ticks and --anywhere put in at most {0} events")]
-    TooMuchPutIn(usize),
+    #[error("jobk: --anywhere is for at most {0} events")]
+    TooManyAnywhere(usize),
     #[error("jobk: --anywhere needs an event to stand before")]
     NoEventBehind,
     #[error("jobk: --all runs schedules one after another, which --anywhere doesn't")]
@@ -54,11 +54,9 @@ enum Failure<'a> {
     #[error("jobk: --write takes rest, going, find, or the number of an outcome")]
     Which,
     #[error("jobk: --outcomes tells of up to {0} schedules and {1} events in all: say fewer by --ticks or --upto")]
-    TooManyOutcomes(u128, u128),
+    TooManyOutcomes(u64, u64),
     #[error("jobk: --outcomes tells of up to {0} schedules with --all: say fewer by --ticks or --upto")]
     TooManyForAll(u64),
-    #[error("jobk: more than {0} schedules: say fewer by --ticks or --upto")]
-    TooManySchedules(u128),
     #[error("jobk: more than {0} states behind event {1}: say more by --states, or fewer ticks or places by --ticks or --upto")]
     ManyStates(usize, u64),
     #[error("jobk: schedules of up to {0} events: a run has at most {1}; say fewer by --ticks")]
@@ -71,12 +69,6 @@ enum Failure<'a> {
     Write,
 }
 
-/// A schedule has at most so many ticks.
-const MOST_TICKS: u64 = 32;
-
-/// At most so many ticks and loose events are put into one schedule.
-const MOST_PUT_IN: usize = 32;
-
 /// No more states than this can be kept before one event.
 const MOST_STATES: u64 = 10_000_000;
 
@@ -84,10 +76,10 @@ const MOST_STATES: u64 = 10_000_000;
 const MOST_OF_ALL: u64 = u64::MAX;
 
 /// More schedules than this are run one after another with `--all` alone.
-const MOST_SCHEDULES: u128 = 10_000_000;
+const MOST_SCHEDULES: u64 = 10_000_000;
 
 /// More events of all schedules than this are given one after another with `--all` alone.
-const MOST_GIVEN: u128 = 10_000_000_000;
+const MOST_GIVEN: u64 = 10_000_000_000;
 
 /// A run has at most so many events.
 const MOST_EVENTS: u64 = 1_000_000_000_000;
@@ -158,19 +150,18 @@ impl Failure<'_> {
         match self {
             Failure::Input(why) => why.status(),
             Failure::Usage
-            | Failure::Ticks
+            | Failure::Ticks(_)
             | Failure::Upto
             | Failure::States(_)
             | Failure::UptoAbove(_, _)
             | Failure::NotOneEvent
-            | Failure::TooMuchPutIn(_)
+            | Failure::TooManyAnywhere(_)
             | Failure::NoEventBehind
             | Failure::AllAnywhere
             | Failure::OutcomesAnywhere
             | Failure::Which
             | Failure::TooManyOutcomes(_, _)
             | Failure::TooManyForAll(_)
-            | Failure::TooManySchedules(_)
             | Failure::TooManyEvents(_, _) => 2,
             Failure::ManyStates(_, _) | Failure::Memory | Failure::Write => 3,
         }
@@ -180,15 +171,15 @@ impl Failure<'_> {
 /// How many ticks are put in at most: 2, if not named.
 fn ticks_of<'a>(word: Option<&str>) -> Result<usize, Failure<'a>>
     ensures { MatchResult result
-        (λ ticks. (ticks ≤ 32) × (ticks_asked (option_map (λ w. w.now) word.entry) ≡ Some ticks))
+        (λ ticks. (ticks ≤ MOST_TICKS) × (ticks_asked (option_map (λ w. w.now) word.entry) ≡ Some ticks))
         (λ why. (status_of why ≡ 2) × (ticks_asked (option_map (λ w. w.now) word.entry) ≡ None)) }
 {
     let Some(word) = word else {
         return Ok(2);
     };
     match number(word) {
-        Some(ticks) if ticks <= MOST_TICKS => Ok(ticks as usize),
-        _ => Err(Failure::Ticks),
+        Some(ticks) if ticks <= MOST_TICKS as u64 => Ok(ticks as usize),
+        _ => Err(Failure::Ticks(MOST_TICKS)),
     }
 }
 
@@ -284,22 +275,15 @@ fn events_of_words<'a>(
 
 /// Refuses loose events that can't be put in: too many, before no event, or into schedules that are run one after
 /// another, as they are with `--all` and `--outcomes`.
-fn fit_in<'a>(
-    loose: &[Event],
-    upto: u64,
-    ticks: usize,
-    all: bool,
-    outcomes: bool,
-) -> Result<(), Failure<'a>>
-    requires { ticks ≤ 32 }
+fn fit_in<'a>(loose: &[Event], upto: u64, all: bool, outcomes: bool) -> Result<(), Failure<'a>>
     ensures fit { MatchResult result
-        (λ _. can_be_put (all || outcomes) upto ticks (length loose.now) ≡ true)
-        (λ why. (status_of why ≡ 2) × (can_be_put (all || outcomes) upto ticks (length loose.now) ≡ false)) }
-    ensures few { OnOk result (ticks + length loose.now ≤ 32) }
+        (λ _. can_be_put (all || outcomes) upto (length loose.now) ≡ true)
+        (λ why. (status_of why ≡ 2) × (can_be_put (all || outcomes) upto (length loose.now) ≡ false)) }
+    ensures few { OnOk result (length loose.now ≤ MOST_LOOSE) }
     ensures placed { OnOk result (upto ≡ 0 → loose.now ≡ []) }
 {
-    if loose.len() > MOST_PUT_IN - ticks {
-        return Err(Failure::TooMuchPutIn(MOST_PUT_IN));
+    if loose.len() > MOST_LOOSE {
+        return Err(Failure::TooManyAnywhere(MOST_LOOSE));
     }
     if loose.is_empty() {
         return Ok(());
@@ -318,13 +302,28 @@ fn fit_in<'a>(
 
 /// Whether so many schedules, the longest of so many events, are run one after another: all that can be counted so, or those
 /// that take little time.
-fn are_run_each(size: u128, longest: u64, all: bool) -> bool
+fn are_run_each(size: u64, longest: u64, all: bool) -> bool
+    requires { longest ≤ most_events }
     ensures { result ≡ each_is_run all size longest }
 {
-    if size > u128::from(MOST_OF_ALL) {
-        return false;
+    all || (size <= MOST_SCHEDULES && size * longest <= MOST_GIVEN)
+}
+
+/// How many schedules there are, the longest of so many events, if they are run one after another.
+fn size_of_each(upto: u64, ticks: usize, loose: usize, longest: u64, all: bool) -> Option<u64>
+    requires ticks { ticks ≤ MOST_TICKS }
+    requires loose { loose ≤ MOST_LOOSE }
+    requires upto { upto ≤ most_events }
+    requires longest { longest ≤ most_events }
+    ensures some { IfSome result (λ size. (size ≡ length (family_of upto ticks loose)) × (each_is_run all (length (family_of upto ticks loose)) longest ≡ true)) }
+    ensures none { IsNone result → each_is_run all (length (family_of upto ticks loose)) longest ≡ false }
+{
+    let size = family_size(upto, ticks, loose, MOST_OF_ALL)?;
+    if are_run_each(size, longest, all) {
+        Some(size)
+    } else {
+        None
     }
-    all || (size <= MOST_SCHEDULES && size * u128::from(longest) <= MOST_GIVEN)
 }
 
 /// Why the outcomes of schedules that aren't run one after another can't be told.
@@ -338,8 +337,8 @@ fn no_outcomes<'a>(all: bool) -> Failure<'a>
     }
 }
 
-/// How many schedules there are, unless they are too many to be counted, or to be run one after another where outcomes are
-/// to be told, or one of them is too long.
+/// How many schedules are run one after another; none where states are gone on with in which they meet. Refuses schedules of
+/// which one is too long, and those whose outcomes are to be told and that aren't run one after another.
 fn size_of<'a>(
     upto: u64,
     ticks: usize,
@@ -347,44 +346,46 @@ fn size_of<'a>(
     events: u64,
     all: bool,
     outcomes: bool,
-) -> Result<u128, Failure<'a>>
-    requires few { ticks + loose ≤ 32 }
+) -> Result<Option<u64>, Failure<'a>>
+    requires ticks { ticks ≤ MOST_TICKS }
+    requires loose { loose ≤ MOST_LOOSE }
     requires upto { upto ≤ events }
     requires events { events ≤ most_events }
     ensures size { MatchResult result
-        (λ size. (size ≡ length (family_of upto ticks loose)) × (are_run all outcomes (length (family_of upto ticks loose)) (events + (ticks + loose)) ≡ true))
+        (λ size. IfSome size (λ n. n ≡ length (family_of upto ticks loose)) × (are_run all outcomes (length (family_of upto ticks loose)) (events + (ticks + loose)) ≡ true))
         (λ why. (status_of why ≡ 2) × (are_run all outcomes (length (family_of upto ticks loose)) (events + (ticks + loose)) ≡ false)) }
     ensures short { OnOk result (events + (ticks + loose) ≤ most_events) }
+    ensures none { IfOk result (λ size. 0 < loose → size ≡ None) }
 {
-    let most = u128::MAX;
     let longest = events + (ticks + loose) as u64;
-    let size = family_size(upto, ticks, loose, most).ok_or(Failure::TooManySchedules(most))?;
     if longest > MOST_EVENTS {
         return Err(Failure::TooManyEvents(longest, MOST_EVENTS));
     }
-    if outcomes && !are_run_each(size, longest, all) {
-        return Err(no_outcomes(all));
+    match size_of_each(upto, ticks, loose, longest, all) {
+        Some(size) if loose == 0 => Ok(Some(size)),
+        None if outcomes => Err(no_outcomes(all)),
+        _ => Ok(None),
     }
-    Ok(size)
 }
 
-/// The book of a family, by its schedules one after another, or by the states in which they meet, as always with loose
-/// events.
+/// The book of a family, by so many schedules one after another, or else by the states in which they meet, as always with
+/// loose events.
 fn book_of<'w, P: Progress>(
     alloc: Global,
     family: &Family<'_>,
-    request: &Request<'_, 'w>,
+    size: Option<u64>,
+    texts: &[&'w str],
     progress: &mut P,
 ) -> Result<Book<'w>, Failure<'w>>
+    requires size { IfSome size (λ n. n ≡ length (family_of family.now.upto family.now.ticks (length family.now.loose.now))) }
+    requires none { 0 < length family.now.loose.now → size ≡ None }
     ensures { MatchResult result
-        (λ book. book ≡ book_over family.now.world.now family.now.loose.now family.now.events.now (said request.now).finds (family_of family.now.upto family.now.ticks (length family.now.loose.now)))
+        (λ book. book ≡ book_over family.now.world.now family.now.loose.now family.now.events.now (map (λ t. t.now) texts.now) (family_of family.now.upto family.now.ticks (length family.now.loose.now)))
         (λ why. status_of why ≡ 3) }
 {
-    let longest = family.events.len() + family.ticks as u64;
-    if family.loose.is_empty() && are_run_each(family.size, longest, request.all) {
-        Ok(explore(alloc, family, request.finds, progress)?)
-    } else {
-        Ok(merge(alloc, family, request.finds, progress)?)
+    match size {
+        Some(size) => Ok(explore(alloc, family, size, texts, progress)?),
+        None => Ok(merge(alloc, family, texts, progress)?),
     }
 }
 
@@ -392,14 +393,16 @@ fn book_of<'w, P: Progress>(
 fn is_found(book: &Book<'_>) -> bool
     ensures { result ≡ has_found book.now }
 {
-    book.finds().iter().any(|find| find.tally().count() != 0)
+    book.finds()
+        .iter()
+        .any(|find| !find.tally().count().is_zero())
 }
 
 /// Whether all schedules halt.
 fn all_halt(book: &Book<'_>) -> bool
     ensures { result ≡ have_halted book.now }
 {
-    book.endings().at_rest.count() == 0 && book.endings().going.count() == 0
+    book.endings().at_rest.count().is_zero() && book.endings().going.count().is_zero()
 }
 
 /// Whether a schedule has a text that is looked for, or doesn't halt where all have to.
@@ -458,7 +461,8 @@ fn serve_request<'a, 'w, F: ReadFiles, O: Sink, E: Sink, P: Progress>(
     let put_in = events_of_words(alloc, inputs.world.consoles(), request.anywhere)?;
     let loose = put_in.as_slice();
     let (all, outcomes) = (request.all, request.outcomes);
-    fit_in(loose, upto, ticks, all, outcomes)?;
+    fit_in(loose, upto, all, outcomes)?;
+    let size = size_of(upto, ticks, loose.len(), inputs.events.len(), all, outcomes)?;
     let family = Family {
         world: &inputs.world,
         events: &inputs.events,
@@ -466,9 +470,8 @@ fn serve_request<'a, 'w, F: ReadFiles, O: Sink, E: Sink, P: Progress>(
         upto,
         ticks,
         states,
-        size: size_of(upto, ticks, loose.len(), inputs.events.len(), all, outcomes)?,
     };
-    let book = book_of(alloc, &family, request, progress)?;
+    let book = book_of(alloc, &family, size, request.finds, progress)?;
     let world_text = inputs.world_text.as_slice();
     let made = text_of(alloc, &family, world_text, &book, written);
     let is_told = is_told(request.must_halt, &book);

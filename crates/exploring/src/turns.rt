@@ -1,17 +1,16 @@
 //! Whose turn each tick takes that is put into a schedule.
 
-ghost use Rattle.std.specs.Prelude.{◌≡◌, ◌+◌, ◌-◌, ◌≤◌, IfOk, length};
+ghost use Rattle.std.specs.Prelude.{◌≡◌, ◌+◌, ◌≤◌, length};
 ghost use Rattle.posix.specs.Regular.{IsRegular};
 ghost use Rattle.posix.specs.Settle.{IsSettled};
 ghost use Rattle.text.specs.EventTexts.{most_events};
 ghost use Rattle.schedules.specs.Families.{IsSchedule};
 
-use counting::{Family, run_all, run_one};
+use counting::{Family, events_between, run_all, run_one};
 use kernel::Kernel;
 use posix::SigSet;
 use schedules::{Remark, is_tick, place_of, put_at};
 use std::alloc::{AllocError, Global};
-use text::EventList;
 use wording::{Listing, Prose, put_place};
 
 /// Writes whose turn it is, and where that process stands.
@@ -56,28 +55,6 @@ fn add_turn(
     let text = String::from_utf8_lossy(alloc, turn.as_bytes()?)?;
     turns.push(Remark { place, text })?;
     Ok(())
-}
-
-/// The events of a list from one place up to another.
-fn events_between(
-    alloc: Global,
-    events: &EventList,
-    from: u64,
-    to: u64,
-) -> Result<EventList, AllocError>
-    requires few { length events.now ≤ most_events }
-    requires from { from ≤ length events.now }
-    ensures { IfOk result (λ part. from + length part ≤ length events.now) }
-{
-    let mut part = EventList::new(alloc);
-    let mut before = 0;
-    for run in events.runs() {
-        let first = from.max(before);
-        before += run.count();
-        let last = to.min(before);
-        part.push(run.event(), last.saturating_sub(first))?;
-    }
-    Ok(part)
 }
 
 /// Runs a schedule of a family up to its last spot, and adds whose turn each tick takes.

@@ -9,7 +9,7 @@ ghost use Rattle.exploring.specs.Reports.{AreOfFamily, IsAsFor, StandsForSome, S
 
 use crate::report::{report, write_schedule};
 use crate::words::Written;
-use counting::{Book, Family, Find, Tally, is_schedule};
+use counting::{Book, Family, Find, Outcome, is_schedule};
 use std::alloc::{AllocError, Global};
 use wording::Listing;
 
@@ -56,9 +56,10 @@ fn first_found<'a>(finds: &'a [Find<'_>]) -> Option<&'a [u64]>
 }
 
 /// The first schedule of the outcome with this number, from 1, if there is such an outcome.
-fn first_numbered<'a>(outcomes: &[&'a Tally], number: u64) -> Option<&'a [u64]> {
+fn first_numbered<'a>(outcomes: &[&'a Outcome], number: u64) -> Option<&'a [u64]> {
     let place = number.checked_sub(1)?;
-    outcomes.get(place as usize)?.first()
+    let outcome = outcomes.get(place as usize)?;
+    Some(outcome.first())
 }
 
 /// The text of the events of the first schedule of an outcome, if there is such an outcome.
@@ -89,7 +90,7 @@ pub fn text_of(
     written: Written,
 ) -> Result<Option<String>, AllocError>
     requires { AreOfFamily family.now.upto family.now.ticks (length family.now.loose.now) book.now }
-    ensures { IfOk result (λ text. IsAsFor written family.now.loose.now family.now.events.now family.now.size family.now.upto family.now.ticks book.now (bytes_put (option_map string_bytes text))) }
+    ensures { IfOk result (λ text. IsAsFor written family.now.loose.now family.now.events.now family.now.upto family.now.ticks book.now (bytes_put (option_map string_bytes text))) }
 {
     let listing = Listing::new(alloc, world_text)?;
     let endings = book.endings();

@@ -32,11 +32,11 @@ impl<'a> Person<'a> {
     }
 }
 
-/// How many seconds the other schedules take, where so many took so long.
-fn seconds_left(passed: Duration, done: u128, size: u128) -> u128 {
+/// How many seconds the others take, where so many took so long.
+fn seconds_left(passed: Duration, done: u64, size: u64) -> u128 {
     let left = size.saturating_sub(done);
-    let all = u128::from(passed.as_secs()).saturating_mul(left);
-    all.checked_div(done).unwrap_or(0)
+    let all = u128::from(passed.as_secs()) * u128::from(left);
+    all.checked_div(u128::from(done)).unwrap_or(0)
 }
 
 impl Person<'_> {
@@ -56,7 +56,7 @@ impl Person<'_> {
 }
 
 impl Progress for Person<'_> {
-    fn run(&mut self, done: u128, size: u128) {
+    fn run(&mut self, done: u64, size: u64) {
         if let Some(passed) = self.passed() {
             let left = seconds_left(passed, done, size);
             let _ = eprintln!(self.rt;
@@ -66,8 +66,11 @@ impl Progress for Person<'_> {
     }
 
     fn reach(&mut self, events: u64, upto: u64, states: u64) {
-        if self.passed().is_some() {
-            let _ = eprintln!(self.rt; "jobk: {events} of {upto} events, {states} states");
+        if let Some(passed) = self.passed() {
+            let left = seconds_left(passed, events, upto);
+            let _ = eprintln!(self.rt;
+                "jobk: {events} of {upto} events, {states} states, some {left} seconds left"
+            );
         }
     }
 }

@@ -1,16 +1,17 @@
 -- The nodes of a layer: what is kept where one is put in place of another, comes to them, or has its reads counted.
-use Rattle.std.proofs.Common.{◌≡◌, ℕ, zero, suc, ◌+◌, ◌-◌, ◌<◌, ◌≤◌, List, [], ◌∷◌, ◌++◌, length, Some, refl, ap, ap₂, sym, subst, ◌∙◌, arith, slice_get, slice_set, get_or}
+use Rattle.std.proofs.Common.{◌≡◌, ℕ, zero, suc, ◌+◌, ◌-◌, ◌<◌, List, [], ◌∷◌, ◌++◌, length, Some, refl, ap, ap₂, sym, subst, ◌∙◌, arith, slice_get, slice_set, get_or}
 use Rattle.std.specs.List.{All}
 use Rattle.std.proofs.lemmas.List.Elements.{All-cons, All-head, All-push, All-set, All-tail}
 use Rattle.std.proofs.lemmas.Option.{get_or_from_slice_get, slice_get_within}
-use Rattle.posix.specs.States.{State, World, boot}
 use Rattle.posix.specs.Regular.{IsRegular}
 use Rattle.posix.specs.Settle.{IsSettled}
+use Rattle.posix.specs.States.{State, World, boot}
+use Rattle.schedules.specs.Families.{Spots}
+use Rattle.counting.specs.Courses.{course_from}
+use Rattle.counting.specs.Tallies.{TallyView, both, no_schedules}
 use Rattle.merging.specs.declared.node.Node.{Node}
 use Rattle.merging.specs.declared.search.Search.{Search}
-use Rattle.counting.specs.Courses.{course_from}
-use Rattle.merging.specs.Merging.{AreSameNodes, IsNode, IsOne, IsSameNode, Outlook, behind, goes_on_once, tally_of_node, tally_of_nodes, world_of}
-use Rattle.counting.specs.Tallies.{TallyView, no_schedules, both}
+use Rattle.merging.specs.Merging.{AreSameNodes, IsNode, IsOne, IsSameNode, Outlook, behind, tally_of_node, tally_of_nodes, world_of}
 use Rattle.merging.proofs.TallyLemmas.{both_regrouped, both_swapped}
 use Rattle.merging.proofs.WorldLemmas.{course_keeps_world}
 
@@ -56,15 +57,15 @@ pub one_still : (n m k l : Node) → IsSameNode n m → IsSameNode k l → IsOne
 one_still n m k l a b one = record {
   state = a.state ∙ one.state ∙ sym b.state;
   marks = ap (λ v. v.items) a.marks ∙ one.marks ∙ ap (λ v. v.items) (sym b.marks);
-  spots = ap (λ ps. length ps.items) a.spots ∙ one.spots ∙ ap (λ ps. length ps.items) (sym b.spots);
+  spots = ap (λ (ps : Spots). length ps) a.spots ∙ one.spots ∙ ap (λ (ps : Spots). length ps) (sym b.spots);
   left = ap (λ v. v.items) a.left ∙ one.left ∙ ap (λ v. v.items) (sym b.left);
 }
 
 pub tally_same : (n m : Node) (go_on : Outlook) (most : ℕ) → IsSameNode n m → tally_of_node go_on most m ≡ tally_of_node go_on most n
 tally_same n m go_on most same =
-    ap (λ c. behind c m.spots.items (go_on (most - length m.spots.items) m.left.items m.kernel.state m.marks.items)) same.count
-    ∙ ap₂ (λ ps kinds. behind n.count ps.items (go_on (most - length ps.items) kinds.items m.kernel.state m.marks.items)) same.spots same.left
-    ∙ ap₂ (λ s v. behind n.count n.spots.items (go_on (most - length n.spots.items) n.left.items s v.items)) same.state same.marks
+    ap (λ c. behind c m.spots (go_on (most - length m.spots) m.left.items m.kernel.state m.marks.items)) same.count
+    ∙ ap₂ (λ (ps : Spots) kinds. behind n.count ps (go_on (most - length ps) kinds.items m.kernel.state m.marks.items)) same.spots same.left
+    ∙ ap₂ (λ s v. behind n.count n.spots (go_on (most - length n.spots) n.left.items s v.items)) same.state same.marks
 
 pub tallies_same : (ns ms : List Node) (go_on : Outlook) (most : ℕ) → AreSameNodes ns ms → tally_of_nodes go_on most ms ≡ tally_of_nodes go_on most ns
 tallies_same [] ms go_on most same = ap (tally_of_nodes go_on most) same
@@ -76,7 +77,7 @@ node_same search place least n m same is =
     let events = is.events in
     let fewest = is.least in
     let few = is.few in
-    let spots = ap (λ ps. length ps.items) same.spots in
+    let spots = ap (λ (ps : Spots). length ps) same.spots in
     record {
       reached = same.state ∙ is.reached ∙ ap (λ xs. (course_from 1 (boot (world_of search)) xs).last) (sym same.given);
       regular = subst IsRegular (sym same.state) is.regular;
@@ -122,12 +123,6 @@ tallies_more (k ∷ ns) n go_on most =
     ap (both (tally_of_node go_on most k)) (tallies_more ns n go_on most)
     ∙ sym (both_regrouped (tally_of_node go_on most k) (tally_of_nodes go_on most ns) (tally_of_node go_on most n))
 
--- a node's beginnings are among those of all
-pub count_within : (ns : List Node) (i : ℕ) (n : Node) (most : ℕ) → slice_get ns i ≡ Some n → n.count ≤ (tally_of_nodes goes_on_once most ns).count
-count_within [] i n most e = cc
-count_within (k ∷ ns) zero n most e = let is : n ≡ k = cc in omega (arith, ap (λ (x : Node). x.count) is)
-count_within (k ∷ ns) (suc i) n most e = let rest = count_within ns i n most e in omega (arith, rest)
-
 -- ---- a node comes to a layer
 
 -- what was found and what is written to is one node
@@ -136,14 +131,6 @@ found_is ns i n m e is = e ∙ ap (λ (x : Node). Some x) (sym (is ∙ get_or_fr
 
 pub joined_one : (ns : List Node) (i : ℕ) (n m k : Node) → slice_get ns i ≡ Some n → m ≡ get_or ns i m → IsOne n k → IsOne m k
 joined_one ns i n m k e is one = subst (λ (x : Node). IsOne x k) (sym (is ∙ get_or_from_slice_get ns i n m e)) one
-
--- it is joined to one of them
-pub joined_fits : (limit most : ℕ) (olds ns : List Node) (i : ℕ) (old new here : Node) → AreSameNodes olds ns → IsSameNode old new → slice_get ns i ≡ Some here
-    → (tally_of_nodes goes_on_once most olds).count + old.count < limit → here.count + new.count < limit
-joined_fits limit most olds ns i old new here all same e fits =
-    let within = count_within ns i here most e in
-    let was = ap (λ (t : TallyView). t.count) (tallies_same olds ns goes_on_once most all) in
-    omega (arith, within, was, same.count, fits)
 
 pub joined_tallies : (go_on : Outlook) (most : ℕ) (olds ns : List Node) (i : ℕ) (old new here joined : Node) → AreSameNodes olds ns → IsSameNode old new → slice_get ns i ≡ Some here
     → tally_of_node go_on most joined ≡ both (tally_of_node go_on most here) (tally_of_node go_on most new)

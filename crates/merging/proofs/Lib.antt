@@ -1,3 +1,4 @@
+mod SpotLemmas
 mod TallyLemmas
 mod MergeLemmas
 mod OutlookLemmas
@@ -9,3 +10,4 @@ mod RowLemmas
 mod NodeCountLemmas
 mod NodeBookLemmas
 mod MergedLemmas
+mod StillLemmas

@@ -4,25 +4,25 @@ use Rattle.std.specs.Prelude.{count_by, nat_lt, slice_get, IfSome}
 use Rattle.std.specs.List.{All, AllPairs, list_any}
 use Rattle.std.proofs.lemmas.Bool.Decides.{nat_tests}
 use Rattle.std.proofs.lemmas.List.{map-append}
-use Rattle.std.proofs.lemmas.List.Elements.{All-head, All-tail, All-append, All-weaker}
+use Rattle.std.proofs.lemmas.List.Elements.{All-append, All-head, All-tail, All-weaker}
 use Rattle.std.proofs.lemmas.List.Folds.{list_any-append}
 use Rattle.std.proofs.lemmas.List.Sums.{sum_by-cons}
-use Rattle.posix.specs.declared.event.Event.{Event}
 use Rattle.posix.specs.declared.entry.Entry.{Entry}
+use Rattle.posix.specs.declared.event.Event.{Event}
 use Rattle.posix.specs.Entries.{Line, numbered}
 use Rattle.posix.specs.States.{State, World, boot}
 use Rattle.posix.specs.Step.{next}
-use Rattle.schedules.specs.Families.{Spots, IsBefore, IsEarlier, IsSchedule, each_kind, family, kinds_of, of_at_most, of_spots, place_of, spot, with_spot}
+use Rattle.schedules.specs.Families.{IsBefore, IsEarlier, IsSchedule, Spots, each_kind, family, kinds_of, of_at_most, of_spots, place_of, spot, with_spot}
 use Rattle.schedules.specs.Schedules.{event_of, from_front, put_at, scheduled}
 use Rattle.schedules.proofs.FamilyLemmas.{All-remove, RisesFrom, all_kinds, in_order, kind_of_spot, level_rises, place_of_spot}
 use Rattle.schedules.proofs.ScheduledLemmas.{front}
 use Rattle.counting.specs.Counts.{tally_over}
 use Rattle.counting.specs.Courses.{course_from, course_of}
 use Rattle.counting.specs.Endings.{ending_of}
-use Rattle.merging.specs.Merging.{Property, from_spot, if_none_left, marks_after, one_if, over_kinds, state_after, tally_at_place, tally_from, tally_of_rest}
-use Rattle.counting.specs.Tallies.{TallyView, no_schedules, both, first_of, is_before, is_earlier}
-use Rattle.counting.specs.Texts.{have_text, has_text, shown, marked, unmarked}
+use Rattle.counting.specs.Tallies.{TallyView, both, first_of, is_before, is_earlier, no_schedules}
+use Rattle.counting.specs.Texts.{has_text, have_text, marked, shown, unmarked}
 use Rattle.counting.proofs.CountLemmas.{first_found, members}
+use Rattle.merging.specs.Merging.{Property, from_spot, if_none_left, marks_after, one_if, over_kinds, state_after, tally_at_place, tally_from, tally_of_rest}
 use Rattle.merging.proofs.TallyLemmas.{and_none, both_regrouped, exchanged, first_begun, first_if_before, none_and, two_by_two}
 
 -- ---- what the definitions say

@@ -1,20 +1,18 @@
 -- From the start of a world to the book of a family.
-use Rattle.std.proofs.Common.{◌≡◌, ℕ, ◌+◌, ◌-◌, ◌<◌, ◌^◌, List, [], length, drop, refl, ap, ap₂, sym, ◌∙◌, arith, subst}
+use Rattle.std.proofs.Common.{◌≡◌, ℕ, ◌-◌, List, [], length, drop, refl, ap, ap₂, sym, ◌∙◌, arith, subst}
 use Rattle.std.specs.List.{All}
 use Rattle.std.proofs.lemmas.List.Elements.{All-weaker}
 use Rattle.posix.specs.declared.event.Event.{Event}
 use Rattle.posix.specs.States.{World, boot}
 use Rattle.schedules.specs.Families.{family, kinds_of}
-use Rattle.merging.specs.declared.node.Node.{Node}
-use Rattle.merging.specs.declared.search.Search.{Search}
 use Rattle.counting.specs.Books.{empty_book}
 use Rattle.counting.specs.Counts.{book_over}
-use Rattle.counting.specs.Texts.{unmarked}
-use Rattle.merging.specs.Merging.{IsNode, Outlook, Property, always, behind, counted_all, goes_on_once, list_of, loose_of, most_of, nodes_tally, outlook_of, tally_from, tally_of_node, tally_of_nodes, texts_of, world_of}
 use Rattle.counting.specs.Tallies.{TallyView, both}
-use Rattle.merging.proofs.NodeBookLemmas.{all_counted, counted_book}
-use Rattle.merging.proofs.OutlookLemmas.{once_within}
-use Rattle.merging.proofs.MergeLemmas.{merged_tally}
+use Rattle.counting.specs.Texts.{unmarked}
+use Rattle.merging.specs.declared.node.Node.{Node}
+use Rattle.merging.specs.declared.search.Search.{Search}
+use Rattle.merging.specs.Merging.{IsNode, Outlook, Property, behind, counted_all, list_of, loose_of, most_of, nodes_tally, outlook_of, tally_from, tally_of_node, tally_of_nodes, texts_of, world_of}
+use Rattle.merging.proofs.NodeBookLemmas.{counted_book}
 use Rattle.merging.proofs.TallyLemmas.{behind_nothing, none_and}
 
 -- of no nodes everything holds
@@ -22,7 +20,7 @@ pub of_none : (P : Node → Type 0) (none : List Node) → none ≡ [] → All P
 of_none P none empty = subst (All P) (sym empty) (λ k d l. absurd (omega (arith, l)))
 
 -- all schedules go on from the first node
-pub begun : (go_on : Outlook) (most : ℕ) (world : World) (loose : ℕ) (texts : List (List ℕ)) (none nodes : List Node) (n : Node) → none ≡ [] → n.count ≡ 1 → n.spots.items ≡ [] → n.left.items ≡ kinds_of loose
+pub begun : (go_on : Outlook) (most : ℕ) (world : World) (loose : ℕ) (texts : List (List ℕ)) (none nodes : List Node) (n : Node) → none ≡ [] → n.count ≡ 1 → n.spots ≡ [] → n.left.items ≡ kinds_of loose
     → n.kernel.state ≡ boot world → n.marks.items ≡ unmarked texts → tally_of_nodes go_on most nodes ≡ both (tally_of_nodes go_on most none) (tally_of_node go_on most n)
     → tally_of_nodes go_on most nodes ≡ go_on most (kinds_of loose) (boot world) (unmarked texts)
 begun go_on most world loose texts none nodes n empty one spots left state marks came =
@@ -30,7 +28,7 @@ begun go_on most world loose texts none nodes n empty one spots left state marks
     came
     ∙ ap (λ ns. both (tally_of_nodes go_on most ns) (tally_of_node go_on most n)) empty
     ∙ none_and (tally_of_node go_on most n)
-    ∙ ap (λ c. behind c n.spots.items (go_on (most - length n.spots.items) n.left.items n.kernel.state n.marks.items)) one
+    ∙ ap (λ c. behind c n.spots (go_on (most - length n.spots) n.left.items n.kernel.state n.marks.items)) one
     ∙ ap (λ q. behind 1 q (go_on (most - length q) n.left.items n.kernel.state n.marks.items)) spots
     ∙ behind_nothing (go_on (most - 0) n.left.items n.kernel.state n.marks.items)
     ∙ ap₂ (λ k kinds. go_on k kinds n.kernel.state n.marks.items) all left
@@ -57,29 +55,8 @@ outlook_last has s rest is =
 none_left : (s : Search) (nodes : List Node) → All (IsNode s s.family.now.upto 0) nodes → All (λ n. n.left.items ≡ []) nodes
 none_left s nodes all = All-weaker (IsNode s s.family.now.upto 0) (λ n. n.left.items ≡ []) (λ n i. i.last refl) nodes all
 
--- ---- they are those of the family
+-- ---- the book of the last nodes is that of the family
 
--- so they can be counted
-pub family_countable : (s : Search) (t : TallyView) → s.family.now.size < 2 ^ 128 → t ≡ from_start always s → t.count < 2 ^ 128
-family_countable s t fits all =
-    let f = s.family.now in
-    let counts = ap (λ (u : TallyView). u.count)
-    (all
-    ∙ ap (λ (go_on : Outlook). go_on (most_of s) (kinds_of (length (loose_of s))) (boot (world_of s)) (unmarked (texts_of s))) (outlook_first always s)
-    ∙ merged_tally always (texts_of s) (world_of s) (loose_of s) (list_of s) f.upto f.ticks f.within) in
-    let each = all_counted (family f.upto f.ticks (length (loose_of s))) in
-    omega (arith, counts, each, f.counted, fits)
-
--- and those of the last nodes
-pub last_countable : (s : Search) (nodes : List Node) (total : ℕ) → s.family.now.size < 2 ^ 128 → All (IsNode s s.family.now.upto 0) nodes → total ≡ 0
-    → nodes_tally always s s.family.now.upto nodes ≡ from_start always s
-    → total + (tally_of_nodes goes_on_once (most_of s) nodes).count < 2 ^ 128
-last_countable s nodes total fits all none same =
-    let once = once_within s s.family.now.upto 0 nodes all (omega arith) in
-    let counts = family_countable s (nodes_tally always s s.family.now.upto nodes) fits same in
-    omega (arith, once, counts, none)
-
--- and the book of the last nodes is that of the family
 pub merged_book : (s : Search) (rest : List Event) (nodes : List Node) → rest ≡ drop s.family.now.upto (list_of s) → All (IsNode s s.family.now.upto 0) nodes
     → ((has : Property) → nodes_tally has s s.family.now.upto nodes ≡ from_start has s)
     → counted_all (texts_of s) rest nodes (empty_book (texts_of s))

@@ -8,16 +8,16 @@ use Rattle.posix.specs.declared.event.Event.{Event}
 use Rattle.posix.specs.States.{World, boot}
 use Rattle.schedules.specs.Families.{Spots, family, kinds_of}
 use Rattle.counting.specs.declared.ending.Ending.{Ending}
-use Rattle.counting.specs.declared.ending.Ending.TheVariants.{Halted, AtRest, AwaitsAlarm, Going}
+use Rattle.counting.specs.declared.ending.Ending.TheVariants.{AtRest, AwaitsAlarm, Going, Halted}
 use Rattle.counting.specs.declared.ending.Endings.{Endings}
-use Rattle.merging.specs.declared.node.Node.{Node}
 use Rattle.counting.specs.Books.{BookView, empty_book, unseen}
 use Rattle.counting.specs.Counts.{book_over, endings_over, find_over, shows, tally_over}
 use Rattle.counting.specs.Courses.{course_from, course_of}
 use Rattle.counting.specs.Endings.{ending_of, is_alarmed, is_at_rest, is_going, is_halted, with_many_endings}
-use Rattle.merging.specs.Merging.{Property, always, behind, counted_all, if_none_left, one_if, tally_from, tally_of_node, tally_of_nodes, tally_of_rest}
-use Rattle.counting.specs.Tallies.{TallyView, no_schedules, both}
+use Rattle.counting.specs.Tallies.{TallyView, both, no_schedules}
 use Rattle.counting.specs.Texts.{FindView, marked, unmarked, with_many, with_marked}
+use Rattle.merging.specs.declared.node.Node.{Node}
+use Rattle.merging.specs.Merging.{Property, behind, counted_all, if_none_left, one_if, tally_from, tally_of_node, tally_of_nodes, tally_of_rest}
 use Rattle.merging.proofs.MergeLemmas.{mark_is, merged_tally, tally_at_rest, tally_rest_is}
 use Rattle.merging.proofs.TallyLemmas.{and_none, behind_false, behind_true, both_regrouped, both_swapped}
 
@@ -36,21 +36,21 @@ marks_with texts rest n = marked texts (course_from 1 n.kernel.state rest).lines
 
 -- the beginnings of a node
 abbrev begun : Node → TallyView
-begun n = record { count = n.count; first = Some n.spots.items }
+begun n = record { count = n.count; first = Some n.spots }
 
 abbrev if_so : Bool → TallyView → TallyView
 if_so b t = cond b t no_schedules
 
-behind_if : (b : Bool) (n : Node) → behind n.count n.spots.items (one_if b) ≡ if_so b (begun n)
-behind_if true n = behind_true n.count n.spots.items
-behind_if false n = behind_false n.count n.spots.items
+behind_if : (b : Bool) (n : Node) → behind n.count n.spots (one_if b) ≡ if_so b (begun n)
+behind_if true n = behind_true n.count n.spots
+behind_if false n = behind_false n.count n.spots
 
 -- its schedules that have a property, where no loose event is left
 node_is : (has : Property) (texts : List (List ℕ)) (loose rest : List Event) (upto most : ℕ) (n : Node) → n.left.items ≡ []
     → tally_of_node (tally_from has texts loose 0 upto rest) most n ≡ if_so (has (ends_with rest n) (marks_with texts rest n)) (begun n)
 node_is has texts loose rest upto most n none =
-    ap (behind n.count n.spots.items)
-    (tally_at_rest has texts loose upto rest (most - length n.spots.items) n.left.items n.kernel.state n.marks.items
+    ap (behind n.count n.spots)
+    (tally_at_rest has texts loose upto rest (most - length n.spots) n.left.items n.kernel.state n.marks.items
     ∙ ap (λ left. if_none_left left (tally_of_rest has texts rest n.kernel.state n.marks.items)) none
     ∙ tally_rest_is has texts rest n.kernel.state n.marks.items)
     ∙ behind_if (has (ends_with rest n) (marks_with texts rest n)) n
@@ -153,6 +153,10 @@ finds_counted texts loose rest upto most (n ∷ ns) none =
 
 -- ---- the total
 
+-- each schedule has it
+abbrev always : Property
+always ending marks = true
+
 total_counted : (texts : List (List ℕ)) (loose rest : List Event) (upto most : ℕ) (nodes : List Node) (b : BookView) → NoneLeft nodes
     → (counted_all texts rest nodes b).total ≡ b.total + (tally_of_nodes (tally_from always texts loose 0 upto rest) most nodes).count
 total_counted texts loose rest upto most [] b none = sym (add-zero b.total)
@@ -177,7 +181,7 @@ over_same f g xs e = ap₂ (λ n o. record { count = n; first = o }) (counts xs)
     finds [] = refl
     finds (x ∷ xs) = ap₂ (λ b o. cond b (Some x) o) (e x) (finds xs)
 
-pub all_counted : (xs : List Spots) → count_by (λ (ps : Spots). true) xs ≡ length xs
+all_counted : (xs : List Spots) → count_by (λ (ps : Spots). true) xs ≡ length xs
 all_counted [] = refl
 all_counted (x ∷ xs) =
     let first = sum_by-cons (λ (ps : Spots). 1) x xs in

@@ -1,5 +1,5 @@
--- Schedules that begin as nodes say are counted, node by node, and the events of a list are found by their spots.
-use Rattle.std.proofs.Common.{◌≡◌, ℕ, ◌+◌, ◌-◌, ◌<◌, ◌≤◌, Bool, List, [], ◌∷◌, ◌++◌, length, map, Some, refl, ap, ap₂, sym, subst, ◌∙◌, arith}
+-- Schedules that begin as nodes say are counted, node by node.
+use Rattle.std.proofs.Common.{◌≡◌, ℕ, ◌+◌, ◌≤◌, Bool, List, [], ◌∷◌, ◌++◌, length, map, Some, refl, ap, ap₂, sym, subst, ◌∙◌, arith}
 use Rattle.std.specs.List.{All}
 use Rattle.std.proofs.lemmas.List.Elements.{All-cons, All-head, All-nil, All-tail}
 use Rattle.posix.specs.declared.event.Event.{Event}
@@ -7,16 +7,14 @@ use Rattle.posix.specs.Entries.{Line}
 use Rattle.posix.specs.States.{State}
 use Rattle.text.specs.EventTexts.{most_events}
 use Rattle.counting.specs.declared.ending.Ending.{Ending}
-use Rattle.merging.specs.declared.node.Node.{Node}
-use Rattle.merging.specs.declared.search.Search.{Search}
 use Rattle.counting.specs.Books.{BookView, with_many_runs}
 use Rattle.counting.specs.Courses.{Adds, Course, course_from}
 use Rattle.counting.specs.Endings.{ending_of}
 use Rattle.counting.specs.Texts.{marked}
-use Rattle.merging.specs.Merging.{IsNode, counted, counted_all, goes_on_once, list_of, most_of, tally_of_nodes}
-use Rattle.counting.specs.Tallies.{TallyView}
 use Rattle.counting.proofs.CourseLemmas.{granted_course}
-use Rattle.merging.proofs.LayerLemmas.{tallies_more}
+use Rattle.merging.specs.declared.node.Node.{Node}
+use Rattle.merging.specs.declared.search.Search.{Search}
+use Rattle.merging.specs.Merging.{IsNode, counted, counted_all, list_of, most_of}
 use Rattle.merging.proofs.MergeLemmas.{entries_alike, last_alike, marked_by_entries}
 
 -- ---- a node is counted
@@ -24,7 +22,7 @@ use Rattle.merging.proofs.MergeLemmas.{entries_alike, last_alike, marked_by_entr
 -- by how its run ends, and the texts that its lines have
 pub counted_is : (texts : List (List ℕ)) (k : ℕ) (n : Node) (events : List Event) (last : State) (lines : List Line) (ending : Ending) (marks : List Bool) (old new : BookView)
     → Adds k n.kernel.state events last [] lines → ending ≡ ending_of last → marks ≡ marked texts lines n.marks.items
-    → new ≡ with_many_runs ending marks (record { count = n.count; first = Some n.spots.items }) old → new ≡ counted texts events n old
+    → new ≡ with_many_runs ending marks (record { count = n.count; first = Some n.spots }) old → new ≡ counted texts events n old
 counted_is texts k n events last lines ending marks old new adds ends are is =
     let s = n.kernel.state in
     let same = granted_course k s last events adds.shows adds.grants.runs adds.grants.all in
@@ -32,7 +30,7 @@ counted_is texts k n events last lines ending marks old new adds ends are is =
     let entries : map (λ (l : Line). l.entry) lines ≡ map (λ (l : Line). l.entry) (course_from 1 s events).lines =
     ap (map (λ (l : Line). l.entry)) adds.added ∙ sym (entries_alike 1 k s events ∙ ap (λ (c : Course). map (λ (l : Line). l.entry) c.lines) same) in
     is
-    ∙ ap₂ (λ (e : Ending) (ms : List Bool). with_many_runs e ms (record { count = n.count; first = Some n.spots.items }) old)
+    ∙ ap₂ (λ (e : Ending) (ms : List Bool). with_many_runs e ms (record { count = n.count; first = Some n.spots }) old)
     (ends ∙ ap ending_of lasts)
     (are ∙ marked_by_entries texts lines (course_from 1 s events).lines n.marks.items entries)
 
@@ -47,20 +45,6 @@ pub counted_more : (texts : List (List ℕ)) (events : List Event) (before rest 
     → counted_all texts events before old ≡ whole → counted_all texts events rest new ≡ whole
 counted_more texts events before rest n old new whole is one all =
     ap (counted_all texts events rest) one ∙ sym (counted_behind texts events rest n old) ∙ ap (λ (ns : List Node). counted_all texts events ns old) (sym is) ∙ all
-
--- so many schedules are left
-pub left_fit : (texts : List (List ℕ)) (events : List Event) (most limit : ℕ) (before rest : List Node) (n : Node) (old new : BookView) → before ≡ rest ++ n ∷ [] → new ≡ counted texts events n old
-    → old.total + (tally_of_nodes goes_on_once most before).count < limit → new.total + (tally_of_nodes goes_on_once most rest).count < limit
-left_fit texts events most limit before rest n old new is one fits =
-    let total = ap (λ (b : BookView). b.total) one in
-    let all = ap (λ (t : TallyView). t.count) (ap (tally_of_nodes goes_on_once most) is ∙ tallies_more rest n goes_on_once most) in
-    omega (arith, total, all, fits)
-
--- the last one fits
-pub last_fits : (most total limit : ℕ) (before rest : List Node) (n : Node) → before ≡ rest ++ n ∷ [] → total + (tally_of_nodes goes_on_once most before).count < limit → total + n.count < limit
-last_fits most total limit before rest n is fits =
-    let all = ap (λ (t : TallyView). t.count) (ap (tally_of_nodes goes_on_once most) is ∙ tallies_more rest n goes_on_once most) in
-    omega (arith, all, fits)
 
 -- what holds of all holds of the last, and of the others
 pub of_last : (P : Node → Type 0) (before rest : List Node) (n : Node) → before ≡ rest ++ n ∷ [] → All P before → P n

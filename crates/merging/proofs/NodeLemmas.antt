@@ -3,18 +3,18 @@ use Rattle.std.proofs.Common.{◌≡◌, ℕ, suc, ◌+◌, ◌-◌, ◌<◌, �
 use Rattle.std.specs.Prelude.{replicate}
 use Rattle.posix.specs.declared.event.Event.{Event}
 use Rattle.posix.specs.Entries.{Line, numbered}
-use Rattle.posix.specs.States.{State, boot}
-use Rattle.posix.specs.Step.{next}
 use Rattle.posix.specs.Regular.{IsRegular}
 use Rattle.posix.specs.Settle.{IsSettled}
+use Rattle.posix.specs.States.{State, boot}
+use Rattle.posix.specs.Step.{next}
 use Rattle.schedules.specs.Families.{Spots}
 use Rattle.counting.specs.Courses.{Adds, Course, course_from}
+use Rattle.counting.specs.Tallies.{TallyView, both, is_before}
+use Rattle.counting.specs.Texts.{marked}
+use Rattle.counting.proofs.CourseLemmas.{granted_course}
 use Rattle.merging.specs.declared.node.Node.{Node}
 use Rattle.merging.specs.declared.search.Search.{Search}
-use Rattle.counting.specs.Texts.{marked}
 use Rattle.merging.specs.Merging.{IsNode, IsOne, Outlook, behind, marks_after, most_of, state_after, tally_of_node, texts_of, world_of}
-use Rattle.counting.specs.Tallies.{TallyView, both, is_before}
-use Rattle.counting.proofs.CourseLemmas.{granted_course}
 use Rattle.merging.proofs.MergeLemmas.{entries_numbered, marked_by_entries}
 use Rattle.merging.proofs.TallyLemmas.{behind_meets}
 
@@ -74,37 +74,37 @@ joined_behind c d q r t l first = ap (λ b. behind (c + d) (cond b r q) t) (sym 
 
 -- what goes on from two nodes that are one
 goes_on_alike : (go_on : Outlook) (most : ℕ) (old other : Node) → IsOne old other
-    → go_on (most - length old.spots.items) old.left.items old.kernel.state old.marks.items ≡ go_on (most - length other.spots.items) other.left.items other.kernel.state other.marks.items
+    → go_on (most - length old.spots) old.left.items old.kernel.state old.marks.items ≡ go_on (most - length other.spots) other.left.items other.kernel.state other.marks.items
 goes_on_alike go_on most old other one =
     ap₂ (λ n kinds. go_on (most - n) kinds old.kernel.state old.marks.items) one.spots one.left
-    ∙ ap₂ (λ (s : State) bs. go_on (most - length other.spots.items) other.left.items s bs) one.state one.marks
+    ∙ ap₂ (λ (s : State) bs. go_on (most - length other.spots) other.left.items s bs) one.state one.marks
 
 -- the one of the two whose beginnings come first
 abbrev pub IsFirstOf : Node → Node → Node → Type 0
 IsFirstOf old other mid =
-    ((mid ≡ other) × (is_before other.spots.items old.spots.items ≡ true)) ⊎ ((mid ≡ old) × (is_before other.spots.items old.spots.items ≡ false))
+    ((mid ≡ other) × (is_before other.spots old.spots ≡ true)) ⊎ ((mid ≡ old) × (is_before other.spots old.spots ≡ false))
 
-abbrev with_both : Node → Node → Node → Node
-with_both old other mid = record mid { count = old.count + other.count }
+abbrev with_count : ℕ → Node → Node
+with_count n mid = record mid { count = n }
 
-pub joined_tally : (old other mid : Node) → IsOne old other → IsFirstOf old other mid → (go_on : Outlook) (most : ℕ)
-    → tally_of_node go_on most (with_both old other mid) ≡ both (tally_of_node go_on most old) (tally_of_node go_on most other)
-joined_tally old other mid one (inl (same, first)) go_on most =
-    let q = old.spots.items in
-    let r = other.spots.items in
+pub joined_tally : (old other mid : Node) (n : ℕ) → IsOne old other → IsFirstOf old other mid → n ≡ old.count + other.count → (go_on : Outlook) (most : ℕ)
+    → tally_of_node go_on most (with_count n mid) ≡ both (tally_of_node go_on most old) (tally_of_node go_on most other)
+joined_tally old other mid n one (inl (same, first)) sum go_on most =
+    let q = old.spots in
+    let r = other.spots in
     let rest = go_on (most - length r) other.left.items other.kernel.state other.marks.items in
-    ap (λ (n : Node). tally_of_node go_on most (with_both old other n)) same
+    ap₂ (λ (k : ℕ) (m : Node). tally_of_node go_on most (with_count k m)) sum same
     ∙ joined_before old.count other.count q r rest one.spots first
     ∙ ap (λ t. both (behind old.count q t) (behind other.count r rest)) (sym (goes_on_alike go_on most old other one))
-joined_tally old other mid one (inr (same, first)) go_on most =
-    let q = old.spots.items in
-    let r = other.spots.items in
+joined_tally old other mid n one (inr (same, first)) sum go_on most =
+    let q = old.spots in
+    let r = other.spots in
     let rest = go_on (most - length q) old.left.items old.kernel.state old.marks.items in
-    ap (λ (n : Node). tally_of_node go_on most (with_both old other n)) same
+    ap₂ (λ (k : ℕ) (m : Node). tally_of_node go_on most (with_count k m)) sum same
     ∙ joined_behind old.count other.count q r rest one.spots first
     ∙ ap (λ t. both (behind old.count q rest) (behind other.count r t)) (goes_on_alike go_on most old other one)
 
-recounted : (search : Search) (place least count : ℕ) (n : Node) → IsNode search place least n → IsNode search place least (record n { count = count })
+recounted : (search : Search) (place least count : ℕ) (n : Node) → IsNode search place least n → IsNode search place least (with_count count n)
 recounted search place least count n i = record {
   reached = i.reached;
   regular = i.regular;
@@ -117,19 +117,19 @@ recounted search place least count n i = record {
   last = i.last;
 }
 
-pub joined_node : (old other mid : Node) → IsFirstOf old other mid → (search : Search) (place least : ℕ) → IsNode search place least old → IsNode search place least other
-    → IsNode search place least (with_both old other mid)
-joined_node old other mid (inl (same, first)) search place least i j =
-    recounted search place least (old.count + other.count) mid (subst (λ (n : Node). IsNode search place least n) (sym same) j)
-joined_node old other mid (inr (same, first)) search place least i j =
-    recounted search place least (old.count + other.count) mid (subst (λ (n : Node). IsNode search place least n) (sym same) i)
+pub joined_node : (old other mid : Node) (n : ℕ) → IsFirstOf old other mid → (search : Search) (place least : ℕ) → IsNode search place least old → IsNode search place least other
+    → IsNode search place least (with_count n mid)
+joined_node old other mid n (inl (same, first)) search place least i j =
+    recounted search place least n mid (subst (λ (m : Node). IsNode search place least m) (sym same) j)
+joined_node old other mid n (inr (same, first)) search place least i j =
+    recounted search place least n mid (subst (λ (m : Node). IsNode search place least m) (sym same) i)
 
 -- ---- nodes that are given events
 
 -- with one more event, before the same event of the list or the next
 with_event : (search : Search) (place later least more : ℕ) (x : Event) (old new : Node) → IsNode search place least old → new.kernel.state ≡ state_after x old.kernel.state
     → IsRegular new.kernel.state → IsSettled new.kernel.state → new.kernel.events ≤ length old.given + 1 → new.marks.items ≡ marks_after (texts_of search) x old.kernel.state old.marks.items
-    → new.given ≡ old.given ++ x ∷ [] → length new.given ≡ later + length new.spots.items → more ≤ length new.spots.items → length new.spots.items + length new.left.items ≤ most_of search
+    → new.given ≡ old.given ++ x ∷ [] → length new.given ≡ later + length new.spots → more ≤ length new.spots → length new.spots + length new.left.items ≤ most_of search
     → (later ≡ search.family.now.upto → new.left.items ≡ []) → IsNode search later more new
 with_event search place later least more x old new i state regular settled events marks given longer most few last = record {
   reached = reached_then (boot (world_of search)) old.kernel.state new.kernel.state old.given x i.reached state ∙ ap (λ xs. (course_from 1 (boot (world_of search)) xs).last) (sym given);
@@ -146,7 +146,7 @@ with_event search place later least more x old new i state regular settled event
 -- the event of the list
 pub given_node : (search : Search) (place least : ℕ) (x : Event) (old new : Node) → IsNode search place least old → (place + 1 ≡ search.family.now.upto → old.left.items ≡ [])
     → new.kernel.state ≡ state_after x old.kernel.state → IsRegular new.kernel.state → IsSettled new.kernel.state → new.kernel.events ≡ old.kernel.events + 1
-    → new.marks.items ≡ marks_after (texts_of search) x old.kernel.state old.marks.items → new.given ≡ old.given ++ x ∷ [] → new.spots.items ≡ old.spots.items → new.left.items ≡ old.left.items
+    → new.marks.items ≡ marks_after (texts_of search) x old.kernel.state old.marks.items → new.given ≡ old.given ++ x ∷ [] → new.spots ≡ old.spots → new.left.items ≡ old.left.items
     → IsNode search (place + 1) least new
 given_node search place least x old new i none state regular settled events marks given spots left =
     let had = i.events in
@@ -160,11 +160,11 @@ given_node search place least x old new i none state regular settled events mark
 -- a tick or a loose event before it, with as many left as still can be put in
 pub put_node : (search : Search) (place least q : ℕ) (x : Event) (n m : Node) → IsNode search place least n → place < search.family.now.upto
     → m.kernel.state ≡ state_after x n.kernel.state → IsRegular m.kernel.state → IsSettled m.kernel.state → m.kernel.events ≤ length n.given + 1
-    → m.marks.items ≡ marks_after (texts_of search) x n.kernel.state n.marks.items → m.given ≡ n.given ++ x ∷ [] → m.spots.items ≡ n.spots.items ++ q ∷ []
-    → length n.spots.items + 1 + length m.left.items ≤ most_of search → IsNode search place (least + 1) m
+    → m.marks.items ≡ marks_after (texts_of search) x n.kernel.state n.marks.items → m.given ≡ n.given ++ x ∷ [] → m.spots ≡ n.spots ++ q ∷ []
+    → length n.spots + 1 + length m.left.items ≤ most_of search → IsNode search place (least + 1) m
 put_node search place least q x n m i before state regular settled events marks given spots few =
     let long = i.given in
     let least_was = i.least in
-    let more : length m.spots.items ≡ length n.spots.items + 1 = ap length spots ∙ length-append n.spots.items (q ∷ []) in
+    let more : length m.spots ≡ length n.spots + 1 = ap length spots ∙ length-append n.spots (q ∷ []) in
     with_event search place place least (least + 1) x n m i state regular settled events marks given
     (omega (arith, long, more, ap length given, length-append n.given (x ∷ []))) (omega (arith, least_was, more)) (omega (arith, few, more)) (λ end. absurd (omega (arith, before, end)))

@@ -1,21 +1,15 @@
--- What goes on from a state: one event after another, none where too many loose events are left, and one at least where they fit.
-use Rattle.std.proofs.Common.{◌≡◌, ℕ, zero, suc, ◌+◌, ◌-◌, ◌<◌, ◌≤◌, inl, inr, ◌⊎◌, Bool, None, Some, List, [], ◌∷◌, length, drop, remove, slice_index_or, refl, ap, ap₂, sym, ◌∙◌, arith}
+-- What goes on from a state: one event after another, and none where too many loose events are left.
+use Rattle.std.proofs.Common.{◌≡◌, ℕ, zero, suc, ◌+◌, ◌-◌, ◌<◌, Bool, None, Some, List, [], ◌∷◌, length, drop, remove, slice_index_or, refl, ap, ap₂, sym, ◌∙◌, arith}
 use Rattle.std.specs.Prelude.{slice_get}
-use Rattle.std.specs.List.{All}
-use Rattle.std.proofs.Math.Nat.{mul-le-mul_left}
-use Rattle.std.proofs.lemmas.Bool.{cases_lt}
-use Rattle.std.proofs.lemmas.List.{length-drop}
 use Rattle.std.proofs.lemmas.List.Edits.{length-remove}
-use Rattle.std.proofs.lemmas.List.Elements.{All-head, All-tail}
 use Rattle.posix.specs.declared.event.Event.{Event}
 use Rattle.posix.specs.declared.event.Event.TheVariants.{Tick}
 use Rattle.posix.specs.States.{State}
 use Rattle.schedules.specs.Families.{spot}
 use Rattle.schedules.specs.Schedules.{event_of}
-use Rattle.merging.specs.declared.node.Node.{Node}
+use Rattle.counting.specs.Tallies.{TallyView, both, no_schedules}
 use Rattle.merging.specs.declared.search.Search.{Search}
-use Rattle.merging.specs.Merging.{IsNode, Outlook, Property, always, from_spot, goes_on_once, if_none_left, list_of, loose_of, marks_after, most_of, node_tally, nodes_tally, outlook_of, over_kinds, state_after, tally_at_place, tally_from, tally_of_nodes, tally_of_rest, texts_of}
-use Rattle.counting.specs.Tallies.{TallyView, no_schedules, both}
+use Rattle.merging.specs.Merging.{Outlook, Property, from_spot, if_none_left, list_of, loose_of, marks_after, outlook_of, over_kinds, state_after, tally_at_place, tally_from, tally_of_rest, texts_of}
 use Rattle.merging.proofs.MergeLemmas.{tally_at_rest}
 
 -- ---- one event after another
@@ -120,67 +114,3 @@ none_at_end has s n left st marks some =
     ap (λ places. tally_from has (texts_of s) (loose_of s) places upto rest n left st marks) end
     ∙ tally_at_rest has (texts_of s) (loose_of s) upto rest n left st marks
     ∙ none_if_left left (tally_of_rest has (texts_of s) rest st marks) some
-
--- ---- one at least goes on
-
-rest_is_open : (texts : List (List ℕ)) (events : List Event) (s : State) (marks : List Bool) → 1 ≤ (tally_of_rest always texts events s marks).count
-unfolding tally_of_rest
-rest_is_open texts events s marks = omega arith
-
-first_within : (f : ℕ → List ℕ → TallyView) (i : ℕ) (left : List ℕ) → (f (slice_index_or left 0 0) (remove left 0)).count ≤ (over_kinds f (suc i) left).count
-first_within f zero left = omega arith
-first_within f (suc i) left = let fewer = first_within f i left in omega (arith, fewer)
-
--- where all loose events that are left are put in before this event
-place_is_open : (go_on : Outlook) → ((n : ℕ) (s : State) (marks : List Bool) → 1 ≤ (go_on n [] s marks).count) → (texts : List (List ℕ)) (loose : List Event) (x : Event) (p n : ℕ) (left : List ℕ) (s : State) (marks : List Bool)
-    → length left ≤ n → 1 ≤ (tally_at_place go_on texts loose x p n left s marks).count
-unfolding tally_at_place
-place_is_open go_on open_on texts loose x p zero [] s marks fit = open_on zero (state_after x s) (marks_after texts x s marks)
-place_is_open go_on open_on texts loose x p zero (kind ∷ left) s marks fit = absurd (omega (arith, fit))
-place_is_open go_on open_on texts loose x p (suc n) [] s marks fit = let one = open_on (suc n) (state_after x s) (marks_after texts x s marks) in omega (arith, one)
-place_is_open go_on open_on texts loose x p (suc n) (kind ∷ left) s marks fit =
-    let f = λ (k : ℕ) (others : List ℕ). from_spot (spot (length loose) p k)
-    (tally_at_place go_on texts loose x p n others (state_after (event_of loose k) s) (marks_after texts (event_of loose k) s marks)) in
-    let one = place_is_open go_on open_on texts loose x p n left (state_after (event_of loose kind) s) (marks_after texts (event_of loose kind) s marks) (omega (arith, fit)) in
-    let first : (f kind left).count ≤ (over_kinds f (suc (length left)) (kind ∷ left)).count = first_within f (length left) (kind ∷ left) in
-    omega (arith, one, first)
-
-one_goes_on : (texts : List (List ℕ)) (loose : List Event) (places p : ℕ) (events : List Event) (n : ℕ) (left : List ℕ) (s : State) (marks : List Bool) → length left ≤ n → places ≤ length events
-    → (left ≡ []) ⊎ (1 ≤ places) → 1 ≤ (tally_from always texts loose places p events n left s marks).count
-unfolding tally_from
-one_goes_on texts loose zero p events n [] s marks fit within room = rest_is_open texts events s marks
-one_goes_on texts loose zero p events n (kind ∷ left) s marks fit within (inl none) = absurd (let e : kind ∷ left ≡ [] = none in cc)
-one_goes_on texts loose zero p events n (kind ∷ left) s marks fit within (inr some) = absurd (omega (arith, some))
-one_goes_on texts loose (suc places) p [] n left s marks fit within room = absurd (omega (arith, within))
-one_goes_on texts loose (suc places) p (x ∷ events) n left s marks fit within room =
-    place_is_open (tally_from always texts loose places (p + 1) events)
-    (λ k t ms. one_goes_on texts loose places (p + 1) events k [] t ms (omega arith) (omega (arith, within)) (inl refl))
-    texts loose x p n left s marks fit
-
--- from a node
-node_goes_on : (s : Search) (place least : ℕ) (n : Node) → IsNode s place least n → place ≤ s.family.now.upto
-    → 1 ≤ (outlook_of always s place (most_of s - length n.spots.items) n.left.items n.kernel.state n.marks.items).count
-node_goes_on s place least n is within =
-    let few = is.few in
-    let all = s.family.now.within in
-    let rest = length-drop place (list_of s) in
-    one_goes_on (texts_of s) (loose_of s) (s.family.now.upto - place) place (drop place (list_of s)) (most_of s - length n.spots.items) n.left.items n.kernel.state n.marks.items
-    (omega (arith, few)) (omega (arith, all, rest)) (by (cases_lt place s.family.now.upto))
-  where
-    by : (place < s.family.now.upto) ⊎ (s.family.now.upto ≤ place) → (n.left.items ≡ []) ⊎ (1 ≤ s.family.now.upto - place)
-    by (inl below) = inr (omega (arith, below))
-    by (inr end) = inl (is.last (omega (arith, end, within)))
-
-pub node_within : (s : Search) (place least : ℕ) (n : Node) → IsNode s place least n → place ≤ s.family.now.upto → n.count ≤ (node_tally always s place n).count
-node_within s place least n is within =
-    let each = mul-le-mul_left n.count (node_goes_on s place least n is within) in
-    omega (arith, each)
-
--- There are no more beginnings than schedules.
-pub once_within : (s : Search) (place least : ℕ) (nodes : List Node) → All (IsNode s place least) nodes → place ≤ s.family.now.upto
-    → (tally_of_nodes goes_on_once (most_of s) nodes).count ≤ (nodes_tally always s place nodes).count
-once_within s place least [] are within = omega arith
-once_within s place least (n ∷ ns) are within =
-    let one = node_within s place least n (All-head (IsNode s place least) n ns are) within in
-    let later = once_within s place least ns (All-tail (IsNode s place least) n ns are) within in
-    omega (arith, one, later)

@@ -3,18 +3,18 @@ use Rattle.std.proofs.Common.{◌≡◌, ℕ, ◌+◌, ◌<◌, ◌≤◌, false
 use Rattle.std.specs.List.{All}
 use Rattle.std.proofs.lemmas.List.{length-map}
 use Rattle.std.proofs.lemmas.List.Elements.{All-append, All-head, All-weaker}
-use Rattle.posix.specs.States.{boot}
 use Rattle.posix.specs.Regular.{IsRegular}
 use Rattle.posix.specs.Settle.{IsSettled}
+use Rattle.posix.specs.States.{boot}
 use Rattle.schedules.specs.Families.{kinds_of}
+use Rattle.schedules.proofs.SizeLemmas.{length_kinds_of}
+use Rattle.counting.specs.Courses.{course_from}
+use Rattle.counting.specs.Tallies.{TallyView, both, no_schedules}
+use Rattle.counting.specs.Texts.{unmarked}
 use Rattle.merging.specs.declared.layer.Layer.{Layer}
 use Rattle.merging.specs.declared.node.Node.{Node}
 use Rattle.merging.specs.declared.search.Search.{Search}
-use Rattle.counting.specs.Courses.{course_from}
-use Rattle.counting.specs.Texts.{unmarked}
 use Rattle.merging.specs.Merging.{AreRows, IsNode, Outlook, Property, loose_of, most_of, nodes_tally, outlook_of, rows_tally, tally_around, tally_of_all, tally_of_node, tally_of_nodes, tally_of_rows, texts_of, world_of}
-use Rattle.counting.specs.Tallies.{TallyView, no_schedules, both}
-use Rattle.schedules.proofs.SizeLemmas.{length_kinds_of}
 use Rattle.merging.proofs.TallyLemmas.{and_none, both_regrouped, both_swapped, none_and}
 
 -- ---- which nodes stand in a row
@@ -159,7 +159,7 @@ one_row_tally go_on most none rows row empty is = ap (tally_of_rows go_on most) 
 
 -- ---- the first node
 
-pub first_node : (search : Search) (n : Node) → n.kernel.state ≡ boot (world_of search) → IsRegular n.kernel.state → IsSettled n.kernel.state → n.kernel.events ≡ 0 → n.spots.items ≡ []
+pub first_node : (search : Search) (n : Node) → n.kernel.state ≡ boot (world_of search) → IsRegular n.kernel.state → IsSettled n.kernel.state → n.kernel.events ≡ 0 → n.spots ≡ []
     → n.left.items ≡ kinds_of (length (loose_of search)) → n.given ≡ [] → n.marks.items ≡ unmarked (texts_of search) → IsNode search 0 0 n
 first_node search n state regular settled events spots left given marks =
     let none = ap length spots in

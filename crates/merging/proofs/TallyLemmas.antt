@@ -3,8 +3,8 @@ use Rattle.std.proofs.Common.{◌≡◌, ℕ, suc, ◌+◌, ◌*◌, ◌==◌, B
 use Rattle.std.specs.Prelude.{nat_lt, option_map}
 use Rattle.std.proofs.lemmas.Bool.Decides.{nat_tests}
 use Rattle.schedules.specs.Families.{Spots}
+use Rattle.counting.specs.Tallies.{TallyView, both, first_of, first_of_two, is_before, is_earlier, no_schedules}
 use Rattle.merging.specs.Merging.{behind, from_spot, one_if}
-use Rattle.counting.specs.Tallies.{TallyView, no_schedules, is_earlier, is_before, first_of_two, first_of, both}
 
 -- ---- which comes first
 

@@ -1,1 +1,3 @@
+pub mod SpotLists
 pub mod Merging
+pub mod Stills

@@ -1,24 +1,24 @@
 -- Schedules that meet in one state: how many of those that go on from there have a property, and which is the first.
-use Rattle.std.specs.Prelude.{◌≡◌, ◌<◌, ◌^◌, ◌≤◌, ◌-◌, ℕ, zero, suc, ◌+◌, ◌*◌, Bool, true, List, [], ◌∷◌, ◌++◌, length, map, drop, nat_lt, remove, slice_index_or, Some, option_map, if◌then◌else◌}
+use Rattle.std.specs.Prelude.{◌≡◌, ◌≤◌, ◌-◌, ℕ, zero, suc, ◌+◌, ◌*◌, Bool, true, List, [], ◌∷◌, ◌++◌, length, map, drop, nat_lt, remove, slice_index_or, Some, option_map, if◌then◌else◌}
 use Rattle.std.specs.List.{All}
 use Rattle.posix.specs.declared.event.Event.{Event}
 use Rattle.posix.specs.declared.event.Event.TheVariants.{Tick}
 use Rattle.posix.specs.Entries.{numbered}
-use Rattle.posix.specs.States.{State, World, boot}
-use Rattle.posix.specs.Step.{next}
 use Rattle.posix.specs.Regular.{IsRegular}
 use Rattle.posix.specs.Settle.{IsSettled}
+use Rattle.posix.specs.States.{State, World, boot}
+use Rattle.posix.specs.Step.{next}
 use Rattle.schedules.specs.Families.{Spots, spot}
 use Rattle.schedules.specs.Schedules.{event_of}
 use Rattle.counting.specs.declared.ending.Ending.{Ending}
+use Rattle.counting.specs.Books.{BookView, with_many_runs}
 use Rattle.counting.specs.Courses.{course_from}
 use Rattle.counting.specs.Endings.{ending_of}
 use Rattle.counting.specs.Tallies.{TallyView, both, no_schedules}
-use Rattle.counting.specs.Books.{BookView, with_many_runs}
 use Rattle.counting.specs.Texts.{marked}
 use Rattle.merging.specs.declared.layer.Layer.{Layer}
-use Rattle.merging.specs.declared.search.Search.{Search}
 use Rattle.merging.specs.declared.node.Node.{Node}
+use Rattle.merging.specs.declared.search.Search.{Search}
 
 -- What is asked of a schedule: how its run ends, and of each text whether a line has it.
 abbrev pub Property : Type 0
@@ -111,7 +111,7 @@ outlook_of has s place = tally_from has (texts_of s) (loose_of s) (s.family.now.
 
 -- of the schedules of a node
 abbrev pub tally_of_node : Outlook → ℕ → Node → TallyView
-tally_of_node go_on most n = behind n.count n.spots.items (go_on (most - length n.spots.items) n.left.items n.kernel.state n.marks.items)
+tally_of_node go_on most n = behind n.count n.spots (go_on (most - length n.spots) n.left.items n.kernel.state n.marks.items)
 
 -- of the schedules of all nodes
 abbrev pub tally_of_nodes : Outlook → ℕ → List Node → TallyView
@@ -123,14 +123,6 @@ abbrev pub tally_of_rows : Outlook → ℕ → List Layer → TallyView
 tally_of_rows go_on most [] = no_schedules
 tally_of_rows go_on most (row ∷ rows) = both (tally_of_nodes go_on most row.nodes.items) (tally_of_rows go_on most rows)
 
--- one schedule goes on from each state
-abbrev pub goes_on_once : Outlook
-goes_on_once n left s marks = one_if true
-
--- each schedule has it
-abbrev pub always : Property
-always ending marks = true
-
 -- A node stands before the event with this place: it was given all events before it, and what it put in, at so many spots at least. Its events
 -- lead to its state in the world of the search. Its kernel was given no more than these, there is a mark for each text, and what is left can
 -- still be put in.
@@ -140,10 +132,14 @@ pub record IsNode (s : Search) (place fewest : ℕ) (n : Node) : Type 0 where
   pub settled : IsSettled n.kernel.state
   pub events : n.kernel.events ≤ length n.given
   pub marks : length n.marks.items ≡ length (texts_of s)
-  pub given : length n.given ≡ place + length n.spots.items
-  pub least : fewest ≤ length n.spots.items
-  pub few : length n.spots.items + length n.left.items ≤ most_of s
+  pub given : length n.given ≡ place + length n.spots
+  pub least : fewest ≤ length n.spots
+  pub few : length n.spots + length n.left.items ≤ most_of s
   pub last : place ≡ s.family.now.upto → n.left.items ≡ []
+
+-- Where all nodes were there before the event with this place, with so many spots at least, all are that are there now.
+abbrev pub AreKept : Search → ℕ → ℕ → List Node → List Node → Type 0
+AreKept s place least old new = All (IsNode s place least) old → All (IsNode s place least) new
 
 -- Before the event with this place stand rows of nodes, each with one spot more at least than the row before.
 abbrev pub AreRows : Search → ℕ → ℕ → List Layer → Type 0
@@ -164,7 +160,7 @@ pub record IsSameNode (old new : Node) : Type 0 where
 pub record IsOne (node other : Node) : Type 0 where
   pub state : node.kernel.state ≡ other.kernel.state
   pub marks : node.marks.items ≡ other.marks.items
-  pub spots : length node.spots.items ≡ length other.spots.items
+  pub spots : length node.spots ≡ length other.spots
   pub left : node.left.items ≡ other.left.items
 
 -- But for the counts of reads these nodes are as they were.
@@ -172,10 +168,6 @@ abbrev pub AreSameNodes : List Node → List Node → Type 0
 AreSameNodes [] new = new ≡ []
 AreSameNodes (n ∷ ns) [] = ⊥
 AreSameNodes (n ∷ ns) (m ∷ ms) = IsSameNode n m × AreSameNodes ns ms
-
--- The schedules of some nodes and of one more can be counted in 128 bits, if one goes on from each.
-abbrev pub AreCountable : ℕ → List Node → Node → Type 0
-AreCountable most nodes n = (tally_of_nodes goes_on_once most nodes).count + n.count < 2 ^ 128
 
 -- of the schedules of a node before the event with this place
 abbrev pub node_tally : Property → Search → ℕ → Node → TallyView
@@ -205,19 +197,19 @@ tally_of_all has s place nodes rows next =
 -- of the schedules of a node once it is given this event, and stands before the one with this place
 abbrev pub given_tally : Property → Search → ℕ → Event → Node → TallyView
 given_tally has s place x n =
-    behind n.count n.spots.items
-    (outlook_of has s place (most_of s - length n.spots.items) n.left.items (state_after x n.kernel.state) (marks_after (texts_of s) x n.kernel.state n.marks.items))
+    behind n.count n.spots
+    (outlook_of has s place (most_of s - length n.spots) n.left.items (state_after x n.kernel.state) (marks_after (texts_of s) x n.kernel.state n.marks.items))
 
 -- once this is put in at this spot before the event with this place, with these loose events left
 abbrev pub put_tally : Property → Search → ℕ → ℕ → Event → List ℕ → Node → TallyView
 put_tally has s place q x left n =
-    behind n.count (n.spots.items ++ q ∷ [])
-    (outlook_of has s place (most_of s - (length n.spots.items + 1)) left (state_after x n.kernel.state) (marks_after (texts_of s) x n.kernel.state n.marks.items))
+    behind n.count (n.spots ++ q ∷ [])
+    (outlook_of has s place (most_of s - (length n.spots + 1)) left (state_after x n.kernel.state) (marks_after (texts_of s) x n.kernel.state n.marks.items))
 
 -- with a tick put in before the event with this place, if there may be one more
 abbrev pub tick_tally : Property → Search → ℕ → Node → TallyView
 tick_tally has s place n =
-    if nat_lt (length n.spots.items + length n.left.items) (most_of s)
+    if nat_lt (length n.spots + length n.left.items) (most_of s)
     then put_tally has s place (spot (length (loose_of s)) place 0) Tick n.left.items n
     else no_schedules
 
@@ -240,7 +232,7 @@ loose_tally has s place n = over_kinds (kind_tally has s place n) (length n.left
 abbrev pub counted : List (List ℕ) → List Event → Node → BookView → BookView
 counted texts events n b =
     let c = course_from 1 n.kernel.state events in
-    with_many_runs (ending_of c.last) (marked texts c.lines n.marks.items) (record { count = n.count; first = Some n.spots.items }) b
+    with_many_runs (ending_of c.last) (marked texts c.lines n.marks.items) (record { count = n.count; first = Some n.spots }) b
 
 -- with those of all nodes, the last node first
 abbrev pub counted_all : List (List ℕ) → List Event → List Node → BookView → BookView

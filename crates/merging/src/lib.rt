@@ -6,7 +6,9 @@ mod layer;
 mod merging;
 mod node;
 mod search;
+mod spot_list;
 mod spreading;
+mod still;
 
 pub use merging::merge;
 pub use search::Stop;

@@ -1,6 +1,6 @@
 //! Schedules that meet in one state are gone on with once.
 
-ghost use Rattle.std.specs.Prelude.{◌≡◌, ◌+◌, ◌-◌, ◌<◌, ◌≤◌, ◌^◌, ◌++◌, List, ℕ, [], ◌∷◌, length, map, All, IfOk, OnOk, drop, slice_get, Some};
+ghost use Rattle.std.specs.Prelude.{◌≡◌, ◌+◌, ◌<◌, ◌≤◌, ◌++◌, ℕ, [], ◌∷◌, length, map, All, IfOk, OnOk, drop, Some};
 ghost use Rattle.posix.specs.Regular.{IsRegular};
 ghost use Rattle.posix.specs.Settle.{IsSettled};
 ghost use Rattle.posix.specs.States.{boot};
@@ -10,20 +10,21 @@ ghost use Rattle.counting.specs.Counts.{book_over};
 ghost use Rattle.counting.specs.Tallies.{both};
 ghost use Rattle.counting.specs.Texts.{unmarked};
 ghost use Rattle.merging.specs.declared.search.Search.{Search as SearchValue};
-ghost use Rattle.merging.specs.Merging.{AreRows, IsNode, Outlook, Property, always, counted, counted_all, goes_on_once, list_of, loose_of, most_of, nodes_tally, outlook_of, rows_tally, tally_of_all, tally_of_nodes, tally_of_rows, texts_of, world_of};
+ghost use Rattle.merging.specs.Merging.{AreRows, IsNode, Outlook, Property, counted, counted_all, list_of, loose_of, most_of, nodes_tally, outlook_of, rows_tally, tally_of_nodes, tally_of_rows, texts_of, world_of};
+ghost use Rattle.merging.specs.Stills.{IsFront};
 
 use crate::layer::Layer;
 use crate::node::Node;
 use crate::search::{Search, Stop};
-use crate::spreading::spread_row;
+use crate::still::rows_behind;
 use counting::{Book, Family, Line, Progress, event_at, events_from, mark, run_all};
-use posix::Event;
 use std::alloc::{AllocError, Global};
 use std::collections::VecDeque;
 use text::EventList;
 
 /// Gives these events to a node, and counts the schedules that begin as it says, and put in no more, by how they end.
 fn count_from(
+    alloc: Global,
     node: &mut Node,
     events: &EventList,
     texts: &[&str],
@@ -31,26 +32,20 @@ fn count_from(
     lines: &mut Vec<Line>,
 ) -> Result<(), AllocError>
     requires few { node.old.kernel.events + length events.now ≤ most_events }
-    requires spots { length node.old.spots.items ≤ 32 }
     requires regular { IsRegular node.old.kernel.state }
     requires settled { IsSettled node.old.kernel.state }
-    requires total { book.old.total + node.old.count < 2 ^ 128 }
     ensures { OnOk result (book.new ≡ counted (map (λ t. t.now) texts.now) events.now node.old book.old) }
 {
     lines.clear();
     let ending = run_all(&mut node.kernel, events, lines)?;
     mark(texts, lines.as_slice(), node.marks.as_mut_slice());
-    book.add_many(
-        ending,
-        node.marks.as_slice(),
-        node.spots.as_slice(),
-        node.count,
-    );
-    Ok(())
+    let spots = node.spots.to_vec(alloc)?;
+    book.add_many(ending, node.marks.as_slice(), spots.as_slice(), &node.count)
 }
 
 /// Counts the schedules that begin as a node says, and put in no more, by how these events end.
 fn count_node(
+    alloc: Global,
     node: Node,
     events: &EventList,
     texts: &[&str],
@@ -58,14 +53,12 @@ fn count_node(
     lines: &mut Vec<Line>,
 ) -> Result<(), AllocError>
     requires few { node.kernel.events + length events.now ≤ most_events }
-    requires spots { length node.spots.items ≤ 32 }
     requires regular { IsRegular node.kernel.state }
     requires settled { IsSettled node.kernel.state }
-    requires total { book.old.total + node.count < 2 ^ 128 }
     ensures { OnOk result (book.new ≡ counted (map (λ t. t.now) texts.now) events.now node book.old) }
 {
     let mut node = node;
-    let result = count_from(&mut node, events, texts, book, lines);
+    let result = count_from(alloc, &mut node, events, texts, book, lines);
     // A node that is dropped by its name is dropped by one function, whose proof is short.
     drop(node);
     result
@@ -81,18 +74,18 @@ fn count_all(
 ) -> Result<(), AllocError>
     requires nodes { All (IsNode search.now search.now.family.now.upto 0) nodes.old.items }
     requires few { search.now.family.now.upto + length events.now ≤ length (list_of search.now) }
-    requires total { book.old.total + (tally_of_nodes goes_on_once (most_of search.now) nodes.old.items).count < 2 ^ 128 }
     ensures { OnOk result (book.new ≡ counted_all (texts_of search.now) events.now nodes.old.items book.old) }
 {
     while let Some(node) = nodes.pop() {
-        count_node(node, events, search.texts, book, lines)?;
+        count_node(search.alloc, node, events, search.texts, book, lines)?;
     }
     Ok(())
 }
 
 /// Takes the first row; no states, where there is none.
-fn take_row(rows: &mut VecDeque<Layer>, alloc: Global) -> Layer
+pub fn take_row(rows: &mut VecDeque<Layer>, alloc: Global) -> Layer
     ensures rows { (search : SearchValue) (place least : ℕ) → AreRows search place least rows.old.items → All (IsNode search place least) result.nodes.items × AreRows search place (least + 1) rows.new.items }
+    ensures front { IsFront rows.old.items result rows.new.items }
     ensures tally { (go_on : Outlook) (most : ℕ) → tally_of_rows go_on most rows.old.items ≡ both (tally_of_nodes go_on most result.nodes.items) (tally_of_rows go_on most rows.new.items) }
 {
     match rows.pop_front() {
@@ -102,11 +95,16 @@ fn take_row(rows: &mut VecDeque<Layer>, alloc: Global) -> Layer
 }
 
 /// One more row comes behind the others.
-fn push_row(rows: &mut VecDeque<Layer>, row: Layer) -> Result<(), AllocError>
+pub fn push_row(rows: &mut VecDeque<Layer>, row: Layer) -> Result<(), AllocError>
     ensures { OnOk result (rows.new.items ≡ rows.old.items ++ row ∷ []) }
 {
     rows.push_back(row)?;
     Ok(())
+}
+
+/// How many states the last row has.
+pub fn last_states(rows: &VecDeque<Layer>) -> usize {
+    rows.back().map_or(0, |row| row.nodes.len())
 }
 
 /// How many states these are.
@@ -116,100 +114,6 @@ fn count_states(rows: &VecDeque<Layer>) -> usize {
         states = states.saturating_add(row.nodes.len());
     }
     states
-}
-
-/// A row goes on from before the event with this place: behind it to the last of the rows there, and with one more spot to
-/// the first of the other rows, which comes back.
-fn row_behind(
-    row: Layer,
-    rows: &mut VecDeque<Layer>,
-    next: &mut VecDeque<Layer>,
-    place: u64,
-    event: Event,
-    search: &Search<'_, '_, '_>,
-    lines: &mut Vec<Line>,
-) -> Result<Layer, Stop>
-    requires place { place < search.now.family.now.upto }
-    requires event { slice_get (list_of search.now) place ≡ Some event }
-    requires nodes { All (IsNode search.now place (length next.old.items)) row.nodes.items }
-    requires rows { AreRows search.now place (length next.old.items + 1) rows.old.items }
-    requires next { AreRows search.now (place + 1) 0 next.old.items }
-    requires countable { (tally_of_all always search.now place row.nodes.items rows.old.items next.old.items).count < 2 ^ 128 }
-    ensures len { OnOk result (length next.new.items ≡ length next.old.items + 1) }
-    ensures nodes { IfOk result (λ more. All (IsNode search.now place (length next.new.items)) more.nodes.items) }
-    ensures rows { OnOk result (AreRows search.now place (length next.new.items + 1) rows.new.items) }
-    ensures next { OnOk result (AreRows search.now (place + 1) 0 next.new.items) }
-    ensures tally { (has : Property) → IfOk result (λ more. tally_of_all has search.now place more.nodes.items rows.new.items next.new.items
-        ≡ tally_of_all has search.now place row.nodes.items rows.old.items next.old.items) }
-{
-    let mut more = take_row(rows, search.alloc);
-    let kept = count_states(next);
-    match spread_row(row, &mut more, kept, place, event, search, lines) {
-        Ok(behind) => match push_row(next, behind) {
-            Ok(()) => Ok(more),
-            Err(e) => {
-                drop(more);
-                Err(e.into())
-            }
-        },
-        Err(e) => {
-            drop(more);
-            Err(e)
-        }
-    }
-}
-
-/// All rows go on from before the event with this place, and come behind it to the next rows.
-fn all_behind(
-    rows: &mut VecDeque<Layer>,
-    next: &mut VecDeque<Layer>,
-    place: u64,
-    event: Event,
-    search: &Search<'_, '_, '_>,
-    lines: &mut Vec<Line>,
-) -> Result<(), Stop>
-    requires place { place < search.now.family.now.upto }
-    requires event { slice_get (list_of search.now) place ≡ Some event }
-    requires rows { AreRows search.now place 0 rows.old.items }
-    requires none { next.old.items ≡ [] }
-    requires countable { (rows_tally always search.now place rows.old.items).count < 2 ^ 128 }
-    ensures rows { OnOk result (AreRows search.now (place + 1) 0 next.new.items) }
-    ensures tally { (has : Property) → OnOk result (rows_tally has search.now (place + 1) next.new.items ≡ rows_tally has search.now place rows.old.items) }
-{
-    let mut row = take_row(rows, search.alloc);
-    for _spots in 0..search.family.ticks + search.family.loose.len() + 1 {
-        row = row_behind(row, rows, next, place, event, search, lines)?;
-    }
-    drop(row);
-    Ok(())
-}
-
-/// The states behind the event with this place, from those before it. Row by row they go on with one more spot.
-fn rows_behind(
-    rows: VecDeque<Layer>,
-    place: u64,
-    event: Event,
-    search: &Search<'_, '_, '_>,
-    lines: &mut Vec<Line>,
-) -> Result<VecDeque<Layer>, Stop>
-    requires place { place < search.now.family.now.upto }
-    requires event { slice_get (list_of search.now) place ≡ Some event }
-    requires rows { AreRows search.now place 0 rows.items }
-    requires countable { (rows_tally always search.now place rows.items).count < 2 ^ 128 }
-    ensures rows { IfOk result (λ next. AreRows search.now (place + 1) 0 next.items) }
-    ensures tally { (has : Property) → IfOk result (λ next. rows_tally has search.now (place + 1) next.items ≡ rows_tally has search.now place rows.items) }
-{
-    let mut rows = rows;
-    let mut next = VecDeque::new(search.alloc);
-    let done = all_behind(&mut rows, &mut next, place, event, search, lines);
-    drop(rows);
-    match done {
-        Ok(()) => Ok(next),
-        Err(e) => {
-            drop(next);
-            Err(e)
-        }
-    }
 }
 
 /// The nodes of a row come to others.
@@ -259,18 +163,18 @@ fn reach<P: Progress>(
     progress: &mut P,
 ) -> Result<VecDeque<Layer>, Stop>
     requires nodes { All (IsNode search.now 0 0) first.nodes.items }
-    requires countable { (nodes_tally always search.now 0 first.nodes.items).count < 2 ^ 128 }
     ensures rows { IfOk result (λ rows. AreRows search.now search.now.family.now.upto 0 rows.items) }
     ensures tally { (has : Property) → IfOk result (λ rows. rows_tally has search.now search.now.family.now.upto rows.items ≡ nodes_tally has search.now 0 first.nodes.items) }
 {
     let upto = search.family.upto;
     let mut rows = VecDeque::new(search.alloc);
     push_row(&mut rows, first)?;
+    let mut are_linked = false;
     for place in 0..upto {
         let Some(event) = event_at(search.family.events, place) else {
             unreachable!()
         };
-        rows = rows_behind(rows, place, event, search, lines)?;
+        rows = rows_behind(rows, &mut are_linked, place, event, search, lines)?;
         let states = count_states(&rows);
         if states > search.family.states {
             return Err(Stop::States(search.family.states, place + 1));
@@ -304,7 +208,6 @@ fn search_all<P: Progress>(
     lines: &mut Vec<Line>,
     progress: &mut P,
 ) -> Result<Vec<Node>, Stop>
-    requires { search.now.family.now.size < 2 ^ 128 }
     ensures nodes { IfOk result (λ nodes. All (IsNode search.now search.now.family.now.upto 0) nodes.items) }
     ensures tally { (has : Property) → IfOk result (λ nodes. nodes_tally has search.now search.now.family.now.upto nodes.items
         ≡ outlook_of has search.now 0 (most_of search.now) (kinds_of (length (loose_of search.now))) (boot (world_of search.now)) (unmarked (texts_of search.now))) }
@@ -322,7 +225,6 @@ pub fn merge<'a, P: Progress>(
     texts: &[&'a str],
     progress: &mut P,
 ) -> Result<Book<'a>, Stop>
-    requires { family.now.size < 2 ^ 128 }
     ensures { IfOk result (λ book. book ≡ book_over family.now.world.now family.now.loose.now family.now.events.now (map (λ t. t.now) texts.now) (family_of family.now.upto family.now.ticks (length family.now.loose.now))) }
 {
     let search = Search {

@@ -1,7 +1,7 @@
 //! States, and the beginnings of schedules that lead to them.
 
-ghost use Rattle.std.specs.Prelude.{◌≡◌, ◌+◌, ◌<◌, ◌≤◌, ◌^◌, ◌++◌, [], ◌∷◌, List, ℕ, true, length, map, IfOk, OnOk};
-ghost use Rattle.posix.specs.States.{World as WorldValue, boot};
+ghost use Rattle.std.specs.Prelude.{◌≡◌, ◌+◌, ◌<◌, ◌≤◌, ◌++◌, [], ◌∷◌, ℕ, true, length, map, IfOk, OnOk};
+ghost use Rattle.posix.specs.States.{boot};
 ghost use Rattle.posix.specs.Regular.{IsRegular};
 ghost use Rattle.posix.specs.Settle.{IsSettled};
 ghost use Rattle.text.specs.EventTexts.{most_events};
@@ -11,18 +11,20 @@ ghost use Rattle.counting.specs.Tallies.{both};
 ghost use Rattle.counting.specs.Texts.{unmarked};
 ghost use Rattle.merging.specs.declared.search.Search.{Search as SearchValue};
 ghost use Rattle.merging.specs.Merging.{IsNode, IsOne, IsSameNode, Outlook, marks_after, state_after, tally_of_node, texts_of};
+ghost use Rattle.merging.specs.Stills.{face_of};
 
+use crate::spot_list::SpotList;
 use arrayvec::ArrayVec;
-use counting::{Line, Spots, copied, events_from, is_before, mark, run_all, run_one};
+use counting::{Count, Line, events_from, mark, run_all, run_one};
 use kernel::Kernel;
 use posix::Event;
-use schedules::MOST_SPOTS;
+use schedules::MOST_LOOSE;
 use std::alloc::{AllocError, Global};
 use std::mem::swap;
 use text::{EventList, World};
 
 /// The kinds of loose events, from 1.
-pub type Kinds = ArrayVec<u8, MOST_SPOTS>;
+pub type Kinds = ArrayVec<u8, MOST_LOOSE>;
 
 /// A state of a machine, and the beginnings of schedules that lead to it.
 #[derive(Drop)]
@@ -30,9 +32,9 @@ pub struct Node {
     /// In this state.
     pub kernel: Kernel,
     /// How many they are.
-    pub count: u128,
+    pub count: Count,
     /// The spots of the first of them.
-    pub spots: Spots,
+    pub spots: SpotList,
     /// The kinds of the loose events that they haven't put in.
     pub left: Kinds,
     /// The events of the first of them.
@@ -89,7 +91,7 @@ fn give(
 
 /// The kinds of so many loose events.
 fn kinds_of(loose: usize) -> Kinds
-    requires { loose ≤ 32 }
+    requires { loose ≤ MOST_LOOSE }
     ensures { result.items ≡ all_kinds loose }
 {
     let mut kinds = Kinds::new();
@@ -101,7 +103,7 @@ fn kinds_of(loose: usize) -> Kinds
 
 /// The kinds, copied.
 fn copied_kinds(kinds: &[u8]) -> Kinds
-    requires { length kinds.now ≤ 32 }
+    requires { length kinds.now ≤ MOST_LOOSE }
     ensures { result.items ≡ kinds.now }
 {
     let mut copy = Kinds::new();
@@ -117,22 +119,23 @@ impl Node {
         loose: usize,
         texts: &[&str],
     ) -> Result<Node, AllocError>
-        requires { loose ≤ 32 }
+        requires { loose ≤ MOST_LOOSE }
         ensures state { IfOk result (λ n. n.kernel.state ≡ boot world.now) }
         ensures regular { IfOk result (λ n. IsRegular n.kernel.state) }
         ensures settled { IfOk result (λ n. IsSettled n.kernel.state) }
         ensures events { IfOk result (λ n. n.kernel.events ≡ 0) }
         ensures one { IfOk result (λ n. n.count ≡ 1) }
-        ensures spots { IfOk result (λ n. n.spots.items ≡ []) }
+        ensures spots { IfOk result (λ n. n.spots ≡ []) }
         ensures left { IfOk result (λ n. n.left.items ≡ all_kinds loose) }
         ensures given { IfOk result (λ n. n.given ≡ []) }
         ensures marks { IfOk result (λ n. n.marks.items ≡ unmarked (map (λ t. t.now) texts.now)) }
     {
         let marks = vec![in alloc; false; texts.len()]?;
+        let count = Count::one(alloc)?;
         Ok(Node {
             kernel: Kernel::boot(alloc, world)?,
-            count: 1,
-            spots: Spots::new(),
+            count,
+            spots: SpotList::new(alloc),
             left: kinds_of(loose),
             given: EventList::new(alloc),
             marks,
@@ -174,29 +177,55 @@ impl Node {
     /// The same beginnings, with a kernel of their own.
     fn again(&self, alloc: Global, world: &World, lines: &mut Vec<Line>) -> Result<Node, AllocError>
         requires few { length self.now.given ≤ most_events }
-        requires spots { length self.now.spots.items ≤ 32 }
-        requires left { length self.now.left.items ≤ 32 }
+        requires left { length self.now.left.items ≤ MOST_LOOSE }
         requires reached { self.now.kernel.state ≡ (course_from 1 (boot world.now) self.now.given).last }
         ensures state { IfOk result (λ n. n.kernel.state ≡ self.now.kernel.state) }
         ensures events { IfOk result (λ n. n.kernel.events ≤ length self.now.given) }
         ensures regular { IfOk result (λ n. IsRegular n.kernel.state) }
         ensures settled { IfOk result (λ n. IsSettled n.kernel.state) }
         ensures count { IfOk result (λ n. n.count ≡ self.now.count) }
-        ensures spots { IfOk result (λ n. n.spots.items ≡ self.now.spots.items) }
+        ensures spots { IfOk result (λ n. n.spots ≡ self.now.spots) }
         ensures left { IfOk result (λ n. n.left.items ≡ self.now.left.items) }
         ensures given { IfOk result (λ n. n.given ≡ self.now.given) }
         ensures marks { IfOk result (λ n. n.marks.items ≡ self.now.marks.items) }
     {
         let given = events_from(alloc, &self.given, 0)?;
         let marks = Vec::from_slice(alloc, self.marks.as_slice())?;
+        let count = self.count.again()?;
+        let spots = self.spots.again(alloc)?;
         Ok(Node {
             kernel: kernel_after(alloc, world, &self.given, lines)?,
-            count: self.count,
-            spots: copied(self.spots.as_slice()),
+            count,
+            spots,
             left: copied_kinds(self.left.as_slice()),
             given,
             marks,
         })
+    }
+
+    /// One more event is given, which is put in at this spot.
+    fn put_in(
+        &mut self,
+        spot: u64,
+        event: Event,
+        texts: &[&str],
+        lines: &mut Vec<Line>,
+    ) -> Result<(), AllocError>
+        requires few { self.old.kernel.events ≤ length self.old.given }
+        requires given { length self.old.given < most_events }
+        requires spots { length self.old.spots ≤ length self.old.given }
+        ensures state { OnOk result (self.new.kernel.state ≡ state_after event self.old.kernel.state) }
+        ensures regular { OnOk result (IsRegular self.new.kernel.state) }
+        ensures settled { OnOk result (IsSettled self.new.kernel.state) }
+        ensures events { OnOk result (self.new.kernel.events ≡ self.old.kernel.events + 1) }
+        ensures marks { OnOk result (self.new.marks.items ≡ marks_after (map (λ t. t.now) texts.now) event self.old.kernel.state self.old.marks.items) }
+        ensures given { OnOk result (self.new.given ≡ self.old.given ++ event ∷ []) }
+        ensures count { self.new.count ≡ self.old.count }
+        ensures spots { OnOk result (self.new.spots ≡ self.old.spots ++ spot ∷ []) }
+        ensures left { self.new.left ≡ self.old.left }
+    {
+        self.spots.push(spot)?;
+        self.give(event, texts, lines)
     }
 
     /// The beginnings with one more event, which is put in at this spot.
@@ -210,8 +239,8 @@ impl Node {
         lines: &mut Vec<Line>,
     ) -> Result<Node, AllocError>
         requires few { length self.now.given < most_events }
-        requires spots { length self.now.spots.items < 32 }
-        requires left { length self.now.left.items ≤ 32 }
+        requires spots { length self.now.spots ≤ length self.now.given }
+        requires left { length self.now.left.items ≤ MOST_LOOSE }
         requires reached { self.now.kernel.state ≡ (course_from 1 (boot world.now) self.now.given).last }
         ensures state { IfOk result (λ n. n.kernel.state ≡ state_after event self.now.kernel.state) }
         ensures regular { IfOk result (λ n. IsRegular n.kernel.state) }
@@ -220,12 +249,11 @@ impl Node {
         ensures marks { IfOk result (λ n. n.marks.items ≡ marks_after (map (λ t. t.now) texts.now) event self.now.kernel.state self.now.marks.items) }
         ensures given { IfOk result (λ n. n.given ≡ self.now.given ++ event ∷ []) }
         ensures count { IfOk result (λ n. n.count ≡ self.now.count) }
-        ensures spots { IfOk result (λ n. n.spots.items ≡ self.now.spots.items ++ spot ∷ []) }
+        ensures spots { IfOk result (λ n. n.spots ≡ self.now.spots ++ spot ∷ []) }
         ensures left { IfOk result (λ n. n.left.items ≡ self.now.left.items) }
     {
         let mut node = self.again(alloc, world, lines)?;
-        node.spots.push(spot);
-        match node.give(event, texts, lines) {
+        match node.put_in(spot, event, texts, lines) {
             Ok(()) => Ok(node),
             Err(e) => {
                 drop(node);
@@ -249,27 +277,27 @@ impl Node {
     }
 
     /// The beginnings of another node that is one with this are counted with its own, of which the first stay.
-    fn join_first(&mut self, other: &mut Node)
-        requires count { self.old.count + other.old.count < 2 ^ 128 }
-        requires one { IsOne self.old other.old }
-        ensures tally { (go_on : Outlook) (most : ℕ) → tally_of_node go_on most self.new ≡ both (tally_of_node go_on most self.old) (tally_of_node go_on most other.old) }
+    fn join_first(&mut self, other: &mut Node) -> Result<(), AllocError>
+        requires { IsOne self.old other.old }
+        ensures tally { OnOk result ((go_on : Outlook) (most : ℕ) → tally_of_node go_on most self.new ≡ both (tally_of_node go_on most self.old) (tally_of_node go_on most other.old)) }
         ensures node { (search : SearchValue) (place least : ℕ) → IsNode search place least self.old → IsNode search place least other.old → IsNode search place least self.new }
+        ensures face { OnOk result (face_of self.new ≡ face_of self.old) }
     {
-        let count = self.count + other.count;
-        if is_before(other.spots.as_slice(), self.spots.as_slice()) {
+        if other.spots.is_before(&self.spots) {
             swap(self, other);
         }
-        self.count = count;
+        self.count.add(&other.count)
     }
 
     /// The beginnings of another node that is one with this come to its own.
-    pub fn join(&mut self, mut other: Node)
-        requires count { self.old.count + other.count < 2 ^ 128 }
-        requires one { IsOne self.old other }
-        ensures tally { (go_on : Outlook) (most : ℕ) → tally_of_node go_on most self.new ≡ both (tally_of_node go_on most self.old) (tally_of_node go_on most other) }
+    pub fn join(&mut self, mut other: Node) -> Result<(), AllocError>
+        requires { IsOne self.old other }
+        ensures tally { OnOk result ((go_on : Outlook) (most : ℕ) → tally_of_node go_on most self.new ≡ both (tally_of_node go_on most self.old) (tally_of_node go_on most other)) }
         ensures node { (search : SearchValue) (place least : ℕ) → IsNode search place least self.old → IsNode search place least other → IsNode search place least self.new }
+        ensures face { OnOk result (face_of self.new ≡ face_of self.old) }
     {
-        self.join_first(&mut other);
+        let done = self.join_first(&mut other);
         drop(other);
+        done
     }
 }

@@ -1,9 +1,8 @@
 //! How a state goes on from before an event: with a tick or a loose event put in, or behind the event.
 
-ghost use Rattle.std.specs.Prelude.{◌≡◌, ◌+◌, ◌<◌, ◌^◌, ℕ, true, false, [], length, All, IfOk, OnOk, Some, slice_get};
-ghost use Rattle.text.specs.EventTexts.{most_events};
+ghost use Rattle.std.specs.Prelude.{◌≡◌, ◌+◌, ◌<◌, ℕ, true, false, [], length, All, IfOk, OnOk, Some, slice_get};
 ghost use Rattle.counting.specs.Tallies.{both};
-ghost use Rattle.merging.specs.Merging.{IsNode, Property, always, given_tally, goes_on_once, list_of, loose_tally, most_of, node_tally, nodes_tally, tally_around, tally_of_nodes, tally_with, tick_tally, with_kind};
+ghost use Rattle.merging.specs.Merging.{AreKept, IsNode, Property, given_tally, list_of, loose_tally, node_tally, nodes_tally, tally_around, tally_with, tick_tally, with_kind};
 
 use crate::layer::Layer;
 use crate::node::Node;
@@ -23,8 +22,7 @@ fn put_tick(
 ) -> Result<(), AllocError>
     requires place { place < search.now.family.now.upto }
     requires node { (least : ℕ) × IsNode search.now place least node.now × All (IsNode search.now place (least + 1)) more.old.nodes.items }
-    requires countable { (tally_of_nodes goes_on_once (most_of search.now) more.old.nodes.items).count + (tick_tally always search.now place node.now).count < 2 ^ 128 }
-    ensures nodes { (least : ℕ) → IsNode search.now place least node.now → All (IsNode search.now place (least + 1)) more.old.nodes.items → OnOk result (All (IsNode search.now place (least + 1)) more.new.nodes.items) }
+    ensures nodes { (least : ℕ) → IsNode search.now place least node.now → OnOk result (AreKept search.now place (least + 1) more.old.nodes.items more.new.nodes.items) }
     ensures tally { OnOk result ((has : Property) → nodes_tally has search.now place more.new.nodes.items ≡ both (nodes_tally has search.now place more.old.nodes.items) (tick_tally has search.now place node.now)) }
 {
     let family = search.family;
@@ -82,8 +80,7 @@ fn put_loose(
 ) -> Result<(), AllocError>
     requires place { place < search.now.family.now.upto }
     requires node { (least : ℕ) × IsNode search.now place least node.now × All (IsNode search.now place (least + 1)) more.old.nodes.items }
-    requires countable { (tally_of_nodes goes_on_once (most_of search.now) more.old.nodes.items).count + (loose_tally always search.now place node.now).count < 2 ^ 128 }
-    ensures nodes { (least : ℕ) → IsNode search.now place least node.now → All (IsNode search.now place (least + 1)) more.old.nodes.items → OnOk result (All (IsNode search.now place (least + 1)) more.new.nodes.items) }
+    ensures nodes { (least : ℕ) → IsNode search.now place least node.now → OnOk result (AreKept search.now place (least + 1) more.old.nodes.items more.new.nodes.items) }
     ensures tally { OnOk result ((has : Property) → nodes_tally has search.now place more.new.nodes.items ≡ both (nodes_tally has search.now place more.old.nodes.items) (loose_tally has search.now place node.now)) }
 {
     for number in 0..node.left.len() {
@@ -114,8 +111,7 @@ fn give_to(
 ) -> Result<(), AllocError>
     requires place { place < search.now.family.now.upto }
     requires node { (least : ℕ) × IsNode search.now place least node × All (IsNode search.now (place + 1) least) next.old.nodes.items }
-    requires countable { (tally_of_nodes goes_on_once (most_of search.now) next.old.nodes.items).count + (given_tally always search.now (place + 1) event node).count < 2 ^ 128 }
-    ensures nodes { (least : ℕ) → IsNode search.now place least node → All (IsNode search.now (place + 1) least) next.old.nodes.items → OnOk result (All (IsNode search.now (place + 1) least) next.new.nodes.items) }
+    ensures nodes { (least : ℕ) → IsNode search.now place least node → OnOk result (AreKept search.now (place + 1) least next.old.nodes.items next.new.nodes.items) }
     ensures tally { OnOk result ((has : Property) → nodes_tally has search.now (place + 1) next.new.nodes.items
         ≡ both (nodes_tally has search.now (place + 1) next.old.nodes.items) (given_tally has search.now (place + 1) event node)) }
 {
@@ -143,8 +139,7 @@ fn put_one_more(
 ) -> Result<(), AllocError>
     requires place { place < search.now.family.now.upto }
     requires node { (least : ℕ) × IsNode search.now place least node.now × All (IsNode search.now place (least + 1)) more.old.nodes.items }
-    requires countable { (both (nodes_tally always search.now place more.old.nodes.items) (both (tick_tally always search.now place node.now) (loose_tally always search.now place node.now))).count < 2 ^ 128 }
-    ensures nodes { (least : ℕ) → IsNode search.now place least node.now → All (IsNode search.now place (least + 1)) more.old.nodes.items → OnOk result (All (IsNode search.now place (least + 1)) more.new.nodes.items) }
+    ensures nodes { (least : ℕ) → IsNode search.now place least node.now → OnOk result (AreKept search.now place (least + 1) more.old.nodes.items more.new.nodes.items) }
     ensures tally { OnOk result ((has : Property) → nodes_tally has search.now place more.new.nodes.items
         ≡ both (nodes_tally has search.now place more.old.nodes.items) (both (tick_tally has search.now place node.now) (loose_tally has search.now place node.now))) }
 {
@@ -166,9 +161,8 @@ fn spread(
     requires place { place < search.now.family.now.upto }
     requires event { slice_get (list_of search.now) place ≡ Some event }
     requires node { (least : ℕ) × IsNode search.now place least node × All (IsNode search.now place (least + 1)) more.old.nodes.items × All (IsNode search.now (place + 1) least) next.old.nodes.items }
-    requires countable { (tally_with always search.now place more.old.nodes.items next.old.nodes.items node).count < 2 ^ 128 }
-    ensures more { (least : ℕ) → IsNode search.now place least node → All (IsNode search.now place (least + 1)) more.old.nodes.items → OnOk result (All (IsNode search.now place (least + 1)) more.new.nodes.items) }
-    ensures next { (least : ℕ) → IsNode search.now place least node → All (IsNode search.now (place + 1) least) next.old.nodes.items → OnOk result (All (IsNode search.now (place + 1) least) next.new.nodes.items) }
+    ensures more { (least : ℕ) → IsNode search.now place least node → OnOk result (AreKept search.now place (least + 1) more.old.nodes.items more.new.nodes.items) }
+    ensures next { (least : ℕ) → IsNode search.now place least node → OnOk result (AreKept search.now (place + 1) least next.old.nodes.items next.new.nodes.items) }
     ensures tally { OnOk result ((has : Property) → tally_around has search.now place more.new.nodes.items next.new.nodes.items ≡ tally_with has search.now place more.old.nodes.items next.old.nodes.items node) }
 {
     match put_one_more(more, &node, place, search, lines) {
@@ -194,9 +188,8 @@ fn spread_all(
     requires place { place < search.now.family.now.upto }
     requires event { slice_get (list_of search.now) place ≡ Some event }
     requires nodes { (least : ℕ) × All (IsNode search.now place least) nodes.old.items × All (IsNode search.now place (least + 1)) more.old.nodes.items × All (IsNode search.now (place + 1) least) next.old.nodes.items }
-    requires countable { (both (tally_around always search.now place more.old.nodes.items next.old.nodes.items) (nodes_tally always search.now place nodes.old.items)).count < 2 ^ 128 }
-    ensures more { (least : ℕ) → All (IsNode search.now place least) nodes.old.items → All (IsNode search.now place (least + 1)) more.old.nodes.items → OnOk result (All (IsNode search.now place (least + 1)) more.new.nodes.items) }
-    ensures next { (least : ℕ) → All (IsNode search.now place least) nodes.old.items → All (IsNode search.now (place + 1) least) next.old.nodes.items → OnOk result (All (IsNode search.now (place + 1) least) next.new.nodes.items) }
+    ensures more { (least : ℕ) → All (IsNode search.now place least) nodes.old.items → OnOk result (AreKept search.now place (least + 1) more.old.nodes.items more.new.nodes.items) }
+    ensures next { (least : ℕ) → All (IsNode search.now place least) nodes.old.items → OnOk result (AreKept search.now (place + 1) least next.old.nodes.items next.new.nodes.items) }
     ensures tally { OnOk result ((has : Property) → tally_around has search.now place more.new.nodes.items next.new.nodes.items
         ≡ both (tally_around has search.now place more.old.nodes.items next.old.nodes.items) (nodes_tally has search.now place nodes.old.items)) }
 {
@@ -225,8 +218,7 @@ pub fn spread_row(
     requires place { place < search.now.family.now.upto }
     requires event { slice_get (list_of search.now) place ≡ Some event }
     requires nodes { (least : ℕ) × All (IsNode search.now place least) row.nodes.items × All (IsNode search.now place (least + 1)) more.old.nodes.items }
-    requires countable { (both (tally_around always search.now place more.old.nodes.items []) (nodes_tally always search.now place row.nodes.items)).count < 2 ^ 128 }
-    ensures more { (least : ℕ) → All (IsNode search.now place least) row.nodes.items → All (IsNode search.now place (least + 1)) more.old.nodes.items → OnOk result (All (IsNode search.now place (least + 1)) more.new.nodes.items) }
+    ensures more { (least : ℕ) → All (IsNode search.now place least) row.nodes.items → OnOk result (AreKept search.now place (least + 1) more.old.nodes.items more.new.nodes.items) }
     ensures next { (least : ℕ) → All (IsNode search.now place least) row.nodes.items → IfOk result (λ next. All (IsNode search.now (place + 1) least) next.nodes.items) }
     ensures tally { (has : Property) → IfOk result (λ next. tally_around has search.now place more.new.nodes.items next.nodes.items
         ≡ both (nodes_tally has search.now place more.old.nodes.items) (nodes_tally has search.now place row.nodes.items)) }

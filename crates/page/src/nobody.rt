@@ -8,7 +8,7 @@ use showing::{Ask, AskFault};
 pub struct Nobody;
 
 impl Progress for Nobody {
-    fn run(&mut self, _done: u128, _size: u128) {}
+    fn run(&mut self, _done: u64, _size: u64) {}
 
     fn reach(&mut self, _place: u64, _upto: u64, _states: u64) {}
 }

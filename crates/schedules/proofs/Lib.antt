@@ -2,6 +2,7 @@ pub mod FamilyLemmas
 pub mod SizeLemmas
 pub mod ScheduledLemmas
 pub mod GivenLemmas
+mod AdvanceLemmas
 pub mod WalkLemmas
 pub mod Rows
 mod LineLemmas

@@ -1,5 +1,5 @@
 -- How many schedules a family has.
-use Rattle.std.proofs.Common.{◌≡◌, ℕ, zero, suc, ◌+◌, ◌-◌, ◌*◌, ◌/◌, ◌%◌, ◌^◌, ◌<◌, ◌≤◌, refl, ap, sym, ◌∙◌, arith, div-add-mod', ⊎_elim, inl, inr, List, [], ◌∷◌, ◌++◌, length}
+use Rattle.std.proofs.Common.{◌≡◌, ℕ, zero, suc, ◌+◌, ◌*◌, ◌/◌, ◌^◌, ◌<◌, ◌≤◌, refl, ap, sym, ◌∙◌, arith, ⊎_elim, inl, inr, List, [], ◌∷◌, ◌++◌, length}
 use Rattle.std.specs.List.{remove, slice_index_or}
 use Rattle.std.proofs.Math.Nat.{mul-div_cancel_left, mul-le-mul_left, mul-le-mul_right}
 use Rattle.std.proofs.lemmas.Bool.{cases_lt}
@@ -252,41 +252,12 @@ one_at_least of chosen = omega (arith, grows of 0 chosen (omega arith), choose_n
 
 -- ---- what the code computes
 
--- a quotient in two parts
-parts_are : (size places more whole next : ℕ) → 1 ≤ more → size * places ≡ more * next → whole ≡ size / more * places → whole + size % more * places / more ≡ next
-parts_are size places more whole next some is whole_is =
-    let split : size / more * more + size % more ≡ size = div-add-mod' size more in
-    let product : (size / more * more + size % more) * places ≡ more * next = ap (λ n. n * places) split ∙ is in
-    let sum : more * (size / more * places) + size % more * places ≡ more * next = omega (arith, product) in
-    let within : size / more * places ≤ next = elim (cases_lt next (size / more * places)) [
-      | inl more_than ↦ let much : (next + 1) * more ≤ size / more * places * more = mul-le-mul_right more (omega (arith, more_than)) in absurd (omega (arith, much, sum, some))
-      | inr l ↦ l
-    ] in
-    let behind : size / more * places + (next - size / more * places) ≡ next = omega (arith, within) in
-    let rest : size % more * places ≡ more * (next - size / more * places) = omega (arith, sum, ap (λ n. more * n) behind) in
-    let part : size % more * places / more ≡ next - size / more * places = ap (λ n. n / more) rest ∙ mul-div_cancel_left (next - size / more * places) some in
-    omega (arith, whole_is, within, part)
-
--- how many ways there are with a choice more, in two parts
-pub next_is : (of chosen size whole : ℕ) → size ≡ choose (of + chosen) chosen → whole ≡ size / (chosen + 1) * (of + (chosen + 1))
-    → whole + size % (chosen + 1) * (of + (chosen + 1)) / (chosen + 1) ≡ choose (of + (chosen + 1)) (chosen + 1)
-next_is of chosen size whole is made =
+-- how many ways there are with a choice more: a quotient without a rest
+pub next_is : (of chosen size : ℕ) → size ≡ choose (of + chosen) chosen → size * (of + (chosen + 1)) / (chosen + 1) ≡ choose (of + (chosen + 1)) (chosen + 1)
+next_is of chosen size is =
     let step : size * (of + (chosen + 1)) ≡ (of + chosen + 1) * size = omega arith in
     let product : size * (of + (chosen + 1)) ≡ (chosen + 1) * choose (of + (chosen + 1)) (chosen + 1) = step ∙ ap (λ n. (of + chosen + 1) * n) is ∙ sym (one_choice_more of chosen) in
-    parts_are size (of + (chosen + 1)) (chosen + 1) whole (choose (of + (chosen + 1)) (chosen + 1)) (omega arith) product made
-
--- where a part is too large for a word of 128 bits, so is the whole
-pub whole_is_over : (of chosen size limit : ℕ) → size ≡ choose (of + chosen) chosen → limit < 2 ^ 128 → (size / (chosen + 1) * (of + (chosen + 1)) < 2 ^ 128 → ⊥)
-    → choose (of + (chosen + 1)) (chosen + 1) ≤ limit → ⊥
-whole_is_over of chosen size limit is low large within =
-    let next = next_is of chosen size (size / (chosen + 1) * (of + (chosen + 1))) is refl in
-    large (omega (arith, next, low, within))
-
-pub sum_is_over : (of chosen size whole limit : ℕ) → size ≡ choose (of + chosen) chosen → limit < 2 ^ 128 → whole ≡ size / (chosen + 1) * (of + (chosen + 1))
-    → (whole + size % (chosen + 1) * (of + (chosen + 1)) / (chosen + 1) < 2 ^ 128 → ⊥) → choose (of + (chosen + 1)) (chosen + 1) ≤ limit → ⊥
-sum_is_over of chosen size whole limit is low made large within =
-    let next = next_is of chosen size whole is made in
-    large (omega (arith, next, low, within))
+    ap (λ n. n / (chosen + 1)) product ∙ mul-div_cancel_left (choose (of + (chosen + 1)) (chosen + 1)) (omega arith)
 
 -- ---- with loose events
 
@@ -342,7 +313,7 @@ choices_are_over upto ticks loose limit placed large within =
     large (omega (arith, size upto ticks loose, some, within))
 
 pub product_is_over : (upto ticks loose before made limit : ℕ) → (upto ≡ 0 → loose ≡ 0) → before < loose → made ≡ ways upto before * choose (upto + loose + ticks) ticks
-    → limit < 2 ^ 128 → (made * (upto + before) < 2 ^ 128 → ⊥) → length (family upto ticks loose) ≤ limit → ⊥
+    → limit < 2 ^ 64 → (made * (upto + before) < 2 ^ 64 → ⊥) → length (family upto ticks loose) ≤ limit → ⊥
 product_is_over upto ticks loose before made limit placed short is low large within =
     let c : ℕ = choose (upto + loose + ticks) ticks in
     let some : 1 ≤ upto = elim (cases_lt 0 upto) [

@@ -1,5 +1,5 @@
 -- The family is gone through by going from each schedule to the next.
-use Rattle.std.proofs.Common.{◌≡◌, ℕ, zero, suc, ◌+◌, ◌<◌, ◌≤◌, Bool, true, false, refl, ap, sym, ◌∙◌, arith, List, [], ◌∷◌, ◌++◌, length, map, replicate, Option, Some, None, append_assoc, get_or}
+use Rattle.std.proofs.Common.{◌≡◌, ℕ, zero, suc, ◌+◌, ◌<◌, ◌≤◌, Bool, true, false, refl, ap, sym, ◌∙◌, arith, List, [], ◌∷◌, ◌++◌, length, map, replicate, Option, Some, None, Result, Ok, Err, IfOk, OnErr, append_assoc, get_or}
 use Rattle.std.proofs.lemmas.List.{get_or_at, length-append, append-nil}
 use Rattle.schedules.specs.Families.{Spots, spot, with_spot, from_each, of_spots, of_at_most, family, IsSchedule}
 use Rattle.schedules.proofs.FamilyLemmas.{schedule_of}
@@ -210,19 +210,25 @@ next_among upto ticks s new a n =
     let whole = walked_on (family upto ticks 0) a.done a.late s new a.whole c in
     record { done = a.done ++ s ∷ []; late = whole.0; whole = whole.1 }
 
--- by how the way went
-pub gone : (upto ticks : ℕ) (result : Bool) (old new : Spots) → Goes result upto ticks old new → (done late : List Spots) → family upto ticks 0 ≡ done ++ old ∷ late → Comes result new late
-gone upto ticks true old new g done late e = comes upto ticks done old late new e g.0
-gone upto ticks false old new g done late e = ends upto ticks done old late e g.0
+-- by how the way went; without memory all stays
+pub gone : {E : Type 0} (upto ticks : ℕ) (result : Result Bool E) (old new : Spots) → IfOk result (λ is_more. Goes is_more upto ticks old new)
+    → (done late : List Spots) → family upto ticks 0 ≡ done ++ old ∷ late → IfOk result (λ is_more. Comes is_more new late)
+gone upto ticks (Ok true) old new g done late e = comes upto ticks done old late new e g.0
+gone upto ticks (Ok false) old new g done late e = ends upto ticks done old late e g.0
+gone upto ticks (Err error) old new g done late e = tt
 
 -- a schedule and those before and behind it are a family's
-pub gone_among : (upto ticks : ℕ) (result : Bool) (old new : Spots) → Goes result upto ticks old new → IsAmong (family upto ticks 0) old → IsAmong (family upto ticks 0) new
-gone_among upto ticks true old new g a = next_among upto ticks old new a g.0
-gone_among upto ticks false old new g a = rw g.1 a
+pub gone_among : {E : Type 0} (upto ticks : ℕ) (result : Result Bool E) (old new : Spots) → IfOk result (λ is_more. Goes is_more upto ticks old new)
+    → OnErr result (new ≡ old) → IsAmong (family upto ticks 0) old → IsAmong (family upto ticks 0) new
+gone_among upto ticks (Ok true) old new g same a = next_among upto ticks old new a g.0
+gone_among upto ticks (Ok false) old new g same a = rw g.1 a
+gone_among upto ticks (Err error) old new g same a = rw same a
 
-pub gone_within : (upto ticks : ℕ) (result : Bool) (old new : Spots) → Goes result upto ticks old new → length old ≤ ticks → length new ≤ ticks
-gone_within upto ticks true old new g l = g.1
-gone_within upto ticks false old new g l = rw g.1 l
+pub gone_within : {E : Type 0} (upto ticks : ℕ) (result : Result Bool E) (old new : Spots) → IfOk result (λ is_more. Goes is_more upto ticks old new)
+    → OnErr result (new ≡ old) → length old ≤ ticks → length new ≤ ticks
+gone_within upto ticks (Ok true) old new g same l = g.1
+gone_within upto ticks (Ok false) old new g same l = rw g.1 l
+gone_within upto ticks (Err error) old new g same l = rw same l
 
 -- ---- where a walk goes it finds schedules
 

@@ -19,8 +19,11 @@ pub use schedule::Schedule;
 pub use sizes::family_size;
 pub use spots::{event_of, is_tick, place_of, put_at, spot};
 
-/// The most spots that a schedule has.
-pub const MOST_SPOTS: usize = 32;
+/// The most ticks that are put into a schedule.
+pub const MOST_TICKS: usize = 1_000_000;
+
+/// The most loose events that are put into a schedule.
+pub const MOST_LOOSE: usize = 32;
 
 /// A family has all schedules of its kind, each once, in the order said.
 ///

@@ -1,6 +1,29 @@
 //! Spots of as many ticks, one list after another.
 
-ghost use Rattle.schedules.specs.Walks.{Advances};
+ghost use Rattle.std.specs.Prelude.{◌≡◌, ◌+◌, ◌<◌, suc, length, drop, replicate, slice_index, IfSome, None};
+ghost use Rattle.schedules.specs.Walks.{Advances, next_of_ticks};
+
+/// Which of the places is the last that can go to the one after it, which has to be below `upto`.
+fn last_to_go(places: &[u64], upto: u64) -> Option<usize>
+    ensures none { result ≡ None → next_of_ticks upto places.now ≡ None }
+    ensures some { IfSome result (λ i. (i < length places.now) × (slice_index places.now i + 1 < upto) × (next_of_ticks upto (drop (suc i) places.now) ≡ None)) }
+{
+    let mut behind = places.len();
+    while behind > 0 {
+        behind -= 1;
+        if places[behind] < upto.saturating_sub(1) {
+            return Some(behind);
+        }
+    }
+    None
+}
+
+/// Goes to one place with all.
+fn go_to(places: &mut [u64], place: u64)
+    ensures { places.new ≡ replicate (length places.old) place }
+{
+    places.fill(place);
+}
 
 /// Goes to the next list of as many places, all below `upto`; at `false` there is none, and nothing changed.
 ///
@@ -8,16 +31,10 @@ ghost use Rattle.schedules.specs.Walks.{Advances};
 pub(crate) fn advance(places: &mut [u64], upto: u64) -> bool
     ensures { Advances result upto places.old places.new }
 {
-    let Some((first, rest)) = places.split_first_mut() else {
+    let Some(at) = last_to_go(places, upto) else {
         return false;
     };
-    if advance(rest, upto) {
-        return true;
-    }
-    if *first >= upto.saturating_sub(1) {
-        return false;
-    }
-    let later = *first + 1;
-    places.fill(later);
+    let later = places[at] + 1;
+    go_to(&mut places[at..], later);
     true
 }

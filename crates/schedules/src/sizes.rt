@@ -4,29 +4,30 @@ ghost use Rattle.std.specs.Prelude.{◌≡◌, ◌+◌, ◌*◌, ◌<◌, ◌≤
 ghost use Rattle.std.specs.Option.{SomeIff};
 ghost use Rattle.schedules.specs.Families.{choose, family, ways};
 
-use crate::MOST_SPOTS;
+use crate::{MOST_LOOSE, MOST_TICKS};
 
 /// How many ways there are to choose one more of one more than these things, where there are so many to choose `chosen`
 /// of `of + chosen`; `None` where it is above `limit`.
-fn with_one_more(size: u128, of: u64, chosen: usize, limit: u128) -> Option<u128>
-    requires few { chosen < MOST_SPOTS }
+fn with_one_more(size: u64, of: u64, chosen: usize, limit: u64) -> Option<u64>
+    requires few { chosen < MOST_TICKS }
+    requires of { of ≤ 2 ^ 63 + MOST_LOOSE }
     requires size { size ≡ choose (of + chosen) chosen }
     ensures { SomeIff result (choose (of + (chosen + 1)) (chosen + 1) ≤ limit) (choose (of + (chosen + 1)) (chosen + 1)) }
 {
     let more = chosen as u128 + 1;
     let things = u128::from(of) + more;
-    // It is `size * things / more`, which has no rest. The product can be above 128 bits.
-    let next = (size / more).checked_mul(things)?;
-    let next = next.checked_add(size % more * things / more)?;
-    if next > limit {
+    // There is no rest.
+    let next = u128::from(size) * things / more;
+    if next > u128::from(limit) {
         return None;
     }
-    Some(next)
+    Some(next as u64)
 }
 
 /// How many ways there are to choose `chosen` of `of + chosen` things; `None` where it is above `limit`.
-fn ways_to_choose(of: u64, chosen: usize, limit: u128) -> Option<u128>
-    requires { chosen ≤ MOST_SPOTS }
+fn ways_to_choose(of: u64, chosen: usize, limit: u64) -> Option<u64>
+    requires few { chosen ≤ MOST_TICKS }
+    requires of { of ≤ 2 ^ 63 + MOST_LOOSE }
     ensures { SomeIff result (choose (of + chosen) chosen ≤ limit) (choose (of + chosen) chosen) }
 {
     if limit == 0 {
@@ -41,8 +42,9 @@ fn ways_to_choose(of: u64, chosen: usize, limit: u128) -> Option<u128>
 
 /// How many schedules there are of at most `ticks` ticks and of `loose` loose events, all before the first `upto`
 /// events: their exact number, or `None` where it is above `limit`.
-pub fn family_size(upto: u64, ticks: usize, loose: usize, limit: u128) -> Option<u128>
-    requires spots { ticks + loose ≤ MOST_SPOTS }
+pub fn family_size(upto: u64, ticks: usize, loose: usize, limit: u64) -> Option<u64>
+    requires ticks { ticks ≤ MOST_TICKS }
+    requires loose { loose ≤ MOST_LOOSE }
     requires upto { upto ≤ 2 ^ 63 }
     ensures { SomeIff result (length (family upto ticks loose) ≤ limit) (length (family upto ticks loose)) }
 {
@@ -51,7 +53,7 @@ pub fn family_size(upto: u64, ticks: usize, loose: usize, limit: u128) -> Option
     }
     let mut size = ways_to_choose(upto + loose as u64, ticks, limit)?;
     for before in 0..loose {
-        size = size.checked_mul(u128::from(upto) + before as u128)?;
+        size = size.checked_mul(upto + before as u64)?;
     }
     if size > limit { None } else { Some(size) }
 }

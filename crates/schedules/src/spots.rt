@@ -4,12 +4,12 @@ ghost use Rattle.std.specs.Prelude.{◌≡◌, ◌==◌, ◌<◌, ◌≤◌, ◌
 ghost use Rattle.schedules.specs.Families.{kind_of, place_of as place_of_spot, spot as spot_of};
 ghost use Rattle.schedules.specs.Schedules.{event_of as event_of_kind, put_at as put_at_spot};
 
-use crate::MOST_SPOTS;
+use crate::MOST_LOOSE;
 use posix::Event;
 
 /// The spot of a kind before the event with this place, where there are so many loose events.
 pub fn spot(loose: usize, place: u64, kind: u8) -> u64
-    requires few { loose ≤ MOST_SPOTS }
+    requires few { loose ≤ MOST_LOOSE }
     requires place { place < 2 ^ 40 }
     ensures { result ≡ spot_of loose place kind }
 {
@@ -18,7 +18,7 @@ pub fn spot(loose: usize, place: u64, kind: u8) -> u64
 
 /// The place of the event that a spot is before, where there are so many loose events.
 pub fn place_of(loose: usize, spot: u64) -> u64
-    requires { loose ≤ MOST_SPOTS }
+    requires { loose ≤ MOST_LOOSE }
     ensures { result ≡ place_of_spot loose spot }
 {
     spot / (loose as u64 + 1)
@@ -26,7 +26,7 @@ pub fn place_of(loose: usize, spot: u64) -> u64
 
 /// Whether a tick is put in at a spot, and no loose event.
 pub fn is_tick(loose: usize, spot: u64) -> bool
-    requires { loose ≤ MOST_SPOTS }
+    requires { loose ≤ MOST_LOOSE }
     ensures { result ≡ (kind_of loose spot == 0) }
 {
     spot % (loose as u64 + 1) == 0
@@ -47,7 +47,7 @@ pub fn event_of(loose: &[Event], kind: usize) -> Event
 
 /// What is put in at a spot.
 pub fn put_at(loose: &[Event], spot: u64) -> Event
-    requires { length loose.now ≤ MOST_SPOTS }
+    requires { length loose.now ≤ MOST_LOOSE }
     ensures { result ≡ put_at_spot loose.now spot }
 {
     event_of(loose, (spot % (loose.len() as u64 + 1)) as usize)

@@ -1,6 +1,6 @@
-use Rattle.std.proofs.Common.{◌+◌, ◌∙◌, ap, map, take}
+use Rattle.std.proofs.Common.{◌∙◌, ap, map}
 use Rattle.counting.specs.Texts.{looked_at, shown}
-use Rattle.counting.proofs.BookLemmas.{all_saw_more, none_seen, tallies_stay}
+use Rattle.counting.proofs.BookLemmas.{all_saw_more, none_seen}
 use Rattle.counting.proofs.book.look_at.Goals as goal
 
 pub loop-line-init : goal.loop-line-init
@@ -10,18 +10,3 @@ pub loop-line-preserved : goal.loop-line-preserved
 loop-line-preserved c =
     all_saw_more c.args.lines.now c.loop-line.line-index c.line-item.result c.args.finds.now c.loop-line.finds c.look_all.new.finds c.loop-line-test.true c.line-item.is c.loop-line.invariant
     (c.look_all.ensures ∙ ap (λ t. map (looked_at t) c.loop-line.finds) (c.shown-printed.ensures ∙ ap shown c.entry.ensures))
-
-pub returns-in_err-extend_from_slice-clause-tallies : goal.returns-in_err-extend_from_slice-clause-tallies
-returns-in_err-extend_from_slice-clause-tallies c =
-    tallies_stay (take (c.loop-line.line-index + 1) c.args.lines.now) c.args.finds.now c.look_all.new.finds
-    (all_saw_more c.args.lines.now c.loop-line.line-index c.line-item.result c.args.finds.now c.loop-line.finds c.look_all.new.finds c.loop-line-test.true c.line-item.is c.loop-line.invariant
-    (c.look_all.ensures ∙ ap (λ t. map (looked_at t) c.loop-line.finds) (c.shown-printed.ensures ∙ ap shown c.entry.ensures)))
-
-pub returns-in_err-push-clause-tallies : goal.returns-in_err-push-clause-tallies
-returns-in_err-push-clause-tallies c =
-    tallies_stay (take (c.loop-line.line-index + 1) c.args.lines.now) c.args.finds.now c.look_all.new.finds
-    (all_saw_more c.args.lines.now c.loop-line.line-index c.line-item.result c.args.finds.now c.loop-line.finds c.look_all.new.finds c.loop-line-test.true c.line-item.is c.loop-line.invariant
-    (c.look_all.ensures ∙ ap (λ t. map (looked_at t) c.loop-line.finds) (c.shown-printed.ensures ∙ ap shown c.entry.ensures)))
-
-pub returns-clause-tallies : goal.returns-clause-tallies
-returns-clause-tallies c = tallies_stay (take c.loop-line.line-index c.args.lines.now) c.args.finds.now c.loop-line.finds c.loop-line.invariant

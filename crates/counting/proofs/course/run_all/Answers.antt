@@ -2,15 +2,16 @@ use Rattle.std.proofs.Common.{arith, sym, take, ◌+◌, ◌-◌}
 use Rattle.std.specs.Prelude.{replicate}
 use Rattle.text.specs.EventLists.{expanded}
 use Rattle.kernel.proofs.EventLemmas.{expanded_more}
+use Rattle.schedules.proofs.AddLemmas.{run_ends}
 use Rattle.counting.proofs.CourseLemmas.{adds_then}
-use Rattle.counting.proofs.PlacingLemmas.{all_runs, ends_within, one_more_run}
+use Rattle.counting.proofs.PlacingLemmas.{all_runs}
 use Rattle.counting.proofs.course.run_all.Goals as goal
 
 pub run_many-requires-clause-few : goal.run_many-requires-clause-few
 run_many-requires-clause-few c =
     let l = c.loop-run in
     let now = l.left_out + l.kernel.events - c.args.kernel.now.events in
-    let within = ends_within c.runs-run-items.result.now l.run-index now c.run-item.result c.args.events.now c.loop-run-test.true c.run-item.is c.runs-run-items.ensures (omega (arith, l.invariant.at)) in
+    let within = (run_ends c.runs-run-items.result.now l.run-index now c.run-item.result c.args.events.now c.loop-run-test.true c.run-item.is c.runs-run-items.ensures (omega (arith, l.invariant.at))).1 in
     omega (arith, within, c.requires.few, l.invariant.at)
 
 pub loop-run-preserved : goal.loop-run-preserved
@@ -22,7 +23,7 @@ loop-run-preserved c =
     let e = c.in_ok-left_out.ensures in
     let from = c.args.kernel.now.events in
     let more = sym (expanded_more items i r c.loop-run-test.true c.run-item.is) in
-    let one = one_more_run items i (l.left_out + l.kernel.events - from) r c.loop-run-test.true c.run-item.is (omega (arith, l.invariant.at)) in
+    let one = (run_ends items i (l.left_out + l.kernel.events - from) r c.args.events.now c.loop-run-test.true c.run-item.is c.runs-run-items.ensures (omega (arith, l.invariant.at))).0 in
     record {
       adds = adds_then (expanded (take i items)) (replicate r.count r.event) (expanded (take (i + 1) items)) (from + 1) (l.left_out + (l.kernel.events + 1)) _ _ _ _ _ _
           (omega (arith, l.invariant.at)) more l.invariant.adds e.ok;
@@ -35,7 +36,7 @@ pub returns-in_err-left_out-clause-few : goal.returns-in_err-left_out-clause-few
 returns-in_err-left_out-clause-few c =
     let l = c.loop-run in
     let now = l.left_out + l.kernel.events - c.args.kernel.now.events in
-    let within = ends_within c.runs-run-items.result.now l.run-index now c.run-item.result c.args.events.now c.loop-run-test.true c.run-item.is c.runs-run-items.ensures (omega (arith, l.invariant.at)) in
+    let within = (run_ends c.runs-run-items.result.now l.run-index now c.run-item.result c.args.events.now c.loop-run-test.true c.run-item.is c.runs-run-items.ensures (omega (arith, l.invariant.at))).1 in
     omega (arith, within, l.invariant.at, c.run_many.ensures.within)
 
 pub returns-clause-few : goal.returns-clause-few

@@ -12,4 +12,4 @@ invariant-loop-is_more g l = record {
 }
 
 abbrev pub decreases-loop-is_more : goal.decreases-loop-is_more
-decreases-loop-is_more g l = cond l.is_more (l.family.size - l.book.total + 1) 0
+decreases-loop-is_more g l = cond l.is_more (l.size - l.book.total + 1) 0

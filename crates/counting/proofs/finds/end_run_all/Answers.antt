@@ -5,4 +5,4 @@ use Rattle.counting.proofs.finds.end_run_all.Goals as goal
 
 pub loop-find-preserved : goal.loop-find-preserved
 loop-find-preserved c =
-    rw (c.end_run.ensures, ← c.find-item.is) (map_over_more (after_run c.args.spots.now) c.args.finds.now c.loop-find.finds c.loop-find.find-index c.find-item.result (omega arith) c.loop-find.invariant c.find-item.is)
+    rw (c.in_ok-end_run.ensures, ← c.find-item.is) (map_over_more (after_run c.args.spots.now) c.args.finds.now c.loop-find.finds c.loop-find.find-index c.find-item.result (omega arith) c.loop-find.invariant c.find-item.is)

@@ -1,12 +1,13 @@
 use Rattle.std.proofs.Common.{arith, sym}
 use Rattle.std.proofs.lemmas.Option.{slice_get_past}
-use Rattle.counting.proofs.PlacingLemmas.{all_runs, event_in_run, one_more_run}
+use Rattle.schedules.proofs.AddLemmas.{run_ends}
+use Rattle.counting.proofs.PlacingLemmas.{all_runs, event_in_run}
 use Rattle.counting.proofs.placing.event_at.Goals as goal
 
 pub loop-run-preserved : goal.loop-run-preserved
 loop-run-preserved c =
     let l = c.loop-run in
-    let on = one_more_run c.runs-run-items.result.now l.run-index l.before c.run-item.result c.loop-run-test.true c.run-item.is l.invariant.at in
+    let on = (run_ends c.runs-run-items.result.now l.run-index l.before c.run-item.result c.args.events.now c.loop-run-test.true c.run-item.is c.runs-run-items.ensures l.invariant.at).0 in
     record {
       at = omega (arith, on, c.count-before.ensures);
       from = omega (arith, c.count-before.ensures, c.count.ensures, c.if-place-before.false, l.invariant.from);

@@ -7,11 +7,11 @@ use Rattle.exploring.proofs.report.write_size.Goals as goal
 pub returns-then-loose-eq0 : goal.returns-then-loose-eq0
 returns-then-loose-eq0 c =
     let f = c.args.family.now in
-    size_alone _ _ f.size f.upto f.ticks (length f.loose.now) _ _ _ c.writeln.result c.if-loose-eq0.true c.plural-s.ensures c.plural-t.ensures (rw c.from.ensures at c.plural-e.ensures) c.writeln.ensures.bytes
+    size_alone _ _ c.args.size.now f.upto f.ticks (length f.loose.now) _ _ _ _ c.writeln.result c.if-loose-eq0.true c.in_ok-size.ensures c.plural_behind-s.ensures c.plural-t.ensures c.plural-e.ensures c.writeln.ensures.bytes
 
 pub returns : goal.returns
 returns c =
     let f = c.args.family.now in
     let some : (length f.loose.now == 0) ≡ false = grind (arith, nat_tests, c.if-loose-eq0.false) in
-    size_with _ _ _ f.size f.upto f.ticks (length f.loose.now) _ _ _ _ c.writeln-2.result some c.plural-s.ensures c.plural-t.ensures c.plural-l.ensures (rw c.from.ensures at c.plural-e.ensures)
+    size_with _ _ _ c.args.size.now f.upto f.ticks (length f.loose.now) _ _ _ _ _ c.writeln-2.result some c.in_ok-size.ensures c.plural_behind-s.ensures c.plural-t.ensures c.plural-l.ensures c.plural-e.ensures
     c.in_ok-write.ensures.bytes c.writeln-2.ensures.bytes

@@ -30,15 +30,15 @@ returns-in_err-fit_in g c =
     (rw c.consoles.ensures.value at c.in_ok-put_in.ensures))
     (inr (rw c.as_slice-loose.ensures.value at c.in_err-fit_in.ensures.fit))
 
-pub returns-in_err-size_of : goal.returns-in_err-size_of
-returns-in_err-size_of g c =
+pub returns-in_err-size : goal.returns-in_err-size
+returns-in_err-size g c =
     let a = said c.args.request.now in
     let inputs = c.in_ok-inputs.inputs in
     let p : Put = record { upto = c.in_ok-upto.upto; ticks = c.in_ok-ticks.ticks; loose = c.in_ok-put_in.put_in.items } in
-    means_refused _ a _ _ _ inputs.world inputs.events c.from_residual-in_err-size_of.result c.in_err-size_of.field-0.0 _ c.from_residual-in_err-size_of.ensures.1 c.in_ok-inputs.ensures.reads
+    means_refused _ a _ _ _ inputs.world inputs.events c.from_residual-in_err-size.result c.in_err-size.field-0.0 _ c.from_residual-in_err-size.ensures.1 c.in_ok-inputs.ensures.reads
     (too_many a inputs.world.consoles (length inputs.events) p c.in_ok-states.states c.in_ok-ticks.ensures.1 (rw c.len.ensures at c.in_ok-upto.ensures.1) c.in_ok-states.ensures
     (rw c.consoles.ensures.value at c.in_ok-put_in.ensures) (rw c.as_slice-loose.ensures.value at c.in_ok-fit_in.ensures.fit))
-    (inr (rw (c.len-2.ensures, c.as_slice-loose.ensures.value) at c.in_err-size_of.ensures.size))
+    (inr (rw (c.len-2.ensures, c.as_slice-loose.ensures.value) at c.in_err-size.ensures.size))
 
 pub returns-in_err-text : goal.returns-in_err-text
 returns-in_err-text g c = means_memory _ _ _ _ _ c.from_residual-in_err-text.result c.from_residual-in_err-text.ensures.1
@@ -50,10 +50,10 @@ returns-in_err-put_text g c =
     let told = is_told a.must_halt c.in_ok-book.book in
     let p : Put = record { upto = c.in_ok-upto.upto; ticks = c.in_ok-ticks.ticks; loose = c.in_ok-put_in.put_in.items } in
     means_unwritten _ a _ _ _ _ told c.from_residual-in_err-put_text.result c.from_residual-in_err-put_text.ensures.1
-    (explored _ a inputs.world inputs.events p c.in_ok-states.states _ c.in_ok-written.written c.in_ok-book.book told (bytes_put (option_map string_bytes c.in_ok-text.text)) _
+    (explored _ a inputs.world inputs.events p c.in_ok-states.states c.in_ok-written.written c.in_ok-book.book told (bytes_put (option_map string_bytes c.in_ok-text.text)) _
     c.in_ok-inputs.ensures.reads c.in_ok-ticks.ensures.1 (rw c.len.ensures at c.in_ok-upto.ensures.1) c.in_ok-states.ensures (rw c.consoles.ensures.value at c.in_ok-put_in.ensures)
-    (rw c.as_slice-loose.ensures.value at c.in_ok-fit_in.ensures.fit) (rw (c.len-2.ensures, c.as_slice-loose.ensures.value) at c.in_ok-size_of.ensures.size.1)
-    (rw c.as_slice-loose.ensures.value at c.in_ok-size_of.ensures.size.0) (rw c.as_slice-loose.ensures.value at c.in_ok-book.ensures) refl c.in_ok-written.ensures
+    (rw c.as_slice-loose.ensures.value at c.in_ok-fit_in.ensures.fit) (rw (c.len-2.ensures, c.as_slice-loose.ensures.value) at c.in_ok-size.ensures.size.1)
+    (rw c.as_slice-loose.ensures.value at c.in_ok-book.ensures) refl c.in_ok-written.ensures
     (rw c.as_slice-loose.ensures.value at c.in_ok-text.ensures) c.in_err-put_text.ensures.err)
 
 pub returns : goal.returns
@@ -62,8 +62,8 @@ returns g c =
     let inputs = c.in_ok-inputs.inputs in
     let p : Put = record { upto = c.in_ok-upto.upto; ticks = c.in_ok-ticks.ticks; loose = c.in_ok-put_in.put_in.items } in
     means_explored _ a _ _ _ _ c.is_told-is_told.result
-    (explored _ a inputs.world inputs.events p c.in_ok-states.states _ c.in_ok-written.written c.in_ok-book.book c.is_told-is_told.result (bytes_put (option_map string_bytes c.in_ok-text.text)) _
+    (explored _ a inputs.world inputs.events p c.in_ok-states.states c.in_ok-written.written c.in_ok-book.book c.is_told-is_told.result (bytes_put (option_map string_bytes c.in_ok-text.text)) _
     c.in_ok-inputs.ensures.reads c.in_ok-ticks.ensures.1 (rw c.len.ensures at c.in_ok-upto.ensures.1) c.in_ok-states.ensures (rw c.consoles.ensures.value at c.in_ok-put_in.ensures)
-    (rw c.as_slice-loose.ensures.value at c.in_ok-fit_in.ensures.fit) (rw (c.len-2.ensures, c.as_slice-loose.ensures.value) at c.in_ok-size_of.ensures.size.1)
-    (rw c.as_slice-loose.ensures.value at c.in_ok-size_of.ensures.size.0) (rw c.as_slice-loose.ensures.value at c.in_ok-book.ensures) c.is_told-is_told.ensures c.in_ok-written.ensures
+    (rw c.as_slice-loose.ensures.value at c.in_ok-fit_in.ensures.fit) (rw (c.len-2.ensures, c.as_slice-loose.ensures.value) at c.in_ok-size.ensures.size.1)
+    (rw c.as_slice-loose.ensures.value at c.in_ok-book.ensures) c.is_told-is_told.ensures c.in_ok-written.ensures
     (rw c.as_slice-loose.ensures.value at c.in_ok-text.ensures) c.in_ok-put_text.ensures.ok)

@@ -1,10 +1,10 @@
-use Rattle.std.proofs.Common.{◌^◌, arith, length, refl}
-use Rattle.merging.specs.Merging.{IsNode, counted_all, most_of, texts_of}
-use Rattle.merging.proofs.NodeCountLemmas.{counted_more, events_fit, last_fits, left_fit, of_last, of_others}
+use Rattle.std.proofs.Common.{length, refl}
+use Rattle.merging.specs.Merging.{IsNode, counted_all, texts_of}
+use Rattle.merging.proofs.NodeCountLemmas.{counted_more, events_fit, of_last, of_others}
 use Rattle.merging.proofs.merging.count_all.Goals as goal
 
 pub loop-node-init : goal.loop-node-init
-loop-node-init c = record { nodes = c.requires.nodes; total = c.requires.total; all = refl }
+loop-node-init c = record { nodes = c.requires.nodes; all = refl }
 
 pub count_node-requires : goal.count_node-requires
 count_node-requires c =
@@ -15,13 +15,10 @@ count_node-requires c =
     let rest = c.pop.new.self.items in
     let n = c.in-Some.node in
     let is = of_last (IsNode s f.upto 0) before rest n c.in-Some.ensures.items l.invariant.nodes in
-    let spots = is.few in
     record {
       few = events_fit s f.upto 0 (length c.args.events.now) n is c.requires.few f.short;
-      spots = omega (arith, spots, f.few);
       regular = is.regular;
       settled = is.settled;
-      total = last_fits (most_of s) l.book.total (2 ^ 128) before rest n c.in-Some.ensures.items l.invariant.total;
     }
 
 pub loop-node-preserved : goal.loop-node-preserved
@@ -38,6 +35,5 @@ loop-node-preserved c =
     let one = c.in_ok-count_node.ensures in
     record {
       nodes = of_others (IsNode s s.family.now.upto 0) before rest n is i.nodes;
-      total = left_fit texts events (most_of s) (2 ^ 128) before rest n l.book c.count_node.new.book is one i.total;
       all = counted_more texts events before rest n l.book c.count_node.new.book (counted_all texts events c.args.nodes.now.items c.args.book.now) is one i.all;
     }

@@ -1,6 +1,6 @@
-use Rattle.std.proofs.Common.{◌≡◌, ◌+◌, ◌<◌, ◌^◌}
+use Rattle.std.proofs.Common.{◌≡◌}
 use Rattle.std.specs.List.{All}
-use Rattle.merging.specs.Merging.{IsNode, counted_all, goes_on_once, most_of, tally_of_nodes, texts_of}
+use Rattle.merging.specs.Merging.{IsNode, counted_all, texts_of}
 use Rattle.merging.proofs.merging.count_all.Given as goal
 
 -- these nodes are left, and with them the book tells of all
@@ -9,7 +9,6 @@ invariant-loop-node l =
     let s = l.search in
     record {
       nodes : All (IsNode s s.family.now.upto 0) l.nodes.items;
-      total : l.book.total + (tally_of_nodes goes_on_once (most_of s) l.nodes.items).count < 2 ^ 128;
       all : counted_all (texts_of s) l.events l.nodes.items l.book ≡ counted_all (texts_of s) l.events l.initial.nodes.items l.initial.book;
     }
 

@@ -1,12 +1,6 @@
 use Rattle.std.proofs.Common.{◌∙◌}
-use Rattle.merging.specs.Merging.{always, most_of, outlook_of}
-use Rattle.merging.proofs.MergedLemmas.{family_countable}
+use Rattle.merging.specs.Merging.{most_of, outlook_of}
 use Rattle.merging.proofs.merging.search_all.Goals as goal
-
-pub reach-requires-clause-countable : goal.reach-requires-clause-countable
-reach-requires-clause-countable g c =
-    let s = c.args.search.now in
-    family_countable s _ c.requires (c.in_ok-first.ensures.tally (outlook_of always s 0))
 
 pub returns-clause-nodes : goal.returns-clause-nodes
 returns-clause-nodes g c =

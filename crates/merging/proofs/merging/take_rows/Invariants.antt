@@ -1,7 +1,7 @@
 use Rattle.std.proofs.Common.{◌≡◌, ℕ, length}
 use Rattle.std.specs.List.{All}
-use Rattle.merging.specs.declared.search.Search.{Search}
 use Rattle.counting.specs.Tallies.{both}
+use Rattle.merging.specs.declared.search.Search.{Search}
 use Rattle.merging.specs.Merging.{AreRows, IsNode, Outlook, tally_of_nodes, tally_of_rows}
 use Rattle.merging.proofs.merging.take_rows.Given as goal
 

@@ -1,30 +1,23 @@
-use Rattle.std.proofs.Common.{◌≡◌, ◌+◌, ◌∙◌, ap, arith}
+use Rattle.std.proofs.Common.{◌≡◌, ◌+◌, ◌∙◌, ap}
+use Rattle.std.specs.List.{All}
 use Rattle.std.proofs.lemmas.Result.{on_ok_weaker}
-use Rattle.merging.specs.Merging.{Property, always, loose_tally, nodes_tally, tick_tally}
-use Rattle.counting.specs.Tallies.{TallyView, both}
-use Rattle.merging.proofs.OutlookLemmas.{once_within}
+use Rattle.counting.specs.Tallies.{both}
+use Rattle.merging.specs.Merging.{AreKept, IsNode, Property, loose_tally, nodes_tally, tick_tally}
 use Rattle.merging.proofs.TallyLemmas.{both_regrouped}
 use Rattle.merging.proofs.spreading.put_one_more.Goals as goal
-
-pub put_tick-requires-clause-countable : goal.put_tick-requires-clause-countable
-put_tick-requires-clause-countable c =
-    let once = once_within c.args.search.now c.args.place (c.requires.node.0 + 1) c.args.more.now.nodes.items c.requires.node.2 (omega (arith, c.requires.place)) in
-    omega (arith, once, c.requires.countable)
 
 pub put_loose-requires-clause-node : goal.put_loose-requires-clause-node
 put_loose-requires-clause-node c =
     let r = c.requires.node in
     (r.0, r.1, c.in_ok-put_tick.ensures.nodes r.0 r.1 r.2)
 
-pub put_loose-requires-clause-countable : goal.put_loose-requires-clause-countable
-put_loose-requires-clause-countable c =
-    let r = c.requires.node in
-    let once = once_within c.args.search.now c.args.place (r.0 + 1) c.put_tick.new.more.nodes.items (c.in_ok-put_tick.ensures.nodes r.0 r.1 r.2) (omega (arith, c.requires.place)) in
-    let came = ap (λ (t : TallyView). t.count) (c.in_ok-put_tick.ensures.tally always) in
-    omega (arith, once, came, c.requires.countable)
-
 pub returns-clause-nodes : goal.returns-clause-nodes
-returns-clause-nodes c = λ least is all. c.put_loose.ensures.nodes least is (c.in_ok-put_tick.ensures.nodes least is all)
+returns-clause-nodes c = λ least is.
+    let s = c.args.search.now in
+    on_ok_weaker c.put_loose.result
+    (λ (kept : AreKept s c.args.place (least + 1) c.put_tick.new.more.nodes.items c.put_loose.new.more.nodes.items) (all : All (IsNode s c.args.place (least + 1)) c.args.more.now.nodes.items).
+    kept (c.in_ok-put_tick.ensures.nodes least is all))
+    (c.put_loose.ensures.nodes least is)
 
 pub returns-clause-tally : goal.returns-clause-tally
 returns-clause-tally c =

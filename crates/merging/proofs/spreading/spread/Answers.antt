@@ -1,29 +1,19 @@
-use Rattle.std.proofs.Common.{◌≡◌, ◌+◌, ◌∙◌, ap, ap₂, sym, arith}
+use Rattle.std.proofs.Common.{◌≡◌, ◌+◌, ◌∙◌, ap, ap₂, sym}
+use Rattle.std.specs.List.{All}
 use Rattle.std.proofs.lemmas.Result.{on_ok_weaker}
-use Rattle.merging.specs.Merging.{Property, always, given_tally, loose_tally, nodes_tally, tally_around, tick_tally}
-use Rattle.counting.specs.Tallies.{TallyView, both}
-use Rattle.merging.proofs.OutlookLemmas.{once_within}
+use Rattle.counting.specs.Tallies.{both}
+use Rattle.merging.specs.Merging.{IsNode, Property, given_tally, loose_tally, nodes_tally, tally_around, tick_tally}
 use Rattle.merging.proofs.SpreadLemmas.{node_parts}
 use Rattle.merging.proofs.TallyLemmas.{two_by_two}
 use Rattle.merging.proofs.spreading.spread.Goals as goal
 
-pub put_one_more-requires-clause-countable : goal.put_one_more-requires-clause-countable
-put_one_more-requires-clause-countable c =
-    let parts = ap (λ (t : TallyView). t.count) (node_parts always c.args.search.now c.args.place c.requires.node.0 c.args.event c.args.node c.requires.node.1 c.requires.place c.requires.event) in
-    omega (arith, parts, c.requires.countable)
-
-pub give_to-requires-clause-countable : goal.give_to-requires-clause-countable
-give_to-requires-clause-countable c =
-    let parts = ap (λ (t : TallyView). t.count) (node_parts always c.args.search.now c.args.place c.requires.node.0 c.args.event c.args.node c.requires.node.1 c.requires.place c.requires.event) in
-    let once = once_within c.args.search.now (c.args.place + 1) c.requires.node.0 c.args.next.now.nodes.items c.requires.node.3 (omega (arith, c.requires.place)) in
-    omega (arith, parts, once, c.requires.countable)
-
 pub returns-in-Ok-clause-more : goal.returns-in-Ok-clause-more
-returns-in-Ok-clause-more c = λ least is all.
+returns-in-Ok-clause-more c = λ least is.
     let s = c.args.search.now in
     on_ok_weaker c.give_to.result
     (λ (came : (has : Property) → nodes_tally has s (c.args.place + 1) c.give_to.new.next.nodes.items
-    ≡ both (nodes_tally has s (c.args.place + 1) c.args.next.now.nodes.items) (given_tally has s (c.args.place + 1) c.args.event c.args.node)).
+    ≡ both (nodes_tally has s (c.args.place + 1) c.args.next.now.nodes.items) (given_tally has s (c.args.place + 1) c.args.event c.args.node))
+    (all : All (IsNode s c.args.place (least + 1)) c.args.more.now.nodes.items).
     c.in-Ok.ensures.nodes least is all)
     c.give_to.ensures.tally
 

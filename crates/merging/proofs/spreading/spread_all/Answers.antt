@@ -1,6 +1,6 @@
-use Rattle.std.proofs.Common.{◌∙◌, ap, sym, arith}
-use Rattle.merging.specs.Merging.{IsNode, always, most_of, outlook_of, tally_around, tally_of_node, tally_of_nodes}
-use Rattle.counting.specs.Tallies.{TallyView, both}
+use Rattle.std.proofs.Common.{◌∙◌, ap, sym}
+use Rattle.counting.specs.Tallies.{both}
+use Rattle.merging.specs.Merging.{IsNode, most_of, outlook_of, tally_around, tally_of_node, tally_of_nodes}
 use Rattle.merging.proofs.LayerLemmas.{tallies_more}
 use Rattle.merging.proofs.NodeCountLemmas.{of_last, of_others}
 use Rattle.merging.proofs.TallyLemmas.{both_regrouped, both_swapped}
@@ -15,15 +15,6 @@ spread-requires-clause-node c =
       l.invariant.more r.0 r.1 r.2,
       l.invariant.next r.0 r.1 r.3,
     )
-
-pub spread-requires-clause-countable : goal.spread-requires-clause-countable
-spread-requires-clause-countable c =
-    let s = c.args.search.now in
-    let l = c.loop-node in
-    let go_on = outlook_of always s c.args.place in
-    let all = ap (λ (t : TallyView). t.count) (l.invariant.tally always) in
-    let parts = ap (λ (t : TallyView). t.count) (ap (tally_of_nodes go_on (most_of s)) c.in-Some.ensures.items ∙ tallies_more c.pop.new.self.items c.in-Some.node go_on (most_of s)) in
-    omega (arith, all, parts, c.requires.countable)
 
 pub loop-node-preserved : goal.loop-node-preserved
 loop-node-preserved c =

@@ -16,15 +16,13 @@ loop-before-init c = no_loose c.args.upto c.args.loose c.args.ticks c.in_ok-size
 pub returns-in_err-size-2 : goal.returns-in_err-size-2
 returns-in_err-size-2 c =
     let l = c.loop-before in
-    let large = rw c.from.ensures at c.in_err-size-2.ensures in
     rw c.from_residual-in_err-size-2.ensures (product_is_over c.args.upto c.args.ticks c.args.loose l.before l.size c.args.limit (λ none. omega (arith, none)) c.loop-before-test.true l.invariant
-    (omega arith) large)
+    (omega arith) c.in_err-size-2.ensures)
 
 pub loop-before-preserved : goal.loop-before-preserved
 loop-before-preserved c =
     let l = c.loop-before in
-    let next = rw c.from.ensures at c.in_ok-size-2.ensures.1 in
-    rw next (loose_more c.args.upto c.args.loose c.args.ticks l.before l.size l.invariant)
+    rw c.in_ok-size-2.ensures.1 (loose_more c.args.upto c.args.loose c.args.ticks l.before l.size l.invariant)
 
 pub returns-then-size-limit : goal.returns-then-size-limit
 returns-then-size-limit c =

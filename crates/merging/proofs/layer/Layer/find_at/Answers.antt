@@ -1,7 +1,7 @@
 use Rattle.std.proofs.Common.{◌<◌, arith, length, refl}
 use Rattle.std.proofs.lemmas.Option.{slice_get_read}
 use Rattle.merging.proofs.LayerLemmas.{all_same_put, all_same_themselves, one_still, put_there}
-use Rattle.merging.proofs.layer.Layer.find_at.Goals.{else-number-len-via-then-number-len+else-is_one, else-number-len-via-else-number-len}
+use Rattle.merging.proofs.layer.Layer.find_at.Goals.{else-number-len-via-else-number-len, else-number-len-via-then-number-len+else-is_one}
 use Rattle.merging.proofs.layer.Layer.find_at.Goals as goal
 
 pub returns-in_err-number-clause-nodes : goal.returns-in_err-number-clause-nodes

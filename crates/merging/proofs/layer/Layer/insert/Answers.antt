@@ -1,38 +1,41 @@
-use Rattle.std.proofs.Common.{◌≡◌, ◌^◌, ◌++◌, ◌∷◌, [], ℕ}
+use Rattle.std.proofs.Common.{◌≡◌, ◌++◌, ◌∷◌, [], ℕ}
 use Rattle.std.proofs.lemmas.Result.{on_ok_weaker}
+use Rattle.counting.specs.Tallies.{both}
 use Rattle.merging.specs.declared.search.Search.{Search}
-use Rattle.merging.specs.Merging.{Outlook}
-use Rattle.merging.proofs.LayerLemmas.{found_is, joined_fits, joined_nodes, joined_one, joined_tallies, pushed_nodes, pushed_tallies, same_then}
+use Rattle.merging.specs.Merging.{Outlook, tally_of_node}
+use Rattle.merging.proofs.LayerLemmas.{found_is, joined_nodes, joined_one, joined_tallies, pushed_nodes, pushed_tallies, same_then}
 use Rattle.merging.proofs.layer.Layer.insert.Goals as goal
 
-pub join-requires-clause-count : goal.join-requires-clause-count
-join-requires-clause-count c =
-    let ns = c.find.new.self.nodes.items in
-    let it = c.in-Ok.ensures.one in
-    let here = found_is ns c.in-Ok.number it.0 c.index_mut.result.now it.1 c.index_mut.ensures.value in
-    let same = same_then c.args.node c.digest-digest.new.node c.find.new.node c.digest-digest.ensures c.find.ensures.node in
-    joined_fits (2 ^ 128) c.requires.countable.0 c.args.self.now.nodes.items ns c.in-Ok.number c.args.node c.find.new.node c.index_mut.result.now c.find.ensures.nodes same here c.requires.countable.1
-
-pub join-requires-clause-one : goal.join-requires-clause-one
-join-requires-clause-one c =
+pub join-requires : goal.join-requires
+join-requires c =
     let it = c.in-Ok.ensures.one in
     joined_one c.find.new.self.nodes.items c.in-Ok.number it.0 c.index_mut.result.now c.find.new.node it.1 c.index_mut.ensures.value it.2
 
 pub returns-in-Ok-clause-tally : goal.returns-in-Ok-clause-tally
-returns-in-Ok-clause-tally c go_on most =
+returns-in-Ok-clause-tally c =
     let ns = c.find.new.self.nodes.items in
     let it = c.in-Ok.ensures.one in
-    let here = found_is ns c.in-Ok.number it.0 c.index_mut.result.now it.1 c.index_mut.ensures.value in
-    let same = same_then c.args.node c.digest-digest.new.node c.find.new.node c.digest-digest.ensures c.find.ensures.node in
-    joined_tallies go_on most c.args.self.now.nodes.items ns c.in-Ok.number c.args.node c.find.new.node c.index_mut.result.now c.join.new.self c.find.ensures.nodes same here (c.join.ensures.tally go_on most)
+    let old = c.index_mut.result.now in
+    let node = c.find.new.node in
+    let here = found_is ns c.in-Ok.number it.0 old it.1 c.index_mut.ensures.value in
+    let same = same_then c.args.node c.digest-digest.new.node node c.digest-digest.ensures c.find.ensures.node in
+    on_ok_weaker c.join.result
+    (λ (came : (go_on : Outlook) (most : ℕ) → tally_of_node go_on most c.join.new.self ≡ both (tally_of_node go_on most old) (tally_of_node go_on most node)) (go_on : Outlook) (most : ℕ).
+    joined_tallies go_on most c.args.self.now.nodes.items ns c.in-Ok.number c.args.node node old c.join.new.self c.find.ensures.nodes same here (came go_on most))
+    c.join.ensures.tally
 
 pub returns-in-Ok-clause-nodes : goal.returns-in-Ok-clause-nodes
-returns-in-Ok-clause-nodes c search place least =
+returns-in-Ok-clause-nodes c =
     let ns = c.find.new.self.nodes.items in
     let it = c.in-Ok.ensures.one in
-    let here = found_is ns c.in-Ok.number it.0 c.index_mut.result.now it.1 c.index_mut.ensures.value in
-    let same = same_then c.args.node c.digest-digest.new.node c.find.new.node c.digest-digest.ensures c.find.ensures.node in
-    joined_nodes search place least c.args.self.now.nodes.items ns c.in-Ok.number c.args.node c.find.new.node c.index_mut.result.now c.join.new.self c.find.ensures.nodes same here (c.join.ensures.node search place least)
+    let old = c.index_mut.result.now in
+    let node = c.find.new.node in
+    let here = found_is ns c.in-Ok.number it.0 old it.1 c.index_mut.ensures.value in
+    let same = same_then c.args.node c.digest-digest.new.node node c.digest-digest.ensures c.find.ensures.node in
+    on_ok_weaker c.join.result
+    (λ (came : (go_on : Outlook) (most : ℕ) → tally_of_node go_on most c.join.new.self ≡ both (tally_of_node go_on most old) (tally_of_node go_on most node)) (search : Search) (place least : ℕ).
+    joined_nodes search place least c.args.self.now.nodes.items ns c.in-Ok.number c.args.node node old c.join.new.self c.find.ensures.nodes same here (c.join.ensures.node search place least))
+    c.join.ensures.tally
 
 pub returns-in-Err-clause-tally : goal.returns-in-Err-clause-tally
 returns-in-Err-clause-tally c =

@@ -2,7 +2,7 @@ use Rattle.std.proofs.Common.{sym, true≢false, ◌∙◌}
 use Rattle.std.specs.Cmp.{booleans_Decides, unsigned_Decides}
 use Rattle.std.proofs.lemmas.Bool.{eqb-true}
 use Rattle.std.proofs.lemmas.Slice.Eq.{slice_eq-Decides}
-use Rattle.merging.proofs.node.Node.is_one.Goals.{then-len, else-len, then-eq, else-eq}
+use Rattle.merging.proofs.node.Node.is_one.Goals.{else-eq, else-len, then-eq, then-len}
 use Rattle.merging.proofs.node.Node.is_one.Goals as goal
 
 pub returns-then-eq-2-clause-one : goal.returns-then-eq-2-clause-one
@@ -15,7 +15,7 @@ returns-then-eq-2-clause-one c = λ same. elim c.if-eq.branch [
             record {
               state = c.is_same.ensures.same same;
               marks = sym m.as_slice-then-eq.ensures.value ∙ marks ∙ m.as_slice-then-eq-2.ensures.value;
-              spots = sym c.len.ensures.value ∙ w.if-len.true ∙ c.len-2.ensures.value;
+              spots = sym c.len.ensures ∙ w.if-len.true ∙ c.len-2.ensures;
               left = sym w.as_slice.ensures.value ∙ left ∙ w.as_slice-then-len.ensures.value;
             }
         | else-len w ↦ absurd (w.if-len.false (eqb-true c.len.result c.len-2.result (sym w.value-is ∙ m.if-eq.true)))

@@ -1,6 +1,10 @@
-use Rattle.std.proofs.Common.{rules, inl, inr, ◌∙◌}
+use Rattle.std.proofs.Common.{◌≡◌, ◌+◌, ap, arith, rules, inl, inr, ◌∙◌, ℕ}
+use Rattle.std.proofs.lemmas.Result.{on_ok_weaker}
+use Rattle.merging.specs.declared.node.Node.{Node}
+use Rattle.merging.specs.Merging.{Outlook}
 use Rattle.merging.proofs.NodeLemmas.{IsFirstOf, joined_node, joined_tally}
-use Rattle.merging.proofs.node.Node.join_first.Goals.{then-is_before, else-is_before}
+use Rattle.merging.proofs.StillLemmas.{first_face}
+use Rattle.merging.proofs.node.Node.join_first.Goals.{else-is_before, then-is_before}
 use Rattle.merging.proofs.node.Node.join_first.Goals as goal
 
 pub returns : goal.returns
@@ -8,11 +12,19 @@ returns c =
     let old = c.args.self.now in
     let other = c.args.other.now in
     let mid = c.if-is_before.self in
+    let last = c.if-is_before.other in
     let which : IsFirstOf old other mid = elim c.if-is_before.branch [
       | then-is_before w ↦ inl (w.self-is ∙ w.swap.ensures.x_after, search rules)
       | else-is_before w ↦ inr (w.self-is, search rules)
     ] in
+    let sum : mid.count + last.count ≡ old.count + other.count = elim c.if-is_before.branch [
+      | then-is_before w ↦ omega (arith, ap (λ (n : Node). n.count) (w.self-is ∙ w.swap.ensures.x_after), ap (λ (n : Node). n.count) (w.other-is ∙ w.swap.ensures.y_after))
+      | else-is_before w ↦ omega (arith, ap (λ (n : Node). n.count) w.self-is, ap (λ (n : Node). n.count) w.other-is)
+    ] in
     record {
-      tally = λ go_on most. joined_tally old other mid c.requires.one which go_on most;
-      node = λ search place least i j. joined_node old other mid which search place least i j;
+      tally = on_ok_weaker c.add.result
+          (λ (is : c.add.new.self ≡ mid.count + last.count) (go_on : Outlook) (most : ℕ). joined_tally old other mid c.add.new.self c.requires which (is ∙ sum) go_on most)
+          c.add.ensures.ok;
+      node = λ search place least i j. joined_node old other mid c.add.new.self which search place least i j;
+      face = on_ok_weaker c.add.result (λ (is : c.add.new.self ≡ mid.count + last.count). first_face old other mid c.requires which) c.add.ensures.ok;
     }

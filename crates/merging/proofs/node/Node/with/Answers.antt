@@ -1,5 +1,6 @@
 use Rattle.std.proofs.Common.{arith, ap, ap₂, [], ◌∷◌, ◌++◌, ◌∙◌, map}
 use Rattle.posix.specs.States.{State}
+use Rattle.schedules.specs.Families.{Spots}
 use Rattle.merging.specs.Merging.{marks_after, state_after}
 use Rattle.merging.proofs.node.Node.with.Goals as goal
 
@@ -17,6 +18,6 @@ returns-in-Ok c =
       marks = e.marks ∙ ap₂ (λ (s : State) ms. marks_after texts x s ms) a.state a.marks;
       given = e.given ∙ ap (λ xs. xs ++ x ∷ []) a.given;
       count = e.count ∙ a.count;
-      spots = ap (λ ps. ps.items) e.spots ∙ c.push.ensures.items ∙ ap (λ ps. ps ++ c.args.spot ∷ []) a.spots;
+      spots = e.spots ∙ ap (λ (ps : Spots). ps ++ c.args.spot ∷ []) a.spots;
       left = ap (λ kinds. kinds.items) e.left ∙ a.left;
     }

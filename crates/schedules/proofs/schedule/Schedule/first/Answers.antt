@@ -4,7 +4,7 @@ use Rattle.schedules.proofs.schedule.Schedule.first.Goals as goal
 
 pub invariant_of-result : goal.invariant_of-result
 invariant_of-result c =
-    (c.requires, rw c.new.ensures (omega arith), rw c.new.ensures (first_among c.args.upto c.args.ticks))
+    (rw c.new.ensures.items (omega arith), rw c.new.ensures.items (first_among c.args.upto c.args.ticks))
 
 pub returns-clause-begins : goal.returns-clause-begins
-returns-clause-begins c = rw c.new.ensures (begins c.args.upto c.args.ticks)
+returns-clause-begins c = rw c.new.ensures.items (begins c.args.upto c.args.ticks)
