@@ -75,7 +75,7 @@ impl Count {
     }
 
     /// The same number once more.
-    pub fn again(&self) -> Result<Count, AllocError>
+    pub fn try_clone(&self) -> Result<Count, AllocError>
         ensures { IfOk result (λ count. count ≡ self.now) }
     {
         Ok(Count {

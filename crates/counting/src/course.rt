@@ -36,7 +36,7 @@ fn ending_of(kernel: &Kernel) -> Ending
 }
 
 /// Whether an event changes and shows nothing: after a halt none does, and where no process can act a step doesn't.
-pub fn is_idle(kernel: &Kernel, event: Event) -> bool
+fn is_idle(kernel: &Kernel, event: Event) -> bool
     requires regular { IsRegular kernel.now.state }
     requires settled { IsSettled kernel.now.state }
     ensures { IsTrue result → next true kernel.now.state event ≡ silent kernel.now.state }

@@ -15,7 +15,7 @@ pub mod tally;
 
 pub use book::Book;
 pub use count::Count;
-pub use course::{is_idle, run_all, run_list, run_one};
+pub use course::{run_all, run_list, run_one};
 pub use ending::{Ending, Endings};
 pub use families::{Family, Progress, events_of, explore, is_schedule, run_schedule};
 pub use finds::{Find, mark};

@@ -12,7 +12,7 @@ use Rattle.std.proofs.lemmas.List.Folds.{concat-append}
 use Rattle.counting.specs.Books.{BookView}
 use Rattle.counting.specs.Numbers.{in_decimal}
 use Rattle.counting.specs.declared.ending.Endings.{Endings}
-use Rattle.exploring.specs.Reports.{Adds, Reports, at_rest_lines, ending_line, first_lines, first_that, plural, ShowsFind, ShowsFinds, ShowsFirst, find_line, first_that_has_it, size_line}
+use Rattle.exploring.specs.Reports.{Adds, Reports, at_rest_lines, ending_line, first_lines, first_that, plural, ShowsFind, ShowsFinds, ShowsFirst, find_line, first_that_has_it, size_line, states_line}
 use Rattle.counting.specs.Texts.{FindView}
 
 four : (old a b c d s1 s2 s3 s4 : List ℕ) → s1 ≡ old ++ a → s2 ≡ s1 ++ b → s3 ≡ s2 ++ c → s4 ≡ s3 ++ d → s4 ≡ old ++ (a ++ (b ++ (c ++ d)))
@@ -99,16 +99,18 @@ finds_added old mid new loose events finds i f within is h one =
     )
 
 -- all of it was added to an empty text
-pub reported : (loose events : List Event) (upto ticks : ℕ) (b : BookView) (s0 s1 s2 s3 s4 s5 outcomes : List ℕ) → s0 ≡ [] → s1 ≡ s0 ++ first_lines b.total upto ticks (length loose) b.endings
-    → Adds s1 (ShowsFirst loose events (first_that (codes "comes to rest")) b.endings.at_rest.first) s2 → Adds s2 (ShowsFirst loose events (first_that (codes "is still going")) b.endings.going.first) s3
-    → Adds s3 (ShowsFinds loose events b.finds) s4 → s5 ≡ s4 ++ outcomes → Reports loose events upto ticks b s5
-reported loose events upto ticks b s0 s1 s2 s3 s4 s5 outcomes is0 is1 h2 h3 h4 is5 = record {
-  at_rest = h2.0;
-  going = h3.0;
-  finds = h4.0;
+pub reported : (loose events : List Event) (upto ticks : ℕ) (b : BookView) (states : ℕ) (s0 s1 s2 s3 s4 s5 s6 outcomes : List ℕ) → s0 ≡ [] → s1 ≡ s0 ++ first_lines b.total upto ticks (length loose) b.endings
+    → s2 ≡ s1 ++ states_line states → Adds s2 (ShowsFirst loose events (first_that (codes "comes to rest")) b.endings.at_rest.first) s3
+    → Adds s3 (ShowsFirst loose events (first_that (codes "is still going")) b.endings.going.first) s4 → Adds s4 (ShowsFinds loose events b.finds) s5 → s6 ≡ s5 ++ outcomes → Reports loose events upto ticks b s6
+reported loose events upto ticks b states s0 s1 s2 s3 s4 s5 s6 outcomes is0 is1 is2 h3 h4 h5 is6 = record {
+  states = states;
+  at_rest = h3.0;
+  going = h4.0;
+  finds = h5.0;
   outcomes = outcomes;
-  whole = is5 ∙ ap (λ s. s ++ outcomes) (h4.1 ∙ ap (λ s. s ++ h4.0) (h3.1 ∙ ap (λ s. s ++ h3.0) (h2.1 ∙ ap (λ s. s ++ h2.0) (is1 ∙ ap (λ s. s ++ first_lines b.total upto ticks (length loose) b.endings) is0)))) ∙ simp append_assoc;
-  shows_at_rest = h2.2;
-  shows_going = h3.2;
-  shows_finds = h4.2;
+  whole = is6 ∙ ap (λ s. s ++ outcomes) (h5.1 ∙ ap (λ s. s ++ h5.0) (h4.1 ∙ ap (λ s. s ++ h4.0) (h3.1 ∙ ap (λ s. s ++ h3.0) (is2 ∙ ap (λ s. s ++ states_line states)
+      (is1 ∙ ap (λ s. s ++ first_lines b.total upto ticks (length loose) b.endings) is0))))) ∙ simp append_assoc;
+  shows_at_rest = h3.2;
+  shows_going = h4.2;
+  shows_finds = h5.2;
 }

@@ -50,6 +50,10 @@ first_lines size upto ticks loose e = size_line size upto ticks loose
     ++ (at_rest_lines e
     ++ ending_line e.going.count (codes "are still going")))
 
+-- by how many states schedules were told apart that met in them, if any were
+abbrev pub states_line : ℕ → List ℕ
+states_line states = if states == 0 then [] else concat (codes "told apart by " ∷ decimal states ∷ codes " state" ∷ plural states ∷ codes " where no more is put in\n" ∷ [])
+
 -- how many schedules have a text
 abbrev pub find_line : List ℕ → ℕ → List ℕ
 find_line text count = concat (codes "\n`" ∷ text ∷ codes "` is in " ∷ in_decimal count ∷ codes " schedule" ∷ plural count ∷ codes "\n" ∷ [])
@@ -92,13 +96,14 @@ pub record AreOfFamily (upto ticks loose : ℕ) (b : BookView) : Type 0 where
   pub going : IsFirstOf upto ticks loose b.endings.going
   pub finds : All (λ f. IsFirstOf upto ticks loose f.tally) b.finds
 
--- The text tells of the schedules of a family what the book does, and then of their outcomes, of which nothing is said.
+-- The text tells of the schedules of a family what the book does, with some number of states, and then of their outcomes, of which nothing is said.
 pub record Reports (loose events : List Event) (upto ticks : ℕ) (b : BookView) (text : List ℕ) : Type 0 where
+  pub states : ℕ
   pub at_rest : List ℕ
   pub going : List ℕ
   pub finds : List ℕ
   pub outcomes : List ℕ
-  pub whole : text ≡ first_lines b.total upto ticks (length loose) b.endings ++ (at_rest ++ (going ++ (finds ++ outcomes)))
+  pub whole : text ≡ first_lines b.total upto ticks (length loose) b.endings ++ (states_line states ++ (at_rest ++ (going ++ (finds ++ outcomes))))
   pub shows_at_rest : ShowsFirst loose events (first_that (codes "comes to rest")) b.endings.at_rest.first at_rest
   pub shows_going : ShowsFirst loose events (first_that (codes "is still going")) b.endings.going.first going
   pub shows_finds : ShowsFinds loose events b.finds finds

@@ -184,6 +184,10 @@ states_asked (Some word) = up_to 10000000 (number_of word)
 abbrev pub are_run_each : Bool → ℕ → ℕ → Bool
 are_run_each all size longest = nat_le size (2 ^ 64 - 1) && (all || nat_le size 10000000 && nat_le (size * longest) 10000000000)
 
+-- How many schedules are run one after another, of so many with so many loose events; none, where states are gone on with in which they meet.
+abbrev pub run_each : Bool → ℕ → ℕ → ℕ → Option ℕ
+run_each all loose size longest = if loose == 0 && are_run_each all size longest then Some size else None
+
 -- So many schedules are told of, the longest of so many events: it isn't too long for a run, and where outcomes are to be told, these are not more
 -- than are run one after another.
 abbrev pub are_run : Bool → Bool → ℕ → ℕ → Bool

@@ -5,7 +5,7 @@ ghost use Rattle.std.specs.String.{string_bytes};
 ghost use Rattle.schedules.specs.Families.{IsSchedule};
 ghost use Rattle.schedules.specs.Schedules.{scheduled as scheduled_events};
 ghost use Rattle.schedules.specs.EventLines.{AddsText};
-ghost use Rattle.exploring.specs.Reports.{Adds, AreOfFamily, IsFirstOf, Reports, ShowsFind, ShowsFinds, ShowsFirst, at_rest_lines, ending_line, first_lines, first_that, plural as plural_of, size_line, to_the_right as right_aligned};
+ghost use Rattle.exploring.specs.Reports.{Adds, AreOfFamily, IsFirstOf, Reports, ShowsFind, ShowsFinds, ShowsFirst, at_rest_lines, ending_line, first_lines, first_that, plural as plural_of, size_line, states_line, to_the_right as right_aligned};
 
 use crate::apart::{Unlike, first_unlike};
 use crate::turns::turns_of;
@@ -130,6 +130,20 @@ fn write_endings(
     write_ending(text, endings.halted.count(), "halt")?;
     write_at_rest(text, endings)?;
     write_ending(text, endings.going.count(), "are still going")
+}
+
+/// Writes how many states schedules were told apart by that met in them, if any were.
+fn write_states(text: &mut String, states: u64) -> Result<(), AllocError>
+    ensures { OnOk result (string_bytes text.new ≡ string_bytes text.old ++ states_line states) }
+{
+    if states == 0 {
+        return Ok(());
+    }
+    let s = plural(states);
+    writeln!(
+        text,
+        "told apart by {states} state{s} where no more is put in"
+    )
 }
 
 /// Writes the first schedule that does something, if one does.
@@ -307,7 +321,7 @@ fn write_some(
     Ok(())
 }
 
-/// What is told of the outcomes.
+/// What is told of the outcomes: nothing, where schedules were told apart by states.
 fn outcomes_of(
     alloc: Global,
     family: &Family<'_>,
@@ -315,13 +329,7 @@ fn outcomes_of(
     book: &Book<'_>,
 ) -> Result<String, AllocError> {
     let mut text = String::new(alloc);
-    let states = book.states();
-    if states > 0 {
-        let s = plural(states);
-        writeln!(
-            text,
-            "\ntold apart by {states} state{s} where no more is put in"
-        )?;
+    if book.states() > 0 {
         return Ok(text);
     }
     let outcomes = book.outcomes().by_count()?;
@@ -356,6 +364,7 @@ pub fn report(
     let mut text = String::new(alloc);
     let endings = book.endings();
     write_endings(&mut text, book.total(), family, endings)?;
+    write_states(&mut text, book.states())?;
     let (resting, going) = (&endings.at_rest, &endings.going);
     write_first(alloc, &mut text, family, listing, "comes to rest", resting)?;
     write_first(alloc, &mut text, family, listing, "is still going", going)?;

@@ -1,6 +1,6 @@
 //! What the program does: its texts and its statuses.
 
-ghost use Rattle.std.specs.Prelude.{◌≡◌, ◌⊎◌, ◌+◌, ◌<◌, ◌≤◌, ◌||◌, false, true, List, [], length, Result, Err, MatchResult, IfOk, IfSome, IsNone, None, OnErr, OnOk, Some, map, option_map};
+ghost use Rattle.std.specs.Prelude.{◌≡◌, ◌⊎◌, ◌+◌, ◌≤◌, ◌||◌, false, true, Bool, ℕ, List, [], length, Result, Err, MatchResult, IfOk, IfSome, IsNone, None, OnErr, OnOk, Some, map, option_map};
 ghost use Rattle.std.specs.String.{string_bytes};
 ghost use Rattle.sink.specs.Sinks.{BreaksOff, TakesAll};
 ghost use Rattle.inputs.specs.declared.command_line.WordsFault.{WordsFault};
@@ -12,7 +12,7 @@ ghost use Rattle.schedules.specs.Families.{family as family_of};
 ghost use Rattle.counting.specs.Counts.{book_over};
 ghost use Rattle.exploring.specs.Reports.{bytes_put};
 ghost use Rattle.exploring.specs.Serving.{Means, answer_of, asked_by, is_found as has_found, all_halt as have_halted, is_told as told_by, status_of};
-ghost use Rattle.exploring.specs.Words.{are_run, are_run_each as each_is_run, asked_by_parts, can_be_put, loose_asked, only, parted_as, request_of_words, said, states_asked, ticks_asked, upto_asked, written_asked};
+ghost use Rattle.exploring.specs.Words.{are_run, are_run_each as each_is_run, asked_by_parts, can_be_put, loose_asked, only, parted_as, request_of_words, run_each, said, states_asked, ticks_asked, upto_asked, written_asked};
 
 use crate::words::{Parts, Request, Written, parts_of, requested};
 use crate::written::text_of;
@@ -352,10 +352,9 @@ fn size_of<'a>(
     requires upto { upto ≤ events }
     requires events { events ≤ most_events }
     ensures size { MatchResult result
-        (λ size. IfSome size (λ n. n ≡ length (family_of upto ticks loose)) × (are_run all outcomes (length (family_of upto ticks loose)) (events + (ticks + loose)) ≡ true))
+        (λ size. (size ≡ run_each all loose (length (family_of upto ticks loose)) (events + (ticks + loose))) × (are_run all outcomes (length (family_of upto ticks loose)) (events + (ticks + loose)) ≡ true))
         (λ why. (status_of why ≡ 2) × (are_run all outcomes (length (family_of upto ticks loose)) (events + (ticks + loose)) ≡ false)) }
     ensures short { OnOk result (events + (ticks + loose) ≤ most_events) }
-    ensures none { IfOk result (λ size. 0 < loose → size ≡ None) }
 {
     let longest = events + (ticks + loose) as u64;
     if longest > MOST_EVENTS {
@@ -368,8 +367,7 @@ fn size_of<'a>(
     }
 }
 
-/// The book of a family, by so many schedules one after another, or else by the states in which they meet, as always with
-/// loose events.
+/// The book of a family, by so many schedules one after another, or else by the states in which they meet.
 fn book_of<'w, P: Progress>(
     alloc: Global,
     family: &Family<'_>,
@@ -377,8 +375,7 @@ fn book_of<'w, P: Progress>(
     texts: &[&'w str],
     progress: &mut P,
 ) -> Result<Book<'w>, Failure<'w>>
-    requires size { IfSome size (λ n. n ≡ length (family_of family.now.upto family.now.ticks (length family.now.loose.now))) }
-    requires none { 0 < length family.now.loose.now → size ≡ None }
+    requires { (all : Bool) × (longest : ℕ) × (size ≡ run_each all (length family.now.loose.now) (length (family_of family.now.upto family.now.ticks (length family.now.loose.now))) longest) }
     ensures { MatchResult result
         (λ book. book ≡ book_over family.now.world.now family.now.loose.now family.now.events.now (map (λ t. t.now) texts.now) (family_of family.now.upto family.now.ticks (length family.now.loose.now)))
         (λ why. status_of why ≡ 3) }

@@ -1,5 +1,5 @@
 -- The nodes of a layer: what is kept where one is put in place of another, comes to them, or has its reads counted.
-use Rattle.std.proofs.Common.{◌≡◌, ℕ, zero, suc, ◌+◌, ◌-◌, ◌<◌, List, [], ◌∷◌, ◌++◌, length, Some, refl, ap, ap₂, sym, subst, ◌∙◌, arith, slice_get, slice_set, get_or}
+use Rattle.std.proofs.Common.{◌≡◌, inl, inr, ℕ, zero, suc, ◌+◌, ◌-◌, ◌<◌, List, [], ◌∷◌, ◌++◌, length, Some, refl, ap, ap₂, sym, subst, ◌∙◌, arith, slice_get, slice_set, get_or}
 use Rattle.std.specs.List.{All}
 use Rattle.std.proofs.lemmas.List.Elements.{All-cons, All-head, All-push, All-set, All-tail}
 use Rattle.std.proofs.lemmas.Option.{get_or_from_slice_get, slice_get_within}
@@ -11,7 +11,7 @@ use Rattle.counting.specs.Courses.{course_from}
 use Rattle.counting.specs.Tallies.{TallyView, both, no_schedules}
 use Rattle.merging.specs.declared.node.Node.{Node}
 use Rattle.merging.specs.declared.search.Search.{Search}
-use Rattle.merging.specs.Merging.{AreSameNodes, IsNode, IsOne, IsSameNode, Outlook, behind, tally_of_node, tally_of_nodes, world_of}
+use Rattle.merging.specs.Merging.{AreOneState, AreSameNodes, IsNode, IsOne, IsSameNode, Outlook, behind, tally_of_node, tally_of_nodes, world_of}
 use Rattle.merging.proofs.TallyLemmas.{both_regrouped, both_swapped}
 use Rattle.merging.proofs.WorldLemmas.{course_keeps_world}
 
@@ -52,10 +52,14 @@ put_there [] i m l = absurd (omega arith)
 put_there (k ∷ ns) zero m l = refl
 put_there (k ∷ ns) (suc i) m l = put_there ns i m (omega arith)
 
+state_still : (s t u v : State) → t ≡ s → v ≡ u → AreOneState s u → AreOneState t v
+state_still s t u v a b (inl same) = inl (a ∙ same ∙ sym b)
+state_still s t u v a b (inr (halted, too)) = inr (ap (λ (x : State). x.halted) a ∙ halted, ap (λ (x : State). x.halted) b ∙ too)
+
 -- two nodes that are one still are
 pub one_still : (n m k l : Node) → IsSameNode n m → IsSameNode k l → IsOne n k → IsOne m l
 one_still n m k l a b one = record {
-  state = a.state ∙ one.state ∙ sym b.state;
+  state = state_still n.kernel.state m.kernel.state k.kernel.state l.kernel.state a.state b.state one.state;
   marks = ap (λ v. v.items) a.marks ∙ one.marks ∙ ap (λ v. v.items) (sym b.marks);
   spots = ap (λ (ps : Spots). length ps) a.spots ∙ one.spots ∙ ap (λ (ps : Spots). length ps) (sym b.spots);
   left = ap (λ v. v.items) a.left ∙ one.left ∙ ap (λ v. v.items) (sym b.left);

@@ -2,6 +2,7 @@ mod SpotLemmas
 mod TallyLemmas
 mod MergeLemmas
 mod OutlookLemmas
+mod HaltLemmas
 mod WorldLemmas
 mod NodeLemmas
 mod LayerLemmas
@@ -10,4 +11,3 @@ mod RowLemmas
 mod NodeCountLemmas
 mod NodeBookLemmas
 mod MergedLemmas
-mod StillLemmas

@@ -14,7 +14,7 @@ use Rattle.counting.specs.Texts.{marked}
 use Rattle.counting.proofs.CourseLemmas.{granted_course}
 use Rattle.merging.specs.declared.node.Node.{Node}
 use Rattle.merging.specs.declared.search.Search.{Search}
-use Rattle.merging.specs.Merging.{IsNode, IsOne, Outlook, behind, marks_after, most_of, state_after, tally_of_node, texts_of, world_of}
+use Rattle.merging.specs.Merging.{AreOneState, ForgetsHalted, IsNode, IsOne, Outlook, behind, marks_after, most_of, state_after, tally_of_node, texts_of, world_of}
 use Rattle.merging.proofs.MergeLemmas.{entries_numbered, marked_by_entries}
 use Rattle.merging.proofs.TallyLemmas.{behind_meets}
 
@@ -72,12 +72,18 @@ joined_before c d q r t l first = ap (λ b. behind (c + d) (cond b r q) t) (sym 
 pub joined_behind : (c d : ℕ) (q r : Spots) (t : TallyView) → length q ≡ length r → is_before r q ≡ false → behind (c + d) q t ≡ both (behind c q t) (behind d r t)
 joined_behind c d q r t l first = ap (λ b. behind (c + d) (cond b r q) t) (sym first) ∙ sym (behind_meets c d q r t l)
 
+-- what goes on from two states that are one
+state_alike : (go_on : Outlook) → ForgetsHalted go_on → (n : ℕ) (left : List ℕ) (s t : State) (marks : List Bool) → AreOneState s t → go_on n left s marks ≡ go_on n left t marks
+state_alike go_on forgets n left s t marks (inl same) = ap (λ (u : State). go_on n left u marks) same
+state_alike go_on forgets n left s t marks (inr (halted, too)) = forgets n left s t marks halted too
+
 -- what goes on from two nodes that are one
-goes_on_alike : (go_on : Outlook) (most : ℕ) (old other : Node) → IsOne old other
+goes_on_alike : (go_on : Outlook) (most : ℕ) (old other : Node) → ForgetsHalted go_on → IsOne old other
     → go_on (most - length old.spots) old.left.items old.kernel.state old.marks.items ≡ go_on (most - length other.spots) other.left.items other.kernel.state other.marks.items
-goes_on_alike go_on most old other one =
+goes_on_alike go_on most old other forgets one =
     ap₂ (λ n kinds. go_on (most - n) kinds old.kernel.state old.marks.items) one.spots one.left
-    ∙ ap₂ (λ (s : State) bs. go_on (most - length other.spots) other.left.items s bs) one.state one.marks
+    ∙ ap (go_on (most - length other.spots) other.left.items old.kernel.state) one.marks
+    ∙ state_alike go_on forgets (most - length other.spots) other.left.items old.kernel.state other.kernel.state other.marks.items one.state
 
 -- the one of the two whose beginnings come first
 abbrev pub IsFirstOf : Node → Node → Node → Type 0
@@ -87,22 +93,22 @@ IsFirstOf old other mid =
 abbrev with_count : ℕ → Node → Node
 with_count n mid = record mid { count = n }
 
-pub joined_tally : (old other mid : Node) (n : ℕ) → IsOne old other → IsFirstOf old other mid → n ≡ old.count + other.count → (go_on : Outlook) (most : ℕ)
+pub joined_tally : (old other mid : Node) (n : ℕ) → IsOne old other → IsFirstOf old other mid → n ≡ old.count + other.count → (go_on : Outlook) (most : ℕ) → ForgetsHalted go_on
     → tally_of_node go_on most (with_count n mid) ≡ both (tally_of_node go_on most old) (tally_of_node go_on most other)
-joined_tally old other mid n one (inl (same, first)) sum go_on most =
+joined_tally old other mid n one (inl (same, first)) sum go_on most forgets =
     let q = old.spots in
     let r = other.spots in
     let rest = go_on (most - length r) other.left.items other.kernel.state other.marks.items in
     ap₂ (λ (k : ℕ) (m : Node). tally_of_node go_on most (with_count k m)) sum same
     ∙ joined_before old.count other.count q r rest one.spots first
-    ∙ ap (λ t. both (behind old.count q t) (behind other.count r rest)) (sym (goes_on_alike go_on most old other one))
-joined_tally old other mid n one (inr (same, first)) sum go_on most =
+    ∙ ap (λ t. both (behind old.count q t) (behind other.count r rest)) (sym (goes_on_alike go_on most old other forgets one))
+joined_tally old other mid n one (inr (same, first)) sum go_on most forgets =
     let q = old.spots in
     let r = other.spots in
     let rest = go_on (most - length q) old.left.items old.kernel.state old.marks.items in
     ap₂ (λ (k : ℕ) (m : Node). tally_of_node go_on most (with_count k m)) sum same
     ∙ joined_behind old.count other.count q r rest one.spots first
-    ∙ ap (λ t. both (behind old.count q rest) (behind other.count r t)) (goes_on_alike go_on most old other one)
+    ∙ ap (λ t. both (behind old.count q rest) (behind other.count r t)) (goes_on_alike go_on most old other forgets one)
 
 recounted : (search : Search) (place least count : ℕ) (n : Node) → IsNode search place least n → IsNode search place least (with_count count n)
 recounted search place least count n i = record {

@@ -1,3 +1,2 @@
 pub mod SpotLists
 pub mod Merging
-pub mod Stills

@@ -1,5 +1,5 @@
 -- Schedules that meet in one state: how many of those that go on from there have a property, and which is the first.
-use Rattle.std.specs.Prelude.{◌≡◌, ◌≤◌, ◌-◌, ℕ, zero, suc, ◌+◌, ◌*◌, Bool, true, List, [], ◌∷◌, ◌++◌, length, map, drop, nat_lt, remove, slice_index_or, Some, option_map, if◌then◌else◌}
+use Rattle.std.specs.Prelude.{◌≡◌, ◌⊎◌, ◌≤◌, ◌-◌, ℕ, zero, suc, ◌+◌, ◌*◌, Bool, true, List, [], ◌∷◌, ◌++◌, length, map, drop, nat_lt, remove, slice_index_or, Some, option_map, if◌then◌else◌}
 use Rattle.std.specs.List.{All}
 use Rattle.posix.specs.declared.event.Event.{Event}
 use Rattle.posix.specs.declared.event.Event.TheVariants.{Tick}
@@ -44,6 +44,10 @@ behind count begun t = record { count = count * t.count; first = option_map (λ 
 -- the loose events that are left, the state and the marks.
 abbrev pub Outlook : Type 0
 Outlook = ℕ → List ℕ → State → List Bool → TallyView
+
+-- The same goes on from all states in which the machine has halted.
+abbrev pub ForgetsHalted : Outlook → Type 0
+ForgetsHalted go_on = (n : ℕ) (left : List ℕ) (s t : State) (marks : List Bool) → s.halted ≡ true → t.halted ≡ true → go_on n left s marks ≡ go_on n left t marks
 
 abbrev pub state_after : Event → State → State
 state_after x s = (next true s x).state
@@ -156,9 +160,13 @@ pub record IsSameNode (old new : Node) : Type 0 where
   pub given : new.given ≡ old.given
   pub marks : new.marks ≡ old.marks
 
--- Two nodes are the same state, led to by as many spots, with the same loose events left and the same marks.
+-- Two states are one where they are the same. States in which the machine has halted are one, too, as nothing more happens in them.
+abbrev pub AreOneState : State → State → Type 0
+AreOneState s t = (s ≡ t) ⊎ ((s.halted ≡ true) × (t.halted ≡ true))
+
+-- Two nodes are one state, led to by as many spots, with the same loose events left and the same marks.
 pub record IsOne (node other : Node) : Type 0 where
-  pub state : node.kernel.state ≡ other.kernel.state
+  pub state : AreOneState node.kernel.state other.kernel.state
   pub marks : node.marks.items ≡ other.marks.items
   pub spots : length node.spots ≡ length other.spots
   pub left : node.left.items ≡ other.left.items

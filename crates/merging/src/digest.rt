@@ -129,13 +129,16 @@ fn with_kinds(digest: u64, kinds: &[u8]) -> u64 {
 }
 
 /// A digest of how many spots led to a state, of the loose events that are left, of the marks of texts, and of the state
-/// of a machine. Nothing changes.
+/// of a machine. States in which the machine has halted are one, as nothing more happens in them: nothing else of such a
+/// state is in its digest. Nothing changes.
 pub fn digest_of(spots: usize, left: &[u8], marks: &[bool], kernel: &mut Kernel) -> u64
     ensures { (kernel.new.state ≡ kernel.old.state) × (kernel.new.events ≡ kernel.old.events) }
 {
-    let digest = mixed(mixed(1, spots as u64), kernel.ticks());
-    let digest = with_marks(with_kinds(digest, left), marks);
-    let digest = with_turns(digest, kernel);
+    let digest = with_marks(with_kinds(mixed(1, spots as u64), left), marks);
+    if kernel.is_halted() {
+        return digest;
+    }
+    let digest = with_turns(mixed(digest, kernel.ticks()), kernel);
     let digest = with_consoles(digest, kernel);
     with_processes(digest, kernel)
 }

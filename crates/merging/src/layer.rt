@@ -4,8 +4,7 @@ ghost use Rattle.std.specs.Prelude.{◌≡◌, ◌++◌, ℕ, [], ◌∷◌, All
 ghost use Rattle.counting.specs.Tallies.{both};
 ghost use Rattle.merging.specs.declared.node.Node.{Node as NodeValue};
 ghost use Rattle.merging.specs.declared.search.Search.{Search as SearchValue};
-ghost use Rattle.merging.specs.Merging.{AreSameNodes, IsNode, IsOne, IsSameNode, Outlook, tally_of_node, tally_of_nodes};
-ghost use Rattle.merging.specs.Stills.{IsBegun, face_of, faces_of};
+ghost use Rattle.merging.specs.Merging.{AreSameNodes, ForgetsHalted, IsNode, IsOne, IsSameNode, Outlook, tally_of_node, tally_of_nodes};
 
 use crate::digest::digest_of;
 use crate::node::Node;
@@ -34,8 +33,6 @@ pub struct Layer {
     pub nodes: Vec<Node>,
     /// Which node has this key: its digest, or, where another state has that, the next that is free.
     numbers: HashMap<u64, usize>,
-    /// Of each node, which node of the row with one more spot is what a tick makes of it, where that is known.
-    pub links: Vec<usize>,
 }
 
 impl Layer {
@@ -46,7 +43,6 @@ impl Layer {
         Layer {
             nodes: Vec::new(alloc),
             numbers: HashMap::new(alloc),
-            links: Vec::new(alloc),
         }
     }
 
@@ -103,7 +99,7 @@ impl Layer {
     /// A node comes to those of the layer.
     pub fn insert(&mut self, node: Node) -> Result<(), AllocError>
         requires { All (λ n. n.kernel.state.world ≡ node.kernel.state.world) self.old.nodes.items }
-        ensures tally { OnOk result ((go_on : Outlook) (most : ℕ) → tally_of_nodes go_on most self.new.nodes.items ≡ both (tally_of_nodes go_on most self.old.nodes.items) (tally_of_node go_on most node)) }
+        ensures tally { OnOk result ((go_on : Outlook) (most : ℕ) → ForgetsHalted go_on → tally_of_nodes go_on most self.new.nodes.items ≡ both (tally_of_nodes go_on most self.old.nodes.items) (tally_of_node go_on most node)) }
         ensures nodes { OnOk result ((search : SearchValue) (place least : ℕ) → All (IsNode search place least) self.old.nodes.items → IsNode search place least node → All (IsNode search place least) self.new.nodes.items) }
     {
         let mut node = node;
@@ -111,28 +107,6 @@ impl Layer {
         match self.find(digest, &mut node) {
             Ok(number) => self.nodes[number].join(node),
             Err(key) => self.push(key, node),
-        }
-    }
-    /// A node comes to those of the layer. Its number there.
-    pub fn insert_numbered(&mut self, node: Node) -> Result<usize, AllocError>
-        requires { All (λ n. n.kernel.state.world ≡ node.kernel.state.world) self.old.nodes.items }
-        ensures tally { OnOk result ((go_on : Outlook) (most : ℕ) → tally_of_nodes go_on most self.new.nodes.items ≡ both (tally_of_nodes go_on most self.old.nodes.items) (tally_of_node go_on most node)) }
-        ensures nodes { OnOk result ((search : SearchValue) (place least : ℕ) → All (IsNode search place least) self.old.nodes.items → IsNode search place least node → All (IsNode search place least) self.new.nodes.items) }
-        ensures number { IfOk result (λ j. slice_get (faces_of self.new.nodes.items) j ≡ Some (face_of node)) }
-        ensures begun { OnOk result (IsBegun (faces_of self.old.nodes.items) (faces_of self.new.nodes.items)) }
-    {
-        let mut node = node;
-        let digest = digest(&mut node);
-        match self.find(digest, &mut node) {
-            Ok(number) => {
-                self.nodes[number].join(node)?;
-                Ok(number)
-            }
-            Err(key) => {
-                let number = self.nodes.len();
-                self.push(key, node)?;
-                Ok(number)
-            }
         }
     }
 }

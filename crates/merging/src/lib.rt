@@ -1,14 +1,15 @@
-//! Schedules of a family that meet in one state are gone on with once. What is counted is the same.
+//! Schedules of a family that meet in one state are gone on with once. States in which the machine has halted are one, as
+//! nothing more happens in them. What is counted is the same.
 #![tactic(auto)]
 
 mod digest;
 mod layer;
 mod merging;
 mod node;
+mod rows;
 mod search;
 mod spot_list;
 mod spreading;
-mod still;
 
 pub use merging::merge;
 pub use search::Stop;

@@ -1,6 +1,6 @@
 //! Schedules that meet in one state are gone on with once.
 
-ghost use Rattle.std.specs.Prelude.{◌≡◌, ◌+◌, ◌<◌, ◌≤◌, ◌++◌, ℕ, [], ◌∷◌, length, map, All, IfOk, OnOk, drop, Some};
+ghost use Rattle.std.specs.Prelude.{◌≡◌, ◌+◌, ◌<◌, ◌≤◌, ◌++◌, ℕ, length, map, All, IfOk, OnOk};
 ghost use Rattle.posix.specs.Regular.{IsRegular};
 ghost use Rattle.posix.specs.Settle.{IsSettled};
 ghost use Rattle.posix.specs.States.{boot};
@@ -10,13 +10,12 @@ ghost use Rattle.counting.specs.Counts.{book_over};
 ghost use Rattle.counting.specs.Tallies.{both};
 ghost use Rattle.counting.specs.Texts.{unmarked};
 ghost use Rattle.merging.specs.declared.search.Search.{Search as SearchValue};
-ghost use Rattle.merging.specs.Merging.{AreRows, IsNode, Outlook, Property, counted, counted_all, list_of, loose_of, most_of, nodes_tally, outlook_of, rows_tally, tally_of_nodes, tally_of_rows, texts_of, world_of};
-ghost use Rattle.merging.specs.Stills.{IsFront};
+ghost use Rattle.merging.specs.Merging.{AreRows, ForgetsHalted, IsNode, Outlook, Property, counted, counted_all, list_of, loose_of, most_of, nodes_tally, outlook_of, rows_tally, tally_of_nodes, tally_of_rows, texts_of, world_of};
 
 use crate::layer::Layer;
 use crate::node::Node;
+use crate::rows::{push_row, rows_behind};
 use crate::search::{Search, Stop};
-use crate::still::rows_behind;
 use counting::{Book, Family, Line, Progress, event_at, events_from, mark, run_all};
 use std::alloc::{AllocError, Global};
 use std::collections::VecDeque;
@@ -82,31 +81,6 @@ fn count_all(
     Ok(())
 }
 
-/// Takes the first row; no states, where there is none.
-pub fn take_row(rows: &mut VecDeque<Layer>, alloc: Global) -> Layer
-    ensures rows { (search : SearchValue) (place least : ℕ) → AreRows search place least rows.old.items → All (IsNode search place least) result.nodes.items × AreRows search place (least + 1) rows.new.items }
-    ensures front { IsFront rows.old.items result rows.new.items }
-    ensures tally { (go_on : Outlook) (most : ℕ) → tally_of_rows go_on most rows.old.items ≡ both (tally_of_nodes go_on most result.nodes.items) (tally_of_rows go_on most rows.new.items) }
-{
-    match rows.pop_front() {
-        Some(row) => row,
-        None => Layer::new(alloc),
-    }
-}
-
-/// One more row comes behind the others.
-pub fn push_row(rows: &mut VecDeque<Layer>, row: Layer) -> Result<(), AllocError>
-    ensures { OnOk result (rows.new.items ≡ rows.old.items ++ row ∷ []) }
-{
-    rows.push_back(row)?;
-    Ok(())
-}
-
-/// How many states the last row has.
-pub fn last_states(rows: &VecDeque<Layer>) -> usize {
-    rows.back().map_or(0, |row| row.nodes.len())
-}
-
 /// How many states these are.
 fn count_states(rows: &VecDeque<Layer>) -> usize {
     let mut states: usize = 0;
@@ -169,12 +143,11 @@ fn reach<P: Progress>(
     let upto = search.family.upto;
     let mut rows = VecDeque::new(search.alloc);
     push_row(&mut rows, first)?;
-    let mut are_linked = false;
     for place in 0..upto {
         let Some(event) = event_at(search.family.events, place) else {
             unreachable!()
         };
-        rows = rows_behind(rows, &mut are_linked, place, event, search, lines)?;
+        rows = rows_behind(rows, place, event, search, lines)?;
         let states = count_states(&rows);
         if states > search.family.states {
             return Err(Stop::States(search.family.states, place + 1));
@@ -187,7 +160,7 @@ fn reach<P: Progress>(
 /// The state at the start of a world, from which all schedules go on.
 fn start(search: &Search<'_, '_, '_>) -> Result<Layer, AllocError>
     ensures nodes { IfOk result (λ layer. All (IsNode search.now 0 0) layer.nodes.items) }
-    ensures tally { (go_on : Outlook) → IfOk result (λ layer. tally_of_nodes go_on (most_of search.now) layer.nodes.items
+    ensures tally { (go_on : Outlook) → ForgetsHalted go_on → IfOk result (λ layer. tally_of_nodes go_on (most_of search.now) layer.nodes.items
         ≡ go_on (most_of search.now) (kinds_of (length (loose_of search.now))) (boot (world_of search.now)) (unmarked (texts_of search.now))) }
 {
     let family = search.family;

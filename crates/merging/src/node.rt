@@ -10,8 +10,7 @@ ghost use Rattle.counting.specs.Courses.{course_from};
 ghost use Rattle.counting.specs.Tallies.{both};
 ghost use Rattle.counting.specs.Texts.{unmarked};
 ghost use Rattle.merging.specs.declared.search.Search.{Search as SearchValue};
-ghost use Rattle.merging.specs.Merging.{IsNode, IsOne, IsSameNode, Outlook, marks_after, state_after, tally_of_node, texts_of};
-ghost use Rattle.merging.specs.Stills.{face_of};
+ghost use Rattle.merging.specs.Merging.{AreOneState, ForgetsHalted, IsNode, IsOne, IsSameNode, Outlook, marks_after, state_after, tally_of_node, texts_of};
 
 use crate::spot_list::SpotList;
 use arrayvec::ArrayVec;
@@ -87,6 +86,17 @@ fn give(
     run_one(kernel, event, lines)?;
     mark(texts, lines.as_slice(), marks);
     Ok(())
+}
+
+/// Whether two machines are in one state of a world, as far as is seen. States in which the machine has halted are one, as
+/// nothing more happens in them.
+fn are_one(kernel: &mut Kernel, other: &mut Kernel) -> bool
+    requires world { kernel.old.state.world ≡ other.old.state.world }
+    ensures one { result ≡ true → AreOneState kernel.old.state other.old.state }
+    ensures same { (kernel.new.state ≡ kernel.old.state) × (kernel.new.events ≡ kernel.old.events) }
+    ensures other { (other.new.state ≡ other.old.state) × (other.new.events ≡ other.old.events) }
+{
+    (kernel.is_halted() && other.is_halted()) || kernel.is_same(other)
 }
 
 /// The kinds of so many loose events.
@@ -175,7 +185,7 @@ impl Node {
     }
 
     /// The same beginnings, with a kernel of their own.
-    fn again(&self, alloc: Global, world: &World, lines: &mut Vec<Line>) -> Result<Node, AllocError>
+    fn rerun(&self, alloc: Global, world: &World, lines: &mut Vec<Line>) -> Result<Node, AllocError>
         requires few { length self.now.given ≤ most_events }
         requires left { length self.now.left.items ≤ MOST_LOOSE }
         requires reached { self.now.kernel.state ≡ (course_from 1 (boot world.now) self.now.given).last }
@@ -191,8 +201,8 @@ impl Node {
     {
         let given = events_from(alloc, &self.given, 0)?;
         let marks = Vec::from_slice(alloc, self.marks.as_slice())?;
-        let count = self.count.again()?;
-        let spots = self.spots.again(alloc)?;
+        let count = self.count.try_clone()?;
+        let spots = self.spots.try_clone(alloc)?;
         Ok(Node {
             kernel: kernel_after(alloc, world, &self.given, lines)?,
             count,
@@ -252,7 +262,7 @@ impl Node {
         ensures spots { IfOk result (λ n. n.spots ≡ self.now.spots ++ spot ∷ []) }
         ensures left { IfOk result (λ n. n.left.items ≡ self.now.left.items) }
     {
-        let mut node = self.again(alloc, world, lines)?;
+        let mut node = self.rerun(alloc, world, lines)?;
         match node.put_in(spot, event, texts, lines) {
             Ok(()) => Ok(node),
             Err(e) => {
@@ -262,8 +272,8 @@ impl Node {
         }
     }
 
-    /// Whether two nodes are one: the same state of a world, led to by as many spots, with the same loose events left and
-    /// the same marks.
+    /// Whether two nodes are one: one state of a world, led to by as many spots, with the same loose events left and the
+    /// same marks.
     pub fn is_one(&mut self, other: &mut Node) -> bool
         requires world { self.old.kernel.state.world ≡ other.old.kernel.state.world }
         ensures one { result ≡ true → IsOne self.old other.old }
@@ -273,15 +283,14 @@ impl Node {
         self.spots.len() == other.spots.len()
             && self.left.as_slice() == other.left.as_slice()
             && self.marks.as_slice() == other.marks.as_slice()
-            && self.kernel.is_same(&mut other.kernel)
+            && are_one(&mut self.kernel, &mut other.kernel)
     }
 
     /// The beginnings of another node that is one with this are counted with its own, of which the first stay.
     fn join_first(&mut self, other: &mut Node) -> Result<(), AllocError>
         requires { IsOne self.old other.old }
-        ensures tally { OnOk result ((go_on : Outlook) (most : ℕ) → tally_of_node go_on most self.new ≡ both (tally_of_node go_on most self.old) (tally_of_node go_on most other.old)) }
+        ensures tally { OnOk result ((go_on : Outlook) (most : ℕ) → ForgetsHalted go_on → tally_of_node go_on most self.new ≡ both (tally_of_node go_on most self.old) (tally_of_node go_on most other.old)) }
         ensures node { (search : SearchValue) (place least : ℕ) → IsNode search place least self.old → IsNode search place least other.old → IsNode search place least self.new }
-        ensures face { OnOk result (face_of self.new ≡ face_of self.old) }
     {
         if other.spots.is_before(&self.spots) {
             swap(self, other);
@@ -292,9 +301,8 @@ impl Node {
     /// The beginnings of another node that is one with this come to its own.
     pub fn join(&mut self, mut other: Node) -> Result<(), AllocError>
         requires { IsOne self.old other }
-        ensures tally { OnOk result ((go_on : Outlook) (most : ℕ) → tally_of_node go_on most self.new ≡ both (tally_of_node go_on most self.old) (tally_of_node go_on most other)) }
+        ensures tally { OnOk result ((go_on : Outlook) (most : ℕ) → ForgetsHalted go_on → tally_of_node go_on most self.new ≡ both (tally_of_node go_on most self.old) (tally_of_node go_on most other)) }
         ensures node { (search : SearchValue) (place least : ℕ) → IsNode search place least self.old → IsNode search place least other → IsNode search place least self.new }
-        ensures face { OnOk result (face_of self.new ≡ face_of self.old) }
     {
         let done = self.join_first(&mut other);
         drop(other);

@@ -130,7 +130,7 @@ impl SpotList {
     }
 
     /// The same spots once more.
-    pub fn again(&self, alloc: Global) -> Result<SpotList, AllocError>
+    pub fn try_clone(&self, alloc: Global) -> Result<SpotList, AllocError>
         ensures { IfOk result (λ spots. spots ≡ self.now) }
     {
         Ok(SpotList {

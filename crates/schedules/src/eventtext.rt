@@ -8,7 +8,7 @@ ghost use Rattle.posix.specs.declared.event.Event.TheVariants.{Key, Hangup};
 ghost use Rattle.text.specs.EventTexts.{most_events};
 ghost use Rattle.schedules.specs.EventLines.{AddsFirst, AddsLines, AddsText, IsWordOf, two_digits};
 
-use arrayvec::ArrayVec;
+use arrayvec::{ArrayString, ArrayVec};
 use posix::Event;
 use std::alloc::AllocError;
 use std::fmt::Write;
@@ -19,6 +19,9 @@ const MOST_COUNTED: u64 = 1_000_000;
 
 /// The most bytes of a line `key C B ..`: so it stays short.
 const MOST_KEYS: usize = 16;
+
+/// So many keys as they are typed take at most so many bytes.
+const MOST_TYPED: usize = 4 * MOST_KEYS;
 
 /// A comment with more bytes has no room in a line.
 const MOST_COMMENT: usize = 194;
@@ -77,19 +80,52 @@ fn write_byte(text: &mut String, byte: u8) -> Result<(), AllocError>
     write!(text, " {byte:02X}")
 }
 
+/// Adds a key as it is typed: a control character as ^C, and a byte from 80 on as M- and the key that gives it with Meta.
+fn push_typed(typed: &mut ArrayString<MOST_TYPED>, byte: u8) {
+    let meta = if byte < 0x80 { "" } else { "M-" };
+    let key = byte & 0x7f;
+    let (control, shown) = match key {
+        0x20..=0x7e => ("", key),
+        _ => ("^", key ^ 0x40),
+    };
+    let _ = write!(typed, "{meta}{control}{}", char::from(shown));
+}
+
+/// Writes a comment with keys as they are typed.
+fn write_typed(text: &mut String, bytes: &[u8]) -> Result<(), AllocError>
+    ensures { OnOk result (AddsLines (string_bytes text.old) [] (string_bytes text.new)) }
+{
+    let mut typed = ArrayString::<MOST_TYPED>::new();
+    for byte in bytes {
+        push_typed(&mut typed, *byte);
+    }
+    write_comment(text, typed.as_str())
+}
+
 /// Writes a line of keys.
 fn write_key_line(text: &mut String, console: u8, bytes: &[u8]) -> Result<(), AllocError>
+    requires some { 0 < length bytes.now }
+    requires few { length bytes.now ≤ 16 }
+    ensures { OnOk result (AddsLines (string_bytes text.old) (map (Key console) bytes.now) (string_bytes text.new)) }
+{
+    write!(text, "    key {console}")?;
+    for byte in bytes {
+        write_byte(text, *byte)?;
+    }
+    text.push_str("\n")?;
+    Ok(())
+}
+
+/// Writes keys, if there are some, in a line behind a comment that shows them as they are typed.
+fn write_keys(text: &mut String, console: u8, bytes: &[u8]) -> Result<(), AllocError>
     requires { length bytes.now ≤ 16 }
     ensures { OnOk result (AddsLines (string_bytes text.old) (map (Key console) bytes.now) (string_bytes text.new)) }
 {
     if bytes.is_empty() {
         return Ok(());
     }
-    write!(text, "    key {console}")?;
-    for byte in bytes {
-        write_byte(text, *byte)?;
-    }
-    text.push_str("\n")?;
+    write_typed(text, bytes)?;
+    write_key_line(text, console, bytes)?;
     Ok(())
 }
 
@@ -99,7 +135,7 @@ fn end_keys(text: &mut String, keys: &mut Keys) -> Result<(), AllocError>
     ensures none { OnOk result (keys.new.bytes.items ≡ []) }
     ensures len { OnOk result (array_vec_len keys.new.bytes ≡ 0) }
 {
-    write_key_line(text, keys.console, keys.bytes.as_slice())?;
+    write_keys(text, keys.console, keys.bytes.as_slice())?;
     keys.bytes.clear();
     Ok(())
 }
@@ -209,8 +245,9 @@ fn put_run(
     Ok(())
 }
 
-/// Writes a list of events as a text that stands for them, each line behind four blanks. Before an event that has a
-/// remark it has a comment, and the event in a line of its own; the places of the remarks rise strictly, and a remark out
+/// Writes a list of events as a text that stands for them, each line behind four blanks. Before a line of keys it has a
+/// comment with the keys as they are typed, as ^C. Before an event that has a remark it has a comment, and the event in a
+/// line of its own; the places of the remarks rise strictly, and a remark out
 /// of this order is left out. Without memory a part of the text may have been added.
 pub fn write_events(
     text: &mut String,

@@ -28,29 +28,22 @@ loop-place-preserved c =
       carry = omega (arith, digit_below digits l.place c.requires.digits, digit_below others l.place c.requires.others, c.digit_at.ensures, c.digit_at-in-loop-place.ensures, l.invariant.carry);
     }
 
-pub returns-clause-sum : goal.returns-clause-sum
-returns-clause-sum c =
+pub returns : goal.returns
+returns c =
     let l = c.loop-place in
     let digits = c.args.digits.now in
     let others = c.args.others.now in
     let total = number_of digits + number_of others in
     let whole = all_added digits others l.sum.items l.place l.carry total (omega (arith, c.loop-place-test.false, c.max-place-end.ensures)) (omega (arith, c.loop-place-test.false, c.max-place-end.ensures)) l.invariant.whole in
     elim c.if-carry-gt0.branch [
-      | then-carry-gt0+in_ok-push-2 w ↦ rw w.sum-is (carry_added l.sum.items w.push-then-carry-gt0.new.self.items l.place l.carry total l.invariant.len w.in_ok-push-2.ensures.items whole)
-      | else-carry-gt0 w ↦ rw w.sum-is (none_carried l.sum.items l.place l.carry total w.if-carry-gt0.false whole)
-    ]
-
-pub returns-clause-digits : goal.returns-clause-digits
-returns-clause-digits c =
-    let l = c.loop-place in
-    let digits = c.args.digits.now in
-    let others = c.args.others.now in
-    let total = number_of digits + number_of others in
-    let whole = all_added digits others l.sum.items l.place l.carry total (omega (arith, c.loop-place-test.false, c.max-place-end.ensures)) (omega (arith, c.loop-place-test.false, c.max-place-end.ensures)) l.invariant.whole in
-    elim c.if-carry-gt0.branch [
-      | then-carry-gt0+in_ok-push-2 w ↦ rw (w.sum-is, w.in_ok-push-2.ensures.items) (carry_is_first l.sum.items l.carry l.invariant.small w.if-carry-gt0.true (omega (arith, l.invariant.carry)))
+      | then-carry-gt0+in_ok-push-2 w ↦ record {
+        sum = rw w.sum-is (carry_added l.sum.items w.push-then-carry-gt0.new.self.items l.place l.carry total l.invariant.len w.in_ok-push-2.ensures.items whole);
+        digits = rw (w.sum-is, w.in_ok-push-2.ensures.items) (carry_is_first l.sum.items l.carry l.invariant.small w.if-carry-gt0.true (omega (arith, l.invariant.carry)));
+      }
       | else-carry-gt0 w ↦
-          rw w.sum-is
-          (sum_is_long digits others l.sum.items c.requires.digits c.requires.others l.invariant.small (omega (arith, l.invariant.len, l.auto.place-end, c.max-place-end.ensures))
-          (none_carried l.sum.items l.place l.carry total w.if-carry-gt0.false whole))
+          let none = none_carried l.sum.items l.place l.carry total w.if-carry-gt0.false whole in
+          record {
+            sum = rw w.sum-is none;
+            digits = rw w.sum-is (sum_is_long digits others l.sum.items c.requires.digits c.requires.others l.invariant.small (omega (arith, l.invariant.len, l.auto.place-end, c.max-place-end.ensures)) none);
+          }
     ]

@@ -1,4 +1,4 @@
-use Rattle.std.proofs.Common.{◌≡◌, ◌∙◌, false, true, sym}
+use Rattle.std.proofs.Common.{◌∙◌, sym}
 use Rattle.merging.specs.Merging.{most_of, outlook_of}
 use Rattle.merging.proofs.RowLemmas.{one_row, one_row_tally}
 use Rattle.merging.proofs.merging.reach.Goals as goal
@@ -9,7 +9,6 @@ loop-place-init g c =
     let none = c.new-rows.ensures.items in
     record {
       rows = one_row s 0 c.new-rows.result.items c.push_row.new.rows.items c.args.first none c.in_ok-push_row.ensures c.requires.nodes;
-      linked = λ (no : false ≡ true). absurd (cc);
       tally = λ has. one_row_tally (outlook_of has s 0) (most_of s) c.new-rows.result.items c.push_row.new.rows.items c.args.first none c.in_ok-push_row.ensures;
     }
 
@@ -19,6 +18,5 @@ rows_behind-requires-clause-event g c = sym c.event_at.ensures ∙ c.in-Some.is
 pub loop-place-preserved : goal.loop-place-preserved
 loop-place-preserved g c = record {
   rows = c.in_ok-rows.ensures.rows;
-  linked = c.in_ok-rows.ensures.linked;
   tally = λ has. c.in_ok-rows.ensures.tally has ∙ c.loop-place.invariant.tally has;
 }

@@ -1,6 +1,5 @@
-use Rattle.std.proofs.Common.{◌≡◌, true}
+use Rattle.std.proofs.Common.{◌≡◌}
 use Rattle.merging.specs.Merging.{AreRows, Property, nodes_tally, rows_tally}
-use Rattle.merging.specs.Stills.{AreLinkedRows}
 use Rattle.merging.proofs.merging.reach.Given as goal
 
 -- the nodes at this place tell what the first did
@@ -9,6 +8,5 @@ invariant-loop-place g l =
     let s = l.search in
     record {
       rows : AreRows s l.place 0 l.rows.items;
-      linked : l.are_linked ≡ true → AreLinkedRows s l.rows.items;
       tally : (has : Property) → rows_tally has s l.place l.rows.items ≡ nodes_tally has s 0 l.fn.first.nodes.items;
     }

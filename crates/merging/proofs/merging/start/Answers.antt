@@ -12,8 +12,8 @@ returns-in-Ok-clause-nodes c =
     (first_node s c.in_ok-node.node e.state e.regular e.settled e.events e.spots e.left e.given e.marks)
 
 pub returns-in-Ok-clause-tally : goal.returns-in-Ok-clause-tally
-returns-in-Ok-clause-tally c = λ go_on.
+returns-in-Ok-clause-tally c = λ go_on forgets.
     let s = c.args.search.now in
     let e = c.in_ok-node.ensures in
     begun go_on (most_of s) (world_of s) (length (loose_of s)) (texts_of s) c.new-layer.result.nodes.items c.insert.new.self.nodes.items c.in_ok-node.node c.new-layer.ensures e.one e.spots e.left e.state e.marks
-    (c.in-Ok.ensures.tally go_on (most_of s))
+    (c.in-Ok.ensures.tally go_on (most_of s) forgets)

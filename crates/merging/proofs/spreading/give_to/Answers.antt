@@ -3,7 +3,8 @@ use Rattle.std.specs.List.{All}
 use Rattle.std.proofs.lemmas.Result.{on_ok_weaker}
 use Rattle.counting.specs.Tallies.{both}
 use Rattle.merging.specs.declared.search.Search.{Search}
-use Rattle.merging.specs.Merging.{IsNode, Outlook, Property, most_of, nodes_tally, outlook_of, tally_of_node, tally_of_nodes}
+use Rattle.merging.specs.Merging.{ForgetsHalted, IsNode, Outlook, Property, most_of, nodes_tally, outlook_of, tally_of_node, tally_of_nodes}
+use Rattle.merging.proofs.HaltLemmas.{outlook_halted}
 use Rattle.merging.proofs.LayerLemmas.{all_worlds}
 use Rattle.merging.proofs.SpreadLemmas.{given_is, none_given}
 use Rattle.merging.proofs.TallyLemmas.{and_none}
@@ -40,8 +41,8 @@ returns-in-Ok-clause-tally c =
     let n = c.args.node in
     let m = c.give.new.self in
     on_ok_weaker c.insert.result
-    (λ (came : (go_on : Outlook) (most : ℕ) → tally_of_nodes go_on most c.insert.new.self.nodes.items ≡ both (tally_of_nodes go_on most c.args.next.now.nodes.items) (tally_of_node go_on most m)) (has : Property).
-    came (outlook_of has s (c.args.place + 1)) (most_of s)
+    (λ (came : (go_on : Outlook) (most : ℕ) → ForgetsHalted go_on → tally_of_nodes go_on most c.insert.new.self.nodes.items ≡ both (tally_of_nodes go_on most c.args.next.now.nodes.items) (tally_of_node go_on most m)) (has : Property).
+    came (outlook_of has s (c.args.place + 1)) (most_of s) (outlook_halted has s (c.args.place + 1))
     ∙ ap (both (nodes_tally has s (c.args.place + 1) c.args.next.now.nodes.items))
     (given_is has s (c.args.place + 1) c.args.event n m e.state e.marks e.count e.spots e.left))
     c.insert.ensures.tally

@@ -1,6 +1,7 @@
 use Rattle.std.proofs.Common.{◌≡◌, ◌+◌, ◌∙◌, suc, ap, ap₂, sym, arith}
 use Rattle.counting.specs.Tallies.{both}
 use Rattle.merging.specs.Merging.{kind_tally, most_of, nodes_tally, outlook_of, over_kinds, with_kind}
+use Rattle.merging.proofs.HaltLemmas.{outlook_halted}
 use Rattle.merging.proofs.LayerLemmas.{all_worlds}
 use Rattle.merging.proofs.TallyLemmas.{both_regrouped}
 use Rattle.merging.proofs.spreading.put_loose.Goals as goal
@@ -23,7 +24,7 @@ loop-number-preserved c =
       tally = λ has.
           let old = nodes_tally has s c.args.place c.args.more.now.nodes.items in
           let kinds = over_kinds (kind_tally has s c.args.place n) l.number n.left.items in
-          e.tally (outlook_of has s c.args.place) (most_of s)
+          e.tally (outlook_of has s c.args.place) (most_of s) (outlook_halted has s c.args.place)
           ∙ ap₂ both (l.invariant.tally has) (c.in_ok-with.ensures.tally has)
           ∙ both_regrouped old kinds (with_kind has s c.args.place n l.number)
           ∙ ap (λ k. both old (over_kinds (kind_tally has s c.args.place n) k n.left.items)) (sym next);

@@ -4,7 +4,8 @@ use Rattle.std.proofs.lemmas.Result.{on_ok_weaker}
 use Rattle.posix.specs.declared.event.Event.TheVariants.{Tick}
 use Rattle.counting.specs.Tallies.{both}
 use Rattle.merging.specs.declared.search.Search.{Search}
-use Rattle.merging.specs.Merging.{IsNode, Outlook, Property, most_of, nodes_tally, outlook_of, tally_of_node, tally_of_nodes}
+use Rattle.merging.specs.Merging.{ForgetsHalted, IsNode, Outlook, Property, most_of, nodes_tally, outlook_of, tally_of_node, tally_of_nodes}
+use Rattle.merging.proofs.HaltLemmas.{outlook_halted}
 use Rattle.merging.proofs.LayerLemmas.{all_worlds}
 use Rattle.merging.proofs.NodeLemmas.{put_node}
 use Rattle.merging.proofs.SpreadLemmas.{tick_is}
@@ -42,8 +43,8 @@ returns-clause-tally c =
     let e = c.in_ok-ticked.ensures in
     let room : length n.spots + length n.left.items < most_of s = omega (arith, c.len.ensures, c.len-2.ensures.value, c.if-len-family.false) in
     on_ok_weaker c.insert.result
-    (λ (came : (go_on : Outlook) (most : ℕ) → tally_of_nodes go_on most c.insert.new.self.nodes.items ≡ both (tally_of_nodes go_on most c.args.more.now.nodes.items) (tally_of_node go_on most m)) (has : Property).
-    came (outlook_of has s c.args.place) (most_of s)
+    (λ (came : (go_on : Outlook) (most : ℕ) → ForgetsHalted go_on → tally_of_nodes go_on most c.insert.new.self.nodes.items ≡ both (tally_of_nodes go_on most c.args.more.now.nodes.items) (tally_of_node go_on most m)) (has : Property).
+    came (outlook_of has s c.args.place) (most_of s) (outlook_halted has s c.args.place)
     ∙ ap (both (nodes_tally has s c.args.place c.args.more.now.nodes.items))
     (tick_is has s c.args.place c.spot.result n m room c.spot.ensures e.state e.marks e.count e.spots e.left))
     c.insert.ensures.tally

@@ -4,5 +4,5 @@ use Rattle.schedules.proofs.eventtext.end_keys.Goals as goal
 
 pub returns-clause-adds : goal.returns-clause-adds
 returns-clause-adds c =
-    end_added (string_bytes c.args.text.now) (string_bytes c.write_key_line.new.text) c.args.keys.now.console c.args.keys.now.console c.args.keys.now.bytes.items c.as_slice.result.now c.clear.new.self.items
-    c.as_slice.ensures.value c.clear.ensures c.in_ok-write_key_line.ensures
+    end_added (string_bytes c.args.text.now) (string_bytes c.write_keys.new.text) c.args.keys.now.console c.args.keys.now.console c.args.keys.now.bytes.items c.as_slice.result.now c.clear.new.self.items
+    c.as_slice.ensures.value c.clear.ensures c.in_ok-write_keys.ensures

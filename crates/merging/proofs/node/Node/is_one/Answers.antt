@@ -13,7 +13,7 @@ returns-then-eq-2-clause-one c = λ same. elim c.if-eq.branch [
         | then-len w ↦
             let left = (slice_eq-Decides unsigned_Decides w.as_slice.result.now w.as_slice-then-len.result.now w.eq.result w.eq.ensures).0 (sym w.value-is ∙ m.if-eq.true) in
             record {
-              state = c.is_same.ensures.same same;
+              state = c.are_one.ensures.one same;
               marks = sym m.as_slice-then-eq.ensures.value ∙ marks ∙ m.as_slice-then-eq-2.ensures.value;
               spots = sym c.len.ensures ∙ w.if-len.true ∙ c.len-2.ensures;
               left = sym w.as_slice.ensures.value ∙ left ∙ w.as_slice-then-len.ensures.value;

@@ -1,9 +1,8 @@
 use Rattle.std.proofs.Common.{◌≡◌, ◌+◌, ap, arith, rules, inl, inr, ◌∙◌, ℕ}
 use Rattle.std.proofs.lemmas.Result.{on_ok_weaker}
 use Rattle.merging.specs.declared.node.Node.{Node}
-use Rattle.merging.specs.Merging.{Outlook}
+use Rattle.merging.specs.Merging.{ForgetsHalted, Outlook}
 use Rattle.merging.proofs.NodeLemmas.{IsFirstOf, joined_node, joined_tally}
-use Rattle.merging.proofs.StillLemmas.{first_face}
 use Rattle.merging.proofs.node.Node.join_first.Goals.{else-is_before, then-is_before}
 use Rattle.merging.proofs.node.Node.join_first.Goals as goal
 
@@ -23,8 +22,7 @@ returns c =
     ] in
     record {
       tally = on_ok_weaker c.add.result
-          (λ (is : c.add.new.self ≡ mid.count + last.count) (go_on : Outlook) (most : ℕ). joined_tally old other mid c.add.new.self c.requires which (is ∙ sum) go_on most)
+          (λ (is : c.add.new.self ≡ mid.count + last.count) (go_on : Outlook) (most : ℕ) (forgets : ForgetsHalted go_on). joined_tally old other mid c.add.new.self c.requires which (is ∙ sum) go_on most forgets)
           c.add.ensures.ok;
       node = λ search place least i j. joined_node old other mid c.add.new.self which search place least i j;
-      face = on_ok_weaker c.add.result (λ (is : c.add.new.self ≡ mid.count + last.count). first_face old other mid c.requires which) c.add.ensures.ok;
     }

@@ -1,10 +1,8 @@
 use Rattle.std.proofs.Common.{◌≡◌, ◌+◌, ◌<◌, ap, arith, length, subst, sym}
 use Rattle.std.specs.List.{All}
 use Rattle.merging.specs.Merging.{AreRows, IsNode, most_of, outlook_of}
-use Rattle.merging.proofs.StillLemmas.{end_linked, none_linked, taken_linked}
-use Rattle.merging.specs.Stills.{faces_of}
-use Rattle.merging.proofs.RowLemmas.{no_nodes, rows_begin, rows_end}
-use Rattle.merging.proofs.still.all_behind.Goals as goal
+use Rattle.merging.proofs.RowLemmas.{rows_begin, rows_end}
+use Rattle.merging.proofs.rows.all_behind.Goals as goal
 
 pub loop-spots-init : goal.loop-spots-init
 loop-spots-init c =
@@ -16,8 +14,6 @@ loop-spots-init c =
       nodes = subst (λ n. All (IsNode s c.args.place n) c.take_row-row.result.nodes.items) (sym none) taken.0;
       rows = subst (λ n. AreRows s c.args.place (n + 1) c.take_row-row.new.rows.items) (sym none) taken.1;
       next = subst (AreRows s (c.args.place + 1) 0) (sym c.requires.none) tt;
-      known = λ known. taken_linked s c.args.rows.now.items c.take_row-row.new.rows.items c.take_row-row.result c.take_row-row.ensures.front (c.requires.known known);
-      linked = λ _. none_linked s (faces_of c.take_row-row.result.nodes.items) c.args.next.now.items c.requires.none;
       tally = λ has. rows_begin has s c.args.place c.take_row-row.result.nodes.items c.args.rows.now.items c.take_row-row.new.rows.items c.args.next.now.items c.requires.none
           (c.take_row-row.ensures.tally (outlook_of has s c.args.place) (most_of s));
     }
@@ -28,10 +24,3 @@ returns-clause-tally c = λ has.
     let l = c.loop-spots in
     let above : most_of s < length l.next.items = omega (arith, l.invariant.len, c.loop-spots-test.false) in
     rows_end has s c.args.place (length l.next.items) l.row.nodes.items l.rows.items l.next.items _ above l.invariant.nodes l.invariant.rows (l.invariant.tally has)
-
-pub returns-clause-linked : goal.returns-clause-linked
-returns-clause-linked c = λ linked.
-    let s = c.args.search.now in
-    let l = c.loop-spots in
-    let above : most_of s < length l.next.items = omega (arith, l.invariant.len, c.loop-spots-test.false) in
-    end_linked s l.next.items l.row.nodes.items (no_nodes s c.args.place (length l.next.items) l.row.nodes.items above l.invariant.nodes) (l.invariant.linked linked)

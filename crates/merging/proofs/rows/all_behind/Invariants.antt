@@ -1,8 +1,7 @@
-use Rattle.std.proofs.Common.{◌≡◌, ◌+◌, ◌∷◌, [], true, length}
+use Rattle.std.proofs.Common.{◌≡◌, ◌+◌, length}
 use Rattle.std.specs.List.{All}
 use Rattle.merging.specs.Merging.{AreRows, IsNode, Property, rows_tally, tally_of_all}
-use Rattle.merging.specs.Stills.{AreLinkedTo, faces_of, row_face_of, row_faces_of}
-use Rattle.merging.proofs.still.all_behind.Given as goal
+use Rattle.merging.proofs.rows.all_behind.Given as goal
 
 -- this row, those with more spots and those behind the event tell what all rows did
 abbrev pub invariant-loop-spots : goal.invariant-loop-spots
@@ -13,7 +12,5 @@ invariant-loop-spots l =
       nodes : All (IsNode s l.place (length l.next.items)) l.row.nodes.items;
       rows : AreRows s l.place (length l.next.items + 1) l.rows.items;
       next : AreRows s (l.place + 1) 0 l.next.items;
-      known : l.is_known ≡ true → AreLinkedTo s [] (row_face_of l.row ∷ row_faces_of l.rows.items);
-      linked : l.is_linked ≡ true → AreLinkedTo s (faces_of l.row.nodes.items) (row_faces_of l.next.items);
       tally : (has : Property) → tally_of_all has s l.place l.row.nodes.items l.rows.items l.next.items ≡ rows_tally has s l.place l.fn.rows.items;
     }

@@ -1,13 +1,11 @@
-use Rattle.std.proofs.Common.{◌≡◌, ◌∷◌, [], ◌+◌, arith, length, subst, sym}
+use Rattle.std.proofs.Common.{◌≡◌, ◌+◌, arith, length, subst, sym}
 use Rattle.std.specs.List.{All}
 use Rattle.merging.specs.Merging.{AreRows, IsNode, most_of, outlook_of}
-use Rattle.merging.specs.Stills.{AreLinkedTo, RowFace, faces_of, row_faces_of}
-use Rattle.merging.proofs.StillLemmas.{next_linked, pushed_linked, taken_linked}
 use Rattle.merging.proofs.RowLemmas.{one_longer, row_goes_on, rows_more}
-use Rattle.merging.proofs.still.row_behind.Goals as goal
+use Rattle.merging.proofs.rows.row_behind.Goals as goal
 
-pub row_on-requires-clause-nodes : goal.row_on-requires-clause-nodes
-row_on-requires-clause-nodes c =
+pub spread_row-requires-clause-nodes : goal.spread_row-requires-clause-nodes
+spread_row-requires-clause-nodes c =
     let spots = length c.args.next.now.items in
     (spots, c.requires.nodes, (c.take_row-more.ensures.rows c.args.search.now c.args.place (spots + 1) c.requires.rows).0)
 
@@ -19,7 +17,7 @@ returns-in-Ok-push_row-clause-nodes c =
     let s = c.args.search.now in
     let spots = length c.args.next.now.items in
     let more = (c.take_row-more.ensures.rows s c.args.place (spots + 1) c.requires.rows).0 in
-    subst (λ n. All (IsNode s c.args.place n) c.row_on.new.more.nodes.items) (sym (one_longer c.args.next.now.items c.push_row.new.rows.items c.in-Ok.behind c.in-Ok-push_row.ensures))
+    subst (λ n. All (IsNode s c.args.place n) c.spread_row.new.more.nodes.items) (sym (one_longer c.args.next.now.items c.push_row.new.rows.items c.in-Ok.behind c.in-Ok-push_row.ensures))
     (c.in-Ok.ensures.more spots c.requires.nodes more)
 
 pub returns-in-Ok-push_row-clause-rows : goal.returns-in-Ok-push_row-clause-rows
@@ -39,21 +37,5 @@ returns-in-Ok-push_row-clause-next c =
 pub returns-in-Ok-push_row-clause-tally : goal.returns-in-Ok-push_row-clause-tally
 returns-in-Ok-push_row-clause-tally c = λ has.
     let s = c.args.search.now in
-    row_goes_on has s c.args.place c.args.row.nodes.items c.take_row-more.result.nodes.items c.row_on.new.more.nodes.items c.args.rows.now.items c.take_row-more.new.rows.items c.args.next.now.items c.push_row.new.rows.items c.in-Ok.behind
+    row_goes_on has s c.args.place c.args.row.nodes.items c.take_row-more.result.nodes.items c.spread_row.new.more.nodes.items c.args.rows.now.items c.take_row-more.new.rows.items c.args.next.now.items c.push_row.new.rows.items c.in-Ok.behind
     (c.take_row-more.ensures.tally (outlook_of has s c.args.place) (most_of s)) (c.in-Ok.ensures.tally has) c.in-Ok-push_row.ensures
-
-pub row_on-requires-clause-known : goal.row_on-requires-clause-known
-row_on-requires-clause-known c = λ known.
-    next_linked c.args.search.now c.args.row c.take_row-more.result c.args.rows.now.items c.take_row-more.new.rows.items c.take_row-more.ensures.front (c.requires.known known)
-
-pub returns-in-Ok-push_row-clause-known : goal.returns-in-Ok-push_row-clause-known
-returns-in-Ok-push_row-clause-known c = λ known.
-    let s = c.args.search.now in
-    let rest = c.take_row-more.new.rows.items in
-    subst (λ (r : RowFace). AreLinkedTo s [] (r ∷ row_faces_of rest)) (sym (c.in-Ok.ensures.known known))
-    (taken_linked s c.args.rows.now.items rest c.take_row-more.result c.take_row-more.ensures.front (c.requires.known known).1)
-
-pub returns-in-Ok-push_row-clause-linked : goal.returns-in-Ok-push_row-clause-linked
-returns-in-Ok-push_row-clause-linked c = λ linked.
-    pushed_linked c.args.search.now c.args.next.now.items c.push_row.new.rows.items c.in-Ok.behind (faces_of c.args.row.nodes.items) (faces_of c.row_on.new.more.nodes.items) c.in-Ok-push_row.ensures
-    (c.in-Ok.ensures.face linked) (c.requires.linked (c.row_on.ensures.was linked)) (c.in-Ok.ensures.linked linked)

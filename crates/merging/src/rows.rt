@@ -1,0 +1,131 @@
+//! Rows of layers, each with one spot more than the row before, which go on from before an event to behind it.
+
+ghost use Rattle.std.specs.Prelude.{◌≡◌, ◌+◌, ◌<◌, ◌++◌, ℕ, [], ◌∷◌, length, All, IfOk, OnOk, Some, slice_get};
+ghost use Rattle.counting.specs.Tallies.{both};
+ghost use Rattle.merging.specs.declared.search.Search.{Search as SearchValue};
+ghost use Rattle.merging.specs.Merging.{AreRows, IsNode, Outlook, Property, list_of, rows_tally, tally_of_all, tally_of_nodes, tally_of_rows};
+
+use crate::layer::Layer;
+use crate::search::{Search, Stop};
+use crate::spreading::spread_row;
+use counting::Line;
+use posix::Event;
+use std::alloc::{AllocError, Global};
+use std::collections::VecDeque;
+
+/// Takes the first row; no states, where there is none.
+fn take_row(rows: &mut VecDeque<Layer>, alloc: Global) -> Layer
+    ensures rows { (search : SearchValue) (place least : ℕ) → AreRows search place least rows.old.items → All (IsNode search place least) result.nodes.items × AreRows search place (least + 1) rows.new.items }
+    ensures tally { (go_on : Outlook) (most : ℕ) → tally_of_rows go_on most rows.old.items ≡ both (tally_of_nodes go_on most result.nodes.items) (tally_of_rows go_on most rows.new.items) }
+{
+    match rows.pop_front() {
+        Some(row) => row,
+        None => Layer::new(alloc),
+    }
+}
+
+/// One more row comes behind the others.
+pub fn push_row(rows: &mut VecDeque<Layer>, row: Layer) -> Result<(), AllocError>
+    ensures { OnOk result (rows.new.items ≡ rows.old.items ++ row ∷ []) }
+{
+    rows.push_back(row)?;
+    Ok(())
+}
+
+/// How many states the last row has.
+fn last_states(rows: &VecDeque<Layer>) -> usize {
+    rows.back().map_or(0, |row| row.nodes.len())
+}
+
+/// A row goes on from before the event with this place: behind it to the last of the rows there, which have so many
+/// states, and with one more spot to the first of the other rows, which comes back.
+fn row_behind(
+    row: Layer,
+    rows: &mut VecDeque<Layer>,
+    next: &mut VecDeque<Layer>,
+    kept: usize,
+    place: u64,
+    event: Event,
+    search: &Search<'_, '_, '_>,
+    lines: &mut Vec<Line>,
+) -> Result<Layer, Stop>
+    requires place { place < search.now.family.now.upto }
+    requires event { slice_get (list_of search.now) place ≡ Some event }
+    requires nodes { All (IsNode search.now place (length next.old.items)) row.nodes.items }
+    requires rows { AreRows search.now place (length next.old.items + 1) rows.old.items }
+    requires next { AreRows search.now (place + 1) 0 next.old.items }
+    ensures len { OnOk result (length next.new.items ≡ length next.old.items + 1) }
+    ensures nodes { IfOk result (λ more. All (IsNode search.now place (length next.new.items)) more.nodes.items) }
+    ensures rows { OnOk result (AreRows search.now place (length next.new.items + 1) rows.new.items) }
+    ensures next { OnOk result (AreRows search.now (place + 1) 0 next.new.items) }
+    ensures tally { (has : Property) → IfOk result (λ more. tally_of_all has search.now place more.nodes.items rows.new.items next.new.items
+        ≡ tally_of_all has search.now place row.nodes.items rows.old.items next.old.items) }
+{
+    let mut more = take_row(rows, search.alloc);
+    match spread_row(row, &mut more, kept, place, event, search, lines) {
+        Ok(behind) => match push_row(next, behind) {
+            Ok(()) => Ok(more),
+            Err(e) => {
+                drop(more);
+                Err(e.into())
+            }
+        },
+        Err(e) => {
+            drop(more);
+            Err(e)
+        }
+    }
+}
+
+/// All rows go on from before the event with this place, and come behind it to the next rows.
+fn all_behind(
+    rows: &mut VecDeque<Layer>,
+    next: &mut VecDeque<Layer>,
+    place: u64,
+    event: Event,
+    search: &Search<'_, '_, '_>,
+    lines: &mut Vec<Line>,
+) -> Result<(), Stop>
+    requires place { place < search.now.family.now.upto }
+    requires event { slice_get (list_of search.now) place ≡ Some event }
+    requires rows { AreRows search.now place 0 rows.old.items }
+    requires none { next.old.items ≡ [] }
+    ensures rows { OnOk result (AreRows search.now (place + 1) 0 next.new.items) }
+    ensures tally { (has : Property) → OnOk result (rows_tally has search.now (place + 1) next.new.items ≡ rows_tally has search.now place rows.old.items) }
+{
+    let mut row = take_row(rows, search.alloc);
+    let mut kept: usize = 0;
+    for _spots in 0..search.family.ticks + search.family.loose.len() + 1 {
+        row = row_behind(row, rows, next, kept, place, event, search, lines)?;
+        kept = kept.saturating_add(last_states(next));
+    }
+    drop(row);
+    Ok(())
+}
+
+/// The states behind the event with this place, from those before it. Row by row they go on with one more spot.
+pub fn rows_behind(
+    rows: VecDeque<Layer>,
+    place: u64,
+    event: Event,
+    search: &Search<'_, '_, '_>,
+    lines: &mut Vec<Line>,
+) -> Result<VecDeque<Layer>, Stop>
+    requires place { place < search.now.family.now.upto }
+    requires event { slice_get (list_of search.now) place ≡ Some event }
+    requires rows { AreRows search.now place 0 rows.items }
+    ensures rows { IfOk result (λ next. AreRows search.now (place + 1) 0 next.items) }
+    ensures tally { (has : Property) → IfOk result (λ next. rows_tally has search.now (place + 1) next.items ≡ rows_tally has search.now place rows.items) }
+{
+    let mut rows = rows;
+    let mut next = VecDeque::new(search.alloc);
+    let done = all_behind(&mut rows, &mut next, place, event, search, lines);
+    drop(rows);
+    match done {
+        Ok(()) => Ok(next),
+        Err(e) => {
+            drop(next);
+            Err(e)
+        }
+    }
+}
