@@ -19,6 +19,8 @@ use Rattle.counting.specs.Texts.{marked}
 use Rattle.merging.specs.declared.layer.Layer.{Layer}
 use Rattle.merging.specs.declared.node.Node.{Node}
 use Rattle.merging.specs.declared.search.Search.{Search}
+use Rattle.merging.specs.declared.search.Stop.{Stop}
+use Rattle.merging.specs.declared.search.Stop.TheVariants as stop
 
 -- What is asked of a schedule: how its run ends, and of each text whether a line has it.
 abbrev pub Property : Type 0
@@ -110,6 +112,15 @@ most_of s = s.family.now.ticks + length (loose_of s)
 -- what goes on before the event with this place
 abbrev pub outlook_of : Property → Search → ℕ → Outlook
 outlook_of has s place = tally_from has (texts_of s) (loose_of s) (s.family.now.upto - place) place (drop place (list_of s))
+
+-- A search stops where there is no memory, or more states than are kept behind one of the first so many events.
+abbrev pub IsStop : ℕ → ℕ → Stop → Type 0
+IsStop states upto stop.Memory = Unit {0}
+IsStop states upto (stop.States most place) = (most ≡ states) × (1 ≤ place) × (place ≤ upto)
+
+-- of this search
+abbrev pub IsStopOf : Search → Stop → Type 0
+IsStopOf s why = IsStop s.family.now.states s.family.now.upto why
 
 -- ---- states, and the beginnings of schedules that lead to them
 

@@ -1,6 +1,6 @@
 //! Schedules that meet in one state are gone on with once.
 
-ghost use Rattle.std.specs.Prelude.{◌≡◌, ◌+◌, ◌<◌, ◌≤◌, ◌++◌, ℕ, length, map, All, IfOk, OnOk};
+ghost use Rattle.std.specs.Prelude.{◌≡◌, ◌+◌, ◌<◌, ◌≤◌, ◌++◌, ℕ, length, map, All, IfErr, IfOk, OnOk};
 ghost use Rattle.posix.specs.Regular.{IsRegular};
 ghost use Rattle.posix.specs.Settle.{IsSettled};
 ghost use Rattle.posix.specs.States.{boot};
@@ -10,7 +10,7 @@ ghost use Rattle.counting.specs.Counts.{book_over};
 ghost use Rattle.counting.specs.Tallies.{both};
 ghost use Rattle.counting.specs.Texts.{unmarked};
 ghost use Rattle.merging.specs.declared.search.Search.{Search as SearchValue};
-ghost use Rattle.merging.specs.Merging.{AreRows, ForgetsHalted, IsNode, Outlook, Property, counted, counted_all, list_of, loose_of, most_of, nodes_tally, outlook_of, rows_tally, tally_of_nodes, tally_of_rows, texts_of, world_of};
+ghost use Rattle.merging.specs.Merging.{AreRows, ForgetsHalted, IsNode, IsStop, IsStopOf, Outlook, Property, counted, counted_all, list_of, loose_of, most_of, nodes_tally, outlook_of, rows_tally, tally_of_nodes, tally_of_rows, texts_of, world_of};
 
 use crate::layer::Layer;
 use crate::node::Node;
@@ -139,6 +139,7 @@ fn reach<P: Progress>(
     requires nodes { All (IsNode search.now 0 0) first.nodes.items }
     ensures rows { IfOk result (λ rows. AreRows search.now search.now.family.now.upto 0 rows.items) }
     ensures tally { (has : Property) → IfOk result (λ rows. rows_tally has search.now search.now.family.now.upto rows.items ≡ nodes_tally has search.now 0 first.nodes.items) }
+    ensures stop { IfErr result (IsStopOf search.now) }
 {
     let upto = search.family.upto;
     let mut rows = VecDeque::new(search.alloc);
@@ -184,6 +185,7 @@ fn search_all<P: Progress>(
     ensures nodes { IfOk result (λ nodes. All (IsNode search.now search.now.family.now.upto 0) nodes.items) }
     ensures tally { (has : Property) → IfOk result (λ nodes. nodes_tally has search.now search.now.family.now.upto nodes.items
         ≡ outlook_of has search.now 0 (most_of search.now) (kinds_of (length (loose_of search.now))) (boot (world_of search.now)) (unmarked (texts_of search.now))) }
+    ensures stop { IfErr result (IsStopOf search.now) }
 {
     let first = start(search)?;
     let rows = reach(first, search, lines, progress)?;
@@ -198,7 +200,8 @@ pub fn merge<'a, P: Progress>(
     texts: &[&'a str],
     progress: &mut P,
 ) -> Result<Book<'a>, Stop>
-    ensures { IfOk result (λ book. book ≡ book_over family.now.world.now family.now.loose.now family.now.events.now (map (λ t. t.now) texts.now) (family_of family.now.upto family.now.ticks (length family.now.loose.now))) }
+    ensures book { IfOk result (λ book. book ≡ book_over family.now.world.now family.now.loose.now family.now.events.now (map (λ t. t.now) texts.now) (family_of family.now.upto family.now.ticks (length family.now.loose.now))) }
+    ensures stop { IfErr result (IsStop family.now.states family.now.upto) }
 {
     let search = Search {
         alloc,

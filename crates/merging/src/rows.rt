@@ -1,9 +1,9 @@
 //! Rows of layers, each with one spot more than the row before, which go on from before an event to behind it.
 
-ghost use Rattle.std.specs.Prelude.{◌≡◌, ◌+◌, ◌<◌, ◌++◌, ℕ, [], ◌∷◌, length, All, IfOk, OnOk, Some, slice_get};
+ghost use Rattle.std.specs.Prelude.{◌≡◌, ◌+◌, ◌<◌, ◌++◌, ℕ, [], ◌∷◌, length, All, IfErr, IfOk, OnOk, Some, slice_get};
 ghost use Rattle.counting.specs.Tallies.{both};
 ghost use Rattle.merging.specs.declared.search.Search.{Search as SearchValue};
-ghost use Rattle.merging.specs.Merging.{AreRows, IsNode, Outlook, Property, list_of, rows_tally, tally_of_all, tally_of_nodes, tally_of_rows};
+ghost use Rattle.merging.specs.Merging.{AreRows, IsNode, IsStopOf, Outlook, Property, list_of, rows_tally, tally_of_all, tally_of_nodes, tally_of_rows};
 
 use crate::layer::Layer;
 use crate::search::{Search, Stop};
@@ -60,6 +60,7 @@ fn row_behind(
     ensures next { OnOk result (AreRows search.now (place + 1) 0 next.new.items) }
     ensures tally { (has : Property) → IfOk result (λ more. tally_of_all has search.now place more.nodes.items rows.new.items next.new.items
         ≡ tally_of_all has search.now place row.nodes.items rows.old.items next.old.items) }
+    ensures stop { IfErr result (IsStopOf search.now) }
 {
     let mut more = take_row(rows, search.alloc);
     match spread_row(row, &mut more, kept, place, event, search, lines) {
@@ -92,6 +93,7 @@ fn all_behind(
     requires none { next.old.items ≡ [] }
     ensures rows { OnOk result (AreRows search.now (place + 1) 0 next.new.items) }
     ensures tally { (has : Property) → OnOk result (rows_tally has search.now (place + 1) next.new.items ≡ rows_tally has search.now place rows.old.items) }
+    ensures stop { IfErr result (IsStopOf search.now) }
 {
     let mut row = take_row(rows, search.alloc);
     let mut kept: usize = 0;
@@ -116,6 +118,7 @@ pub fn rows_behind(
     requires rows { AreRows search.now place 0 rows.items }
     ensures rows { IfOk result (λ next. AreRows search.now (place + 1) 0 next.items) }
     ensures tally { (has : Property) → IfOk result (λ next. rows_tally has search.now (place + 1) next.items ≡ rows_tally has search.now place rows.items) }
+    ensures stop { IfErr result (IsStopOf search.now) }
 {
     let mut rows = rows;
     let mut next = VecDeque::new(search.alloc);

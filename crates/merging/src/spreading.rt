@@ -1,8 +1,8 @@
 //! How a state goes on from before an event: with a tick or a loose event put in, or behind the event.
 
-ghost use Rattle.std.specs.Prelude.{◌≡◌, ◌+◌, ◌<◌, ℕ, true, false, [], length, All, IfOk, OnOk, Some, slice_get};
+ghost use Rattle.std.specs.Prelude.{◌≡◌, ◌+◌, ◌<◌, ℕ, true, false, [], length, All, IfErr, IfOk, OnOk, Some, slice_get};
 ghost use Rattle.counting.specs.Tallies.{both};
-ghost use Rattle.merging.specs.Merging.{AreKept, IsNode, Property, given_tally, list_of, loose_tally, node_tally, nodes_tally, tally_around, tally_with, tick_tally, with_kind};
+ghost use Rattle.merging.specs.Merging.{AreKept, IsNode, IsStopOf, Property, given_tally, list_of, loose_tally, node_tally, nodes_tally, tally_around, tally_with, tick_tally, with_kind};
 
 use crate::layer::Layer;
 use crate::node::Node;
@@ -192,6 +192,7 @@ fn spread_all(
     ensures next { (least : ℕ) → All (IsNode search.now place least) nodes.old.items → OnOk result (AreKept search.now (place + 1) least next.old.nodes.items next.new.nodes.items) }
     ensures tally { OnOk result ((has : Property) → tally_around has search.now place more.new.nodes.items next.new.nodes.items
         ≡ both (tally_around has search.now place more.old.nodes.items next.old.nodes.items) (nodes_tally has search.now place nodes.old.items)) }
+    ensures stop { IfErr result (IsStopOf search.now) }
 {
     let most = search.family.states;
     while let Some(node) = nodes.pop() {
@@ -222,6 +223,7 @@ pub fn spread_row(
     ensures next { (least : ℕ) → All (IsNode search.now place least) row.nodes.items → IfOk result (λ next. All (IsNode search.now (place + 1) least) next.nodes.items) }
     ensures tally { (has : Property) → IfOk result (λ next. tally_around has search.now place more.new.nodes.items next.nodes.items
         ≡ both (nodes_tally has search.now place more.old.nodes.items) (nodes_tally has search.now place row.nodes.items)) }
+    ensures stop { IfErr result (IsStopOf search.now) }
 {
     let mut row = row;
     let mut next = Layer::new(search.alloc);
