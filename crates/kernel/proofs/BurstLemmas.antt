@@ -24,6 +24,8 @@ use Rattle.posix.specs.Attempts.{attempt}
 use Rattle.posix.specs.Step.{IsStep, step, begin_call, after_trap, code_of, set_cpu}
 use Rattle.posix.specs.Settle.{IsSettled}
 use Rattle.posix.specs.Regular.{IsRegular}
+use Rattle.calls.specs.Outcomes.{IsActing}
+use Rattle.std.proofs.lemmas.Option.{same_Some}
 use Rattle.posix.proofs.TableLemmas.{pid_looked, rising_changed, changed_id}
 use Rattle.posix.proofs.WakeLemmas.{next_settled}
 use Rattle.posix.proofs.OrderLemmas.{first_in}
@@ -34,7 +36,7 @@ use Rattle.umach.proofs.BurstLemmas.{stops_at}
 use Rattle.life.specs.declared.noted_bursts.Note.{Note}
 use Rattle.life.specs.NotedBursts.{StepsTaken, NotedBurst, then_note, most_notes, exec_with_notes}
 use Rattle.kernel.specs.Counts.{after_taken}
-use Rattle.kernel.specs.Steps.{Bursts, ComesTo, noted_lines, runner, taken_at_once}
+use Rattle.kernel.specs.Steps.{Bursts, ComesTo, IsReadOfCurrent, noted_lines, runner, taken_at_once}
 use Rattle.calls.proofs.CallLemmas.{same_outcome}
 use Rattle.calls.proofs.ChosenLemmas.{changed_there, act_runs, no_kill_chosen}
 use Rattle.kernel.proofs.PlainLemmas.{plain_step, none_of}
@@ -55,6 +57,16 @@ pub record IsReady (s : State) (p : ℕ) (me : Process) : Type 0 where
 -- the current process has a place, whichever of two equal states is asked
 pub placed_now : (s t : State) (p : ℕ) → t ≡ s → current s ≡ Some p → has_place t p ≡ true
 placed_now s t p same now = ap (λ (u : State). is_in p u.order) same ∙ first_in p s.order now
+
+-- what is read of the current process, in either of two equal states
+pub read_of_current : (s t : State) (p : ℕ) (it : Snapshot) → t ≡ s → IsRegular s → current s ≡ Some p → Some it ≡ option_map snapshot_of (process s p) → IsReadOfCurrent t it
+read_of_current s t p it same regular now read =
+    let place = first_in p s.order now in
+    let placed = regular.placed p place in
+    let named : it.pid ≡ p = ap (λ (f : Snapshot). f.pid) (same_Some _ _ (read ∙ ap (option_map snapshot_of) placed.found)) ∙ pid_looked p s.processes placed.what placed.found in
+    subst (λ (u : State). IsReadOfCurrent u it) (sym same)
+    (subst (λ n. IsActing s n → current s ≡ Some n → Some it ≡ option_map snapshot_of (process s n) → IsReadOfCurrent s it) named (λ acting now read. record { acting = acting; now = now; read = read })
+    (record { placed = placed; place = place }) now read)
 
 -- it is the current process
 is_current : (s : State) (p : ℕ) (me : Process) → IsReady s p me → current_process s ≡ Some me

@@ -18,7 +18,7 @@ use Rattle.kernel.proofs.CallCountLemmas.{key_slots}
 use Rattle.calls.specs.Counts.{slots_of_checking, slots_of_rechecks}
 use Rattle.calls.proofs.CountLemmas.{rechecks_brief}
 use Rattle.kernel.specs.Counts.{IsAtRest, ReadsAtMost, slots_of_own_step, slots_of_acting, slots_of_blocking, slots_of_event, slots_of_step, slots_of_steps, slots_of_taken, slots_of_trap, after_taken}
-use Rattle.kernel.specs.Steps.{changes_one, enters, is_followed_by_step, is_held, taken_at_once}
+use Rattle.kernel.specs.Steps.{changes_one, enters, is_followed_by_step, is_held, next_changes_one, next_enters, taken_at_once}
 use Rattle.life.specs.NotedBursts.{StepsTaken}
 use Rattle.posix.specs.declared.event.Event.TheVariants.{Step}
 use Rattle.posix.specs.declared.call.Call.{Call}
@@ -83,6 +83,16 @@ settling_brief most old new rest h =
 pub settling_none : (n : ℕ) (old new : MachineView) → IsAtRest old → CostsAtMost n old new → ReadsAtMost n old new
 unfolding slots_of_rechecks
 settling_none n old new rest costs = rw (costs.to_recheck ∙ rest.none, costs.foregrounds_unchecked ∙ rest.checked, none_unchecked new.state.consoles) (let read = costs.visits in omega (arith, read))
+
+-- a step that changes one process, or enters a handler, costs as much
+pub own_costs : (s : State) (o : Option Process) (old new : MachineView) → (next_changes_one s o ≡ true → CostsAtMost 2 old new) → (next_enters s o ≡ true → CostsAtMost 3 old new) → IfSome (slots_of_own_step s o) (λ n. CostsAtMost n old new)
+own_costs s o old new one enters = elim (next_changes_one s o) as (λ b. (b ≡ true → CostsAtMost 2 old new) → IfSome (cond b (Some 3) (cond (next_enters s o) (Some 4) None)) (λ n. CostsAtMost n old new)) [
+  | true ↦ λ h. more 2 3 (omega arith) (h refl)
+  | false ↦ λ h. elim (next_enters s o) as (λ b. (b ≡ true → CostsAtMost 3 old new) → IfSome (cond b (Some 4) None) (λ n. CostsAtMost n old new)) [ true ↦ λ k. more 3 4 (omega arith) (k refl) | false ↦ λ k. tt ] enters
+] one
+  where
+    more : (m n : ℕ) → m ≤ n → CostsAtMost m old new → CostsAtMost n old new
+    more m n few costs = record { visits = let read = costs.visits in omega (arith, read, few); to_recheck = costs.to_recheck; foregrounds_unchecked = costs.foregrounds_unchecked }
 
 -- so after a step
 pub step_reads : (old new : MachineView) (o : Option Process) → IsAtRest old → IfSome (slots_of_own_step old.state o) (λ n. CostsAtMost n old new)

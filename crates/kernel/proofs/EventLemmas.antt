@@ -1,20 +1,18 @@
 -- Counted runs of events, one after another.
-use Rattle.std.proofs.Common.{◌≡◌, ◌≢◌, ℕ, true, false, cond, ◌+◌, ◌*◌, ◌<◌, ◌≤◌, List, [], ◌∷◌, ◌++◌, length, take, drop, ap, sym, ◌∙◌, append-nil, length-append, get_or, refl, subst, arith}
+use Rattle.std.proofs.Common.{◌≡◌, ◌≢◌, ℕ, true, ◌+◌, ◌*◌, ◌<◌, ◌≤◌, List, [], ◌∷◌, ◌++◌, length, take, drop, ap, sym, ◌∙◌, append-nil, length-append, get_or, refl, subst, arith}
 use Rattle.std.specs.Prelude.{replicate}
 use Rattle.std.proofs.lemmas.List.{length-replicate, replicate-append-replicate, take_more, take-append-drop}
 use Rattle.std.proofs.lemmas.List.Concat.{flat_map-append}
 use Rattle.std.proofs.lemmas.Bool.{eqb-true}
 use Rattle.posix.specs.declared.event.Event.{Event}
-use Rattle.posix.specs.declared.event.Event.TheVariants.{Step}
 use Rattle.posix.specs.declared.instr.Trap.{Trap}
 use Rattle.posix.specs.declared.instr.Trap.TheVariants as trap
 use Rattle.posix.specs.declared.entry.Entry.{Entry}
-use Rattle.posix.specs.States.{State, current_process}
+use Rattle.posix.specs.States.{State}
 use Rattle.posix.specs.Outcomes.{Outcome}
 use Rattle.posix.specs.Step.{IsStep}
 use Rattle.posix.proofs.CountLemmas.{Counts, counts_next}
-use Rattle.life.specs.NotedBursts.{StepsTaken}
-use Rattle.kernel.specs.Steps.{last_given, is_followed_by_step, with_step_behind, taken_at_once}
+use Rattle.kernel.specs.Steps.{is_followed_by_step}
 use Rattle.text.specs.EventLists.{CountedEvent, expanded, run_events}
 
 pub replicate_joined : (a b n : ℕ) (x : Event) → a + b ≡ n → replicate a x ++ replicate b x ≡ replicate n x
@@ -66,13 +64,7 @@ counts_on s t x es n step births ticks =
 
 -- ---- a step of its own behind others
 
--- there is one more where one follows
-pub then_on : (s : State) (before last : ℕ) (taken : StepsTaken) → s.halted ≡ false → taken_at_once s before last (current_process s) ≡ taken → is_followed_by_step before taken.last taken.trap ≡ true
-    → last_given Step before last s ≡ taken.last + 1
-then_on s before last taken going exact follows =
-    ap (λ b. cond b (before + 1) (with_step_behind before (taken_at_once s before last (current_process s)))) going ∙ ap (with_step_behind before) exact ∙ ap (λ b. cond b (taken.last + 1) taken.last) follows
-
--- and it is within the bound
+-- where one follows it is within the bound
 pub followed_short : (before last n : ℕ) (t : Trap) → before < last → is_followed_by_step before n t ≡ true → (t ≢ trap.Next → n < last) → n < last
 followed_short before last n trap.Next some follows short = omega (arith, some, eqb-true n before follows)
 followed_short before last n (trap.Note z) some follows short = short (λ e. absurd (cc))

@@ -1,5 +1,5 @@
 -- What the functions of one event come to.
-use Rattle.std.specs.Prelude.{◌≡◌, ℕ, ◌+◌, ◌-◌, ◌==◌, ◌||◌, if◌then◌else◌, Bool, true, false, List, [], map, Option, Some, None, is_some, replicate}
+use Rattle.std.specs.Prelude.{◌≡◌, ℕ, ◌+◌, ◌-◌, ◌==◌, ◌||◌, if◌then◌else◌, Bool, true, false, List, [], map, option_map, Option, Some, None, is_some, replicate}
 use Rattle.posix.specs.declared.call.Call.{Call}
 use Rattle.posix.specs.declared.event.Event.{Event}
 use Rattle.posix.specs.declared.event.Event.TheVariants.{Step, Tick, Key, Hangup}
@@ -9,13 +9,15 @@ use Rattle.posix.specs.declared.instr.Trap.{Trap}
 use Rattle.posix.specs.declared.instr.Trap.TheVariants as trap
 use Rattle.posix.specs.Processes.{Process}
 use Rattle.posix.specs.Entries.{Line, line}
-use Rattle.posix.specs.States.{State, process, current_process}
+use Rattle.posix.specs.States.{State, process, current, current_process}
 use Rattle.posix.specs.Attempts.{attempt}
 use Rattle.posix.specs.Choice.{chosen}
 use Rattle.posix.specs.Execute.{exec_one}
 use Rattle.posix.specs.Runs.{RunsFrom}
 use Rattle.posix.specs.Settle.{IsSettled}
 use Rattle.posix.specs.Step.{code_of, begin_call, after_trap, act, step, happens}
+use Rattle.proctable.specs.declared.snapshot.Snapshot.{Snapshot}
+use Rattle.proctable.specs.Records.{snapshot_of}
 use Rattle.life.specs.declared.noted_bursts.Note.{Note}
 use Rattle.life.specs.NotedBursts.{StepsTaken, most_notes, exec_with_notes}
 use Rattle.calls.specs.Outcomes.{IsActing, changes_caller_alone, enters_handler}
@@ -122,6 +124,12 @@ pub record ComesTo (s : State) (p : ℕ) (call : Call) : Type 0 where
   pub free : acting.placed.what.blocked ≡ None
   pub next : (exec_one (code_of s acting.placed.what) acting.placed.what.cpu).trap ≡ trap.Call call
   pub begins : (granted : Bool) (me : Process) → process s p ≡ Some me → step granted s (current_process s) ≡ begin_call s me (attempt granted s me call)
+
+-- This is read of the process that is current, in a machine that goes on.
+pub record IsReadOfCurrent (s : State) (it : Snapshot) : Type 0 where
+  pub acting : IsActing s it.pid
+  pub now : current s ≡ Some it.pid
+  pub read : Some it ≡ option_map snapshot_of (process s it.pid)
 
 -- The steps after number before, up to number last, lead from old to new, and show these notes of p; nobody
 -- is born, no time goes by, and nothing is left to settle.

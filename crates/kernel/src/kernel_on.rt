@@ -27,11 +27,11 @@ ghost use Rattle.laws.specs.Agree.{Agree, IsOrderly};
 ghost use Rattle.laws.specs.Lives.{born_by};
 ghost use Rattle.laws.specs.TraceLines.{is_line};
 
-use crate::step::{BurstEnd, burst, call_next, is_followed_by_step, next};
+use crate::step::{burst, is_followed_by_step, next, step_behind};
 use arrayvec::ArrayVec;
 use calls::Entries;
 use life::{Census, Machine, Notes};
-use posix::{Event, Pid, Trap};
+use posix::{Event, Pid};
 use proctable::{OwnPart, ProcessTable, SlabTable, Snapshot};
 use std::alloc::{AllocError, Global};
 use std::marker::Model;
@@ -240,22 +240,14 @@ impl<K: ProcessTable> KernelOn<K> {
             return Pid::NONE;
         }
         let before = self.events;
-        let BurstEnd {
-            last: done,
-            pid,
-            trap,
-        } = burst(&mut self.machine, before, last, notes);
-        self.events = done;
-        if !is_followed_by_step(before, done, &trap) {
-            return pid;
+        let end = burst(&mut self.machine, before, last, notes);
+        self.events = end.last;
+        if !is_followed_by_step(before, end.last, &end.trap) {
+            return end.pid;
         }
-        let Trap::Call(call) = trap else {
-            self.event_into(Event::Step, entries);
-            return pid;
-        };
         self.events += 1;
-        call_next(&mut self.machine, pid, call, entries);
-        pid
+        step_behind(&mut self.machine, end, entries);
+        end.pid
     }
 
     /// Gives one event several times at once, up to the event with number `last`: a `Step` as often as

@@ -25,7 +25,7 @@ ghost use Rattle.posix.specs.Settle.{can_go_on};
 ghost use Rattle.pidset.specs.Numbers.{with_number};
 ghost use Rattle.calls.specs.Outcomes.{IsActing, IsQuiet, CostsWithRechecks, CostsAtMost, changes_caller_alone, slots_of_brief};
 ghost use Rattle.kernel.specs.Counts.{CountsOne, IsAtRest, ReadsAtMost, after_taken, alarms_due, delivers_nothing, slots_of_acting, slots_of_blocking, slots_of_event, slots_of_own_step, slots_of_trap};
-ghost use Rattle.kernel.specs.Steps.{ActsAs, Begins, Bursts, ComesTo, Happens, NoneChosen, RunsInstruction, Steps, next_changes_one, changes_one, next_enters, enters, is_followed_by_step, runner, taken_at_once};
+ghost use Rattle.kernel.specs.Steps.{ActsAs, Begins, Bursts, ComesTo, Happens, IsReadOfCurrent, NoneChosen, RunsInstruction, Steps, next_changes_one, changes_one, next_enters, enters, is_followed_by_step, runner, taken_at_once};
 
 use crate::settle::settle;
 use calls::delivery::{deliver, end, fault};
@@ -277,6 +277,8 @@ pub struct BurstEnd {
     /// How the instruction after them came out, a call or a machine fault, which is left to the next step;
     /// `Next` where none after them was looked at.
     pub trap: Trap,
+    /// What was read of the current process, where it runs no instruction: it is in a call, or a signal is chosen for it.
+    pub held: Option<Snapshot>,
 }
 
 /// The current process runs instructions that are plain or give a note, by the steps after number `before` up
@@ -300,6 +302,7 @@ pub fn burst<K: ProcessTable>(
     ensures within { result.last ≤ last }
     ensures short { result.trap ≢ Trap.Next → result.last < last }
     ensures call { (call : CallValue) → result.trap ≡ Trap.Call call → ComesTo machine.new.state result.pid call }
+    ensures held { IfSome result.held (IsReadOfCurrent machine.new.state) }
     ensures state { machine.new.state ≡ after_taken machine.old.state before last (current_process machine.old.state) }
     ensures visits { machine.new.visits ≤ machine.old.visits + 2 }
     ensures to_recheck { machine.new.to_recheck ≡ machine.old.to_recheck }
@@ -313,6 +316,7 @@ pub fn burst<K: ProcessTable>(
         last: before,
         pid: Pid::NONE,
         trap: Trap::Next,
+        held: None,
     };
     let Some(pid) = machine.current() else {
         return nothing;
@@ -321,10 +325,18 @@ pub fn burst<K: ProcessTable>(
         return nothing;
     };
     if snapshot.chosen.is_some() || snapshot.blocked.is_some() {
-        return nothing;
+        return BurstEnd {
+            held: Some(snapshot),
+            ..nothing
+        };
     }
     let (last, trap) = machine.run_with_notes(pid, snapshot.program, before, last, notes);
-    BurstEnd { last, pid, trap }
+    BurstEnd {
+        last,
+        pid,
+        trap,
+        held: None,
+    }
 }
 
 /// Whether a step of its own follows those after number `before` up to number `last`: where these are none, or
@@ -338,14 +350,31 @@ pub fn is_followed_by_step(before: u64, last: u64, trap: &Trap) -> bool
     }
 }
 
-/// A step of the current process, which this is, where its next instruction is this call.
-pub fn call_next<K: ProcessTable>(
-    machine: &mut Machine<K>,
-    pid: Pid,
-    call: Call,
-    entries: &mut Entries,
-)
-    requires comes { ComesTo machine.old.state pid call }
+/// The current process acts behind a burst. What the burst read of it isn't read again.
+fn act_behind<K: ProcessTable>(machine: &mut Machine<K>, end: BurstEnd, entries: &mut Entries)
+    requires regular { IsRegular machine.old.state }
+    requires call { (call : CallValue) → end.trap ≡ Trap.Call call → ComesTo machine.old.state end.pid call }
+    requires held { IfSome end.held (IsReadOfCurrent machine.old.state) }
+    requires births { machine.old.state.births + 1 < 2 ^ 64 }
+    requires time { machine.old.state.ticks + most_ticks < 2 ^ 64 }
+    requires none { entries.old.items ≡ [] }
+    ensures steps { Steps machine.old.state entries.new.items machine.new.state }
+    ensures reads { IsAtRest machine.old → IfSome (slots_of_event Event.Step machine.old.state) (λ n. ReadsAtMost n machine.old machine.new) }
+    ensures no_fewer { machine.old.visits ≤ machine.new.visits }
+{
+    match (end.held, end.trap) {
+        (Some(snapshot), _) => act(machine, snapshot.pid, snapshot, entries),
+        (None, Trap::Call(call)) => begin_call(machine, end.pid, call, entries),
+        (None, _) => step(machine, entries),
+    }
+}
+
+/// The step behind a burst.
+pub fn step_behind<K: ProcessTable>(machine: &mut Machine<K>, end: BurstEnd, entries: &mut Entries)
+    requires going { machine.old.state.halted ≡ false }
+    requires regular { IsRegular machine.old.state }
+    requires call { (call : CallValue) → end.trap ≡ Trap.Call call → ComesTo machine.old.state end.pid call }
+    requires held { IfSome end.held (IsReadOfCurrent machine.old.state) }
     requires births { machine.old.state.births + 1 < 2 ^ 64 }
     requires time { machine.old.state.ticks + most_ticks < 2 ^ 64 }
     requires none { entries.old.items ≡ [] }
@@ -356,7 +385,7 @@ pub fn call_next<K: ProcessTable>(
     ensures visits { IsAtRest machine.old → IfSome (slots_of_event Event.Step machine.old.state) (λ n. machine.new.visits ≤ machine.old.visits + n) }
     ensures no_fewer { machine.old.visits ≤ machine.new.visits }
 {
-    begin_call(machine, pid, call, entries);
+    act_behind(machine, end, entries);
     settle(machine);
 }
 

@@ -2,7 +2,7 @@ use Rattle.std.proofs.Common.{◌∙◌, arith, sym}
 use Rattle.std.proofs.Math.Nat.{le_trans}
 use Rattle.kernel.proofs.CountLemmas.{counts_one}
 use Rattle.posix.specs.States.{current_process}
-use Rattle.kernel.proofs.BurstLemmas.{placed_now, readies, shows}
+use Rattle.kernel.proofs.BurstLemmas.{placed_now, read_of_current, readies, shows}
 use Rattle.kernel.proofs.step.burst.Goals as goal
 
 pub returns : goal.returns
@@ -23,6 +23,7 @@ returns g c =
       within = e.within;
       short = e.short;
       call = shown.call;
+      held = tt;
       numbers = shown.numbers;
       state = shown.state;
       visits = omega (arith, c.snapshot.ensures.looks.visits, e.runs.costs.visits);
@@ -32,3 +33,8 @@ returns g c =
       foregrounds_unchecked = e.runs.foregrounds_unchecked ∙ c.snapshot.ensures.looks.same.foregrounds_unchecked;
       regular = e.regular;
     }
+
+pub returns-then-is_some-clause-held : goal.returns-then-is_some-clause-held
+returns-then-is_some-clause-held g c =
+    let looks = c.snapshot.ensures.looks in
+    read_of_current c.args.machine.now.state c.snapshot.new.self.state c.in-Some.pid c.in-Some-snapshot.snapshot looks.same.state looks.regular (sym c.current.ensures ∙ c.in-Some.is) (sym c.in-Some-snapshot.is ∙ c.snapshot.ensures.value)
