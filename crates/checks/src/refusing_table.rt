@@ -86,8 +86,8 @@ impl<const REFUSED: usize> ProcessTable for RefusingTable<REFUSED> {
         self.table.update(pid)
     }
 
-    fn set_parent(&mut self, pid: Pid, parent: Pid) {
-        self.table.set_parent(pid, parent);
+    fn set_parent(&mut self, pid: Pid, parent: Pid) -> Snapshot {
+        self.table.set_parent(pid, parent)
     }
 
     fn spare(&mut self) -> Option<Spare> {

@@ -2,7 +2,7 @@
 use Rattle.std.proofs.Common.{◌≡◌, ◌≢◌, ℕ, ◌<◌, ◌≤◌, ◌==◌, ◌&&◌, nat_lt, refl, ap, sym, ◌∙◌, arith, subst, List, [], ◌∷◌, map, filter, Option, Some, None, ◌⊎◌, inl, inr}
 use Rattle.std.specs.Prelude.{option_and_then}
 use Rattle.std.specs.Option.{IfSome, IsSome}
-use Rattle.std.proofs.lemmas.Bool.{cases_eq, eq-eqb, eqb-true, eqb-false, and_parts}
+use Rattle.std.proofs.lemmas.Bool.{cases_eq, cond_both, eq-eqb, eqb-true, eqb-false, and_parts}
 use Rattle.std.proofs.lemmas.Bool.Decides.{nat_tests}
 use Rattle.std.proofs.lemmas.List.Elements.{filter_agree}
 use Rattle.posix.specs.Processes.{Process}
@@ -10,14 +10,16 @@ use Rattle.posix.specs.Tables.{IsRising, lookup, at, changed, parent_of, above, 
 use Rattle.posix.proofs.TableLemmas.{changed_id, pid_looked, pid_reparented, remove_above, rising_adopted, rising_filter}
 use Rattle.posix.proofs.MapLemmas.{adopted_changed, lookup_back, lookup_on, at_pid, at_keeps}
 use Rattle.posix.proofs.RegularLemmas.{lookup_inserted, lookup_new, lookup_left}
-use Rattle.posix.proofs.WalkLemmas.{AtChild, Passes, at_first, both_pass, first_passes, passing_above}
+use Rattle.posix.proofs.WalkLemmas.{AtChild, Passes, at_first, both_pass, first_passes, in_filter, passing_above}
 use Rattle.pidset.specs.declared.index.Pair.{Pair}
 use Rattle.pidset.specs.Indexes.{ArePairsRekeyed, IsAt, IsIndex, IsNextPair, is_key}
 use Rattle.pidset.proofs.IndexLemmas.{at_once, index_map, index_rekeyed, next_pair, rekeyed}
 use Rattle.proctable.specs.declared.records.Record.{Record}
-use Rattle.proctable.specs.Records.{give_record, with_parent, with_record}
-use Rattle.jobs.specs.Indexes.{list_of_parent, parent_key}
-use Rattle.jobs.specs.IndexedTables.{AreKin, HaveOneRoot}
+use Rattle.proctable.specs.declared.snapshot.Snapshot.{Snapshot}
+use Rattle.proctable.specs.Records.{give_record, snapshot_of, with_parent, with_record}
+use Rattle.jobs.specs.declared.indexes.IndexedFields.{IndexedFields}
+use Rattle.jobs.specs.Indexes.{anchor_in, child_key, list_of_parent, parent_key, snapshot_seen}
+use Rattle.jobs.specs.IndexedTables.{AreKin, AreWithin, HaveOneRoot}
 use Rattle.jobs.proofs.NumberLemmas.{least_number, nobody_there}
 
 -- ---- reading
@@ -100,6 +102,20 @@ unfolding children_in
 one_left from to c rs ts ne up i left =
     child_moved from to c (λ e. ne (sym e)) ts ∙ ap (removed c) (left ∙ i.left) ∙ ap (λ n. removed n (i.what ∷ left_of (next_sibling c rs) (children_in from rs))) (sym i.named)
     ∙ first_gone i.what _ (subst IsRising i.left (rising_filter _ _ (rising_filter (is_child from) rs up)))
+
+-- the child that comes next is as it was
+pub still_there : (from c : ℕ) (rs ts : List Process) → IsRising ts → (i : AtChild rs from c) → children_in from ts ≡ left_of (Some c) (children_in from rs) → lookup c ts ≡ Some i.what
+unfolding children_in lookup
+still_there from c rs ts up i left = (in_filter (is_child from) ts up c i.what (ap (lookup c) (left ∙ i.left) ∙ rw (eq-eqb i.what.pid c i.named) refl)).found
+
+-- so is its key among the anchors, by what was read of it as it got its parent
+pub key_read : (from to c : ℕ) (rs ts : List Process) (heir : IndexedFields) (f : Snapshot) → IsRising ts → (i : AtChild rs from c) → children_in from ts ≡ left_of (Some c) (children_in from rs) → IfSome (lookup c ts) (λ r. f ≡ snapshot_of (with_parent to r))
+    → anchor_in (snapshot_seen f) (Some heir) ≡ child_key heir i.what
+key_read from to c rs ts heir f up i left read = ap (λ f. anchor_in (snapshot_seen f) (Some heir)) (rw (still_there from c rs ts up i left) at read)
+
+-- and there is memory for that
+pub key_within : (n c : ℕ) (rs : List Process) (r : Process) (heir : IndexedFields) → AreWithin n rs → lookup c rs ≡ Some r → IfSome (child_key heir r) (λ k. (1 ≤ k) × (k < n))
+key_within n c rs r heir h e = let w = h c r e in cond_both _ (Some r.group) None (λ o. IfSome o (λ k. (1 ≤ k) × (k < n))) (λ e. (w.1, w.2)) (λ e. tt)
 
 -- where none is left, all have the parent
 pub all_adopted : (from to : ℕ) (ts : List Process) → children_in from ts ≡ [] → adopted from to ts ≡ ts

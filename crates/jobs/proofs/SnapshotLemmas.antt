@@ -2,9 +2,7 @@
 use Rattle.std.proofs.Common.{◌≡◌, ◌≢◌, ◌==◌, ℕ, true, false, not, refl, ap, sym, ◌∙◌, List, Option, Some, None, option_map}
 use Rattle.std.specs.Option.{IsSome}
 use Rattle.std.proofs.lemmas.Bool.{eqb-true, eq-eqb, not-false}
-use Rattle.posix.specs.declared.process.Life.{Life}
-use Rattle.posix.specs.declared.process.Life.TheVariants.{Running, Stopped, Zombie}
-use Rattle.posix.specs.Processes.{Process, is_zombie}
+use Rattle.posix.specs.Processes.{Process}
 use Rattle.posix.specs.Tables.{lookup}
 use Rattle.posix.proofs.TableLemmas.{pid_looked}
 use Rattle.proctable.specs.declared.snapshot.Snapshot.{Snapshot}
@@ -44,12 +42,6 @@ some_read (Some r) f e = record { what = r; found = refl }
 pub none_read : (o : Option Process) → None ≡ option_map snapshot_of o → o ≡ None
 none_read None e = refl
 none_read (Some r) e = absurd (cc)
-
--- who isn't read as a zombie lives
-pub lives : (life other : Life) → life ≡ other → ((w : ℕ) → life ≡ Zombie w → ⊥) → is_zombie other ≡ false
-lives Running other e h = rw (← e) refl
-lives Stopped other e h = rw (← e) refl
-lives (Zombie w) other e h = absurd (h w refl)
 
 -- ---- numbers that were compared
 

@@ -3,8 +3,11 @@
 ghost use Rattle.std.specs.Prelude.{◌≡◌, ◌≢◌, ◌+◌, ◌≤◌, List, length, None, IsSome};
 ghost use Rattle.posix.specs.Processes.{Process};
 ghost use Rattle.posix.specs.Tables.{lookup, above, adopted, children_in, first_pid};
-ghost use Rattle.jobs.specs.IndexedTables.{AreKin, Spends};
+ghost use Rattle.pidset.specs.Indexes.{AreTurned};
+ghost use Rattle.jobs.specs.Indexes.{child_key};
+ghost use Rattle.jobs.specs.IndexedTables.{AreKin, AreWithin, Spends};
 
+use crate::indexes::{IndexedFields, anchor_key, of_snapshot};
 use pidset::Lists;
 use posix::Pid;
 use proctable::ProcessTable;
@@ -17,17 +20,29 @@ pub(crate) fn next_child(children: &Lists, parent: Pid, after: Pid) -> Option<Pi
     children.next(parent, after)
 }
 
-/// Gives the children of one process, of which this is the index, to another.
-pub(crate) fn set_parents<K: ProcessTable>(table: &mut K, children: &Lists, from: Pid, to: Pid)
+/// Gives the children of one process, of which this is the index, to another, which is in this state, and the index of
+/// anchors follows them. Each of them is read once.
+pub(crate) fn give_children<K: ProcessTable>(
+    table: &mut K,
+    children: &Lists,
+    anchors: &mut Lists,
+    from: Pid,
+    to: Pid,
+    heir: &IndexedFields,
+)
     requires there { IsSome (lookup from (K.contents table.old)) }
     requires apart { from ≢ to }
+    requires within { AreWithin anchors.old.numbers (K.contents table.old) }
     requires kin { AreKin (K.contents table.old) children.now.pairs }
+    ensures turned { AreTurned from (child_key heir.now) (K.contents table.old) anchors.old.pairs anchors.new.pairs }
+    ensures numbers { anchors.new.numbers ≡ anchors.old.numbers }
     ensures contents { K.contents table.new ≡ adopted from to (K.contents table.old) }
     ensures costs { Spends (length (children_in from (K.contents table.old))) K.room K.visits table.old table.new }
 {
     let mut next = next_child(children, from, Pid::NONE);
     while let Some(child) = next {
-        table.set_parent(child, to);
+        let it = of_snapshot(&table.set_parent(child, to));
+        anchors.put(child, anchor_key(&it, &Some(*heir)));
         next = next_child(children, from, child);
     }
 }

@@ -15,8 +15,8 @@ ghost use Rattle.jobs.specs.contracts.indexed_table.IndexedTable.{the_row as job
 ghost use Rattle.jobs.specs.Indexes.{is_living_subreaper, record_seen, seen_of};
 ghost use Rattle.jobs.specs.IndexedTables.{takes_signal, ChangesSignals, IsRun, StaysGrouped, lent, looked, Looks, Finds, Costs, Spends, StaysPut};
 
-use crate::anchors::{seen_above, seen_there, update_anchors, update_anchors_of_children};
-use crate::children::{next_child, set_parents};
+use crate::anchors::{seen_above, seen_there, update_anchors};
+use crate::children::{give_children, next_child};
 use crate::indexes::{
     Change, IndexedFields, Indexes, anchor_key, of_record, of_snapshot, parent_list,
 };
@@ -193,23 +193,23 @@ impl<K: ProcessTable> IndexedTable<K> {
         self.table.next_after(pid)
     }
 
-    /// Gives the children of one process that is there to another, which is there.
+    /// Gives the children of one process that is there to another, which is there. Each of them is read once.
     pub fn adopt(&mut self, from: Pid, to: Pid)
         requires giver { IsSome (lookup from self.old.processes) }
         requires there { IsSome (lookup to self.old.processes) }
         requires apart { from ≢ to }
         ensures processes { self.new.processes ≡ adopted from to self.old.processes }
-        ensures costs { Costs (2 + 3 * length (children_in from self.old.processes)) self.old self.new }
+        ensures costs { Costs (1 + length (children_in from self.old.processes)) self.old self.new }
     {
         let heir = seen_there(&mut self.table, to);
-        update_anchors_of_children(
+        give_children(
             &mut self.table,
             &self.indexes.children,
             &mut self.indexes.anchors,
             from,
+            to,
             &heir,
         );
-        set_parents(&mut self.table, &self.indexes.children, from, to);
         self.indexes.children.rekey(from, to);
         self.indexes.reparent(from, to);
     }

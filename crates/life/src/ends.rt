@@ -1,6 +1,7 @@
 //! Ends.
 
 ghost use Rattle.std.specs.Prelude.{◌≡◌, ◌≢◌, ℕ, ◌≤◌, ◌+◌, ◌*◌, length, Some, option_map, true, if◌then◌else◌};
+ghost use Rattle.posix.specs.declared.process.Life.TheVariants.{Zombie};
 ghost use Rattle.posix.specs.Processes.{Process, is_zombie};
 ghost use Rattle.posix.specs.Tables.{children_in, parent_of};
 ghost use Rattle.posix.specs.Regular.{CanInherit};
@@ -20,9 +21,8 @@ use posix::{Carried, Life, PendingSignal, Pid, Sig, Status, WaitidOptions};
 use proctable::ProcessTable;
 
 impl<K: ProcessTable> Machine<K> {
-    /// The heir of a process gets notice of the ends of the zombies among its children, in rising order. No
-    /// number of a child is to be had once they are the heir's, so it gets notice before.
-    #[tactic(auto, using(crate::proofs::NoticeWalkLemmas::walk, crate::proofs::ChildLemmas::child_there, crate::proofs::ChildLemmas::child_less))]
+    /// The heir of a process gets notice of the ends of the zombies among its children, in rising order; no other child
+    /// is looked at. No number of a child is to be had once they are the heir's, so it gets notice before.
     fn tell_heir(&mut self, pid: Pid, heir: Pid)
         requires there { IsThere pid self.old }
         requires other { pid ≢ 1 }
@@ -31,15 +31,13 @@ impl<K: ProcessTable> Machine<K> {
         ensures mine { process self.new.state pid ≡ process self.old.state pid }
         ensures heir { CanInherit self.new.state.processes pid heir }
         ensures fewer { (q : ℕ) → length (children_in q self.new.state.processes) ≤ length (children_in q self.old.state.processes) }
-        ensures costs { Costs (1 + 8 * length (children_in pid self.old.state.processes)) self.old self.new }
+        ensures costs { Costs (7 * length (zombies_of pid self.old.state.processes)) self.old self.new }
     {
-        let mut next = self.first_child(pid);
+        let mut next = self.next_wanted(pid, WaitidOptions::WEXITED, Pid::NONE);
         while let Some(child) = next {
-            let life = self.life(child);
-            next = self.next_sibling(child);
-            if let Life::Zombie(ended) = life {
-                self.notice_of_end(heir, child, ended);
-            }
+            next = self.next_wanted(pid, WaitidOptions::WEXITED, child);
+            let status = self.status(child);
+            self.notice_of_end(heir, child, status);
         }
     }
 
@@ -54,7 +52,7 @@ impl<K: ProcessTable> Machine<K> {
         ensures is { IfThere pid self.old (λ me. result ≡ me.parent) }
         ensures parent { IfThere pid self.old (λ me. IsThere me.parent self.new) }
         ensures zombie { (it : Process) × (process self.new.state pid ≡ Some it) × (is_zombie it.life ≡ true) }
-        ensures costs { Costs (5 + 3 * length (children_in pid self.old.state.processes)) self.old self.new }
+        ensures costs { Costs (4 + length (children_in pid self.old.state.processes)) self.old self.new }
     {
         self.to_recheck.insert(pid);
         let Change { parent, after, .. } = self
@@ -72,7 +70,7 @@ impl<K: ProcessTable> Machine<K> {
 
     /// The heir of a process gets notice of the ends of the zombies among its children, and then the process
     /// is a zombie and loses its place, and its children become those of its heir. Its parent.
-    #[tactic(auto, using(crate::proofs::EndLemmas::tell_after, posix::proofs::RegularLemmas::heir_other))]
+    #[tactic(auto, using(crate::proofs::EndLemmas::tell_after, crate::proofs::NoticeWalkLemmas::few_zombies, posix::proofs::RegularLemmas::heir_other))]
     pub(crate) fn leave_children_and_die(&mut self, pid: Pid, heir: Pid, status: Status) -> Pid
         requires there { IsThere pid self.old }
         requires other { pid ≢ 1 }
@@ -81,20 +79,25 @@ impl<K: ProcessTable> Machine<K> {
         ensures is { IfThere pid self.old (λ me. result ≡ me.parent) }
         ensures parent { IfThere pid self.old (λ me. IsThere me.parent self.new) }
         ensures zombie { (it : Process) × (process self.new.state pid ≡ Some it) × (is_zombie it.life ≡ true) }
-        ensures costs { Costs (6 + 11 * length (children_in pid self.old.state.processes)) self.old self.new }
+        ensures costs { Costs (4 + 8 * length (children_in pid self.old.state.processes)) self.old self.new }
     {
         self.tell_heir(pid, heir);
         self.become_zombie(pid, heir, status)
     }
 
-    /// Whether a process that is there runs, is stopped or has ended.
-    fn life(&mut self, pid: Pid) -> Life
-        ensures { Finds 1 self.old self.new (IfThere pid self.old (λ it. result ≡ it.life)) }
+    /// The status with which a zombie ended.
+    fn status(&mut self, pid: Pid) -> Status
+        requires { (it : Process) × (process self.old.state pid ≡ Some it) × (is_zombie it.life ≡ true) }
+        ensures { Finds 1 self.old self.new (IfThere pid self.old (λ it. it.life ≡ Zombie result)) }
     {
-        match self.snapshot(pid) {
-            Some(snapshot) => snapshot.life,
-            None => Life::Running,
-        }
+        let Some(snapshot) = self.snapshot(pid) else {
+            unreachable!()
+        };
+        let life = snapshot.life;
+        let Life::Zombie(status) = life else {
+            unreachable!()
+        };
+        status
     }
 
     /// Process 1 is a zombie and loses its place, and the machine halts.

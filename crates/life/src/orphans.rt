@@ -113,7 +113,7 @@ impl<K: ProcessTable> Machine<K> {
         ensures is { IfThere pid self.old (λ me. result ≡ me.parent) }
         ensures parent { IfThere pid self.old (λ me. IsThere me.parent self.new) }
         ensures zombie { (it : Process) × (process self.new.state pid ≡ Some it) × (is_zombie it.life ≡ true) }
-        ensures visits { self.new.visits ≤ self.old.visits + 7 + 12 * length (children_in pid self.old.state.processes) + slots_of_orphans self.old.state (tell_of_all (departing self.old.state pid heir status) heir (zombies_of pid self.old.state.processes)) }
+        ensures visits { self.new.visits ≤ self.old.visits + 5 + 9 * length (children_in pid self.old.state.processes) + slots_of_orphans self.old.state (tell_of_all (departing self.old.state pid heir status) heir (zombies_of pid self.old.state.processes)) }
         ensures no_fewer { self.old.visits ≤ self.new.visits }
     {
         if self.nobody_stopped() {

@@ -92,9 +92,10 @@ pub trait ProcessTable: Drop {
         ensures rising { IsRising (contents self.old) }
         ensures value { lookup pid (contents self.old) ≡ Some (process_of pid (parent_of pid (contents self.old)) result.now) };
 
-    /// Gives a process that is there another parent. The other processes and the room are unchanged.
-    fn set_parent(&mut self, pid: Pid, parent: Pid)
+    /// Gives a process that is there another parent. Its small fields. The other processes and the room are unchanged.
+    fn set_parent(&mut self, pid: Pid, parent: Pid) -> Snapshot
         requires { IsSome (lookup pid (contents self.old)) }
+        ensures value { IfSome (lookup pid (contents self.old)) (λ it. result ≡ snapshot_of (with_parent parent it)) }
         ensures rising { IsRising (contents self.old) }
         ensures contents { contents self.new ≡ changed pid (with_parent parent) (contents self.old) }
         ensures room { room self.new ≡ room self.old }

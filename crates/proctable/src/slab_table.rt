@@ -112,12 +112,13 @@ impl ProcessTable for SlabTable {
     }
 
     #[tactic(auto, using(crate::proofs::SlabLemmas::slot_rules))]
-    fn set_parent(&mut self, pid: Pid, parent: Pid) {
+    fn set_parent(&mut self, pid: Pid, parent: Pid) -> Snapshot {
         let Some(slot) = self.index.get(pid) else {
             unreachable!()
         };
         let process = self.slots.process(slot);
         process.set_parent(parent);
+        process.snapshot()
     }
 
     fn spare(&mut self) -> Option<Spare> {

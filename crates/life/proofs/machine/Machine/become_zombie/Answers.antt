@@ -1,4 +1,4 @@
-use Rattle.std.proofs.Common.{rules, ◌∙◌, ◌≤◌, ◌+◌, ◌*◌, length, subst, refl, sym, ◌∷◌, [], ap, arith}
+use Rattle.std.proofs.Common.{rules, ◌∙◌, ◌≤◌, ◌+◌, length, subst, refl, sym, ◌∷◌, [], ap, arith}
 use Rattle.posix.specs.Tables.{changed, children_in}
 use Rattle.posix.specs.Ends.{made_zombie}
 use Rattle.posix.specs.States.{State, is_in}
@@ -88,7 +88,7 @@ returns g c =
     let rs = c.args.self.now.state.processes in
     let run = run_as (made_zombie w) c.change_seen-parent.ensures.run c.self.invariant.sound.regular.rising (λ b d r k q. search rules) in
     let me = there _ (here_in {s = s} p old c.requires.there) in
-    let adopts = subst (λ ts. c.adopt.new.self.visits ≤ c.is_awaited-awaited.new.table.visits + (2 + 3 * length (children_in p ts))) (c.is_awaited-awaited.ensures.same ∙ run ∙ ap (λ (s : State). changed p (made_zombie w) s.processes) old) c.adopt.ensures.costs.visits in
+    let adopts = subst (λ ts. c.adopt.new.self.visits ≤ c.is_awaited-awaited.new.table.visits + (1 + length (children_in p ts))) (c.is_awaited-awaited.ensures.same ∙ run ∙ ap (λ (s : State). changed p (made_zombie w) s.processes) old) c.adopt.ensures.costs.visits in
     let mine = length_children p (made_zombie w) (keeps_made_zombie w).parent p rs in
     let put = c.change_seen-parent.ensures.put (put_as p _ (made_zombie w) (λ r e. zombie_put w r) (λ b d r k q. search rules)) in
     record {

@@ -1,0 +1,27 @@
+use Rattle.std.proofs.Common.{◌≡◌, ◌+◌, ◌≤◌, ℕ, false, length}
+use Rattle.std.specs.List.{list_any}
+use Rattle.posix.specs.Tables.{IsRising, adopted, children_in, first_pid, has_pid, left_of}
+use Rattle.pidset.specs.Indexes.{is_pair_in, is_turned}
+use Rattle.jobs.specs.Indexes.{child_key}
+use Rattle.jobs.proofs.children.give_children.Given as goal
+
+-- the children that were passed have their new parent, and all but those that are left stand as they are to
+abbrev pub invariant-loop-next : goal.invariant-loop-next
+invariant-loop-next g l =
+    let rs = g.K.ProcessTable.contents l.fn.table in
+    let now = g.K.ProcessTable.contents l.table in
+    let children = children_in l.from rs in
+    record {
+      rising : IsRising now;
+      adopted : adopted l.from l.to now ≡ adopted l.from l.to rs;
+      left : children_in l.from now ≡ left_of l.next children;
+      room : g.K.ProcessTable.room l.table ≡ g.K.ProcessTable.room l.fn.table;
+      numbers : l.anchors.numbers ≡ l.fn.anchors.numbers;
+      read : g.K.ProcessTable.visits l.table + length (left_of l.next children) ≤ g.K.ProcessTable.visits l.fn.table + length children;
+      no_fewer : g.K.ProcessTable.visits l.fn.table ≤ g.K.ProcessTable.visits l.table;
+      begins : first_pid (left_of l.next children) ≡ l.next;
+      turned : (q : ℕ) → list_any (has_pid q) (left_of l.next children) ≡ false → (k : ℕ) → is_pair_in k q l.anchors.pairs ≡ is_turned l.from (child_key l.fn.heir) rs l.fn.anchors.pairs k q;
+    }
+
+abbrev pub decreases-loop-next : goal.decreases-loop-next
+decreases-loop-next g l = length (left_of l.next (children_in l.from (g.K.ProcessTable.contents l.fn.table)))
