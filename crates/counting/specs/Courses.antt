@@ -1,13 +1,13 @@
 -- The run of a list of events in a world, where all memory is granted.
-use Rattle.std.specs.Prelude.{◌≡◌, ℕ, ◌+◌, Bool, true, false, List, [], ◌∷◌, ◌++◌, map}
+use Rattle.std.specs.Prelude.{◌≡◌, ℕ, ◌+◌, Bool, true, false, List, [], ◌∷◌, ◌++◌}
 use Rattle.std.specs.List.{list_any}
 use Rattle.posix.specs.declared.event.Event.{Event}
 use Rattle.posix.specs.declared.entry.Entry.{Entry}
 use Rattle.posix.specs.declared.entry.Entry.TheVariants.{Noted, Called, Moved, Reported, Looked, NoMemory, Marked, Handled, Discarded, Stopped, Returned, Ended, Halted}
-use Rattle.posix.specs.Entries.{Line, line, numbered}
+use Rattle.posix.specs.Entries.{Line, numbered}
 use Rattle.posix.specs.States.{State, World, boot}
 use Rattle.posix.specs.Step.{next}
-use Rattle.posix.specs.Runs.{RunsFrom}
+use Rattle.kernel.specs.Progress.{Shows}
 use Rattle.schedules.specs.Families.{Spots}
 use Rattle.schedules.specs.Schedules.{scheduled}
 use Rattle.counting.specs.declared.ending.Ending.{Ending}
@@ -54,23 +54,16 @@ denies_memory Halted = false
 abbrev pub one_denies_memory : List Line → Bool
 one_denies_memory lines = list_any (λ l. denies_memory l.entry) lines
 
--- the lines with numbers that are greater by n
-abbrev pub later : ℕ → List Line → List Line
-later n lines = map (λ l. line (n + l.event) l.entry) lines
+-- To the lines before these were added, and none says that there was no memory.
+abbrev pub AddsGranted : List Line → List Line → List Line → Type 0
+AddsGranted before after shows = (after ≡ before ++ shows) × (one_denies_memory shows ≡ false)
 
--- From old, the events with the numbers from k on show these lines, where all memory is granted, and lead to new.
-pub record RunsGranted (k : ℕ) (old : State) (events : List Event) (lines : List Line) (new : State) : Type 0 where
-  pub runs : RunsFrom k old events lines new
-  pub all : one_denies_memory lines ≡ false
+-- To the lines before, the events with the numbers from k on, where all memory is granted, add what they show, and lead from old to new.
+abbrev pub Adds : ℕ → State → List Event → State → List Line → List Line → Type 0
+Adds k old events new before after = Shows k old events new (AddsGranted before after)
 
 -- In a world the events show these lines, where all memory is granted, and the run ends so.
 pub record IsCourse (world : World) (events : List Event) (lines : List Line) (ending : Ending) : Type 0 where
   pub last : State
-  pub grants : RunsGranted 1 (boot world) events lines last
+  pub adds : Adds 1 (boot world) events last [] lines
   pub ends : ending ≡ ending_of last
-
--- To the lines before, the events with the numbers from k on, where all memory is granted, add what they show, and lead from old to new.
-pub record Adds (k : ℕ) (old : State) (events : List Event) (new : State) (before after : List Line) : Type 0 where
-  pub shows : List Line
-  pub added : after ≡ before ++ shows
-  pub grants : RunsGranted k old events shows new

@@ -1,24 +1,22 @@
 //! The run of a list of events in a world.
 
-ghost use Rattle.std.specs.Prelude.{◌≡◌, ◌+◌, ◌-◌, ◌<◌, ◌≤◌, ◌^◌, ◌++◌, [], ◌∷◌, All, IsTrue, length, IfOk, OnOk, false, true, replicate};
+ghost use Rattle.std.specs.Prelude.{◌≡◌, ◌+◌, ◌<◌, ◌≤◌, ◌++◌, [], ◌∷◌, ⊤, length, IfOk, OnOk, false};
 ghost use Rattle.posix.specs.Entries.{numbered};
-ghost use Rattle.posix.specs.Outcomes.{silent};
 ghost use Rattle.posix.specs.Regular.{IsRegular};
 ghost use Rattle.posix.specs.Settle.{IsSettled};
-ghost use Rattle.posix.specs.Step.{next};
 ghost use Rattle.text.specs.EventTexts.{most_events};
 ghost use Rattle.kernel.specs.Steps.{noted_lines};
-ghost use Rattle.counting.specs.Courses.{Adds, IsCourse, later, one_denies_memory};
+ghost use Rattle.counting.specs.AddLaws.{added_none, added_then};
+ghost use Rattle.counting.specs.Courses.{Adds, AddsGranted, IsCourse, one_denies_memory};
 ghost use Rattle.counting.specs.Endings.{ending_of as ending_in};
 
 use crate::ending::Ending;
 use crate::lines::{Line, denies_memory};
-use arrayvec::ArrayVec;
-use kernel::Kernel;
+use kernel::{Kernel, Observer, drive, drive_to};
 use life::Note;
 use posix::{Entry, Event, Pid};
 use std::alloc::{AllocError, Global};
-use text::{EventList, EventRun, World};
+use text::{EventList, World};
 
 /// How it stands with a machine.
 fn ending_of(kernel: &Kernel) -> Ending
@@ -35,26 +33,16 @@ fn ending_of(kernel: &Kernel) -> Ending
     }
 }
 
-/// Whether an event changes and shows nothing: after a halt none does, and where no process can act a step doesn't.
-fn is_idle(kernel: &Kernel, event: Event) -> bool
-    requires regular { IsRegular kernel.now.state }
-    requires settled { IsSettled kernel.now.state }
-    ensures { IsTrue result → next true kernel.now.state event ≡ silent kernel.now.state }
-{
-    kernel.is_halted() || (matches!(event, Event::Step) && kernel.current().is_none())
-}
-
-/// Adds the notes of a process, whose numbers grow by `more`.
-fn add_notes(lines: &mut Vec<Line>, more: u64, pid: Pid, notes: &[Note]) -> Result<(), AllocError>
-    requires { All (λ note. more + note.step < 2 ^ 64) notes.now }
-    ensures { OnOk result (lines.new.items ≡ lines.old.items ++ later more (noted_lines pid notes.now)) }
+/// Adds the notes of a process.
+fn add_notes(lines: &mut Vec<Line>, pid: Pid, notes: &[Note]) -> Result<(), AllocError>
+    ensures { OnOk result (lines.new.items ≡ lines.old.items ++ noted_lines pid notes.now) }
 {
     for note in notes {
         let entry = Entry::Noted {
             pid,
             value: note.value,
         };
-        lines.push(Line::new(more + note.step, entry))?;
+        lines.push(Line::new(note.step, entry))?;
     }
     Ok(())
 }
@@ -73,53 +61,34 @@ fn add_entries(lines: &mut Vec<Line>, event: u64, entries: &[Entry]) -> Result<(
     Ok(())
 }
 
-/// Gives one event as often as can be at once, up to the one with this number, and adds what they show, with numbers
-/// that grow by `left_out`.
-fn run_some(
-    kernel: &mut Kernel,
-    event: Event,
-    last: u64,
-    left_out: u64,
-    lines: &mut Vec<Line>,
-) -> Result<(), AllocError>
-    requires few { last ≤ most_events }
-    requires some { kernel.old.events < last }
-    requires left_out { left_out ≤ most_events }
-    ensures ok { OnOk result (Adds (left_out + (kernel.old.events + 1)) kernel.old.state (replicate (kernel.new.events - kernel.old.events) event) kernel.new.state lines.old.items lines.new.items) }
-    ensures from { kernel.old.events < kernel.new.events }
-    ensures within { kernel.new.events ≤ last }
-    ensures regular { IsRegular kernel.new.state }
-    ensures settled { IsSettled kernel.new.state }
-{
-    let mut notes = ArrayVec::new();
-    let mut entries = ArrayVec::new();
-    let pid = kernel.repeat(event, last, &mut notes, &mut entries);
-    add_notes(lines, left_out, pid, notes.as_slice())?;
-    add_entries(lines, left_out + kernel.events(), entries.as_slice())
-}
+/// Adds the lines that it hears to others. One that tells of no memory is an error.
+#[derive(Drop)]
+struct Collector;
 
-/// Gives so many times one event, but for those that change and show nothing, and adds what they show. `left_out` were
-/// left out before; how many were by now.
-fn run_many(
-    kernel: &mut Kernel,
-    run: EventRun,
-    left_out: u64,
-    lines: &mut Vec<Line>,
-) -> Result<u64, AllocError>
-    requires few { left_out + kernel.old.events + run.count ≤ most_events }
-    requires regular { IsRegular kernel.old.state }
-    requires settled { IsSettled kernel.old.state }
-    ensures ok { OnOk result (Adds (left_out + (kernel.old.events + 1)) kernel.old.state (replicate run.count run.event) kernel.new.state lines.old.items lines.new.items) }
-    ensures left { IfOk result (λ left. left + kernel.new.events ≡ left_out + kernel.old.events + run.count) }
-    ensures within { kernel.new.events ≤ kernel.old.events + run.count }
-    ensures regular { IsRegular kernel.new.state }
-    ensures settled { IsSettled kernel.new.state }
-{
-    let last = kernel.events() + run.count();
-    while kernel.events() < last && !is_idle(kernel, run.event()) {
-        run_some(kernel, run.event(), last, left_out, lines)?;
+impl Observer<Vec<Line>> for Collector {
+    type Fault = AllocError;
+
+    ghost Hears = { λ _ before _ after shows. AddsGranted before.items after.items shows };
+
+    ghost Fails = { λ _ _ _ _. ⊤ };
+
+    ghost hears_none = { λ _ lines. added_none lines.items };
+
+    ghost hears_then = { λ _ _ _ s t u ls ms. added_then s.items t.items u.items ls ms };
+
+    ghost fails_then = { λ _ _ _ _ _ _ _ _ _. tt };
+
+    fn hear(
+        &mut self,
+        pid: Pid,
+        notes: &[Note],
+        event: u64,
+        entries: &[Entry],
+        lines: &mut Vec<Line>,
+    ) -> Result<(), AllocError> {
+        add_notes(lines, pid, notes)?;
+        add_entries(lines, event, entries)
     }
-    Ok(left_out + (last - kernel.events()))
 }
 
 /// Gives one event, and adds what it shows.
@@ -131,7 +100,9 @@ pub fn run_one(kernel: &mut Kernel, event: Event, lines: &mut Vec<Line>) -> Resu
     ensures settled { IsSettled kernel.new.state }
 {
     let last = kernel.events() + 1;
-    run_some(kernel, event, last, 0, lines)
+    let done = drive_to(kernel, event, last, &mut Collector, lines);
+    kernel.regular_holds();
+    done
 }
 
 /// Gives all events of a list, and adds what they show to lines, of which there are none. How it stands with the machine
@@ -142,8 +113,6 @@ pub fn run_all(
     lines: &mut Vec<Line>,
 ) -> Result<Ending, AllocError>
     requires few { kernel.old.events + length events.now ≤ most_events }
-    requires regular { IsRegular kernel.old.state }
-    requires settled { IsSettled kernel.old.state }
     requires none { lines.old.items ≡ [] }
     ensures adds { OnOk result (Adds (kernel.old.events + 1) kernel.old.state events.now kernel.new.state [] lines.new.items) }
     ensures ending { IfOk result (λ ending. ending ≡ ending_in kernel.new.state) }
@@ -151,10 +120,9 @@ pub fn run_all(
     ensures regular { IsRegular kernel.new.state }
     ensures settled { IsSettled kernel.new.state }
 {
-    let mut left_out = 0;
-    for run in events.runs() {
-        left_out = run_many(kernel, *run, left_out, lines)?;
-    }
+    let done = drive(kernel, events, &mut Collector, lines);
+    kernel.regular_holds();
+    done?;
     Ok(ending_of(kernel))
 }
 

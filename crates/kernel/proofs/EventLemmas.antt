@@ -1,16 +1,21 @@
 -- Counted runs of events, one after another.
-use Rattle.std.proofs.Common.{◌≡◌, ◌≢◌, ℕ, true, ◌+◌, ◌*◌, ◌<◌, ◌≤◌, List, [], ◌∷◌, ◌++◌, length, take, drop, ap, sym, ◌∙◌, append-nil, length-append, get_or, refl, subst, arith}
-use Rattle.std.specs.Prelude.{replicate}
+use Rattle.std.proofs.Common.{◌≡◌, ◌≢◌, ℕ, zero, suc, true, false, cond, Option, None, ◌+◌, ◌*◌, ◌<◌, ◌≤◌, List, [], ◌∷◌, ◌++◌, length, take, drop, ap, sym, ◌∙◌, append-nil, length-append, get_or, refl, subst, arith}
+use Rattle.std.specs.Prelude.{replicate, option_and_then}
 use Rattle.std.proofs.lemmas.List.{length-replicate, replicate-append-replicate, take_more, take-append-drop}
 use Rattle.std.proofs.lemmas.List.Concat.{flat_map-append}
 use Rattle.std.proofs.lemmas.Bool.{eqb-true}
 use Rattle.posix.specs.declared.event.Event.{Event}
+use Rattle.posix.specs.declared.event.Event.TheVariants.{Step}
 use Rattle.posix.specs.declared.instr.Trap.{Trap}
 use Rattle.posix.specs.declared.instr.Trap.TheVariants as trap
 use Rattle.posix.specs.declared.entry.Entry.{Entry}
-use Rattle.posix.specs.States.{State}
-use Rattle.posix.specs.Outcomes.{Outcome}
-use Rattle.posix.specs.Step.{IsStep}
+use Rattle.posix.specs.States.{State, current, current_process, process}
+use Rattle.posix.specs.Outcomes.{Outcome, silent}
+use Rattle.posix.specs.Regular.{IsRegular}
+use Rattle.posix.specs.Runs.{RunsFrom}
+use Rattle.posix.specs.Settle.{settle, IsSettled}
+use Rattle.posix.specs.Step.{IsStep, next, happens, step, settled}
+use Rattle.posix.proofs.UnseenLemmas.{covers_none, settle_none}
 use Rattle.posix.proofs.CountLemmas.{Counts, counts_next}
 use Rattle.kernel.specs.Steps.{is_followed_by_step}
 use Rattle.text.specs.EventLists.{CountedEvent, expanded, run_events}
@@ -70,3 +75,18 @@ followed_short before last n trap.Next some follows short = omega (arith, some, 
 followed_short before last n (trap.Note z) some follows short = short (λ e. absurd (cc))
 followed_short before last n (trap.Call call) some follows short = short (λ e. absurd (cc))
 followed_short before last n (trap.Fault sig) some follows short = short (λ e. absurd (cc))
+
+-- ---- events that change and show nothing
+
+-- where no process can act a step doesn't
+pub rest_idle : (s : State) → s.halted ≡ false → current s ≡ None → IsRegular s → IsSettled s → next true s Step ≡ silent s
+unfolding next happens step
+rest_idle s going none regular settled_s =
+    let nobody : current_process s ≡ None = ap (λ (o : Option ℕ). option_and_then (process s) o) none in
+    let happened : happens true s Step ≡ silent s = ap (step true s) nobody in
+    let stays : settle s ≡ s = settle_none s regular.rising settled_s.fresh (covers_none s settled_s.awake) in
+    ap (λ b. cond b (silent s) (settled (happens true s Step))) going ∙ ap settled happened ∙ ap silent stays
+
+pub runs_idle : (n k : ℕ) (s : State) (x : Event) → next true s x ≡ silent s → RunsFrom k s (replicate n x) [] s
+runs_idle zero k s x idle = (refl, refl)
+runs_idle (suc n) k s x idle = (s, [], [], record { granted = true; comes = idle }, refl, runs_idle n (k + 1) s x idle)

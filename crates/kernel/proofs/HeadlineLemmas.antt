@@ -49,8 +49,8 @@ traces world_bytes event_bytes w events old new a b ends summary world_is events
     events_are = events_are;
     run = subst (λ (n : ℕ). RunsFrom (n + 1) (boot w) events writes.lines new.state) none (subst (λ (s : State). RunsFrom (old.events + 1) s events writes.lines new.state) booted writes.run);
   };
-  taken = writes.taken;
-  counted = counted writes.lines writes.counted ∙ ap (λ (n : ℕ). summary_of n writes.lines new.state)
+  taken = writes.holds.0;
+  counted = counted writes.lines writes.holds.1 ∙ ap (λ (n : ℕ). summary_of n writes.lines new.state)
       (count ∙ ap (λ (n : ℕ). n + length events) none ∙ zero-add (length events));
 }
 

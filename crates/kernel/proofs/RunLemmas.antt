@@ -1,10 +1,9 @@
 -- How runs of the machine are joined, and what is written of them.
-use Rattle.std.proofs.Common.{◌≡◌, ℕ, ◌+◌, ◌-◌, ◌<◌, ◌≤◌, List, [], ◌∷◌, ◌++◌, length, take, drop, refl, ap, sym, subst, ◌∙◌, append_assoc, append-nil, add-zero, length-append, get_or, arith, cond, Bool, true, false}
+use Rattle.std.proofs.Common.{◌≡◌, ℕ, ◌+◌, ◌-◌, ◌%◌, ◌^◌, ◌<◌, ◌≤◌, List, [], ◌∷◌, ◌++◌, length, take, drop, refl, ap, ap₂, sym, subst, ◌∙◌, append_assoc, append-nil, add-zero, length-append, get_or, arith, cond, Bool, true, false}
 use Rattle.std.specs.Prelude.{map, replicate}
 use Rattle.std.specs.Int.{from_bool}
 use Rattle.std.proofs.lemmas.List.{take_more, take-append-drop, map-append, length-map, length-replicate, replicate_more}
-use Rattle.std.proofs.lemmas.List.Concat.{flat_map-append}
-use Rattle.std.proofs.lemmas.List.Sums.{sum_by-append, count_by-le-length}
+use Rattle.std.proofs.lemmas.List.Sums.{count_by-le-length}
 use Rattle.posix.specs.declared.event.Event.{Event}
 use Rattle.posix.specs.declared.event.Event.TheVariants.{Step}
 use Rattle.posix.specs.declared.entry.Entry.{Entry}
@@ -14,9 +13,11 @@ use Rattle.posix.specs.Step.{IsStep, next}
 use Rattle.posix.specs.Runs.{RunsFrom}
 use Rattle.posix.specs.Printing.{print, print_line}
 use Rattle.sink.specs.Sinks.{Seen, TakesAll, Gathers, BreaksOff}
+use Rattle.text.specs.EventTexts.{most_events}
 use Rattle.life.specs.declared.noted_bursts.Note.{Note}
 use Rattle.kernel.specs.Steps.{Bursts, noted_lines}
-use Rattle.kernel.specs.Progress.{Writes, Stops, WritesTrace, BreaksTrace}
+use Rattle.kernel.specs.PrintLaws.{print_then, reported_then}
+use Rattle.kernel.specs.Progress.{Shows, Breaks, Prints, WritesTrace, BreaksTrace}
 use Rattle.sink.proofs.SinkLemmas.{gathers_then, gathers_break, break_on, flush_takes, flush_breaks}
 
 -- ---- runs
@@ -44,61 +45,77 @@ runs_on (x ∷ xs) k a =
     let more = runs_on xs (k + 1) done.state in
     (numbered k done.entries ++ more.0, more.1, (done.state, done.entries, more.0, record { granted = true; comes = refl }, refl, more.2))
 
--- lines after lines print as the one text after the other
-print_then : (ls ms : List Line) → print (ls ++ ms) ≡ print ls ++ print ms
-print_then ls ms = flat_map-append print_line ls ms
+-- notes report no end
+none_ended : (p : ℕ) (ns : List Note) → reported (noted_lines p ns) ≡ 0
+none_ended p [] = refl
+none_ended p (n ∷ ns) = none_ended p ns
 
--- lines after lines report the ends of both
-reported_then : (ls ms : List Line) → reported (ls ++ ms) ≡ reported ls + reported ms
-reported_then ls ms = sum_by-append (λ (l : Line). cond (reports_end l.entry) 1 0) ls ms
+-- no more ends than entries
+pub ends_within : (k : ℕ) (es : List Entry) → reported (numbered k es) ≤ length es
+ends_within k es = omega (arith, count_by-le-length (λ (l : Line). reports_end l.entry) (numbered k es), length-map es (line k))
 
--- ---- what is written of them
+-- the same entries with the same number are the same lines
+same_lines : (j k : ℕ) (fs es : List Entry) → j ≡ k → fs ≡ es → numbered j fs ≡ numbered k es
+same_lines j k fs es at same = ap (λ (n : ℕ). numbered n fs) at ∙ ap (numbered k) same
 
--- what is written of events, and then of those after them, is written of all
-writes_then : (k : ℕ) (xs ys : List Event) (s m e : State) (a b c : Seen) (p q r : List ℕ) (g h : ℕ) →
-    Writes k s xs m a p b q g → Writes (k + length xs) m ys e b q c r h → Writes k s (xs ++ ys) e a p c r (g + h)
-writes_then k xs ys s m e a b c p q r g h w v = record {
-  lines = w.lines ++ v.lines;
-  run = runs_then xs ys k s m e w.lines v.lines w.run v.run;
-  gathered = rw print_then (gathers_then a b c p q r (print w.lines) (print v.lines) w.gathered v.gathered);
-  counted = reported_then w.lines v.lines ∙ rw (w.counted, v.counted) refl;
-  bound = omega (arith, w.bound, v.bound, length-append xs ys);
+-- ---- what was made of their lines
+
+-- no events show no lines
+pub shows_none : (k n : ℕ) (x : Event) (s : State) (P : List Line → Type 0) → n ≡ 0 → P [] → Shows k s (replicate n x) s P
+shows_none k n x s P none p =
+    subst (λ (m : ℕ). Shows k s (replicate m x) s P) (sym none) (record { lines = []; run = (refl, refl); holds = p; few = omega arith })
+
+-- a run goes on, and so does what was made of its lines
+pub shows_next : (k j : ℕ) (xs ys zs : List Event) (s m e : State) (P Q R : List Line → Type 0) → j ≡ k + length xs → xs ++ ys ≡ zs → ((ls ms : List Line) → P ls → Q ms → R (ls ++ ms))
+    → Shows k s xs m P → Shows j m ys e Q → Shows k s zs e R
+shows_next k j xs ys zs s m e P Q R at all then p q =
+    subst (λ (l : List Event). Shows k s l e R) all (record {
+      lines = p.lines ++ q.lines;
+      run = runs_then xs ys k s m e p.lines q.lines p.run (subst (λ (n : ℕ). RunsFrom n m ys q.lines e) at q.run);
+      holds = then p.lines q.lines p.holds q.holds;
+      few = omega (arith, p.few, q.few, reported_then p.lines q.lines, length-append xs ys);
+    })
+
+-- or it breaks off
+pub breaks_next : (k j : ℕ) (xs ys more zs : List Event) (s m e : State) (P Q R : List Line → Type 0) → j ≡ k + length xs → (xs ++ ys) ++ more ≡ zs → ((ls ms : List Line) → P ls → Q ms → R (ls ++ ms))
+    → Shows k s xs m P → Breaks j m ys e Q → Breaks k s zs e R
+breaks_next k j xs ys more zs s m e P Q R at all then p q = record {
+  given = xs ++ q.given;
+  rest = q.rest ++ more;
+  all = append_assoc xs q.given (q.rest ++ more) ∙ ap (λ (l : List Event). xs ++ l) (sym (append_assoc q.given q.rest more) ∙ ap (λ (l : List Event). l ++ more) q.all) ∙ sym (append_assoc xs ys more) ∙ all;
+  shows = shows_next k j xs q.given (xs ++ q.given) s m e P Q R at refl then p q.shows;
 }
 
--- where events are written, and those after them break off, all break off
-writes_stop : (k : ℕ) (xs ys : List Event) (s m : State) (a b c : Seen) (p q : List ℕ) (g : ℕ) →
-    Writes k s xs m a p b q g → Stops (k + length xs) m ys b q c → Stops k s (xs ++ ys) a p c
-writes_stop k xs ys s m a b c p q g w v = record {
-  lines = w.lines ++ v.lines;
-  last = v.last;
-  run = runs_then xs ys k s m v.last w.lines v.lines w.run v.run;
-  broken = rw print_then (gathers_break a b c p q (print w.lines) (print v.lines) w.gathered v.broken);
-}
+-- what breaks off as all was given
+pub breaks_all : (k : ℕ) (xs : List Event) (s e : State) (P : List Line → Type 0) → Shows k s xs e P → Breaks k s xs e P
+breaks_all k xs s e P p = record { given = xs; rest = []; all = append-nil xs; shows = p }
 
--- what broke off did so whatever events come after
-stops_on : (k : ℕ) (xs ys : List Event) (s : State) (a b : Seen) (p : List ℕ) → Stops k s xs a p b → Stops k s (xs ++ ys) a p b
-stops_on k xs ys s a b p v =
-    let more = runs_on ys (k + length xs) v.last in
+-- what is shown at once, the notes first
+pub shows_once : (k j e n p : ℕ) (x : Event) (s t : State) (ns ms : List Note) (es fs : List Entry) (P : List Line → Type 0) → 0 < n → ms ≡ ns → j ≡ e → fs ≡ es → length es ≤ 4
+    → RunsFrom k s (replicate n x) (noted_lines p ns ++ numbered e es) t → P (noted_lines p ms ++ numbered j fs) → Shows k s (replicate n x) t P
+shows_once k j e n p x s t ns ms es fs P some notes at same few run holds =
     record {
-      lines = v.lines ++ more.0;
-      last = more.1;
-      run = runs_then xs ys k s v.last more.1 v.lines more.0 v.run more.2;
-      broken = rw (print_then, ← append_assoc) (break_on a b (p ++ print v.lines) (print more.0) v.broken);
+      lines = noted_lines p ns ++ numbered e es;
+      run = run;
+      holds = subst P (ap₂ (λ (ls ms : List Line). ls ++ ms) (ap (noted_lines p) notes) (same_lines j e fs es at same)) holds;
+      few = omega (arith, reported_then (noted_lines p ns) (numbered e es), none_ended p ns, ends_within e es, few, some, length-replicate n x);
     }
 
--- what was written goes on by another list of events
-pub writes_next : (k j : ℕ) (xs ys zs : List Event) (s m e : State) (a b c : Seen) (p q r : List ℕ) (g h : ℕ) → j ≡ k + length xs → xs ++ ys ≡ zs →
-    Writes k s xs m a p b q g → Writes j m ys e b q c r h → Writes k s zs e a p c r (g + h)
-writes_next k j xs ys zs s m e a b c p q r g h at all w v =
-    subst (λ (l : List Event). Writes k s l e a p c r (g + h)) all
-    (writes_then k xs ys s m e a b c p q r g h w (subst (λ (n : ℕ). Writes n m ys e b q c r h) at v))
+-- ---- what is printed of them
 
--- or it breaks off in them, and no events after them matter
-pub stops_next : (k j : ℕ) (xs ys more zs : List Event) (s m : State) (a b c : Seen) (p q : List ℕ) (g : ℕ) → j ≡ k + length xs → (xs ++ ys) ++ more ≡ zs →
-    Writes k s xs m a p b q g → Stops j m ys b q c → Stops k s zs a p c
-stops_next k j xs ys more zs s m a b c p q g at all w v =
-    subst (λ (l : List Event). Stops k s l a p c) all
-    (stops_on k (xs ++ ys) more s a c p (writes_stop k xs ys s m a b c p q g w (subst (λ (n : ℕ). Stops n m ys b q c) at v)))
+-- what broke off did so whatever lines come after
+pub lines_broken : (a b : Seen) (p : List ℕ) (ls ms : List Line) → BreaksOff a b (p ++ print ls) → BreaksOff a b (p ++ print (ls ++ ms))
+lines_broken a b p ls ms v = rw (print_then, ← append_assoc) (break_on a b (p ++ print ls) (print ms) v)
+
+-- notes are printed, and then entries
+pub prints_both : (k p : ℕ) (ns : List Note) (es : List Entry) (a m b : Seen) (w v q : List ℕ) (f ends g : ℕ) → Gathers a w m v (print (noted_lines p ns)) → Gathers m v b q (print (numbered k es)) → reported (numbered k es) ≡ ends
+    → g ≡ (f + ends) % 2 ^ 64 → Prints a w f b q g (noted_lines p ns ++ numbered k es)
+prints_both k p ns es a m b w v q f ends g first then counted sum = record {
+  gathered = rw print_then (gathers_then a m b w v q (print (noted_lines p ns)) (print (numbered k es)) first then);
+  counted = λ small.
+      let all : reported (noted_lines p ns ++ numbered k es) ≡ ends = omega (arith, reported_then (noted_lines p ns) (numbered k es), none_ended p ns, counted) in
+      sum ∙ omega (arith, small, all);
+}
 
 -- ---- the lines of some things, one each
 
@@ -146,15 +163,7 @@ ends_more k es i d lt =
     ap (λ (l : List Entry). reported (numbered k l)) (take_more es i d lt) ∙ ap reported (map-append (line k) (take i es) (get_or es i d ∷ []))
     ∙ reported_then (numbered k (take i es)) (numbered k (get_or es i d ∷ [])) ∙ omega (arith, one_or_none (reports_end (get_or es i d)))
 
--- no more ends than entries
-pub ends_within : (k : ℕ) (es : List Entry) → reported (numbered k es) ≤ length es
-ends_within k es = omega (arith, count_by-le-length (λ (l : Line). reports_end l.entry) (numbered k es), length-map es (line k))
-
 -- ---- one event
-
--- the same entries with the same number are the same lines
-same_lines : (j k : ℕ) (fs es : List Entry) → j ≡ k → fs ≡ es → numbered j fs ≡ numbered k es
-same_lines j k fs es at same = ap (λ (n : ℕ). numbered n fs) at ∙ ap (numbered k) same
 
 -- a step after a burst
 pub step_after : (before n e p : ℕ) (s started m t : State) (ns : List Note) (es : List Entry) → Bursts started before n p ns m → before ≤ n → started ≡ s → IsStep m Step es t → e ≡ n + 1
@@ -167,76 +176,39 @@ step_after before n e p s started m t ns es b on same step at =
     subst (λ (l : List Event). RunsFrom (before + 1) s l (noted_lines p ns ++ numbered e es) t) (replicate_more (n - before) Step ∙ ap (λ (k : ℕ). replicate k Step) count)
     (runs_then (replicate (n - before) Step) (Step ∷ []) (before + 1) s m t (noted_lines p ns) (numbered e es) (subst (λ (u : State). RunsFrom (before + 1) u (replicate (n - before) Step) (noted_lines p ns) m) same b.runs) one)
 
--- notes report no end
-none_ended : (p : ℕ) (ns : List Note) → reported (noted_lines p ns) ≡ 0
-none_ended p [] = refl
-none_ended p (n ∷ ns) = none_ended p ns
-
--- what some events show is gathered, the notes first
-pub some_writes : (k j e n p : ℕ) (x : Event) (s t : State) (ns ms : List Note) (es fs : List Entry) (a m b : Seen) (w v q : List ℕ) (g : ℕ) → 0 < n → ms ≡ ns → j ≡ e → fs ≡ es → length es ≤ 4
-    → RunsFrom k s (replicate n x) (noted_lines p ns ++ numbered e es) t → Gathers a w m v (print (noted_lines p ms)) → Gathers m v b q (print (numbered j fs))
-    → reported (numbered j fs) ≡ g → Writes k s (replicate n x) t a w b q g
-some_writes k j e n p x s t ns ms es fs a m b w v q g some notes at same few run first then counted =
-    let lines = same_lines j e fs es at same in
-    record {
-      lines = noted_lines p ns ++ numbered e es;
-      run = run;
-      gathered = rw print_then
-          (gathers_then a m b w v q (print (noted_lines p ns)) (print (numbered e es)) (subst (λ (l : List Note). Gathers a w m v (print (noted_lines p l))) notes first)
-          (subst (λ (l : List Line). Gathers m v b q (print l)) lines then));
-      counted = omega (arith, reported_then (noted_lines p ns) (numbered e es), none_ended p ns, ap reported lines, counted);
-      bound = omega (arith, ends_within e es, few, some, length-replicate n x, ap reported lines, counted);
-    }
-
--- or breaks off behind the notes
-pub some_stops : (k j e n p : ℕ) (x : Event) (s t : State) (ns ms : List Note) (es fs : List Entry) (a m b : Seen) (w v : List ℕ) → ms ≡ ns → j ≡ e → fs ≡ es
-    → RunsFrom k s (replicate n x) (noted_lines p ns ++ numbered e es) t → Gathers a w m v (print (noted_lines p ms)) → BreaksOff m b (v ++ print (numbered j fs)) → Stops k s (replicate n x) a w b
-some_stops k j e n p x s t ns ms es fs a m b w v notes at same run first broken = record {
-  lines = noted_lines p ns ++ numbered e es;
-  last = t;
-  run = run;
-  broken = rw print_then
-      (gathers_break a m b w v (print (noted_lines p ns)) (print (numbered e es)) (subst (λ (l : List Note). Gathers a w m v (print (noted_lines p l))) notes first)
-      (subst (λ (l : List Line). BreaksOff m b (v ++ print l)) (same_lines j e fs es at same) broken));
-}
-
--- or in them
-pub notes_stop : (k e n p : ℕ) (x : Event) (s t : State) (ns ms : List Note) (es : List Entry) (a b : Seen) (w : List ℕ) → ms ≡ ns
-    → RunsFrom k s (replicate n x) (noted_lines p ns ++ numbered e es) t → BreaksOff a b (w ++ print (noted_lines p ms)) → Stops k s (replicate n x) a w b
-notes_stop k e n p x s t ns ms es a b w notes run broken = record {
-  lines = noted_lines p ns ++ numbered e es;
-  last = t;
-  run = run;
-  broken = rw (print_then, ← append_assoc) (break_on a b (w ++ print (noted_lines p ns)) (print (numbered e es)) (subst (λ (l : List Note). BreaksOff a b (w ++ print (noted_lines p l))) notes broken));
-}
-
 -- ---- all that waited is put
 
--- where all that waits is taken, the trace is
-pub writes_all : (k : ℕ) (xs : List Event) (s e : State) (a b c : Seen) (p q : List ℕ) (g : ℕ) → p ≡ [] → Writes k s xs e a p b q g → TakesAll b c q → WritesTrace k s xs e a c g
-writes_all k xs s e a b c p q g none w t = record {
+-- the trace is taken
+pub writes_all : (k : ℕ) (xs : List Event) (s e : State) (a b c : Seen) (p q : List ℕ) (g : ℕ) → p ≡ [] → length xs ≤ most_events → Shows k s xs e (Prints a p 0 b q g) → TakesAll b c q → WritesTrace k s xs e a c g
+writes_all k xs s e a b c p q g none few w t = record {
   lines = w.lines;
   run = w.run;
-  taken = flush_takes a b c q (print w.lines) (subst (λ (l : List ℕ). Gathers a l b q (print w.lines)) none w.gathered) t;
-  counted = w.counted;
+  holds = (
+    flush_takes a b c q (print w.lines) (subst (λ (l : List ℕ). Gathers a l b q (print w.lines)) none w.holds.gathered) t,
+    (let fits : length xs ≤ 1000000000000 = few in omega (arith, w.holds.counted (omega (arith, w.few, fits)))),
+  );
+  few = w.few;
 }
 
--- where what waits breaks off, the trace does
-pub writes_break : (k : ℕ) (xs : List Event) (s e : State) (a b c : Seen) (p q : List ℕ) (g : ℕ) → p ≡ [] → Writes k s xs e a p b q g → BreaksOff b c q → BreaksTrace k s xs a c
-writes_break k xs s e a b c p q g none w t = record {
+-- or it breaks off
+pub writes_break : (k : ℕ) (xs : List Event) (s e : State) (a b c : Seen) (p q : List ℕ) (g h : ℕ) → p ≡ [] → Shows k s xs e (Prints a p h b q g) → BreaksOff b c q → BreaksTrace k s xs a c
+writes_break k xs s e a b c p q g h none w t = record {
   lines = w.lines;
   last = e;
   run = w.run;
-  broken = flush_breaks a b c q (print w.lines) (subst (λ (l : List ℕ). Gathers a l b q (print w.lines)) none w.gathered) t;
+  broken = flush_breaks a b c q (print w.lines) (subst (λ (l : List ℕ). Gathers a l b q (print w.lines)) none w.holds.gathered) t;
 }
 
--- where the writing broke off, the trace did
-pub stops_break : (k : ℕ) (xs : List Event) (s : State) (a b : Seen) (p : List ℕ) → p ≡ [] → Stops k s xs a p b → BreaksTrace k s xs a b
-stops_break k xs s a b p none w = record {
-  lines = w.lines;
-  last = w.last;
-  run = w.run;
-  broken = subst (λ (l : List ℕ). BreaksOff a b (l ++ print w.lines)) none w.broken;
-}
+-- where the printing broke off, the trace did, whatever events come after
+pub stops_break : (k : ℕ) (xs : List Event) (s e : State) (a b : Seen) (p : List ℕ) → p ≡ [] → Breaks k s xs e (λ lines. BreaksOff a b (p ++ print lines)) → BreaksTrace k s xs a b
+stops_break k xs s e a b p none w =
+    let v = w.shows in
+    let more = runs_on w.rest (k + length w.given) e in
+    subst (λ (l : List Event). BreaksTrace k s l a b) w.all (record {
+      lines = v.lines ++ more.0;
+      last = more.1;
+      run = runs_then w.given w.rest k s e more.1 v.lines more.0 v.run more.2;
+      broken = subst (λ (l : List ℕ). BreaksOff a b (l ++ print (v.lines ++ more.0))) none (lines_broken a b p v.lines more.0 v.holds);
+    })
 
 pub ruleset trace_rules = (writes_all, writes_break, stops_break)

@@ -1,6 +1,6 @@
 //! The kernel of one world.
 
-ghost use Rattle.std.specs.Prelude.{◌≡◌, ◌+◌, ◌-◌, ◌++◌, ◌^◌, ◌<◌, ◌≤◌, ℕ, List, [], ⊤, Contains, Some, IfOk, IfSome, IsSome, false, min, true, option_map, replicate, slice_get};
+ghost use Rattle.std.specs.Prelude.{◌≡◌, ◌+◌, ◌-◌, ◌++◌, ◌^◌, ◌<◌, ◌≤◌, ℕ, List, [], ⊤, Contains, Some, IfOk, IfSome, IsSome, IsTrue, false, min, true, option_map, replicate, slice_get};
 ghost use mathlib.Core.Option.{none};
 ghost use Rattle.std.specs.Borrow.{sem, follows_so};
 ghost use Rattle.std.specs.List.{list_all};
@@ -12,7 +12,8 @@ ghost use Rattle.posix.specs.declared.entry.Entry.{Entry};
 ghost use Rattle.posix.specs.Entries.{Line, numbered};
 ghost use Rattle.posix.specs.NextPid.{is_free};
 ghost use Rattle.posix.specs.Runs.{RunsFrom};
-ghost use Rattle.posix.specs.Step.{IsStep};
+ghost use Rattle.posix.specs.Outcomes.{silent};
+ghost use Rattle.posix.specs.Step.{IsStep, next as event_next};
 ghost use Rattle.posix.specs.Regular.{IsRegular};
 ghost use Rattle.posix.specs.Settle.{IsSettled};
 ghost use Rattle.text.specs.EventTexts.{most_events};
@@ -280,6 +281,47 @@ impl<K: ProcessTable> KernelOn<K> {
                 Pid::NONE
             }
         }
+    }
+
+    /// Whether an event changes and shows nothing: after a halt none does, and where no process can act a step doesn't.
+    #[inline]
+    fn is_idle(&self, event: Event) -> bool
+        ensures { IsTrue result → event_next true self.now.state event ≡ silent self.now.state }
+    {
+        self.machine.is_halted()
+            || (matches!(event, Event::Step) && self.machine.current().is_none())
+    }
+
+    /// [`KernelOn::repeat`], but an event that changes and shows nothing is given as often as is asked.
+    #[inline]
+    pub(crate) fn advance(
+        &mut self,
+        event: Event,
+        last: u64,
+        notes: &mut Notes,
+        entries: &mut Entries,
+    ) -> Pid
+        requires few { last ≤ most_events }
+        requires some { self.old.events < last }
+        requires no_notes { notes.old.items ≡ [] }
+        requires none { entries.old.items ≡ [] }
+        ensures from { self.old.events < self.new.events }
+        ensures within { self.new.events ≤ last }
+        ensures runs { RunsFrom (self.old.events + 1) self.old.state (replicate (self.new.events - self.old.events) event) (noted_lines result notes.new.items ++ numbered self.new.events entries.new.items) self.new.state }
+    {
+        if self.is_idle(event) {
+            self.events = last;
+            return Pid::NONE;
+        }
+        self.repeat(event, last, notes, entries)
+    }
+
+    /// Nothing is done. That the state is regular, and nothing is left to settle, is then known, as ever of a kernel.
+    pub fn regular_holds(&self)
+        ensures regular { IsRegular self.now.state }
+        ensures settled { IsSettled self.now.state }
+    {
+        let _ = &self.events;
     }
 
     /// [`KernelOn::event`], whose entries are added to a list that is empty.

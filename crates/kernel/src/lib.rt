@@ -1,6 +1,7 @@
 //! The kernel of one world, and runs from two texts to a printed trace.
 #![tactic(auto)]
 
+pub mod driver;
 pub mod kernel_on;
 mod progress;
 mod settle;
@@ -9,6 +10,7 @@ pub mod summary;
 pub mod texts;
 
 pub use calls::{Entries, entries};
+pub use driver::{Observer, drive, drive_to};
 pub use kernel_on::{Kernel, KernelOn};
 pub use sink::{Sink, SinkFault, WriteSink, put_all};
 pub use summary::Summary;

@@ -1,21 +1,21 @@
 //! Events, one after another, to a printed trace.
 
-ghost use Rattle.std.specs.Prelude.{◌≡◌, ◌+◌, ◌-◌, ◌≤◌, ◌<◌, ◌++◌, length, IfOk, OnOk, OnErr, replicate};
+ghost use Rattle.std.specs.Prelude.{◌≡◌, ◌+◌, ◌≤◌, ◌++◌, length, IfOk, OnOk, OnErr};
 ghost use Rattle.posix.specs.Entries.{numbered, reported, reports_end as reports_end_of};
 ghost use Rattle.posix.specs.Printing.{print};
 ghost use Rattle.text.specs.EventTexts.{most_events};
 ghost use Rattle.sink.specs.Sinks.{Gathers, BreaksOff};
-ghost use Rattle.kernel.specs.Progress.{Writes, Stops, WritesTrace, BreaksTrace};
-ghost use Rattle.kernel.specs.Steps.{last_given, noted_lines};
+ghost use Rattle.kernel.specs.Progress.{Prints, WritesTrace, BreaksTrace};
+ghost use Rattle.kernel.specs.Steps.{noted_lines};
+ghost use Rattle.kernel.specs.PrintLaws.{lines_break, prints_none, prints_then};
 
+use crate::driver::{Observer, drive};
 use crate::kernel_on::KernelOn;
-use arrayvec::ArrayVec;
-use calls::Entries;
-use life::{Note, Notes};
-use posix::{Entry, Event, Pid};
+use life::Note;
+use posix::{Entry, Pid};
 use proctable::ProcessTable;
 use sink::{LineBuffer, Sink, SinkFault};
-use text::{EventList, EventRun};
+use text::EventList;
 use trace::NoteWords;
 
 /// Whether an entry tells that a wait reported an end.
@@ -72,80 +72,40 @@ fn write_notes<S: Sink>(
     Ok(())
 }
 
-/// Gives one event as often as can be at once, up to the one with this number, and prints what they show; the
-/// lists are room for it.
-#[inline]
-fn run_some<K: ProcessTable, S: Sink>(
-    kernel: &mut KernelOn<K>,
-    event: Event,
-    last: u64,
-    notes: &mut Notes,
-    entries: &mut Entries,
-    pending: &mut LineBuffer,
-    out: &mut S,
-) -> Result<u64, SinkFault>
-    requires few { last ≤ most_events }
-    requires some { kernel.old.events < last }
-    ensures ok { IfOk result (Writes (kernel.old.events + 1) kernel.old.state (replicate (kernel.new.events - kernel.old.events) event) kernel.new.state (S.seen out.old) pending.old (S.seen out.new) pending.new) }
-    ensures err { OnErr result (Stops (kernel.old.events + 1) kernel.old.state (replicate (kernel.new.events - kernel.old.events) event) (S.seen out.old) pending.old (S.seen out.new)) }
-    ensures events { kernel.new.events ≡ last_given event kernel.old.events last kernel.old.state }
-    ensures from { kernel.old.events < kernel.new.events }
-    ensures within { kernel.new.events ≤ last }
-{
-    notes.clear();
-    entries.clear();
-    let pid = kernel.repeat(event, last, notes, entries);
-    write_notes(pid, notes.as_slice(), pending, out)?;
-    write_entries(kernel.events(), entries.as_slice(), pending, out)
+/// Prints what it hears: lines that wait to be put, and how many ends they and those before them report.
+#[derive(Drop)]
+struct Printer {
+    pending: LineBuffer,
+    ends: u64,
 }
 
-/// Gives so many times one event.
-fn run_many<K: ProcessTable, S: Sink>(
-    kernel: &mut KernelOn<K>,
-    run: &EventRun,
-    pending: &mut LineBuffer,
-    out: &mut S,
-) -> Result<u64, SinkFault>
-    requires { kernel.old.events + run.now.count ≤ most_events }
-    ensures ok { IfOk result (Writes (kernel.old.events + 1) kernel.old.state (replicate run.now.count run.now.event) kernel.new.state (S.seen out.old) pending.old (S.seen out.new) pending.new) }
-    ensures err { OnErr result (Stops (kernel.old.events + 1) kernel.old.state (replicate run.now.count run.now.event) (S.seen out.old) pending.old (S.seen out.new)) }
-    ensures events { OnOk result (kernel.new.events ≡ kernel.old.events + run.now.count) }
-{
-    let last = kernel.events() + run.count();
-    let mut ends = 0;
-    let mut notes = ArrayVec::new();
-    let mut entries = ArrayVec::new();
-    while kernel.events() < last {
-        ends += run_some(
-            kernel,
-            run.event(),
-            last,
-            &mut notes,
-            &mut entries,
-            pending,
-            out,
-        )?;
-    }
-    Ok(ends)
-}
+impl<S: Sink> Observer<S> for Printer {
+    type Fault = SinkFault;
 
-/// Gives all events of a list to the kernel, and prints what they show.
-fn run_events<K: ProcessTable, S: Sink>(
-    kernel: &mut KernelOn<K>,
-    events: &EventList,
-    pending: &mut LineBuffer,
-    out: &mut S,
-) -> Result<u64, SinkFault>
-    requires { kernel.old.events + length events.now ≤ most_events }
-    ensures ok { IfOk result (Writes (kernel.old.events + 1) kernel.old.state events.now kernel.new.state (S.seen out.old) pending.old (S.seen out.new) pending.new) }
-    ensures err { OnErr result (Stops (kernel.old.events + 1) kernel.old.state events.now (S.seen out.old) pending.old (S.seen out.new)) }
-    ensures events { OnOk result (kernel.new.events ≡ kernel.old.events + length events.now) }
-{
-    let mut ends = 0;
-    for run in events.runs() {
-        ends += run_many(kernel, run, pending, out)?;
+    ghost Hears = { λ p s q t lines. Prints (S.seen s) p.pending p.ends (S.seen t) q.pending q.ends lines };
+
+    ghost Fails = { λ p s t lines. BreaksOff (S.seen s) (S.seen t) (p.pending ++ print lines) };
+
+    ghost hears_none = { λ p s. prints_none (S.seen s) p.pending p.ends };
+
+    ghost hears_then = { λ p q r s t u ls ms. prints_then (S.seen s) (S.seen t) (S.seen u) p.pending q.pending r.pending p.ends q.ends r.ends ls ms };
+
+    ghost fails_then = { λ p q s t u ls ms w. lines_break (S.seen s) (S.seen t) (S.seen u) p.pending q.pending ls ms w.gathered };
+
+    #[inline]
+    fn hear(
+        &mut self,
+        pid: Pid,
+        notes: &[Note],
+        event: u64,
+        entries: &[Entry],
+        out: &mut S,
+    ) -> Result<(), SinkFault> {
+        write_notes(pid, notes, &mut self.pending, out)?;
+        let ends = write_entries(event, entries, &mut self.pending, out)?;
+        self.ends = self.ends.wrapping_add(ends);
+        Ok(())
     }
-    Ok(ends)
 }
 
 /// Gives all events of a list to the kernel, at most 1,000,000,000,000 with those given before, and puts
@@ -162,8 +122,11 @@ pub fn write_trace<K: ProcessTable, S: Sink>(
     ensures err { OnErr result (BreaksTrace (kernel.old.events + 1) kernel.old.state events.now (S.seen out.old) (S.seen out.new)) }
     ensures events { OnOk result (kernel.new.events ≡ kernel.old.events + length events.now) }
 {
-    let mut pending = LineBuffer::new();
-    let ends = run_events(kernel, events, &mut pending, out)?;
-    pending.flush(out)?;
-    Ok(ends)
+    let mut printer = Printer {
+        pending: LineBuffer::new(),
+        ends: 0,
+    };
+    drive(kernel, events, &mut printer, out)?;
+    printer.pending.flush(out)?;
+    Ok(printer.ends)
 }

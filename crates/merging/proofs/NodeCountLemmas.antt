@@ -25,10 +25,10 @@ pub counted_is : (texts : List (List ℕ)) (k : ℕ) (n : Node) (events : List E
     → new ≡ with_many_runs ending marks (record { count = n.count; first = Some n.spots }) old → new ≡ counted texts events n old
 counted_is texts k n events last lines ending marks old new adds ends are is =
     let s = n.kernel.state in
-    let same = granted_course k s last events adds.shows adds.grants.runs adds.grants.all in
+    let same = granted_course k s last events adds.lines adds.run adds.holds.1 in
     let lasts : last ≡ (course_from 1 s events).last = sym (last_alike 1 k s events ∙ ap (λ (c : Course). c.last) same) in
     let entries : map (λ (l : Line). l.entry) lines ≡ map (λ (l : Line). l.entry) (course_from 1 s events).lines =
-    ap (map (λ (l : Line). l.entry)) adds.added ∙ sym (entries_alike 1 k s events ∙ ap (λ (c : Course). map (λ (l : Line). l.entry) c.lines) same) in
+    ap (map (λ (l : Line). l.entry)) adds.holds.0 ∙ sym (entries_alike 1 k s events ∙ ap (λ (c : Course). map (λ (l : Line). l.entry) c.lines) same) in
     is
     ∙ ap₂ (λ (e : Ending) (ms : List Bool). with_many_runs e ms (record { count = n.count; first = Some n.spots }) old)
     (ends ∙ ap ending_of lasts)

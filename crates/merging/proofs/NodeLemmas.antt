@@ -20,8 +20,8 @@ use Rattle.merging.proofs.TallyLemmas.{behind_meets}
 
 -- ---- what events that are given lead to
 
-added_course : (k : ℕ) (old new : State) (events : List Event) (before after : List Line) → (a : Adds k old events new before after) → course_from k old events ≡ record { lines = a.shows; last = new }
-added_course k old new events before after a = granted_course k old new events a.shows a.grants.runs a.grants.all
+added_course : (k : ℕ) (old new : State) (events : List Event) (before after : List Line) → (a : Adds k old events new before after) → course_from k old events ≡ record { lines = a.lines; last = new }
+added_course k old new events before after a = granted_course k old new events a.lines a.run a.holds.1
 
 added_last : (k : ℕ) (old new : State) (events : List Event) (before after : List Line) → Adds k old events new before after → (course_from k old events).last ≡ new
 added_last k old new events before after a = ap (λ (c : Course). c.last) (added_course k old new events before after a)
@@ -49,8 +49,8 @@ pub one_marked : (k : ℕ) (old new : State) (x : Event) (before after : List Li
     → marked texts after marks ≡ marks_after texts x old marks
 one_marked k old new x before after texts marks none a =
     let entries = (next true old x).entries in
-    let shows : numbered k entries ++ [] ≡ a.shows = ap (λ (c : Course). c.lines) (added_course k old new (x ∷ []) before after a) in
-    let lines : after ≡ numbered k entries = a.added ∙ ap (λ (ls : List Line). ls ++ a.shows) none ∙ sym shows ∙ append-nil (numbered k entries) in
+    let shows : numbered k entries ++ [] ≡ a.lines = ap (λ (c : Course). c.lines) (added_course k old new (x ∷ []) before after a) in
+    let lines : after ≡ numbered k entries = a.holds.0 ∙ ap (λ (ls : List Line). ls ++ a.lines) none ∙ sym shows ∙ append-nil (numbered k entries) in
     ap (λ (ls : List Line). marked texts ls marks) lines
     ∙ marked_by_entries texts (numbered k entries) (numbered 1 entries) marks (entries_numbered k entries ∙ sym (entries_numbered 1 entries))
 

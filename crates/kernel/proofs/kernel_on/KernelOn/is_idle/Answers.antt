@@ -1,0 +1,19 @@
+use Rattle.std.proofs.Common.{◌≡◌, rules, subst, sym, None, false, true}
+use Rattle.posix.specs.declared.event.Event.TheVariants.{Step}
+use Rattle.posix.specs.Outcomes.{silent}
+use Rattle.posix.specs.Step.{next}
+use Rattle.posix.specs.States.{current}
+use Rattle.posix.proofs.CountLemmas.{next_halted}
+use Rattle.kernel.proofs.EventLemmas.{rest_idle}
+use Rattle.kernel.proofs.kernel_on.KernelOn.is_idle.Goals as goal
+
+pub returns-then-is_halted : goal.returns-then-is_halted
+returns-then-is_halted g c = λ _. next_halted true c.args.self.now.state c.args.event (search rules)
+
+pub returns-then-matches : goal.returns-then-matches
+returns-then-matches g c = λ none.
+    let s = c.args.self.now.state in
+    let is : c.args.event ≡ Step = search rules in
+    let going : s.halted ≡ false = search rules in
+    let nobody : current s ≡ None = search rules in
+    subst (λ event. next true s event ≡ silent s) (sym is) (rest_idle s going nobody (search rules) (search rules))
