@@ -2,7 +2,8 @@
 use Rattle.std.specs.Prelude.{◌≤◌, ◌||◌, ℕ, Bool, List, [], ◌∷◌, codes, if◌then◌else◌, map}
 use Rattle.std.specs.Str.{bytes_eq}
 use Rattle.explaining.specs.Drawings.{MeansOfDrawing, drawing_asked}
-use Rattle.explaining.specs.Serving.{Means as MeansOfExplaining, trace_in_words}
+use Rattle.explaining.specs.Serving.{Means as MeansOfExplaining}
+use Rattle.explaining.specs.Words.{asked_in_words as explaining_asked}
 use Rattle.exploring.specs.Serving.{Means as MeansOfExploring}
 use Rattle.exploring.specs.Words.{request_of_words as exploring_asked}
 use Rattle.inputs.specs.Reads.{Contents}
@@ -66,7 +67,7 @@ ServesAs contents words old new before after status Helps = IsToldAs HELP.now be
 ServesAs contents words old new before after status TellsVersion = IsToldAs VERSION.now before after status
 ServesAs contents words old new before after status (Explores more) = MeansOfExploring contents (exploring_asked more) old new before after status × (status ≤ 4)
 ServesAs contents words old new before after status (Shows more) = status ≤ 3
-ServesAs contents words old new before after status (Explains more) = MeansOfExplaining contents (trace_in_words more) old new before after status × (status ≤ 3)
+ServesAs contents words old new before after status (Explains more) = MeansOfExplaining contents (explaining_asked more) old new before after status × (status ≤ 3)
 ServesAs contents words old new before after status (Draws more) = MeansOfDrawing contents (drawing_asked more) old new status × (status ≤ 3)
 ServesAs contents words old new before after status (Names more) = MeansOfNaming contents (text_in_words more) old new before after status × (status ≤ 3)
 ServesAs contents words old new before after status RunsOrAudits = Means contents words old new before after status × (status ≤ 3)

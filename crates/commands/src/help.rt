@@ -7,6 +7,8 @@ pub const HELP: &[u8] =
     jobk run WORLD EVENTS      prints the trace of a world over its events
     jobk audit TRACE           says ok, or the first line at which a trace breaks a law
     jobk explain TRACE         prints a trace, and behind each line what its numbers say
+    jobk explain TRACE WORLD EVENTS
+                               prints the trace of a world, and what each line did, if TRACE is just that
     jobk lanes TRACE [--svg]   draws a trace, with a lane for each process
     jobk explore WORLD EVENTS  runs all schedules: the events with a few ticks put in; no other choice is varied
         --ticks K              at most K of them, 0 to 1000000; 2 if not named

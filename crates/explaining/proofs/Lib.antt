@@ -1,3 +1,4 @@
 mod DrawingLemmas
 pub mod ExplanationLemmas
 pub mod ServingLemmas
+pub mod WordLemmas

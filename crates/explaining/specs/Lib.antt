@@ -1,3 +1,4 @@
 pub mod Drawings
 pub mod Explanations
 pub mod Serving
+pub mod Words

@@ -1,13 +1,14 @@
 -- What the program does with its words, and what its status means.
-use Rattle.std.specs.Prelude.{◌≡◌, ◌⊎◌, ℕ, List, Option, None, Result, Ok, Err, IfSome, IsSomeAnd, codes, map}
+use Rattle.std.specs.Prelude.{◌≡◌, ◌⊎◌, ℕ, List, Option, None, Result, Ok, Err, IfSome, IsSomeAnd, map}
 use Rattle.std.specs.Borrow.{Bor}
 use Rattle.inputs.specs.declared.command_line.WordsFault.{WordsFault}
 use Rattle.inputs.specs.Failures.{MeansOf, status_of}
 use Rattle.inputs.specs.Reads.{Contents, Text}
-use Rattle.inputs.specs.Words.{file_in_words}
 use Rattle.inputs.specs.declared.failure.FileFailure.{FileFailure}
 use Rattle.sink.specs.Sinks.{BreaksOff, Seen, TakesAll}
+use Rattle.comparing.specs.Serving.{IsCompared, IsOther}
 use Rattle.explaining.specs.Explanations.{IsBegun, OfExplained}
+use Rattle.explaining.specs.Words.{Asked, OfTrace, OfRun, asked_in_words}
 
 -- the status of any end
 abbrev pub answer_of : Result (Unit {0}) FileFailure → ℕ
@@ -20,12 +21,9 @@ answer_of (Err why) = status_of why
 abbrev pub Words : Type 0
 Words = Result (Bor (List (Bor Text))) WordsFault
 
--- the file that words ask for, by `explain TRACE`
-abbrev pub trace_in_words : List Text → Option Text
-trace_in_words words = file_in_words (codes "explain") (codes "trace") words
-
-abbrev pub asked_by : Words → Option Text
-asked_by (Ok words) = trace_in_words (map (λ w. w.now) words.now)
+-- what they ask for
+abbrev pub asked_by : Words → Option Asked
+asked_by (Ok words) = asked_in_words (map (λ w. w.now) words.now)
 asked_by (Err fault) = None
 
 -- P holds of a text that is the trace in a file with what its lines say.
@@ -36,8 +34,22 @@ OfFile contents P name = (trace : List ℕ) × IfSome (contents name) (λ known.
 abbrev pub IsCutShort : Seen → Seen → List ℕ → Type 0
 IsCutShort before after text = BreaksOff before after text ⊎ IsBegun before after text
 
--- What a status means, with the file that is asked for, if one is, the files, and the output from the call to the return: the whole trace was
--- put, with what its lines say; or nothing, or a beginning.
-abbrev pub Means : {S : Type 0} → Contents → Option Text → S → S → Seen → Seen → ℕ → Type 0
+-- The whole trace of a file was put, with what its lines say; or it is what a world writes.
+abbrev pub IsDone : Contents → Seen → Seen → Asked → Type 0
+IsDone contents before after (OfTrace name) = OfFile contents (TakesAll before after) name
+IsDone contents before after (OfRun names) = IsCompared contents names None
+
+-- It isn't, or a text of the world is refused, and nothing was put.
+abbrev pub IsRefused : {S : Type 0} → Contents → S → S → Asked → Type 0
+IsRefused contents old new (OfTrace name) = ⊥
+IsRefused contents old new (OfRun names) = IsOther contents names × (new ≡ old)
+
+-- Of the trace of a file, with what its lines say, a beginning was put.
+abbrev pub IsBroken : Contents → Seen → Seen → Asked → Type 0
+IsBroken contents before after (OfTrace name) = OfFile contents (IsCutShort before after) name
+IsBroken contents before after (OfRun names) = Unit {0}
+
+-- What a status means, with what is asked for, if something is, the files, and the output from the call to the return.
+abbrev pub Means : {S : Type 0} → Contents → Option Asked → S → S → Seen → Seen → ℕ → Type 0
 Means contents asked old new before after status =
-    MeansOf (IsSomeAnd asked (OfFile contents (TakesAll before after))) ⊥ (IsSomeAnd asked (OfFile contents (IsCutShort before after))) asked old new status
+    MeansOf (IsSomeAnd asked (IsDone contents before after)) (IsSomeAnd asked (IsRefused contents old new)) (IsSomeAnd asked (IsBroken contents before after)) asked old new status

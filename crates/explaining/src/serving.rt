@@ -3,13 +3,15 @@
 ghost use Rattle.std.specs.Prelude.{◌≡◌, ◌≤◌, Err, IfOk, IfErr, Some, map};
 ghost use Rattle.inputs.specs.declared.command_line.WordsFault.{WordsFault};
 ghost use Rattle.explaining.specs.Drawings.{Draws, FileIsTraceUpTo, IsCutOff, MeansOfDrawing, drawing_asked, status_of_drawing};
-ghost use Rattle.explaining.specs.Serving.{Means, answer_of, asked_by, trace_in_words};
+ghost use Rattle.explaining.specs.Serving.{Means, answer_of, asked_by};
+ghost use Rattle.explaining.specs.Words.{OfTrace, asked_in_words, said};
 
 use crate::drawing::draw_trace;
 use crate::texts::explain_text;
-use crate::words::requested;
+use crate::words::{Asked, request, requested};
 use arrayvec::ArrayString;
-use inputs::{FileFailure, ReadFiles, WordsFault, named_file, read_file};
+use comparing::serve as serve_beside;
+use inputs::{FileFailure, ReadFiles, WordsFault, read_file};
 use sink::{Sink, SinkFault, put_all};
 use std::alloc::Global;
 use std::fmt::Write;
@@ -21,23 +23,10 @@ fn explain_file<'a, F: ReadFiles, O: Sink>(
     name: &'a str,
     out: &mut O,
 ) -> Result<(), FileFailure<'a>>
-    ensures { Means (F.contents files.now) (Some name.entry.now) out.old out.new (O.seen out.old) (O.seen out.new) (answer_of result) }
+    ensures { Means (F.contents files.now) (Some (OfTrace name.entry.now)) out.old out.new (O.seen out.old) (O.seen out.new) (answer_of result) }
 {
     let trace = read_file(files, name)?;
     explain_text(alloc, trace.as_slice(), out)
-}
-
-/// Does what the words ask for.
-fn serve_words<'a, F: ReadFiles, O: Sink>(
-    alloc: Global,
-    words: &'a [&'a str],
-    files: &F,
-    out: &mut O,
-) -> Result<(), FileFailure<'a>>
-    ensures { Means (F.contents files.now) (trace_in_words (map (λ w. w.now) words.entry.now)) out.old out.new (O.seen out.old) (O.seen out.new) (answer_of result) }
-{
-    let name = named_file(alloc, "explain", "trace", words)?;
-    explain_file(alloc, files, name, out)
 }
 
 /// The status of the program. A failure is told.
@@ -47,12 +36,47 @@ fn told<E: Sink>(done: Result<(), FileFailure<'_>>, err: &mut E) -> u8
 {
     match done {
         Ok(()) => 0,
-        Err(failure) => failure.end(b"usage: jobk explain TRACE\n", err),
+        Err(failure) => failure.end(b"usage: jobk explain TRACE [WORLD EVENTS]\n", err),
     }
 }
 
-/// Explains the trace that the words of the command line name, without the program's name, and gives the status of the
-/// program: 0 when it is done, 2 for other words, 3 for a device or memory. A failing `err` changes no status.
+/// Does what is asked for, and gives the status of the program.
+fn serve_asked<'a, F: ReadFiles, O: Sink, E: Sink>(
+    alloc: Global,
+    asked: Asked<'a>,
+    files: &F,
+    out: &mut O,
+    err: &mut E,
+) -> u8
+    ensures most { result ≤ 3 }
+    ensures meaning { Means (F.contents files.now) (Some (said asked.entry)) out.old out.new (O.seen out.old) (O.seen out.new) result }
+{
+    match asked {
+        Asked::Trace(name) => told(explain_file(alloc, files, name, out), err),
+        Asked::Beside(named) => serve_beside(alloc, named, files, out, err),
+    }
+}
+
+/// Does what the words ask for, and gives the status of the program.
+fn serve_words<'a, F: ReadFiles, O: Sink, E: Sink>(
+    alloc: Global,
+    words: &'a [&'a str],
+    files: &F,
+    out: &mut O,
+    err: &mut E,
+) -> u8
+    ensures most { result ≤ 3 }
+    ensures meaning { Means (F.contents files.now) (asked_in_words (map (λ w. w.now) words.entry.now)) out.old out.new (O.seen out.old) (O.seen out.new) result }
+{
+    match request(alloc, words) {
+        Ok(asked) => serve_asked(alloc, asked, files, out, err),
+        Err(why) => told(Err(why.into()), err),
+    }
+}
+
+/// Explains the trace that the words of the command line name, without the program's name, or compares it with what a
+/// world writes as [`serve_beside`] does, and gives the status of the program: 0 when it is done, 1 where the world writes
+/// another trace or is refused, 2 for other words, 3 for a device or memory. A failing `err` changes no status.
 pub fn serve_explain<'a, F: ReadFiles, O: Sink, E: Sink>(
     alloc: Global,
     words: Result<&'a [&'a str], WordsFault>,
@@ -65,7 +89,7 @@ pub fn serve_explain<'a, F: ReadFiles, O: Sink, E: Sink>(
     ensures not_text { words.entry ≡ Err WordsFault.NotText → result ≡ 2 }
 {
     match words {
-        Ok(words) => told(serve_words(alloc, words, files, out), err),
+        Ok(words) => serve_words(alloc, words, files, out, err),
         Err(WordsFault::NotText) => told(Err(FileFailure::Usage), err),
         Err(WordsFault::Memory) => told(Err(FileFailure::Memory), err),
     }

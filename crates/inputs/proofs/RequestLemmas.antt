@@ -1,5 +1,5 @@
 -- What the words of a command line ask for.
-use Rattle.std.proofs.Common.{◌≡◌, ◌≢◌, ◌⊎◌, ◌∙◌, List, [], ◌∷◌, Option, Some, None, Bor, true, ap, ap₂, sym, refl, subst, inl, inr, Result, Ok, Err, MatchResult, option_map}
+use Rattle.std.proofs.Common.{◌≡◌, ◌≢◌, ◌⊎◌, ◌∙◌, List, [], ◌∷◌, Option, Some, None, true, ap, ap₂, sym, refl, subst, inl, inr, Result, Ok, Err, MatchResult, option_map}
 use Rattle.std.specs.Prelude.{IsErrAnd, ok_or}
 use Rattle.std.proofs.lemmas.Bool.{and_parts}
 use Rattle.clap.specs.Kinds.{FailsBy, HasKind, IsAmong, Kinds}
@@ -49,8 +49,8 @@ told_refused (Err why) P asked e h (inr none) = λ usage. none
 pub file_is_simple : (program file : Text) → is_simple_and_free (command_with_file program file) ≡ true
 file_is_simple program file = refl
 
--- its name is told
-pub told_name : (result : Result (Bor Text) NoRequest) (name : Option (Bor Text)) (asked : Option Text) → result ≡ ok_or name Usage → asked ≡ option_map (λ n. n.now) name
-    → MatchResult result (λ n. asked ≡ Some n.now) (λ why. why ≡ Usage → asked ≡ None)
-told_name result (Some n) asked is same = rw is same
-told_name result None asked is same = rw is (λ usage. same)
+-- what is asked for is told
+pub told_asked : {A B : Type 0} (f : A → B) (result : Result A NoRequest) (found : Option A) (asked : Option B) → result ≡ ok_or found Usage → asked ≡ option_map f found
+    → MatchResult result (λ n. asked ≡ Some (f n)) (λ why. why ≡ Usage → asked ≡ None)
+told_asked f result (Some n) asked is same = rw is same
+told_asked f result None asked is same = rw is (λ usage. same)

@@ -22,7 +22,8 @@ use std::alloc::Global;
 use text::{EventList, Reason, TextFault, World, read_events, read_world};
 use thiserror::Error;
 pub use words::{
-    NoRequest, command, command_with_flag, is_used, named_file, named_files, value_of, words_behind,
+    NoRequest, command, command_with_file, command_with_flag, is_used, named_file, named_files,
+    value_of, words_behind,
 };
 
 /// A world and its events.
@@ -115,7 +116,7 @@ fn events_of<'a>(alloc: Global, world: &World, text: &[u8]) -> Result<EventList,
 }
 
 /// The bytes of a file.
-fn read<'a, F: ReadFiles>(files: &F, name: &'a str) -> Result<Vec<u8>, InputFault<'a>>
+pub fn read_text<'a, F: ReadFiles>(files: &F, name: &'a str) -> Result<Vec<u8>, InputFault<'a>>
     ensures ok { IfOk result (λ read. IfSome (F.contents files.now name.entry.now) (λ known. read.items ≡ known)) }
     ensures err { IfErr result (λ why. (fault : FileFault) × (why ≡ fault_of_file fault name.entry)) }
 {
@@ -137,8 +138,8 @@ pub fn read_inputs<'a, F: ReadFiles>(
     ensures text { IfOk result (λ inputs. world_of_text inputs.world_text.items ≡ Ok inputs.world) }
     ensures within { IfOk result (λ inputs. length inputs.events ≤ most_events) }
 {
-    let world_text = read(files, world)?;
-    let event_text = read(files, events)?;
+    let world_text = read_text(files, world)?;
+    let event_text = read_text(files, events)?;
     let world = world_of(alloc, world_text.as_slice())?;
     let events = events_of(alloc, &world, event_text.as_slice())?;
     Ok(Inputs {

@@ -114,7 +114,7 @@ pub fn named_files<'a>(matches: &ArgMatches<'a>) -> Result<(&'a str, &'a str), N
 }
 
 /// The command line of a program that is given one file.
-fn command_with_file<'a>(
+pub fn command_with_file<'a>(
     alloc: Global,
     program: &'a str,
     file_name: &'a str,

@@ -14,4 +14,4 @@ pub use driver::{Observer, drive, drive_to};
 pub use kernel_on::{Kernel, KernelOn};
 pub use sink::{Sink, SinkFault, WriteSink, put_all};
 pub use summary::Summary;
-pub use texts::{RunError, run, run_on};
+pub use texts::{RunError, run, run_on, run_read};

@@ -7,7 +7,7 @@ ghost use Rattle.text.specs.WorldTexts.{world_text};
 ghost use Rattle.kernel.specs.Headline.{Headline, refused};
 ghost use Rattle.kernel.specs.Accounts.{Accounts};
 
-use crate::kernel_on::KernelOn;
+use crate::kernel_on::{Kernel, KernelOn};
 use crate::progress::write_trace;
 use crate::summary::Summary;
 use proctable::{ProcessTable, SlabTable};
@@ -15,6 +15,7 @@ use sink::Sink;
 use std::alloc::Global;
 use text::{EventList, Reason, TextFault, read_events, read_world};
 use thiserror::Error;
+use umach::World;
 
 /// Why a run didn't come to its end.
 #[derive(Clone, Copy, Debug, PartialEq, Eq, Error)]
@@ -67,6 +68,23 @@ fn run_kernel<K: ProcessTable, S: Sink>(
         Ok(ends) => Ok(kernel.summary(ends)),
         Err(_) => Err(RunError::Write),
     }
+}
+
+/// [`run`], of a world and events that are read.
+pub fn run_read<S: Sink>(
+    alloc: Global,
+    world: &World,
+    events: &EventList,
+    out: &mut S,
+) -> Result<Summary, RunError>
+    requires few { length events.now ≤ most_events }
+    ensures { (world_bytes event_bytes : List ℕ) → world_text world_bytes ≡ Ok world.now → event_text world.now.consoles event_bytes ≡ Ok events.now → Headline world_bytes event_bytes out.old out.new (S.seen out.old) (S.seen out.new) result }
+{
+    let mut kernel = Kernel::boot(alloc, world).map_err(|_| RunError::Memory)?;
+    let done = run_kernel(&mut kernel, events, out);
+    // What is large is dropped by its name, by one function whose proof is short.
+    drop(kernel);
+    done
 }
 
 /// Runs the events of a text in the world of another, on a table of processes, and puts the printed

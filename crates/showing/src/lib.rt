@@ -9,5 +9,5 @@ mod state;
 mod stepping;
 mod words;
 
-pub use serving::serve;
+pub use serving::{serve, serve_trace};
 pub use stepping::{Ask, AskFault};

@@ -1,6 +1,6 @@
 //! What the program does: its texts and its statuses.
 
-ghost use Rattle.std.specs.Prelude.{◌≡◌, ◌≤◌, IfOk, None, Ok, length};
+ghost use Rattle.std.specs.Prelude.{◌≡◌, ◌≤◌, ◌⊎◌, IfOk, None, Ok, length};
 ghost use Rattle.text.specs.EventTexts.{most_events};
 ghost use Rattle.showing.specs.Statuses.{status_of};
 
@@ -239,6 +239,40 @@ fn serve_inputs<'a, 't, O: Sink, A: Ask>(
     let done = serve_past(view, request, &mut replay, inputs, last, out, ask);
     drop(replay);
     done
+}
+
+/// Puts the trace of a run, and behind the first line of each event what it did.
+fn put_trace<'a, O: Sink>(alloc: Global, inputs: &Inputs, out: &mut O) -> Result<(), Failure<'a>>
+    requires { length inputs.now.events ≤ most_events }
+{
+    let listing = Listing::new(alloc, inputs.world_text.as_slice())?;
+    let last = inputs.events.len();
+    let view = View {
+        alloc,
+        listing: &listing,
+        events: last,
+        traced: true,
+        only: &[],
+    };
+    let mut replay = past_at(alloc, &inputs.world, &inputs.events, 0)?;
+    let done = serve_calls(view, &mut replay, inputs, last, out);
+    drop(replay);
+    done
+}
+
+/// Puts what `show --trace` puts of a world and its events, and gives the status of the program: 0, or 3 where a put failed
+/// or there was no memory, which is told.
+pub fn serve_trace<O: Sink, E: Sink>(alloc: Global, inputs: &Inputs, out: &mut O, err: &mut E) -> u8
+    requires { length inputs.now.events ≤ most_events }
+    ensures { (result ≡ 0) ⊎ (result ≡ 3) }
+{
+    match put_trace(alloc, inputs, out) {
+        Ok(()) => 0,
+        Err(failure) => {
+            let _ = tell(failure, err);
+            3
+        }
+    }
 }
 
 /// Does what is asked for.

@@ -1,0 +1,36 @@
+//! A trace beside the one that a world writes over its events.
+
+ghost use Rattle.std.specs.Prelude.{◌≡◌, ◌≢◌, ◌≤◌, Err, IfOk, false, length};
+ghost use Rattle.inputs.specs.Reads.{AreRead, Contents, Text};
+ghost use Rattle.text.specs.EventTexts.{most_events};
+ghost use Rattle.comparing.specs.Comparisons.{Compares, OfRun};
+
+use crate::beside::Beside;
+use inputs::Inputs;
+use kernel::{RunError, Summary, run_read};
+use std::alloc::{AllocError, Global};
+
+/// Whether a run didn't begin for want of memory.
+fn lacks_memory(done: &Result<Summary, RunError>) -> bool
+    ensures { result ≡ false → done.now ≢ Err RunError.Memory }
+{
+    matches!(done, Err(RunError::Memory))
+}
+
+/// The number of the first line in which a trace isn't the one that a world writes over its events; none where it is. An
+/// error where there is no memory for the world.
+pub fn first_difference(
+    alloc: Global,
+    trace: &[u8],
+    inputs: &Inputs,
+) -> Result<Option<u64>, AllocError>
+    requires { length inputs.now.events ≤ most_events }
+    ensures { IfOk result (λ number. (contents : Contents) (names : Text × Text) → AreRead contents names inputs.now.world inputs.now.events → OfRun contents names (λ printed. Compares trace.now printed number)) }
+{
+    let mut beside = Beside::new(trace);
+    let done = run_read(alloc, &inputs.world, &inputs.events, &mut beside);
+    if lacks_memory(&done) {
+        return Err(AllocError);
+    }
+    Ok(beside.difference())
+}

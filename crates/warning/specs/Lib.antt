@@ -1,0 +1,3 @@
+pub mod Holds
+pub mod Tells
+pub mod Ways

@@ -1,0 +1,13 @@
+-- What a warning tells of a program.
+use Rattle.std.specs.Prelude.{◌≡◌, ℕ, ◌+◌, pos, List}
+use Rattle.posix.specs.declared.instr.Instr.{Instr}
+use Rattle.warning.specs.Ways.{NeverLeaves}
+use Rattle.warning.specs.declared.warnings.Warning.{Warning}
+use Rattle.warning.specs.declared.warnings.Warning.TheVariants.{NumberForSet, NoReturn, HandlerOfAnother, Exchanged}
+
+-- a process comes from the handler to no call that leaves
+abbrev pub Tells : List Instr → Warning → Type 0
+Tells program (NumberForSet call sig) = Unit {0}
+Tells program (NoReturn sig address) = (place : ℕ) → address ≡ pos (place + 16) → NeverLeaves program place
+Tells program (HandlerOfAnother sig other) = Unit {0}
+Tells program (Exchanged registers word outside) = Unit {0}

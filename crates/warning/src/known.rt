@@ -1,0 +1,157 @@
+//! What the registers of a process surely hold.
+
+ghost use Rattle.std.specs.Prelude.{◌≡◌, ◌<◌, ℤ, IfSome, List, length, slice_set};
+ghost use Rattle.posix.specs.Processes.{Cpu};
+ghost use Rattle.warning.specs.Holds.{Holds, IsBehind, IsBehindCall, held};
+
+use crate::held::Held;
+use crate::targets::Targets;
+use bitflags::Flags;
+use posix::{Call, Instr, Register, SaFlags, Sig};
+use std::marker::Model;
+use wording::signal_in;
+
+/// What the eight registers surely hold before an instruction, where the process came there from the one before it.
+#[derive(Drop)]
+pub struct Known {
+    registers: [Held; 8],
+}
+
+impl Model for Known {
+    ghost use Rattle.std.specs.Prelude.{List, ◌≡◌, length};
+    ghost use Rattle.warning.specs.declared.held.Held.{Held};
+
+    ghost Value = { List Held };
+
+    ghost view = { λ k. k.registers };
+
+    ghost invariant = { λ k. length k.registers ≡ 8 };
+}
+
+/// Whether a word is flags of an action.
+fn are_flags(word: i64) -> bool {
+    u32::try_from(word)
+        .ok()
+        .and_then(SaFlags::from_bits)
+        .is_some()
+}
+
+impl Known {
+    /// Nothing is known of them.
+    pub fn nothing() -> Known
+        ensures { (registers : List ℤ) → Holds result registers }
+    {
+        Known {
+            registers: [Held::Unknown; 8],
+        }
+    }
+
+    /// What a register surely holds.
+    pub fn held(&self, register: Register) -> Held
+        ensures { result ≡ held self.now register }
+    {
+        self.registers[register.index()]
+    }
+
+    /// The number that a register surely holds; none where it isn't known.
+    pub fn constant(&self, register: Register) -> Option<i64>
+        ensures { IfSome result (λ z. held self.now register ≡ Held.Constant z) }
+    {
+        match self.held(register) {
+            Held::Constant(value) => Some(value),
+            Held::Unknown | Held::OldHandler(_) => None,
+        }
+    }
+
+    /// The signal whose action a sigaction tells or sets; none where it isn't known, or the call may be refused.
+    pub fn signal(&self) -> Option<Sig> {
+        let sig = signal_in(self.constant(Register::FIRST_ARGUMENT)?)?;
+        let flags = self.constant(Register::FOURTH_ARGUMENT);
+        if sig == Sig::KILL || sig == Sig::STOP || !flags.is_none_or(are_flags) {
+            return None;
+        }
+        Some(sig)
+    }
+
+    /// What a sigaction puts into r2, as far as it is known.
+    fn old_handler(&self) -> Held
+        ensures { (z : ℤ) → result ≡ Held.Constant z → ⊥ }
+    {
+        match (self.signal(), self.constant(Register::SECOND_ARGUMENT)) {
+            (Some(sig), Some(handler)) if handler != -1 => Held::OldHandler(sig),
+            _ => Held::Unknown,
+        }
+    }
+
+    /// A register holds something else.
+    fn put(&mut self, register: Register, value: Held)
+        ensures value { self.new ≡ slice_set self.old register value }
+        ensures within { register < 8 }
+    {
+        self.registers[register.index()] = value;
+    }
+
+    /// Nothing is known of a register any more.
+    fn forget(&mut self, register: Register)
+        ensures value { self.new ≡ slice_set self.old register Held.Unknown }
+        ensures within { register < 8 }
+    {
+        self.put(register, Held::Unknown);
+    }
+
+    /// A call is made.
+    fn call(&mut self, call: Call)
+        ensures { (old new : List ℤ) → IsBehindCall call old new → Holds self.old old → Holds self.new new }
+    {
+        let old_handler = self.old_handler();
+        self.forget(Register::RESULT);
+        match call {
+            Call::Waitpid | Call::Sigpending => self.forget(Register::FIRST_ARGUMENT),
+            Call::Waitid => {
+                self.forget(Register::FIRST_ARGUMENT);
+                self.forget(Register::SECOND_ARGUMENT);
+            }
+            Call::Sigprocmask => self.forget(Register::SECOND_ARGUMENT),
+            Call::Sigaction => {
+                self.put(Register::SECOND_ARGUMENT, old_handler);
+                self.forget(Register::THIRD_ARGUMENT);
+                self.forget(Register::FOURTH_ARGUMENT);
+            }
+            Call::Exit | Call::Sigreturn => *self = Known::nothing(),
+            _ => {}
+        }
+    }
+
+    /// An instruction is run, and the process goes on at the next one.
+    pub fn run(&mut self, instr: &Instr)
+        ensures { (c : Cpu) (new : List ℤ) → length c.registers ≡ 8 → IsBehind instr.now c new → Holds self.old c.registers → Holds self.new new }
+    {
+        match *instr {
+            Instr::Set(to, value) => self.put(to, Held::Constant(value)),
+            Instr::Move(to, from) => match self.constant(from) {
+                Some(value) => self.put(to, Held::Constant(value)),
+                None => self.forget(to),
+            },
+            Instr::Compute(_, to, _) => self.forget(to),
+            Instr::Load(to, _) => self.forget(to),
+            // who looks at an old handler knows that it is there
+            Instr::Note(shown) => {
+                if self.constant(shown).is_none() {
+                    self.forget(shown);
+                }
+            }
+            Instr::Store(_, _) | Instr::JumpIf(_, _, _) => {}
+            Instr::Jump(_) => *self = Known::nothing(),
+            Instr::Sys(call) => self.call(call),
+        }
+    }
+
+    /// A process comes to a place: nothing is known where a jump goes to, as it may come from there.
+    pub fn come_to(&mut self, targets: &Targets, place: usize)
+        ensures { (registers : List ℤ) → Holds self.old registers → Holds self.new registers }
+    {
+        if targets.have(place) {
+            *self = Known::nothing();
+        }
+    }
+}
