@@ -9,6 +9,8 @@ pub const HELP: &[u8] =
     jobk explain TRACE         prints a trace, and behind each line what its numbers say
     jobk explain TRACE WORLD EVENTS
                                prints the trace of a world, and what each line did, if TRACE is just that
+    jobk explain --audit TRACE
+                               audits it, and tells in words the line at fault, and the law that it breaks
     jobk lanes TRACE [--svg]   draws a trace, with a lane for each process
     jobk explore WORLD EVENTS  runs all schedules: the events with a few ticks put in; no other choice is varied
         --ticks K              at most K of them, 0 to 1000000; 2 if not named

@@ -1,7 +1,7 @@
 //! The program's commands: what the words are for, and what each serves.
 
 ghost use Rattle.std.specs.Prelude.{◌≡◌, Ok, map, option_map};
-ghost use Rattle.commands.specs.Commands.{ServesAs, first_or_empty as first_or_empty_of, is_help as is_help_of, is_version as is_version_of, purpose_of, said};
+ghost use Rattle.commands.specs.Commands.{ServesAs, explained, first_or_empty as first_or_empty_of, is_help as is_help_of, is_version as is_version_of, purpose_of, said};
 ghost use Rattle.commands.specs.Named.{named_in as named_in_words};
 ghost use Rattle.commands.specs.Serving.{Serves};
 
@@ -12,7 +12,7 @@ use exploring::{Progress, serve as serve_explore};
 use inputs::{ReadFiles, WordsFault};
 use kernel::Sink;
 use naming::serve as serve_names;
-use running::{put_own, serve as serve_run_or_audit};
+use running::{put_own, serve as serve_run_or_audit, serve_told_audit};
 use showing::{Ask, serve as serve_show};
 use std::alloc::Global;
 use std::hash::RandomState;
@@ -28,6 +28,8 @@ enum Command<'a> {
     Show(&'a [&'a str]),
     /// `explain`, and the words behind it.
     Explain(&'a [&'a str]),
+    /// `explain --audit`, and the words behind it.
+    TellLaw(&'a [&'a str]),
     /// `lanes`, and the words behind it.
     Lanes(&'a [&'a str]),
     /// `names`, and the words behind it.
@@ -60,6 +62,16 @@ fn first_or_empty<'a>(words: &[&'a str]) -> &'a str
     }
 }
 
+/// What the words behind `explain` are for.
+fn explain_in<'a>(words: &'a [&'a str]) -> Command<'a>
+    ensures { said result ≡ explained (map (λ w. w.now) words.entry.now) }
+{
+    match words {
+        [option, more @ ..] if *option == "--audit" => Command::TellLaw(more),
+        _ => Command::Explain(words),
+    }
+}
+
 /// What the words are for.
 fn command_in<'a>(words: &'a [&'a str]) -> Command<'a>
     ensures { said result ≡ purpose_of (map (λ w. w.now) words.entry.now) }
@@ -77,7 +89,7 @@ fn command_in<'a>(words: &'a [&'a str]) -> Command<'a>
     } else if *first == "show" {
         Command::Show(more)
     } else if *first == "explain" {
-        Command::Explain(more)
+        explain_in(more)
     } else if *first == "lanes" {
         Command::Lanes(more)
     } else if *first == "names" {
@@ -88,7 +100,7 @@ fn command_in<'a>(words: &'a [&'a str]) -> Command<'a>
 }
 
 /// Does what words ask for that don't have names. Where the first or the second word asks for help or for the version,
-/// that is told; `explore`, `show`, `explain`, `lanes` and `names` are served by the words behind them; all other words
+/// that is told; `explore`, `show`, `explain`, `explain --audit`, `lanes` and `names` are served by the words behind them; all other words
 /// as [`serve_run_or_audit`] says.
 pub fn serve_command<'a, F: ReadFiles, O: Sink, E: Sink, P: Progress + Ask>(
     alloc: Global,
@@ -107,6 +119,7 @@ pub fn serve_command<'a, F: ReadFiles, O: Sink, E: Sink, P: Progress + Ask>(
         Command::Explore(more) => serve_explore(alloc, Ok(more), files, out, err, person),
         Command::Show(more) => serve_show(alloc, Ok(more), files, out, err, person),
         Command::Explain(more) => serve_explain(alloc, Ok(more), files, out, err),
+        Command::TellLaw(more) => serve_told_audit(alloc, more, files, keys, out, err),
         Command::Lanes(more) => serve_lanes(alloc, more, files, out, err),
         Command::Names(more) => serve_names(alloc, Ok(more), files, out, err),
         Command::RunOrAudit => serve_run_or_audit(alloc, Ok(words), files, keys, out, err),

@@ -1,5 +1,5 @@
 -- What the program does with its words, and what its status means.
-use Rattle.std.specs.Prelude.{◌≡◌, ◌≢◌, ◌⊎◌, ℕ, List, [], ◌∷◌, ◌++◌, codes, map, None, Some, Result, Ok, Err, IfSome}
+use Rattle.std.specs.Prelude.{◌≡◌, ◌≢◌, ◌⊎◌, ℕ, List, [], ◌∷◌, ◌++◌, codes, length, map, None, Some, Result, Ok, Err, IfSome}
 use Rattle.std.specs.Borrow.{Bor}
 use Rattle.clap.specs.Words.{Text}
 use Rattle.kernel.specs.declared.summary.Summary.{Summary}
@@ -117,6 +117,17 @@ pub record Means {S : Type 0} (contents : Contents) (words : Words) (old new : S
   pub other_words : status ≡ 2 → Other words × (new ≡ old)
   -- nothing was put, or a beginning of the printed trace of a run, or not all of an audit's answer
   pub cut_short : status ≡ 3 → (new ≡ old) ⊎ (OfTexts (Asked contents words) (λ world events. CutsShort world events before after) ⊎ OfTrace (AskedAudit contents words) (λ trace. Unit {0}))
+
+-- The words name one file, and this is its text.
+abbrev pub IsTextOf : Contents → List Text → List ℕ → Type 0
+IsTextOf contents words trace = (name : Text) × (words ≡ name ∷ []) × IfSome (contents name) (λ known. trace ≡ known)
+
+-- What a status of an audit means that tells the broken law, too: whether the laws of a trace hold of the file that the
+-- words name; with other words nothing is put.
+pub record MeansOfAudit {S : Type 0} (contents : Contents) (words : List Text) (old new : S) (before after : Seen) (status : ℕ) : Type 0 where
+  pub done : status ≡ 0 → OfTrace (IsTextOf contents words) (IsAccepted before after)
+  pub refused : status ≡ 1 → OfTrace (IsTextOf contents words) IsFaulty
+  pub other_words : status ≡ 2 → (length words ≢ 1) × (new ≡ old)
 
 -- A text of the program's own was put, or a put of it failed.
 abbrev pub IsToldAs : List ℕ → Seen → Seen → ℕ → Type 0

@@ -4,7 +4,7 @@ ghost use Rattle.std.specs.Prelude.{◌≡◌, ◌≤◌, IfOk, IfErr, IfSome, O
 ghost use Rattle.inputs.specs.declared.files.FileFault.{FileFault};
 ghost use Rattle.sink.specs.Sinks.{BreaksOff, TakesAll};
 ghost use Rattle.inputs.specs.Reads.{AreInFiles};
-ghost use Rattle.running.specs.Serving.{AreOther, AskFor, AskForAudit, Ends, IsToldAs, Means, answer_of, failure_of, status_of};
+ghost use Rattle.running.specs.Serving.{AreOther, AskFor, AskForAudit, Ends, IsToldAs, Means, MeansOfAudit, answer_of, failure_of, status_of};
 
 use crate::words::{Request, requested};
 use arrayvec::ArrayString;
@@ -14,6 +14,7 @@ use kernel::{RunError, Sink, SinkFault, put_all, run};
 use std::alloc::Global;
 use std::fmt::Write;
 use std::hash::RandomState;
+use trace::next_line;
 
 /// Why the program doesn't end with status 0.
 #[derive(Clone, Copy)]
@@ -120,11 +121,37 @@ fn put_fault<'a, O: Sink>(why: TraceFault, out: &mut O) -> Result<(), Failure<'a
     put_answer(text.as_str().as_bytes(), out)
 }
 
-/// Audits a trace.
+/// A line of a text, by its number from 1; what is left where there are fewer.
+fn line_at(text: &[u8], number: u64) -> &[u8] {
+    let mut rest = text;
+    for _ in 1..number {
+        let Some((_, more)) = next_line(rest) else {
+            return rest;
+        };
+        rest = more;
+    }
+    match next_line(rest) {
+        Some((line, _)) => line,
+        None => rest,
+    }
+}
+
+/// Tells the first faulty line of a trace, and which law it breaks. The longest of these laws has less than 60 bytes.
+fn put_law<'a, O: Sink>(why: TraceFault, trace: &[u8], out: &mut O) -> Result<(), Failure<'a>>
+    ensures { IfErr result (λ why. why ≡ Failure.Run RunError.Write) }
+{
+    let mut law = ArrayString::<64>::new();
+    let _ = writeln!(law, "   {}", why.fault);
+    put_answer(line_at(trace, why.line), out)?;
+    put_answer(law.as_str().as_bytes(), out)
+}
+
+/// Audits a trace. Where it is asked to, it tells the law that is broken first, too.
 fn audit_trace<'a, O: Sink>(
     alloc: Global,
     keys: Option<RandomState>,
     trace: &[u8],
+    tells_law: bool,
     out: &mut O,
 ) -> Result<(), Failure<'a>>
     ensures { Ends (λ w e. ⊥) (λ t. t ≡ trace.now) ⊥
@@ -138,24 +165,28 @@ fn audit_trace<'a, O: Sink>(
         Err(why) if why.fault == AuditFault::Memory => Err(Failure::Run(RunError::Memory)),
         Err(why) => {
             put_fault(why, out)?;
+            if tells_law {
+                put_law(why, trace, out)?;
+            }
             Err(Failure::Faulty)
         }
     }
 }
 
-/// Audits a file.
+/// Audits a file. Where it is asked to, it tells the law that is broken first, too.
 fn audit_file<'a, F: ReadFiles, O: Sink>(
     alloc: Global,
     files: &F,
     keys: Option<RandomState>,
     trace: &'a str,
+    tells_law: bool,
     out: &mut O,
 ) -> Result<(), Failure<'a>>
     ensures { Ends (λ w e. ⊥) (λ t. IfSome (F.contents files.now trace.entry.now) (λ known. t ≡ known)) ⊥
         out.old out.new (O.seen out.old) (O.seen out.new) result }
 {
     let bytes = read(files, trace)?;
-    audit_trace(alloc, keys, bytes.as_slice(), out)
+    audit_trace(alloc, keys, bytes.as_slice(), tells_law, out)
 }
 
 /// Does what the words ask for.
@@ -175,7 +206,7 @@ fn serve_words<'a, F: ReadFiles, O: Sink>(
     }
     match requested(alloc, words) {
         Request::Run { world, events } => run_files(alloc, files, world, events, out),
-        Request::Audit { trace } => audit_file(alloc, files, keys, trace, out),
+        Request::Audit { trace } => audit_file(alloc, files, keys, trace, false, out),
         Request::Usage => Err(Failure::Usage),
         Request::NoMemory => Err(Failure::Run(RunError::Memory)),
     }
@@ -216,6 +247,29 @@ pub fn put_own<O: Sink, E: Sink>(text: &[u8], out: &mut O, err: &mut E) -> u8
     ensures { IsToldAs text.now (O.seen out.old) (O.seen out.new) result }
 {
     ended(put_answer(text, out), err)
+}
+
+/// Audits the one file that the words behind `explain --audit` name, as `audit` does, and tells behind a fault the line, and
+/// the law that it breaks, in words. Gives the status of the program: 0 where the laws of a trace hold, 1 for a faulty
+/// trace, 2 for other words, 3 for a device or memory. A failing `err` changes no status.
+pub fn serve_told_audit<'a, F: ReadFiles, O: Sink, E: Sink>(
+    alloc: Global,
+    words: &'a [&'a str],
+    files: &F,
+    keys: Option<RandomState>,
+    out: &mut O,
+    err: &mut E,
+) -> u8
+    ensures status { result ≤ 3 }
+    ensures meaning { MeansOfAudit (F.contents files.now) (map (λ w. w.now) words.entry.now) out.old out.new (O.seen out.old) (O.seen out.new) result }
+{
+    match words {
+        [trace] => ended(audit_file(alloc, files, keys, trace, true, out), err),
+        _ => {
+            let _ = put_all(err, b"usage: jobk explain --audit TRACE\n");
+            2
+        }
+    }
 }
 
 /// Runs two files, audits one, or runs the program's own stored world, as the words of the command line ask for, without
