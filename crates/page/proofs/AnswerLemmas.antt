@@ -2,6 +2,7 @@
 use Rattle.std.proofs.Common.{◌≡◌, ◌⊎◌, ◌∙◌, ℕ, ◌≤◌, List, [], ◌++◌, Option, None, Some, map, length, take, drop, refl, ap, sym, subst, arith, append-nil, inl, inr, codes, Bor, Ok, Err, IsUtf8}
 use Rattle.std.specs.Io.KnownBytes.{Appends}
 use Rattle.std.specs.List.{AllByRecursion}
+use Rattle.std.specs.Option.{IsSomeAnd}
 use Rattle.std.proofs.Math.Seq.{take-append_seam}
 use Rattle.clap.proofs.OnLiterals.{clap_on_literals}
 use Rattle.kernel.specs.Headline.{CutsShort}
@@ -14,7 +15,9 @@ use Rattle.running.specs.Serving.{AskFor, AskForAudit, IsAccepted, IsFaulty, IsR
 use Rattle.running.specs.Words.{Asked, AsksAudit, AsksRun, request_of_words}
 use Rattle.exploring.specs.Serving.{Means as MeansOfExploring}
 use Rattle.exploring.specs.Words.{Asked as AskedOfExploring}
-use Rattle.commands.specs.Commands.{Draws, Explains, Explores, Helps, Names, Purpose, RunsOrAudits, ServesAs, Shows, TellsVersion, purpose_of}
+use Rattle.explaining.specs.Serving.{IsRefused as IsOtherTrace, Means as MeansOfExplaining}
+use Rattle.explaining.specs.Words.{Asked as AskedOfExplaining, OfTrace as OfTraceAlone, OfRun}
+use Rattle.commands.specs.Commands.{Draws, Explains, Explores, Helps, Names, Purpose, RunsOrAudits, ServesAs, Shows, TellsLaw, TellsVersion, purpose_of}
 use Rattle.commands.specs.Named.{Place, ServesNamed, named_in, place_in}
 use Rattle.commands.specs.Serving.{Serves, ServesWords}
 use Rattle.page.specs.Answers.{AreServed, BeginsTrace, IsAnswered, IsAudited, IsGiven, IsRun, IsTrace}
@@ -42,13 +45,28 @@ exploring_along f contents asked old new before after status h = record {
   cut_short = λ e. elim (h.cut_short e) [ inl same ↦ inl (ap f same) | inr r ↦ inr r ];
 }
 
+explaining_along : {S T : Type 0} (f : S → T) (contents : Contents) (asked : Option AskedOfExplaining) (old new : S) (before after : Seen) (status : ℕ)
+    → MeansOfExplaining contents asked old new before after status → MeansOfExplaining contents asked (f old) (f new) before after status
+explaining_along {S} {T} f contents asked old new before after status h = record {
+  done = h.done;
+  refused = λ e. refused asked (h.refused e);
+  other_words = λ e. let r = h.other_words e in (r.0, ap f r.1);
+  cut_short = λ e. elim (h.cut_short e) [ inl same ↦ inl (ap f same) | inr r ↦ inr r ];
+}
+  where
+    refused : (a : Option AskedOfExplaining) → IsSomeAnd a (IsOtherTrace contents old new) → IsSomeAnd a (IsOtherTrace contents (f old) (f new))
+    refused None h = absurd h
+    refused (Some (OfTraceAlone name)) h = absurd h
+    refused (Some (OfRun names)) h = (h.0, ap f h.1)
+
 as_along : {S T : Type 0} (f : S → T) (contents : Contents) (words : Words) (old new : S) (before after : Seen) (status : ℕ) (purpose : Purpose)
     → ServesAs contents words old new before after status purpose → ServesAs contents words (f old) (f new) before after status purpose
 as_along f contents words old new before after status Helps h = h
 as_along f contents words old new before after status TellsVersion h = h
 as_along f contents words old new before after status (Explores more) h = (exploring_along f contents _ old new before after status h.0, h.1)
 as_along f contents words old new before after status (Shows more) h = h
-as_along f contents words old new before after status (Explains more) h = (means_of_along f _ _ _ _ _ old new status (λ d. d) h.0, h.1)
+as_along f contents words old new before after status (Explains more) h = (explaining_along f contents _ old new before after status h.0, h.1)
+as_along f contents words old new before after status (TellsLaw more) h = (record { done = h.0.done; refused = h.0.refused; other_words = λ e. let r = h.0.other_words e in (r.0, ap f r.1) }, h.1)
 as_along f contents words old new before after status (Draws more) h = (means_of_along f _ _ _ _ _ old new status (λ d. d) h.0, h.1)
 as_along f contents words old new before after status (Names more) h = (means_of_along f _ _ _ _ _ old new status (λ d. d) h.0, h.1)
 as_along f contents words old new before after status RunsOrAudits h = (means_along f contents words old new before after status h.0, h.1)
@@ -106,6 +124,7 @@ as_most contents words old new before after status TellsVersion (inr h) = omega 
 as_most contents words old new before after status (Explores more) h = h.1
 as_most contents words old new before after status (Shows more) h = omega (arith, h)
 as_most contents words old new before after status (Explains more) h = omega (arith, h.1)
+as_most contents words old new before after status (TellsLaw more) h = omega (arith, h.1)
 as_most contents words old new before after status (Draws more) h = omega (arith, h.1)
 as_most contents words old new before after status (Names more) h = omega (arith, h.1)
 as_most contents words old new before after status RunsOrAudits h = omega (arith, h.1)
