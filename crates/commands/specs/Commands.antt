@@ -9,7 +9,7 @@ use Rattle.exploring.specs.Words.{request_of_words as exploring_asked}
 use Rattle.inputs.specs.Reads.{Contents}
 use Rattle.naming.specs.Serving.{Means as MeansOfNaming, text_in_words}
 use Rattle.sink.specs.Sinks.{Seen}
-use Rattle.running.specs.Serving.{IsToldAs, Means, MeansOfAudit, Words}
+use Rattle.running.specs.Serving.{IsToldAs, Means, MeansOfAuditInWords, Words}
 use Rattle.commands.specs.declared.help.TheConstants.{HELP, VERSION}
 use Rattle.commands.specs.declared.serving.Command.{Command}
 use Rattle.commands.specs.declared.serving.Command.TheVariants as command
@@ -21,7 +21,7 @@ pub data Purpose : Type 0 where
   Explores : List (List ℕ) → Purpose  -- by the words behind `explore`
   Shows : List (List ℕ) → Purpose
   Explains : List (List ℕ) → Purpose
-  TellsLaw : List (List ℕ) → Purpose  -- by those behind `explain --audit`
+  AuditsInWords : List (List ℕ) → Purpose  -- by those behind `explain --audit`
   Draws : List (List ℕ) → Purpose  -- by those behind `lanes`
   Names : List (List ℕ) → Purpose
   RunsOrAudits : Purpose
@@ -35,7 +35,7 @@ is_version word = bytes_eq word (codes "--version") || bytes_eq word (codes "-V"
 -- by the words behind `explain`
 abbrev pub explained : List (List ℕ) → Purpose
 explained [] = Explains []
-explained (option ∷ more) = if bytes_eq option (codes "--audit") then TellsLaw more else Explains (option ∷ more)
+explained (option ∷ more) = if bytes_eq option (codes "--audit") then AuditsInWords more else Explains (option ∷ more)
 
 -- by the first word, and the second, if there is one
 abbrev pub purpose : List ℕ → List ℕ → List (List ℕ) → Purpose
@@ -62,7 +62,7 @@ said command.Version = TellsVersion
 said (command.Explore more) = Explores (map (λ w. w.now) more.now)
 said (command.Show more) = Shows (map (λ w. w.now) more.now)
 said (command.Explain more) = Explains (map (λ w. w.now) more.now)
-said (command.TellLaw more) = TellsLaw (map (λ w. w.now) more.now)
+said (command.AuditInWords more) = AuditsInWords (map (λ w. w.now) more.now)
 said (command.Lanes more) = Draws (map (λ w. w.now) more.now)
 said (command.Names more) = Names (map (λ w. w.now) more.now)
 said command.RunOrAudit = RunsOrAudits
@@ -75,7 +75,7 @@ ServesAs contents words old new before after status TellsVersion = IsToldAs VERS
 ServesAs contents words old new before after status (Explores more) = MeansOfExploring contents (exploring_asked more) old new before after status × (status ≤ 4)
 ServesAs contents words old new before after status (Shows more) = status ≤ 3
 ServesAs contents words old new before after status (Explains more) = MeansOfExplaining contents (explaining_asked more) old new before after status × (status ≤ 3)
-ServesAs contents words old new before after status (TellsLaw more) = MeansOfAudit contents more old new before after status × (status ≤ 3)
+ServesAs contents words old new before after status (AuditsInWords more) = MeansOfAuditInWords contents more old new before after status × (status ≤ 3)
 ServesAs contents words old new before after status (Draws more) = MeansOfDrawing contents (drawing_asked more) old new status × (status ≤ 3)
 ServesAs contents words old new before after status (Names more) = MeansOfNaming contents (text_in_words more) old new before after status × (status ≤ 3)
 ServesAs contents words old new before after status RunsOrAudits = Means contents words old new before after status × (status ≤ 3)

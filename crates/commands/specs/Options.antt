@@ -6,10 +6,7 @@ use Rattle.inputs.specs.Reads.{Text}
 use Rattle.naming.specs.Texts.{IsNamed}
 use Rattle.exploring.specs.Words.{Parted, nothing_parted, with_word}
 use Rattle.exploring.specs.declared.words.Next.{Next}
-use Rattle.exploring.specs.declared.words.Next.TheVariants.{Any, Behind, File}
-use Rattle.exploring.specs.declared.words.Texted.TheVariants.{Find, Anywhere}
-use Rattle.commands.specs.declared.options.Next.{Next as DeclaredNext}
-use Rattle.commands.specs.declared.options.Next.TheVariants as declared
+use Rattle.exploring.specs.declared.words.Next.TheVariants.{Any, File}
 
 -- What the first option is: `explore` alone has events among them, and those of other commands stay as names of files do.
 abbrev pub first_option : Text → Next
@@ -34,9 +31,3 @@ ArePlain next [] [] = Unit {0}
 ArePlain next [] (plain ∷ others) = ⊥
 ArePlain next (word ∷ more) [] = ⊥
 ArePlain next (word ∷ more) (plain ∷ others) = IsPlainWord word (read next word).anywhere plain × ArePlain (read next word).next more others
-
-abbrev pub next_as : DeclaredNext → Next
-next_as declared.Any = Any
-next_as declared.Text = Behind Find
-next_as declared.Event = Behind Anywhere
-next_as declared.File = File

@@ -4,43 +4,30 @@ ghost use Rattle.std.specs.Prelude.{◌≡◌, ◌∷◌, ◌++◌, None, IfOk, 
 ghost use Rattle.std.specs.String.{string_bytes};
 ghost use Rattle.exploring.specs.Words.{nothing_parted, with_cut};
 ghost use Rattle.exploring.specs.declared.words.Next.TheVariants.{Any};
-ghost use Rattle.commands.specs.Options.{ArePlain, EndsPlain, first_option, next_as, read as read_as};
+ghost use Rattle.commands.specs.Options.{ArePlain, EndsPlain, first_option, read as read_as};
 
+use exploring::{Next, Texted};
 use naming::name_text;
 use std::alloc::{AllocError, Global};
-
-/// What an option is, by the words before it.
-#[derive(Clone, Copy)]
-enum Next {
-    /// An option, or its value.
-    Any,
-    /// The text behind `--find`.
-    Text,
-    /// The event behind `--anywhere`.
-    Event,
-    /// The name of a file, behind `--`.
-    File,
-}
 
 /// What stands before an event in a word, and the event, if it has one; and what the word behind it is.
 type Read<'a> = (Option<(&'a str, &'a str)>, Next);
 
 /// What the option behind a word without `=` is.
 fn behind_whole(word: &str) -> Next
-    ensures { next_as result ≡ (with_cut nothing_parted word.now (word.now, None)).next }
+    ensures { result ≡ (with_cut nothing_parted word.now (word.now, None)).next }
 {
-    match word {
-        "--find" => Next::Text,
-        "--anywhere" => Next::Event,
-        "--" => Next::File,
-        _ => Next::Any,
+    match Texted::named(word) {
+        Some(option) => Next::Behind(option),
+        None if word == "--" => Next::File,
+        None => Next::Any,
     }
 }
 
 /// Reads an option, or its value.
 fn read_any<'a>(word: &'a str) -> Read<'a>
     ensures event { MatchOption result.0 ((read_as Any word.entry.now).anywhere ≡ []) (λ e. (word.entry.now ≡ e.0.now ++ e.1.now) × ((read_as Any word.entry.now).anywhere ≡ e.1.now ∷ [])) }
-    ensures next { next_as result.1 ≡ (read_as Any word.entry.now).next }
+    ensures next { result.1 ≡ (read_as Any word.entry.now).next }
 {
     let Some((name, text)) = word.split_once('=') else {
         return (None, behind_whole(word));
@@ -52,30 +39,28 @@ fn read_any<'a>(word: &'a str) -> Read<'a>
     }
 }
 
-impl Next {
-    /// What the first option of a command is. No other command than `explore` has events among its options: they all stay
-    /// as they are, as the names of files do.
-    fn first(command: &str) -> Next
-        ensures { next_as result ≡ first_option command.now }
-    {
-        if command == "explore" {
-            Next::Any
-        } else {
-            Next::File
-        }
+/// What the first option of a command is. No other command than `explore` has events among its options: they all stay
+/// as they are, as the names of files do.
+fn first_of(command: &str) -> Next
+    ensures { result ≡ first_option command.now }
+{
+    if command == "explore" {
+        Next::Any
+    } else {
+        Next::File
     }
+}
 
-    /// Reads a word that is this.
-    fn read<'a>(self, word: &'a str) -> Read<'a>
-        ensures event { MatchOption result.0 ((read_as (next_as self) word.entry.now).anywhere ≡ []) (λ e. (word.entry.now ≡ e.0.now ++ e.1.now) × ((read_as (next_as self) word.entry.now).anywhere ≡ e.1.now ∷ [])) }
-        ensures next { next_as result.1 ≡ (read_as (next_as self) word.entry.now).next }
-    {
-        match self {
-            Next::Any => read_any(word),
-            Next::Text => (None, Next::Any),
-            Next::Event => (Some(("", word)), Next::Any),
-            Next::File => (None, Next::File),
-        }
+/// Reads a word that is this.
+fn read<'a>(next: Next, word: &'a str) -> Read<'a>
+    ensures event { MatchOption result.0 ((read_as next word.entry.now).anywhere ≡ []) (λ e. (word.entry.now ≡ e.0.now ++ e.1.now) × ((read_as next word.entry.now).anywhere ≡ e.1.now ∷ [])) }
+    ensures next { result.1 ≡ (read_as next word.entry.now).next }
+{
+    match next {
+        Next::Any => read_any(word),
+        Next::Behind(Texted::Find) => (None, Next::Any),
+        Next::Behind(Texted::Anywhere) => (Some(("", word)), Next::Any),
+        Next::File => (None, Next::File),
     }
 }
 
@@ -97,9 +82,9 @@ pub fn plain_options(
     ensures { IfOk result (λ plain. ArePlain (first_option command.now) (map (λ w. w.now) options.now) (map string_bytes plain.items)) }
 {
     let mut plain = Vec::new(alloc);
-    let mut next = Next::first(command);
+    let mut next = first_of(command);
     for word in options {
-        let (parts, behind) = next.read(word);
+        let (parts, behind) = read(next, word);
         plain.push(match parts {
             Some((before, event)) => plain_event(alloc, before, event)?,
             None => String::from_str(alloc, word)?,

@@ -12,7 +12,7 @@ use exploring::{Progress, serve as serve_explore};
 use inputs::{ReadFiles, WordsFault};
 use kernel::Sink;
 use naming::serve as serve_names;
-use running::{put_own, serve as serve_run_or_audit, serve_told_audit};
+use running::{put_own, serve as serve_run_or_audit, serve_audit_in_words};
 use showing::{Ask, serve as serve_show};
 use std::alloc::Global;
 use std::hash::RandomState;
@@ -29,7 +29,7 @@ enum Command<'a> {
     /// `explain`, and the words behind it.
     Explain(&'a [&'a str]),
     /// `explain --audit`, and the words behind it.
-    TellLaw(&'a [&'a str]),
+    AuditInWords(&'a [&'a str]),
     /// `lanes`, and the words behind it.
     Lanes(&'a [&'a str]),
     /// `names`, and the words behind it.
@@ -67,7 +67,7 @@ fn explain_in<'a>(words: &'a [&'a str]) -> Command<'a>
     ensures { said result ≡ explained (map (λ w. w.now) words.entry.now) }
 {
     match words {
-        [option, more @ ..] if *option == "--audit" => Command::TellLaw(more),
+        [option, more @ ..] if *option == "--audit" => Command::AuditInWords(more),
         _ => Command::Explain(words),
     }
 }
@@ -100,8 +100,8 @@ fn command_in<'a>(words: &'a [&'a str]) -> Command<'a>
 }
 
 /// Does what words ask for that don't have names. Where the first or the second word asks for help or for the version,
-/// that is told; `explore`, `show`, `explain`, `explain --audit`, `lanes` and `names` are served by the words behind them; all other words
-/// as [`serve_run_or_audit`] says.
+/// that is told; `explore`, `show`, `explain`, `explain --audit`, `lanes` and `names` are served by the words behind
+/// them; all other words as [`serve_run_or_audit`] says.
 pub fn serve_command<'a, F: ReadFiles, O: Sink, E: Sink, P: Progress + Ask>(
     alloc: Global,
     words: &'a [&'a str],
@@ -119,7 +119,7 @@ pub fn serve_command<'a, F: ReadFiles, O: Sink, E: Sink, P: Progress + Ask>(
         Command::Explore(more) => serve_explore(alloc, Ok(more), files, out, err, person),
         Command::Show(more) => serve_show(alloc, Ok(more), files, out, err, person),
         Command::Explain(more) => serve_explain(alloc, Ok(more), files, out, err),
-        Command::TellLaw(more) => serve_told_audit(alloc, more, files, keys, out, err),
+        Command::AuditInWords(more) => serve_audit_in_words(alloc, more, files, keys, out, err),
         Command::Lanes(more) => serve_lanes(alloc, more, files, out, err),
         Command::Names(more) => serve_names(alloc, Ok(more), files, out, err),
         Command::RunOrAudit => serve_run_or_audit(alloc, Ok(words), files, keys, out, err),

@@ -4,18 +4,19 @@ use Rattle.std.specs.Prelude.{Result, Ok, Err}
 use Rattle.std.proofs.lemmas.Grind.{common_steps}
 use Rattle.std.specs.Io.KnownBytes.{Appends}
 use Rattle.inputs.specs.Reads.{AreRead, Contents, Text}
-use Rattle.kernel.specs.Headline.{CutsShort, Headline, Traces}
+use Rattle.kernel.specs.Headline.{CutsShort, Headline, RunsTexts, Traces}
 use Rattle.kernel.specs.declared.texts.RunError.{RunError}
 use Rattle.kernel.specs.declared.texts.RunError.TheVariants as error
 use Rattle.kernel.specs.declared.summary.Summary.{Summary}
 use Rattle.posix.specs.declared.event.Event.{Event}
+use Rattle.posix.specs.Entries.{Line}
 use Rattle.posix.specs.Printing.{print}
-use Rattle.posix.specs.States.{World}
+use Rattle.posix.specs.States.{State, World}
 use Rattle.sink.proofs.SinkLemmas.{put_fits, slice_more}
 use Rattle.sink.specs.Sinks.{Seen}
 use Rattle.text.specs.EventTexts.{event_text}
 use Rattle.comparing.specs.Comparisons.{Compares, OfRun, held, taken_beside}
-use Rattle.comparing.specs.declared.beside.Beside.{Beside}
+use Rattle.comparing.specs.declared.comparing_sink.ComparingSink.{ComparingSink}
 
 -- ---- what a put takes
 
@@ -72,47 +73,45 @@ begun : (text trace : List ℕ) (same : ℕ) (other : Option ℕ) → text ≡ t
 begun text trace same other is none nothing = rw (is, none, nothing) refl
 
 -- what is seen of it as a sink
-abbrev pub seen : Beside → Seen
+abbrev pub seen : ComparingSink → Seen
 seen b = record { taken = Some (held b.text.now b.same b.other); failures = b.failures; last_failed = b.last_failed }
 
+-- A text that is the trace, beside what such a run prints.
+of_run_with : (contents : Contents) (names : Text × Text) (world : World) (events : List Event) (read : AreRead contents names world events) (text trace : List ℕ) (number : Option ℕ)
+    (given : List Event) (lines : List Line) (last : State) → RunsTexts read.world_bytes read.event_bytes given lines last → text ≡ trace → Compares text (print lines) number
+    → OfRun contents names (λ printed. Compares trace printed number)
+of_run_with contents names world events read text trace number given lines last run same compares = record {
+  world_bytes = read.world_bytes;
+  event_bytes = read.event_bytes;
+  in_files = read.in_files;
+  events = given;
+  lines = lines;
+  last = last;
+  run = run;
+  of_trace = subst (λ t. Compares t (print lines) number) same compares;
+}
+
 -- A trace beside the printed one, all of which was put.
-beside_all : (contents : Contents) (names : Text × Text) (world : World) (events : List Event) (read : AreRead contents names world events) (first beside : Beside) (summary : Summary)
+beside_all : (contents : Contents) (names : Text × Text) (world : World) (events : List Event) (read : AreRead contents names world events) (first beside : ComparingSink) (summary : Summary)
     (trace : List ℕ) (number : Option ℕ) → first.text.now ≡ trace → first.same ≡ 0 → first.other ≡ None → Traces read.world_bytes read.event_bytes (seen first) (seen beside) summary
     → Compares beside.text.now (taken_beside beside.text.now beside.same beside.other) number → OfRun contents names (λ printed. Compares trace printed number)
 beside_all contents names world events read first beside summary trace number is none nothing h whole =
-    let same = taken_is _ _ trace beside.text.now beside.same beside.other (print h.lines) (begun _ _ _ _ is none nothing) refl h.taken.taken in record {
-      world_bytes = read.world_bytes;
-      event_bytes = read.event_bytes;
-      in_files = read.in_files;
-      events = h.events;
-      lines = h.lines;
-      last = h.last;
-      run = h.run;
-      of_trace = subst (λ t. Compares t (print h.lines) number) same.0 (subst (λ x. Compares beside.text.now x number) same.1 whole);
-    }
+    let same = taken_is _ _ trace beside.text.now beside.same beside.other (print h.lines) (begun _ _ _ _ is none nothing) refl h.taken.taken in
+    of_run_with contents names world events read beside.text.now trace number h.events h.lines h.last h.run same.0 (subst (λ x. Compares beside.text.now x number) same.1 whole)
 
 -- Or a beginning of it was.
-beside_some : (contents : Contents) (names : Text × Text) (world : World) (events : List Event) (read : AreRead contents names world events) (first beside : Beside)
+beside_some : (contents : Contents) (names : Text × Text) (world : World) (events : List Event) (read : AreRead contents names world events) (first beside : ComparingSink)
     (trace : List ℕ) (number : Option ℕ) → first.text.now ≡ trace → first.same ≡ 0 → first.other ≡ None → CutsShort read.world_bytes read.event_bytes (seen first) (seen beside)
     → (beside.last_failed ≡ true → (rest : List ℕ) → Compares beside.text.now (taken_beside beside.text.now beside.same beside.other ++ rest) number)
     → OfRun contents names (λ printed. Compares trace printed number)
 beside_some contents names world events read first beside trace number is none nothing h more =
     let broken = h.broken in
-    let same = taken_is _ _ trace beside.text.now beside.same beside.other broken.front (begun _ _ _ _ is none nothing) refl broken.taken in record {
-      world_bytes = read.world_bytes;
-      event_bytes = read.event_bytes;
-      in_files = read.in_files;
-      events = h.events;
-      lines = h.lines;
-      last = h.last;
-      run = h.run;
-      of_trace =
-          subst (λ t. Compares t (print h.lines) number) same.0
-          (subst (λ x. Compares beside.text.now x number) (ap (λ x. x ++ broken.rest) same.1 ∙ sym broken.split) (more broken.last broken.rest));
-    }
+    let same = taken_is _ _ trace beside.text.now beside.same beside.other broken.front (begun _ _ _ _ is none nothing) refl broken.taken in
+    of_run_with contents names world events read beside.text.now trace number h.events h.lines h.last h.run same.0
+    (subst (λ x. Compares beside.text.now x number) (ap (λ x. x ++ broken.rest) same.1 ∙ sym broken.split) (more broken.last broken.rest))
 
 -- A run that began did one of both.
-pub of_run : {S : Type 0} (contents : Contents) (names : Text × Text) (world : World) (events : List Event) (read : AreRead contents names world events) (so sn : S) (first beside : Beside)
+pub of_run : {S : Type 0} (contents : Contents) (names : Text × Text) (world : World) (events : List Event) (read : AreRead contents names world events) (so sn : S) (first beside : ComparingSink)
     (done : Result Summary RunError) (trace : List ℕ) (number : Option ℕ) → first.text.now ≡ trace → first.same ≡ 0 → first.other ≡ None → done ≢ Err error.Memory
     → Headline read.world_bytes read.event_bytes so sn (seen first) (seen beside) done
     → Compares beside.text.now (taken_beside beside.text.now beside.same beside.other) number

@@ -5,9 +5,10 @@ ghost use Rattle.inputs.specs.Reads.{AreRead, Contents, Text};
 ghost use Rattle.text.specs.EventTexts.{most_events};
 ghost use Rattle.comparing.specs.Comparisons.{Compares, OfRun};
 
-use crate::beside::Beside;
+use crate::comparing_sink::ComparingSink;
 use inputs::Inputs;
 use kernel::{RunError, Summary, run_read};
+use proctable::SlabTable;
 use std::alloc::{AllocError, Global};
 
 /// Whether a run didn't begin for want of memory.
@@ -27,10 +28,10 @@ pub fn first_difference(
     requires { length inputs.now.events ≤ most_events }
     ensures { IfOk result (λ number. (contents : Contents) (names : Text × Text) → AreRead contents names inputs.now.world inputs.now.events → OfRun contents names (λ printed. Compares trace.now printed number)) }
 {
-    let mut beside = Beside::new(trace);
-    let done = run_read(alloc, &inputs.world, &inputs.events, &mut beside);
+    let mut sink = ComparingSink::new(trace);
+    let done = run_read::<SlabTable, _>(alloc, &inputs.world, &inputs.events, &mut sink);
     if lacks_memory(&done) {
         return Err(AllocError);
     }
-    Ok(beside.difference())
+    Ok(sink.difference())
 }

@@ -2,7 +2,7 @@
 //! each event did, and what in the world is surely not meant.
 #![tactic(auto)]
 
-mod beside;
+mod comparing_sink;
 mod comparison;
 mod serving;
 

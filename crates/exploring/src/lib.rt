@@ -11,3 +11,4 @@ mod written;
 
 pub use counting::Progress;
 pub use serving::serve;
+pub use words::{Next, Texted};

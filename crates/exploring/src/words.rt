@@ -11,7 +11,7 @@ use std::alloc::{AllocError, Global};
 
 /// An option with a text behind it, which may begin with a hyphen.
 #[derive(Clone, Copy)]
-enum Texted {
+pub enum Texted {
     /// A text that is looked for.
     Find,
     /// An event that is put in anywhere.
@@ -30,7 +30,7 @@ impl Texted {
     }
 
     /// The option of this name, if there is one.
-    fn named(name: &str) -> Option<Texted>
+    pub fn named(name: &str) -> Option<Texted>
         ensures { result ≡ option_named name.now }
     {
         match name {
@@ -43,7 +43,7 @@ impl Texted {
 
 /// What the next word is.
 #[derive(Clone, Copy)]
-enum Next {
+pub enum Next {
     /// An option, its value, or the name of a file.
     Any,
     /// The text of an option.

@@ -1,13 +1,14 @@
 -- What keeps the index of those right that keep their process groups from being orphaned, by what is seen of processes.
-use Rattle.std.proofs.Common.{◌≡◌, ℕ, ◌<◌, ◌≤◌, ◌==◌, ◌&&◌, ◌||◌, true, false, not, cond, refl, ap, sym, ◌∙◌, arith, List, Option, Some, None, option_map}
-use Rattle.std.specs.Option.{IsSome, option_map_or}
+use Rattle.std.proofs.Common.{◌≡◌, ℕ, ◌<◌, ◌≤◌, ◌==◌, ◌&&◌, ◌||◌, true, false, not, cond, refl, ap, sym, subst, ◌∙◌, arith, List, Option, Some, None, option_map}
+use Rattle.std.specs.Option.{IfSome, IsSome, option_map_or}
 use Rattle.std.specs.Prelude.{option_and_then}
-use Rattle.std.proofs.lemmas.Bool.{and_parts, eqb-true, not-true}
+use Rattle.std.proofs.lemmas.Bool.{and_parts, cond_both, eqb-true, not-true}
 use Rattle.posix.specs.Processes.{Process, is_living, is_zombie}
 use Rattle.posix.specs.Groups.{is_anchor, is_outside as is_outside_of}
 use Rattle.posix.specs.Tables.{lookup, parent_of}
 use Rattle.posix.proofs.TableLemmas.{pid_looked}
 use Rattle.pidset.specs.declared.index.Pair.{Pair}
+use Rattle.pidset.specs.Rows.{HasRoom}
 use Rattle.pidset.specs.Indexes.{IsMoved, IsAnchorIndex, anchor_key, key_of}
 use Rattle.pidset.proofs.IndexLemmas.{IsElsewhere, unmoved}
 use Rattle.pidset.proofs.AnchorLemmas.{Stance, stance, stance_of, same_anchor, stance_stays, anchors_moved}
@@ -74,10 +75,21 @@ anchors_same p rs ts before after pairs same was is parent stays life h = anchor
         ∙ rw (ap (λ (s : Stance). s.group) stays, ap (λ (s : Stance). s.session) stays, life) refl ∙ sym (key_at p rs before was)
 
 -- who is there has a number, and there is memory for it
-pub number_within : (n p : ℕ) (rs : List Process) → AreWithin n rs → lookup 0 rs ≡ None → IsSome (lookup p rs) → (1 ≤ p) × (p < n)
-number_within n p rs h none there =
+pub number_within : (sizes : List ℕ) (p : ℕ) (rs : List Process) → AreWithin sizes rs → lookup 0 rs ≡ None → IsSome (lookup p rs) → (1 ≤ p) × HasRoom sizes p
+number_within sizes p rs h none there =
     let r = there_is (lookup p rs) there in
     let named = pid_looked p rs r.what r.found in
     let low = least_number rs none p r.what r.found in
     let high = (h p r.what r.found).0 in
-    (omega (arith, named, low), omega (arith, named, high))
+    (omega (arith, named, low), rw named at high)
+
+-- there is memory for the list of an anchor where there is for that of its process group
+pub anchor_inside : (sizes : List ℕ) (w : IndexedFields) (up : Option IndexedFields) → (1 ≤ w.group) × HasRoom sizes w.group → IfSome (anchor_in w up) (λ k. (1 ≤ k) × HasRoom sizes k)
+anchor_inside sizes w up h = cond_both _ (Some w.group) None (λ o. IfSome o (λ k. (1 ≤ k) × HasRoom sizes k)) (λ e. h) (λ e. tt)
+
+-- so there is for who is there
+pub anchor_within : (sizes : List ℕ) (p : ℕ) (rs : List Process) (w : IndexedFields) (up : Option IndexedFields) → AreWithin sizes rs → seen_at p rs ≡ Some w → IfSome (anchor_in w up) (λ k. (1 ≤ k) × HasRoom sizes k)
+anchor_within sizes p rs w up h e =
+    let r = seen_found p rs w e in
+    let inside = h p r.0 r.1 in
+    anchor_inside sizes w up (subst (λ (w : IndexedFields). (1 ≤ w.group) × HasRoom sizes w.group) r.2 (inside.1.0, inside.2))

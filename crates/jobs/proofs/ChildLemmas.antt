@@ -1,5 +1,5 @@
 -- The children of processes, by their index, and their adoption.
-use Rattle.std.proofs.Common.{◌≡◌, ◌≢◌, ℕ, ◌<◌, ◌≤◌, ◌==◌, ◌&&◌, nat_lt, refl, ap, sym, ◌∙◌, arith, subst, List, [], ◌∷◌, map, filter, Option, Some, None, ◌⊎◌, inl, inr}
+use Rattle.std.proofs.Common.{◌≡◌, ◌≢◌, ℕ, ◌<◌, ◌≤◌, ◌==◌, ◌&&◌, nat_lt, refl, ap, sym, ◌∙◌, arith, subst, List, [], ◌∷◌, map, filter, Option, Some, None, ◌⊎◌, ⊎_elim, inl, inr}
 use Rattle.std.specs.Prelude.{option_and_then}
 use Rattle.std.specs.Option.{IfSome, IsSome}
 use Rattle.std.proofs.lemmas.Bool.{cases_eq, cond_both, eq-eqb, eqb-true, eqb-false, and_parts}
@@ -12,14 +12,16 @@ use Rattle.posix.proofs.MapLemmas.{adopted_changed, lookup_back, lookup_on, at_p
 use Rattle.posix.proofs.RegularLemmas.{lookup_inserted, lookup_new, lookup_left}
 use Rattle.posix.proofs.WalkLemmas.{AtChild, Passes, at_first, both_pass, first_passes, in_filter, passing_above}
 use Rattle.pidset.specs.declared.index.Pair.{Pair}
+use Rattle.pidset.specs.Rows.{HasRoom}
 use Rattle.pidset.specs.Indexes.{ArePairsRekeyed, IsAt, IsIndex, IsNextPair, is_key}
 use Rattle.pidset.proofs.IndexLemmas.{at_once, index_map, index_rekeyed, next_pair, rekeyed}
 use Rattle.proctable.specs.declared.records.Record.{Record}
 use Rattle.proctable.specs.declared.snapshot.Snapshot.{Snapshot}
 use Rattle.proctable.specs.Records.{give_record, snapshot_of, with_parent, with_record}
 use Rattle.jobs.specs.declared.indexes.IndexedFields.{IndexedFields}
-use Rattle.jobs.specs.Indexes.{anchor_in, child_key, list_of_parent, parent_key, snapshot_seen}
+use Rattle.jobs.specs.Indexes.{anchor_in, child_key, list_of_parent, parent_key, seen_of, snapshot_seen}
 use Rattle.jobs.specs.IndexedTables.{AreKin, AreWithin, HaveOneRoot}
+use Rattle.jobs.proofs.AnchorLemmas.{anchor_inside}
 use Rattle.jobs.proofs.NumberLemmas.{least_number, nobody_there}
 
 -- ---- reading
@@ -58,8 +60,8 @@ pub in_none : (n : ℕ) → None ≡ list_of_parent n → n ≡ 0
 in_none n e = grind (arith, nat_tests, e)
 
 -- there is memory for the list of a parent
-pub list_inside : (n parent : ℕ) → (parent ≡ 0) ⊎ ((1 ≤ parent) × (parent < n)) → IfSome (list_of_parent parent) (λ k. (1 ≤ k) × (k < n))
-list_inside n parent h = grind (arith, nat_tests, h)
+pub list_inside : (sizes : List ℕ) (parent : ℕ) → (parent ≡ 0) ⊎ ((1 ≤ parent) × HasRoom sizes parent) → IfSome (list_of_parent parent) (λ k. (1 ≤ k) × HasRoom sizes k)
+list_inside sizes parent h = cond_both (parent == 0) None (Some parent) (λ o. IfSome o (λ k. (1 ≤ k) × HasRoom sizes k)) (λ e. tt) (λ e. ⊎_elim (λ none. absurd (eqb-false parent 0 e none)) (λ there. there) h)
 
 -- who has no parent has no sibling
 pub no_sibling : (p : ℕ) (rs : List Process) (me : Process) → IsRising rs → HaveOneRoot rs → lookup p rs ≡ Some me → me.parent ≡ 0 → next_sibling p rs ≡ None
@@ -114,8 +116,8 @@ pub key_read : (from to c : ℕ) (rs ts : List Process) (heir : IndexedFields) (
 key_read from to c rs ts heir f up i left read = ap (λ f. anchor_in (snapshot_seen f) (Some heir)) (rw (still_there from c rs ts up i left) at read)
 
 -- and there is memory for that
-pub key_within : (n c : ℕ) (rs : List Process) (r : Process) (heir : IndexedFields) → AreWithin n rs → lookup c rs ≡ Some r → IfSome (child_key heir r) (λ k. (1 ≤ k) × (k < n))
-key_within n c rs r heir h e = let w = h c r e in cond_both _ (Some r.group) None (λ o. IfSome o (λ k. (1 ≤ k) × (k < n))) (λ e. (w.1, w.2)) (λ e. tt)
+pub key_within : (sizes : List ℕ) (c : ℕ) (rs : List Process) (r : Process) (heir : IndexedFields) → AreWithin sizes rs → lookup c rs ≡ Some r → IfSome (child_key heir r) (λ k. (1 ≤ k) × HasRoom sizes k)
+key_within sizes c rs r heir h e = let w = h c r e in anchor_inside sizes (seen_of r) (Some heir) (w.1.0, w.2)
 
 -- where none is left, all have the parent
 pub all_adopted : (from to : ℕ) (ts : List Process) → children_in from ts ≡ [] → adopted from to ts ≡ ts

@@ -85,7 +85,7 @@ indexes_moved p parent it rs ts old new anchors children same fits h s k = recor
 pub indexes_unmoved : (p parent : ℕ) (it : Option IndexedFields) (rs : List Process) (b : Indexes) → AreIndexes rs b → Sees p parent it rs → AreMoved p parent it b b
 indexes_unmoved p parent it rs b h s = record {
   members = unmoved member_key p rs b.members.pairs _ h.members (sym s.members);
-  numbers = refl;
+  sizes = refl;
   reporting = record { moved = unmoved report_key p rs b.reporting.pairs _ h.reporting.index (sym s.reporting); once = h.reporting.once; room = refl };
   stopped = record { moved = unmoved stopped_key p rs b.stopped.pairs _ h.stopped.index (sym s.stopped); once = h.stopped.once; room = refl };
   alarmed = record { moved = unmoved alarm_key p rs b.alarmed.pairs _ h.alarmed.index (sym s.alarmed); once = h.alarmed.once; room = refl };

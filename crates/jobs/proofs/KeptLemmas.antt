@@ -15,13 +15,14 @@ use Rattle.posix.proofs.RegularLemmas.{lookup_new, lookup_removed}
 use Rattle.posix.proofs.WalkLemmas.{all_looked, some_looked}
 use Rattle.pidset.specs.Indexes.{ArePairsRekeyed, AreTurned, HaveParents, IsIndex, IndexView, key_of, IsAnchorIndex, IsMoved, IsReplaced}
 use Rattle.pidset.specs.Lists.{ListsView}
+use Rattle.pidset.specs.Rows.{Grows, HasRoom}
 use Rattle.pidset.proofs.IndexLemmas.{IsElsewhere, elsewhere_changed, elsewhere_inserted, elsewhere_removed, index_moved, key_removed}
 use Rattle.proctable.specs.declared.records.Record.{Record}
 use Rattle.proctable.specs.Records.{process_of, snapshot_of, give_record, with_record}
 use Rattle.proctable.proofs.RecordLemmas.{record_rises}
 use Rattle.jobs.specs.declared.indexes.Indexes.{Indexes}
 use Rattle.jobs.specs.declared.indexes.IndexedFields.{IndexedFields}
-use Rattle.jobs.specs.Indexes.{AreIndexes, AreMoved, CanMove, list_of_parent, parent_key, snapshot_seen, IsInside, anchor_in, child_key, member_in, member_key, record_seen, seen_of}
+use Rattle.jobs.specs.Indexes.{sizes_in, AreIndexes, IsNumber, AreMoved, CanMove, list_of_parent, parent_key, snapshot_seen, IsInside, anchor_in, child_key, member_in, member_key, record_seen, seen_of}
 use Rattle.jobs.specs.IndexedTables.{AreKin, AreNumbers, AreWithin, HasParent, HaveOneRoot, IsGroupFor, IsKept, IsRun, StaysGrouped}
 use Rattle.proctable.specs.declared.snapshot.Snapshot.{Snapshot}
 use Rattle.jobs.proofs.SnapshotLemmas.{is_there, some_read, none_read, snapshot_are}
@@ -31,6 +32,7 @@ use Rattle.jobs.proofs.ChildLemmas.{kin_adopted, kin_record, root_adopted, root_
 use Rattle.jobs.proofs.AnchorLemmas.{seen_at, seen_found, key_at, child_is, stance_in, anchors_same, number_within}
 use Rattle.pidset.proofs.ParentLemmas.{no_child, parents_map, parents_inserted, parents_removed, parents_adopted}
 use Rattle.jobs.proofs.NumberLemmas.{absent_changed, least_number, no_more, above_none}
+use Rattle.jobs.proofs.RoomLemmas.{anchors_room}
 
 -- ---- few enough to be counted
 
@@ -44,36 +46,39 @@ size_of rs up numbers =
 
 -- ---- where one process changes, comes or goes
 
--- all numbers are below a greater bound too
-pub widen : (n m : ℕ) (rs : List Process) → n ≤ m → AreWithin n rs → AreWithin m rs
-widen n m rs l h q r e = let w = h q r e in let a = w.0 in let b = w.2 in (omega (arith, a, l), w.1, omega (arith, b, l))
+-- there is memory for all numbers where there is more
+pub widen : (old new : List ℕ) (rs : List Process) → Grows old new → AreWithin old rs → AreWithin new rs
+widen old new rs grows h q r e = let w = h q r e in (grows r.pid w.0, w.1, grows r.group w.2)
 
 -- there is memory for all numbers, where there is for that of p
-within_at : (n p : ℕ) (it : Option IndexedFields) (rs ts : List Process) → IsElsewhere p rs ts → (p < n) × IfSome (member_in it) (λ k. (1 ≤ k) × (k < n)) → key_of member_key p ts ≡ member_in it → AreWithin n rs → AreWithin n ts
-within_at n p it rs ts same inside s h q r e = elim (cases_eq q p) [
+within_at : (sizes : List ℕ) (p : ℕ) (it : Option IndexedFields) (rs ts : List Process) → IsElsewhere p rs ts → HasRoom sizes p × IfSome (member_in it) (λ k. IsNumber k × HasRoom sizes k) → key_of member_key p ts ≡ member_in it → AreWithin sizes rs → AreWithin sizes ts
+within_at sizes p it rs ts same inside s h q r e = elim (cases_eq q p) [
   | inl here ↦
-      let group = subst (λ o. IfSome o (λ k. (1 ≤ k) × (k < n))) (sym s ∙ ap (option_and_then member_key) (ap (λ q. lookup q ts) (sym here) ∙ e)) inside.1 in
+      let group = subst (λ o. IfSome o (λ k. IsNumber k × HasRoom sizes k)) (sym s ∙ ap (option_and_then member_key) (ap (λ q. lookup q ts) (sym here) ∙ e)) inside.1 in
       (rw (pid_looked q ts r e ∙ here) inside.0, group.0, group.1)
   | inr ne ↦ h q r (sym (same q ne) ∙ e)
 ]
 
 -- where p moves in the indexes, and all others stay, all is kept
-kept_at : (n m p parent : ℕ) (it : Option IndexedFields) (rs ts : List Process) (old now : Indexes) (set kin : ListsView) → IsElsewhere p rs ts → 1 ≤ p → IsInside p it old → IsRising ts → m ≡ length ts → Fits m old → Sees p parent it ts → AreMoved p parent it old now
-    → IsAnchorIndex ts set.pairs → set.numbers ≡ old.anchors.numbers → HaveParents HasParent ts → IsIndex parent_key ts kin.pairs → kin.numbers ≡ old.children.numbers → HaveOneRoot ts → IsKept n old rs → IsKept m (record now { anchors = set; children = kin }) ts
-kept_at n m p parent it rs ts old now set kin same least inside up count free s moved index numbers parents children wide root k = record {
+kept_at : (n m p parent : ℕ) (it : Option IndexedFields) (rs ts : List Process) (old now : Indexes) (set kin : ListsView) → IsElsewhere p rs ts → ((p ≡ 0) ⊎ (greatest_pid < p) → lookup p ts ≡ None) → IsInside p it old → IsRising ts → m ≡ length ts → Fits m old → Sees p parent it ts → AreMoved p parent it old now
+    → IsAnchorIndex ts set.pairs → set.sizes ≡ old.anchors.sizes → HaveParents HasParent ts → IsIndex parent_key ts kin.pairs → kin.sizes ≡ old.children.sizes → HaveOneRoot ts → IsKept n old rs → IsKept m (record now { anchors = set; children = kin }) ts
+kept_at n m p parent it rs ts old now set kin same named inside up count free s moved index set_sizes parents children kin_sizes root k = record {
   rising = up;
-  numbers = λ q out. elim (cases_eq q p) [ inl e ↦ let low = inside.0 in let limit = k.limit in ⊎_elim (λ none. absurd (omega (arith, e, none, least))) (λ above. absurd (omega (arith, e, above, low, limit))) out | inr ne ↦ same q ne ∙ k.numbers q out ];
-  within = rw moved.numbers (within_at old.members.numbers p it rs ts same inside s.members k.within);
-  limit = rw moved.numbers k.limit;
+  numbers = λ q out. elim (cases_eq q p) [ inl here ↦ rw here (named (rw here at out)) | inr ne ↦ same q ne ∙ k.numbers q out ];
+  within = rw (moved.sizes, set_sizes, kin_sizes) (within_at (sizes_in old) p it rs ts same inside s.members k.within);
   count = count;
   indexes = indexes_moved p parent it rs ts old now set kin same (rw (← count) free) k.indexes s moved;
-  anchors = record { index = index; wide = let e = moved.numbers in let wide = k.anchors.wide in omega (arith, e, numbers, wide); parents = parents };
-  children = record { index = children; wide = let e = moved.numbers in let was = k.children.wide in omega (arith, e, wide, was); root = root };
+  anchors = record { index = index; parents = parents };
+  children = record { index = children; root = root };
 }
 
 -- who is there has a number, and there is memory for it
-pub number_kept : {n p : ℕ} {rs : List Process} {indexes : Indexes} → IsKept n indexes rs → IsSome (lookup p rs) → (1 ≤ p) × (p < indexes.members.numbers)
+pub number_kept : {n p : ℕ} {rs : List Process} {indexes : Indexes} → IsKept n indexes rs → IsSome (lookup p rs) → (1 ≤ p) × HasRoom (sizes_in indexes) p
 number_kept {p = p} {rs = rs} k there = number_within _ p rs k.within (k.numbers 0 (inl refl)) there
+
+-- none above the greatest
+number_most : {n p : ℕ} {rs : List Process} {indexes : Indexes} → IsKept n indexes rs → IsSome (lookup p rs) → p ≤ greatest_pid
+number_most {p = p} k there = elim (cases_lt greatest_pid p) [ inl above ↦ let no : false ≡ true = sym (ap is_some (k.numbers p (inr above))) ∙ there in absurd (cc) | inr low ↦ low ]
 
 -- it isn't 0
 pub some_number : {n p : ℕ} {rs : List Process} {indexes : Indexes} → IsKept n indexes rs → IsSome (lookup p rs) → p ≢ 0
@@ -106,18 +111,18 @@ elsewhere_record rs p c = elsewhere_changed p (give_record c) (λ r. refl) rs
 
 -- what is asked before p moves: it stands as it was seen, and there is memory for its number and that of its process group, and for all numbers
 abbrev pub AreReady : ℕ → List Process → List Process → Record → Record → Indexes → Type 0
-AreReady p rs ts b c indexes = CanMove p (parent_of p rs) (Some (record_seen b)) indexes × IsInside p (Some (record_seen c)) indexes × AreWithin indexes.anchors.numbers ts
+AreReady p rs ts b c indexes = CanMove p (parent_of p rs) (Some (record_seen b)) indexes × IsInside p (Some (record_seen c)) indexes × AreWithin indexes.anchors.sizes ts
 
 -- so it is where p stays in its process group, or comes into one in which it may be
 ready_record : (n p : ℕ) (rs : List Process) (b c : Record) (indexes : Indexes) → lookup p rs ≡ Some (process_of p (parent_of p rs) b) → (c.group ≡ b.group) ⊎ IsGroupFor p c.group rs → IsKept n indexes rs → AreReady p rs (with_record rs p c) b c indexes
 ready_record n p rs b c indexes found group k = (
   can_move p _ _ rs indexes k.rising k.indexes (sees p _ rs found) (λ none. let no = sym none ∙ found in absurd (cc)),
   inside,
-  widen indexes.members.numbers _ _ k.anchors.wide (within_at indexes.members.numbers p (Some (record_seen c)) rs (with_record rs p c) (elsewhere_record rs p c) inside (ap (option_and_then member_key) (record_found rs p b c found)) k.within),
+  widen (sizes_in indexes) indexes.anchors.sizes _ (anchors_room indexes) (within_at (sizes_in indexes) p (Some (record_seen c)) rs (with_record rs p c) (elsewhere_record rs p c) inside (ap (option_and_then member_key) (record_found rs p b c found)) k.within),
 )
   where
-    number : (1 ≤ p) × (p < indexes.members.numbers)
-    number = number_kept k (rw found refl)
+    number : IsNumber p × HasRoom (sizes_in indexes) p
+    number = let there : IsSome (lookup p rs) = rw found refl in let is = number_kept k there in ((is.0, number_most k there), is.1)
 
     inside : IsInside p (Some (record_seen c)) indexes
     inside = (
@@ -135,13 +140,13 @@ ready_run {g = g} {change = change} {rs = rs} {n = n} {p = p} {indexes = indexes
 
 -- p moves in the indexes
 pub kept_moved : (n : ℕ) (rs new : List Process) (p : ℕ) (b c : Record) (old now : Indexes) (set : ListsView) → lookup p rs ≡ Some (process_of p (parent_of p rs) b) → new ≡ with_record rs p c → AreMoved p (parent_of p rs) (Some (record_seen c)) old now
-    → IsInside p (Some (record_seen c)) old → IsAnchorIndex (with_record rs p c) set.pairs → set.numbers ≡ old.anchors.numbers → now.children ≡ old.children → IsKept n old rs → IsKept n (record now { anchors = set }) new
+    → IsInside p (Some (record_seen c)) old → IsAnchorIndex (with_record rs p c) set.pairs → set.sizes ≡ old.anchors.sizes → now.children ≡ old.children → IsKept n old rs → IsKept n (record now { anchors = set }) new
 unfolding give_record changed
-kept_moved n rs new p b c old now set found is moved inside index numbers same k =
-    rw is (kept_at n n p (parent_of p rs) (Some (record_seen c)) rs (with_record rs p c) old now set now.children (elsewhere_record rs p c) (number_kept k (rw found refl)).0 inside (record_rises rs k.rising p c)
-    (k.count ∙ sym (length_record rs p c)) (fits rs n old k.indexes (rw k.count (omega arith))) (sees p (process_of p (parent_of p rs) c) (with_record rs p c) (record_found rs p b c found)) moved index numbers
+kept_moved n rs new p b c old now set found is moved inside index sizes same k =
+    rw is (kept_at n n p (parent_of p rs) (Some (record_seen c)) rs (with_record rs p c) old now set now.children (elsewhere_record rs p c) (λ out. let no = sym (k.numbers p out) ∙ found in absurd (cc)) inside (record_rises rs k.rising p c)
+    (k.count ∙ sym (length_record rs p c)) (fits rs n old k.indexes (rw k.count (omega arith))) (sees p (process_of p (parent_of p rs) c) (with_record rs p c) (record_found rs p b c found)) moved index sizes
     (parents_map HasParent (at p (give_record c)) (at_pid p (give_record c) (λ r. refl)) (at_keeps (λ r. r.parent) p (give_record c) (λ r. refl)) (λ q r some none. some (at_keeps (λ r. r.parent) p (give_record c) (λ r. refl) r ∙ none)) rs k.anchors.parents)
-    (rw same (kin_record rs p c old.children.pairs k.children.index)) (ap (λ (l : ListsView). l.numbers) same) (root_record rs p c k.children.root) k)
+    (rw same (kin_record rs p c old.children.pairs k.children.index)) (ap (λ (l : ListsView). l.sizes) same) (root_record rs p c k.children.root) k)
 
 -- the indexes see at most an alarm of a change of signals
 pub seen_same : (b c : Record) → c ≡ record b { alarm = c.alarm; own = record (b.own) { signals = c.own.signals } } → record (record_seen c) { alarm = b.alarm } ≡ record_seen b
@@ -153,7 +158,7 @@ pub kept_alarmed : (n : ℕ) (rs new : List Process) (p : ℕ) (b c : Record) (i
 kept_alarmed n rs new p b c indexes set found is same moved k =
     let now = record_found rs p b c found in
     let rest = indexes_unmoved p (parent_of p rs) (Some (record (record_seen c) { alarm = b.alarm })) rs indexes k.indexes (rw same (sees p _ rs found)) in
-    kept_moved n rs new p b c indexes (record indexes { alarmed = set }) indexes.anchors found is (record { members = rest.members; numbers = refl; reporting = rest.reporting; stopped = rest.stopped; alarmed = moved; subreapers = rest.subreapers })
+    kept_moved n rs new p b c indexes (record indexes { alarmed = set }) indexes.anchors found is (record { members = rest.members; sizes = refl; reporting = rest.reporting; stopped = rest.stopped; alarmed = moved; subreapers = rest.subreapers })
     (ready_record n p rs b c indexes found (inl (ap (λ (w : IndexedFields). w.group) same)) k).1
     (anchors_same p rs (with_record rs p c) (record_seen b) (record_seen c) indexes.anchors.pairs (elsewhere_record rs p c) (ap (option_map seen_of) found) (ap (option_map seen_of) now) (rw now refl) (ap stance_in same) (ap (λ (w : IndexedFields). is_zombie w.life) same) k.anchors.index) refl refl k
 
@@ -164,18 +169,20 @@ kept_unseen n rs new p b c indexes found is same k =
 
 -- ---- births, removals and adoptions
 
-pub kept_inserted : (n : ℕ) (rs new : List Process) (r : Process) (old now : Indexes) (set kin : ListsView) → 1 ≤ r.pid → IsInside r.pid (Some (seen_of r)) old → lookup r.pid rs ≡ None → ((r.parent ≡ 0) × (rs ≡ [])) ⊎ IsSome (lookup r.parent rs) → new ≡ inserted r rs → Fits (n + 1) old
-    → AreMoved r.pid r.parent (Some (seen_of r)) old now → IsMoved r.pid (anchor_in (seen_of r) (seen_at r.parent rs)) old.anchors.pairs set.pairs → set.numbers ≡ old.anchors.numbers → IsMoved r.pid (list_of_parent r.parent) old.children.pairs kin.pairs → kin.numbers ≡ old.children.numbers
+pub kept_inserted : (n : ℕ) (rs new : List Process) (r : Process) (old now : Indexes) (set kin : ListsView) → (1 ≤ r.pid) × (r.pid ≤ greatest_pid) → IsInside r.pid (Some (seen_of r)) old → lookup r.pid rs ≡ None → ((r.parent ≡ 0) × (rs ≡ [])) ⊎ IsSome (lookup r.parent rs) → new ≡ inserted r rs → Fits (n + 1) old
+    → AreMoved r.pid r.parent (Some (seen_of r)) old now → IsMoved r.pid (anchor_in (seen_of r) (seen_at r.parent rs)) old.anchors.pairs set.pairs → set.sizes ≡ old.anchors.sizes → IsMoved r.pid (list_of_parent r.parent) old.children.pairs kin.pairs → kin.sizes ≡ old.children.sizes
     → IsKept n old rs → IsKept (n + 1) (record now { anchors = set; children = kin }) new
-kept_inserted n rs new r old now set kin least inside fresh parent is free moved anchor numbers child wide k =
+kept_inserted n rs new r old now set kin named inside fresh parent is free moved anchor sizes child wide k =
+    let least = named.0 in
+    let most = named.1 in
     let here = lookup_new r rs fresh in
     let up : lookup r.parent (inserted r rs) ≡ lookup r.parent rs = elsewhere_inserted r rs r.parent (λ own. ⊎_elim (λ first. let none = first.0 in omega (arith, none, own, least)) (λ there. let no : false ≡ true = sym (ap is_some (ap (λ m. lookup m rs) own ∙ fresh)) ∙ there in cc) parent) in
     let apart : (q : ℕ) (x : Process) → lookup q rs ≡ Some x → x.parent ≢ r.pid = λ q x e its.
     let there = subst (λ m. IsSome (lookup m rs)) its (k.anchors.parents q x (λ none. omega (arith, least, its, none)) e) in
     let no : false ≡ true = sym (ap is_some fresh) ∙ there in
     absurd (cc) in
-    rw is (kept_at n (n + 1) r.pid r.parent (Some (seen_of r)) rs (inserted r rs) old now set kin (elsewhere_inserted r rs) least inside (rising_inserted r rs k.rising fresh) (rw (length_inserted r rs, k.count) refl) free (sees r.pid r (inserted r rs) here) moved
-    (anchors_inserted r rs old.anchors.pairs set.pairs apart (rw (key_at r.pid (inserted r rs) (seen_of r) (ap (option_map seen_of) here), here, up) anchor) k.anchors.index) numbers (parents_inserted HasParent r rs fresh (λ some. ⊎_elim (λ first. absurd (some first.0)) (λ there. there) parent) k.anchors.parents)
+    rw is (kept_at n (n + 1) r.pid r.parent (Some (seen_of r)) rs (inserted r rs) old now set kin (elsewhere_inserted r rs) (⊎_elim (λ none. absurd (omega (arith, none, least))) (λ above. absurd (omega (arith, above, most)))) inside (rising_inserted r rs k.rising fresh) (rw (length_inserted r rs, k.count) refl) free (sees r.pid r (inserted r rs) here) moved
+    (anchors_inserted r rs old.anchors.pairs set.pairs apart (rw (key_at r.pid (inserted r rs) (seen_of r) (ap (option_map seen_of) here), here, up) anchor) k.anchors.index) sizes (parents_inserted HasParent r rs fresh (λ some. ⊎_elim (λ first. absurd (some first.0)) (λ there. there) parent) k.anchors.parents)
     (index_moved parent_key r.pid rs (inserted r rs) old.children.pairs kin.pairs (elsewhere_inserted r rs) k.children.index (rw here child)) wide
     (root_inserted r rs fresh (⊎_elim (λ first. inl first) (λ there. inr (λ none. let no : false ≡ true = sym (ap is_some (ap (λ m. lookup m rs) none ∙ k.numbers 0 (inl refl))) ∙ there in absurd (cc))) parent) k.children.root) k)
 
@@ -183,42 +190,39 @@ kept_inserted n rs new r old now set kin least inside fresh parent is free moved
 pub ruleset leave_rules = (none_read, remove_none, length_removed)
 
 -- a process of which this snapshot was read may go
-pub can_leave : {n p : ℕ} {rs : List Process} {f : Snapshot} {indexes : Indexes} → Some f ≡ option_map snapshot_of (lookup p rs) → IsKept n indexes rs → CanMove p f.parent (Some (snapshot_seen f)) indexes × ((1 ≤ p) × (p < indexes.members.numbers)) × (n ≡ length (removed p rs) + 1)
+pub can_leave : {n p : ℕ} {rs : List Process} {f : Snapshot} {indexes : Indexes} → Some f ≡ option_map snapshot_of (lookup p rs) → IsKept n indexes rs → CanMove p f.parent (Some (snapshot_seen f)) indexes × ((1 ≤ p) × HasRoom (sizes_in indexes) p) × (n ≡ length (removed p rs) + 1)
 can_leave {p = p} {rs = rs} {f = f} {indexes = indexes} read k =
     let it = some_read _ f read in
     let can = can_move p it.what.parent (Some (seen_of it.what)) rs indexes k.rising k.indexes (sees p it.what rs it.found) (λ none. let no = sym none ∙ it.found in absurd (cc)) in
     (rw (snapshot_are (lookup p rs) it.what f read it.found) can, number_kept k (is_there _ it.what it.found), k.count ∙ length_removed p it.what rs k.rising it.found)
 
 pub kept_removed : (n : ℕ) (rs new : List Process) (p : ℕ) (f : Snapshot) (old now : Indexes) (set kin : ListsView) → Some f ≡ option_map snapshot_of (lookup p rs) → children_in p rs ≡ [] → new ≡ removed p rs → AreMoved p f.parent None old now
-    → IsMoved p None old.anchors.pairs set.pairs → set.numbers ≡ old.anchors.numbers → IsMoved p None old.children.pairs kin.pairs → kin.numbers ≡ old.children.numbers → IsKept n old rs → IsKept (n - 1) (record now { anchors = set; children = kin }) new
-kept_removed n rs new p f old now set kin read none is moved anchor numbers child wide k =
+    → IsMoved p None old.anchors.pairs set.pairs → set.sizes ≡ old.anchors.sizes → IsMoved p None old.children.pairs kin.pairs → kin.sizes ≡ old.children.sizes → IsKept n old rs → IsKept (n - 1) (record now { anchors = set; children = kin }) new
+kept_removed n rs new p f old now set kin read none is moved anchor sizes child wide k =
     let goes = can_leave read k in
     let count = goes.2 in
-    rw is (kept_at n (n - 1) p f.parent None rs (removed p rs) old now set kin (elsewhere_removed p rs) goes.1.0 (goes.1.1, tt) (rising_removed p rs k.rising) (omega (arith, count)) (fits rs (n - 1) old k.indexes (omega (arith, k.count))) (sees_none p f.parent (removed p rs) (lookup_removed p rs)) moved
-    (anchors_removed p rs old.anchors.pairs set.pairs (no_child p rs none) anchor k.anchors.index) numbers (parents_removed HasParent p rs (no_child p rs none) k.anchors.parents)
+    rw is (kept_at n (n - 1) p f.parent None rs (removed p rs) old now set kin (elsewhere_removed p rs) (λ out. lookup_removed p rs) (goes.1.1, tt) (rising_removed p rs k.rising) (omega (arith, count)) (fits rs (n - 1) old k.indexes (omega (arith, k.count))) (sees_none p f.parent (removed p rs) (lookup_removed p rs)) moved
+    (anchors_removed p rs old.anchors.pairs set.pairs (no_child p rs none) anchor k.anchors.index) sizes (parents_removed HasParent p rs (no_child p rs none) k.anchors.parents)
     (index_moved parent_key p rs (removed p rs) old.children.pairs kin.pairs (elsewhere_removed p rs) k.children.index (rw (key_removed parent_key p rs) child)) wide (root_removed p rs k.children.root) k)
 
 pub kept_adopted : (n : ℕ) (rs new : List Process) (from to : ℕ) (old now : Indexes) → from ≢ to → new ≡ adopted from to rs → (AreIndexes rs old → AreIndexes (adopted from to rs) now) → now.members ≡ old.members
-    → (heir : IndexedFields) → seen_at to rs ≡ Some heir → AreTurned from (child_key heir) rs old.anchors.pairs now.anchors.pairs → now.anchors.numbers ≡ old.anchors.numbers
-    → IsSome (lookup from rs) → ArePairsRekeyed from to old.children.pairs now.children.pairs → now.children.numbers ≡ old.children.numbers → IsKept n old rs → IsKept n now new
+    → (heir : IndexedFields) → seen_at to rs ≡ Some heir → AreTurned from (child_key heir) rs old.anchors.pairs now.anchors.pairs → now.anchors.sizes ≡ old.anchors.sizes
+    → IsSome (lookup from rs) → ArePairsRekeyed from to old.children.pairs now.children.pairs → now.children.sizes ≡ old.children.sizes → IsKept n old rs → IsKept n now new
 unfolding adopted
-kept_adopted n rs new from to old now ne is indexes members heir there turned numbers giver rekeyed wide k = rw is (record {
+kept_adopted n rs new from to old now ne is indexes members heir there turned set_sizes giver rekeyed kin_sizes k = rw is (record {
   rising = rising_adopted from to rs k.rising;
   numbers = λ q out. lookup_map (reparented from to) (pid_reparented from to) q rs ∙ ap (option_map (reparented from to)) (k.numbers q out);
-  within = rw members (λ q r e.
+  within = rw (members, set_sizes, kin_sizes) (λ q r e.
       let was = lookup_back (reparented from to) (pid_reparented from to) q rs r e in
       rw (was.is, pid_reparented from to was.what, reparented_keeps (λ (r : Process). r.group) from to (λ r. refl) was.what) (k.within q was.what was.found));
-  limit = rw members k.limit;
   count = k.count ∙ sym (length-map rs (reparented from to));
   indexes = indexes k.indexes;
   anchors = record {
     index = anchors_adopted from to (child_key heir) rs old.anchors.pairs now.anchors.pairs turned (λ r. child_is to rs heir there (record r { parent = to }) refl) k.anchors.index;
-    wide = rw (members, numbers) k.anchors.wide;
     parents = parents_adopted HasParent from to rs (rw (seen_found to rs heir there).1 refl) k.anchors.parents;
   };
   children = record {
     index = kin_adopted from to ne (some_number k giver) (some_number k (is_there _ _ (seen_found to rs heir there).1)) rs old.children.pairs now.children.pairs k.children.index rekeyed;
-    wide = rw (members, wide) k.children.wide;
     root = root_adopted from to (some_number k (is_there _ _ (seen_found to rs heir there).1)) rs k.children.root;
   };
 })

@@ -9,3 +9,4 @@ pub mod KeptLemmas
 pub mod IndexLemmas
 pub mod RunLemmas
 pub mod AnchorLemmas
+pub mod RoomLemmas

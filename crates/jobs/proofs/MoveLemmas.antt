@@ -1,5 +1,5 @@
 -- Moves between process groups: which groups there are.
-use Rattle.std.proofs.Common.{◌≡◌, ℕ, ◌≤◌, true, false, not, ◌&&◌, ◌||◌, ◌==◌, refl, sym, ◌∙◌, arith, subst, List, [], ◌∷◌, Some, None, is_some, filter}
+use Rattle.std.proofs.Common.{◌≡◌, ℕ, ◌<◌, ◌≤◌, true, false, not, ◌&&◌, ◌||◌, ◌==◌, refl, sym, ◌∙◌, arith, subst, List, [], ◌∷◌, Some, None, is_some, filter}
 use Rattle.std.specs.List.{list_any}
 use Rattle.std.specs.Option.{IfSome, option_map_or}
 use Rattle.std.proofs.lemmas.Bool.{eqb-true, and_parts, false_from_ne_true}
@@ -8,6 +8,7 @@ use Rattle.posix.specs.Processes.{Process}
 use Rattle.posix.specs.Tables.{IsRising, lookup, is_member, members_in, first_pid, above}
 use Rattle.posix.specs.GroupCalls.{is_group_of, is_group_of_others}
 use Rattle.posix.specs.Regular.{AreGrouped}
+use Rattle.posix.specs.Targets.{greatest_pid}
 use Rattle.posix.proofs.TableLemmas.{pid_looked, rising_filter}
 use Rattle.posix.proofs.WalkLemmas.{Passes, any_filter, first_passes, any_looked, some_looked}
 use Rattle.jobs.specs.IndexedTables.{AreWithin}
@@ -30,9 +31,9 @@ no_member session g rs up h = false_from_ne_true _ (λ e.
     let no : true ≡ false = sym both.0 ∙ h i.0.pid i.0 i.1 (eqb-true _ _ both.1) in
     cc)
 
--- as where no member's group has its number
-pub no_number : (session g n : ℕ) (rs : List Process) → IsRising rs → AreWithin n rs → n ≤ g → is_group_of session g rs ≡ false
-no_number session g n rs up low high = no_member session g rs up (λ q r f e. let less = (low q r f).2 in absurd (omega (arith, e, less, high)))
+-- as where none may have its number
+pub no_number : (session g : ℕ) (sizes : List ℕ) (rs : List Process) → IsRising rs → AreWithin sizes rs → 2147483647 < g → is_group_of session g rs ≡ false
+no_number session g sizes rs up within high = no_member session g rs up (λ q r f e. let most = (within q r f).1.1 in absurd (omega (arith, e, most, high)))
 
 pub ruleset group_rules = (no_first, no_number)
 

@@ -12,33 +12,33 @@ use Rattle.proctable.specs.declared.own_part.OwnPart.{OwnPart}
 use Rattle.proctable.specs.Records.{give_own, process_of, with_record}
 use Rattle.jobs.specs.declared.indexes.Indexes.{Indexes}
 use Rattle.pidset.specs.declared.index.Pair.{Pair}
+use Rattle.pidset.specs.Rows.{HasRoom}
 use Rattle.pidset.specs.Indexes.{HaveParents, IsAnchorIndex, IsIndex}
-use Rattle.jobs.specs.Indexes.{AreIndexes, record_seen, keeps_group_and_session, parent_key}
+use Rattle.jobs.specs.Indexes.{AreIndexes, IsNumber, record_seen, keeps_group_and_session, parent_key, sizes_in}
 
--- the processes in rising order of their numbers, how many more can be put in without memory, with numbers below which
--- limit, and how many slots have been read
+-- the processes in rising order of their numbers, how many more can be put in without memory, for how many numbers of
+-- each page there is memory, and how many slots have been read
 pub record JobsView : Type 0 where
   pub processes : List Process
   pub room : ℕ
-  pub limit : ℕ
+  pub sizes : List ℕ
   pub visits : ℕ
 
 -- nobody has number 0, or one above the greatest
 abbrev pub AreNumbers : List Process → Type 0
 AreNumbers rs = (p : ℕ) → (p ≡ 0) ⊎ (greatest_pid < p) → lookup p rs ≡ None
 
--- each number, and that of each process group, is below n, and no group has number 0
-abbrev pub AreWithin : ℕ → List Process → Type 0
-AreWithin n rs = (p : ℕ) (r : Process) → lookup p rs ≡ Some r → (r.pid < n) × (1 ≤ r.group) × (r.group < n)
+-- there is memory for each number, and for that of each process group
+abbrev pub AreWithin : List ℕ → List Process → Type 0
+AreWithin sizes rs = (p : ℕ) (r : Process) → lookup p rs ≡ Some r → HasRoom sizes r.pid × IsNumber r.group × HasRoom sizes r.group
 
 -- it has a parent
 abbrev pub HasParent : ℕ → Process → Type 0
 HasParent p r = r.parent ≢ 0
 
--- the anchors are in their index, which has memory for each number, and each parent is there
+-- the anchors are in their index, and each parent is there
 pub record AreAnchors (rs : List Process) (b : Indexes) : Type 0 where
   pub index : IsAnchorIndex rs b.anchors.pairs
-  pub wide : b.members.numbers ≤ b.anchors.numbers
   pub parents : HaveParents HasParent rs
 
 -- the children of a process, which hasn't number 0, are those that stand under it in this index
@@ -51,18 +51,16 @@ pub record AreKin (rs : List Process) (pairs : List Pair) : Type 0 where
 abbrev pub HaveOneRoot : List Process → Type 0
 HaveOneRoot rs = (p q : ℕ) (r s : Process) → lookup p rs ≡ Some r → lookup q rs ≡ Some s → r.parent ≡ 0 → s.parent ≡ 0 → q ≡ p
 
--- the children are in their index, which has memory for each number
+-- the children are in their index
 pub record AreChildren (rs : List Process) (b : Indexes) : Type 0 where
   pub index : IsIndex parent_key rs b.children.pairs
-  pub wide : b.members.numbers ≤ b.children.numbers
   pub root : HaveOneRoot rs
 
 -- their numbers rise, it is known how many there are, and their indexes are right
 pub record IsKept (n : ℕ) (b : Indexes) (rs : List Process) : Type 0 where
   pub rising : IsRising rs
   pub numbers : AreNumbers rs
-  pub within : AreWithin b.members.numbers rs
-  pub limit : b.members.numbers ≤ 2147483648
+  pub within : AreWithin (sizes_in b) rs
   pub count : n ≡ length rs
   pub indexes : AreIndexes rs b
   pub anchors : AreAnchors rs b

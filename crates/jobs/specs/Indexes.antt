@@ -1,11 +1,13 @@
 -- The indexes that a table of jobs keeps of its processes.
-use Rattle.std.specs.Prelude.{◌≡◌, ◌<◌, ◌≤◌, IfSome, ℕ, ◌-◌, ◌*◌, ◌+◌, Bool, false, not, ◌==◌, ◌&&◌, ◌||◌, if◌then◌else◌, nat_le, nat_lt, List, Option, Some, None, option_map}
+use Rattle.std.specs.Prelude.{◌≡◌, ◌<◌, ◌≤◌, IfSome, ℕ, ◌-◌, ◌*◌, ◌+◌, Bool, false, not, ◌==◌, ◌&&◌, ◌||◌, if◌then◌else◌, nat_le, nat_lt, List, [], ◌∷◌, Option, Some, None, option_map}
 use Rattle.std.specs.Option.{option_map_or}
 use Rattle.posix.specs.Processes.{Process, is_living, is_zombie, is_stopped}
 use Rattle.posix.specs.declared.process.Life.{Life}
 use Rattle.posix.specs.declared.process.Life.TheVariants.{Running, Stopped, Zombie}
 use Rattle.posix.specs.declared.process.News.{News}
 use Rattle.posix.specs.declared.process.News.TheVariants as news
+use Rattle.posix.specs.Targets.{greatest_pid}
+use Rattle.pidset.specs.Rows.{HasRoom}
 use Rattle.pidset.specs.Indexes.{is_key, CanReplace, IsMoved, IsReplaced, IsIndex, IsIndexed}
 use Rattle.proctable.specs.declared.records.Record.{Record}
 use Rattle.proctable.specs.declared.snapshot.Snapshot.{Snapshot}
@@ -131,21 +133,35 @@ pub record CanMove (p parent : ℕ) (it : Option IndexedFields) (b : Indexes) : 
   pub alarmed : CanReplace p (alarm_in it) b.alarmed
   pub subreapers : CanReplace p (marked_in it) b.subreapers
 
+abbrev pub lesser : ℕ → ℕ → ℕ
+lesser a b = if nat_le a b then a else b
+
+-- how many rows of each page are in both
+unfoldable pub common : List ℕ → List ℕ → List ℕ
+common [] ns = []
+common (m ∷ ms) [] = []
+common (m ∷ ms) (n ∷ ns) = lesser m n ∷ common ms ns
+
+-- for how many numbers of each page each list has memory
+abbrev pub sizes_in : Indexes → List ℕ
+sizes_in b = common (common b.members.sizes b.anchors.sizes) b.children.sizes
+
+-- some process group may have this number
+abbrev pub IsNumber : ℕ → Type 0
+IsNumber g = (1 ≤ g) × (g ≤ greatest_pid)
+
 -- there is memory for the number p, and for that of its process group
 abbrev pub IsInside : ℕ → Option IndexedFields → Indexes → Type 0
-IsInside p it b = (p < b.members.numbers) × IfSome (member_in it) (λ k. (1 ≤ k) × (k < b.members.numbers))
+IsInside p it b = HasRoom (sizes_in b) p × IfSome (member_in it) (λ k. IsNumber k × HasRoom (sizes_in b) k)
 
 -- and was moved in each
 pub record AreMoved (p parent : ℕ) (it : Option IndexedFields) (old new : Indexes) : Type 0 where
   pub members : IsMoved p (member_in it) old.members.pairs new.members.pairs
-  pub numbers : new.members.numbers ≡ old.members.numbers
+  pub sizes : new.members.sizes ≡ old.members.sizes
   pub reporting : IsReplaced p (report_in parent it) old.reporting new.reporting
   pub stopped : IsReplaced p (stopped_in it) old.stopped new.stopped
   pub alarmed : IsReplaced p (alarm_in it) old.alarmed new.alarmed
   pub subreapers : IsReplaced p (marked_in it) old.subreapers new.subreapers
-
-abbrev pub lesser : ℕ → ℕ → ℕ
-lesser a b = if nat_le a b then a else b
 
 -- how many processes more they have room for, of this many that there are
 abbrev pub room_in : ℕ → Indexes → ℕ

@@ -1,5 +1,4 @@
-//! Who keeps a process group from being orphaned (XBD 3): what moves in their index where a process changes, or its
-//! children get another parent.
+//! Who keeps a process group from being orphaned (XBD 3): what moves in their index where a process changes.
 
 ghost use Rattle.std.specs.Prelude.{◌≡◌, ◌≢◌, ℕ, ◌+◌, ◌*◌, ◌<◌, ◌≤◌, ◌⊎◌, List, length, None, Some, IsSome, option_map, if◌then◌else◌};
 ghost use Rattle.posix.specs.Processes.{Process};
@@ -68,9 +67,9 @@ fn update_anchor<K: ProcessTable>(
 )
     requires there { IsSome (lookup pid (K.contents table.old)) }
     requires none { lookup 0 (K.contents table.old) ≡ None }
-    requires within { AreWithin anchors.old.numbers (K.contents table.old) }
+    requires within { AreWithin anchors.old.sizes (K.contents table.old) }
     ensures moved { (r : Process) → lookup pid (K.contents table.old) ≡ Some r → IsMoved pid (child_key parent.now r) anchors.old.pairs anchors.new.pairs }
-    ensures numbers { anchors.new.numbers ≡ anchors.old.numbers }
+    ensures sizes { anchors.new.sizes ≡ anchors.old.sizes }
     ensures contents { K.contents table.new ≡ K.contents table.old }
     ensures costs { Spends 1 K.room K.visits table.old table.new }
 {
@@ -87,10 +86,10 @@ pub(crate) fn update_anchors_of_children<K: ProcessTable>(
     parent: &IndexedFields,
 )
     requires there { IsSome (lookup pid (K.contents table.old)) }
-    requires within { AreWithin anchors.old.numbers (K.contents table.old) }
+    requires within { AreWithin anchors.old.sizes (K.contents table.old) }
     requires kin { AreKin (K.contents table.old) children.now.pairs }
     ensures turned { AreTurned pid (child_key parent.now) (K.contents table.old) anchors.old.pairs anchors.new.pairs }
-    ensures numbers { anchors.new.numbers ≡ anchors.old.numbers }
+    ensures sizes { anchors.new.sizes ≡ anchors.old.sizes }
     ensures contents { K.contents table.new ≡ K.contents table.old }
     ensures costs { Spends (1 + 2 * length (children_in pid (K.contents table.old))) K.room K.visits table.old table.new }
 {
@@ -112,9 +111,9 @@ pub(crate) fn update_anchors<K: ProcessTable>(
     requires kin { AreKin (K.contents table.old) children.now.pairs }
     requires after { option_map seen_of (lookup pid (K.contents table.old)) ≡ Some change.now.after }
     requires parent { change.now.parent ≡ parent_of pid (K.contents table.old) }
-    requires within { AreWithin anchors.old.numbers (K.contents table.old) }
+    requires within { AreWithin anchors.old.sizes (K.contents table.old) }
     ensures index { (rs : List Process) → ((q : ℕ) → q ≢ pid → lookup q (K.contents table.old) ≡ lookup q rs) → option_map seen_of (lookup pid rs) ≡ Some change.now.before → parent_of pid rs ≡ change.now.parent → IsAnchorIndex rs anchors.old.pairs → IsAnchorIndex (K.contents table.old) anchors.new.pairs }
-    ensures numbers { anchors.new.numbers ≡ anchors.old.numbers }
+    ensures sizes { anchors.new.sizes ≡ anchors.old.sizes }
     ensures contents { K.contents table.new ≡ K.contents table.old }
     ensures costs { Spends (if keeps_group_and_session_in change.now.before change.now.after then 0 else 2 + 2 * length (children_in pid (K.contents table.old))) K.room K.visits table.old table.new }
 {

@@ -32,10 +32,10 @@ pub(crate) fn give_children<K: ProcessTable>(
 )
     requires there { IsSome (lookup from (K.contents table.old)) }
     requires apart { from ≢ to }
-    requires within { AreWithin anchors.old.numbers (K.contents table.old) }
+    requires within { AreWithin anchors.old.sizes (K.contents table.old) }
     requires kin { AreKin (K.contents table.old) children.now.pairs }
     ensures turned { AreTurned from (child_key heir.now) (K.contents table.old) anchors.old.pairs anchors.new.pairs }
-    ensures numbers { anchors.new.numbers ≡ anchors.old.numbers }
+    ensures sizes { anchors.new.sizes ≡ anchors.old.sizes }
     ensures contents { K.contents table.new ≡ adopted from to (K.contents table.old) }
     ensures costs { Spends (length (children_in from (K.contents table.old))) K.room K.visits table.old table.new }
 {

@@ -10,6 +10,7 @@ ghost use Rattle.posix.specs.Alarms.{is_due};
 ghost use Rattle.posix.specs.Choice.{chosen};
 ghost use Rattle.posix.specs.Births.{child_of};
 ghost use Rattle.posix.specs.Waits.{wanted_in};
+ghost use Rattle.pidset.specs.Rows.{HasRoom, IsApart, sizes_without};
 ghost use Rattle.proctable.specs.Records.{process_of, snapshot_of, own_of, own_row};
 ghost use Rattle.jobs.specs.contracts.indexed_table.IndexedTable.{the_row as jobs_row};
 ghost use Rattle.jobs.specs.Indexes.{is_living_subreaper, record_seen, seen_of};
@@ -49,11 +50,11 @@ struct Run<T> {
 
 impl<K: ProcessTable> Model for IndexedTable<K> {
     ghost use Rattle.jobs.specs.IndexedTables.{JobsView, IsKept};
-    ghost use Rattle.jobs.specs.Indexes.{lesser, room_in};
+    ghost use Rattle.jobs.specs.Indexes.{lesser, room_in, sizes_in};
 
     ghost Value = { JobsView };
 
-    ghost view = { λ t. record { processes = K.contents t.table; room = lesser (K.room t.table) (room_in t.count t.indexes); limit = t.indexes.members.numbers; visits = K.visits t.table } };
+    ghost view = { λ t. record { processes = K.contents t.table; room = lesser (K.room t.table) (room_in t.count t.indexes); sizes = sizes_in t.indexes; visits = K.visits t.table } };
 
     ghost invariant = { λ t. IsKept t.count t.indexes (K.contents t.table) };
 }
@@ -72,17 +73,26 @@ impl<K: ProcessTable> IndexedTable<K> {
         }
     }
 
-    /// Makes room for one more process, with a number up to `greatest`. At an error the host has no memory for it,
-    /// and the processes are unchanged.
+    /// Makes room for one more process, with this number. At an error the host has no memory for it, and the processes
+    /// are unchanged.
     #[tactic(auto, using(crate::proofs::KeptLemmas::size_of))]
-    pub fn reserve(&mut self, greatest: Pid) -> Result<(), AllocError>
+    pub fn reserve(&mut self, pid: Pid) -> Result<(), AllocError>
         ensures ok { OnOk result (0 < self.new.room) }
-        ensures limit { OnOk result (greatest < self.new.limit) }
+        ensures number { OnOk result (HasRoom self.new.sizes pid) }
         ensures room { self.old.room ≤ self.new.room }
-        ensures rest { self.new ≡ record (self.old) { room = self.new.room; limit = self.new.limit } }
+        ensures rest { self.new ≡ record (self.old) { room = self.new.room; sizes = self.new.sizes } }
     {
         self.table.reserve()?;
-        self.indexes.reserve(self.count + 1, greatest)
+        self.indexes.reserve(self.count + 1, pid)
+    }
+
+    /// The room for a number goes, and that for all others on its page of 1,024 numbers, where no process has one of
+    /// them, or is in a process group that has.
+    pub fn give_up_page(&mut self, pid: Pid)
+        requires { (p : ℕ) (r : Process) → lookup p self.old.processes ≡ Some r → IsApart r.pid pid × IsApart r.group pid }
+        ensures { self.new ≡ record (self.old) { sizes = sizes_without self.old.sizes pid } }
+    {
+        self.indexes.give_up_page(pid);
     }
 
     /// How many processes there are. No slot is read.
@@ -109,14 +119,14 @@ impl<K: ProcessTable> IndexedTable<K> {
     }
 
     /// Puts in a process that isn't there, where there is room for one with this number. Its number isn't 0, its parent
-    /// is there, or, for the first process, number 0, and there is room for the number of its process group. The others are
-    /// unchanged.
+    /// is there, or, for the first process, number 0, and there is room for the number of its process group. The others
+    /// are unchanged.
     #[tactic(auto, using(crate::proofs::KeptLemmas::size_of))]
     pub fn insert(&mut self, pid: Pid, parent: Pid, fields: Record)
         requires room { 0 < self.old.room }
         requires number { pid ≢ 0 }
-        requires limit { pid < self.old.limit }
-        requires group { (1 ≤ fields.group) × (fields.group < self.old.limit) }
+        requires inside { HasRoom self.old.sizes pid }
+        requires group { (1 ≤ fields.group) × HasRoom self.old.sizes fields.group }
         requires fresh { lookup pid self.old.processes ≡ None }
         requires parent { ((parent ≡ 0) × (self.old.processes ≡ [])) ⊎ IsSome (lookup parent self.old.processes) }
         ensures processes { self.new.processes ≡ inserted (process_of pid parent fields) self.old.processes }
@@ -124,6 +134,9 @@ impl<K: ProcessTable> IndexedTable<K> {
         ensures visits { self.new.visits ≤ self.old.visits + 2 }
         ensures no_fewer { self.old.visits ≤ self.new.visits }
     {
+        // Neither number is above the greatest.
+        prove!(pid.number() <= Pid::MAX);
+        prove!(fields.group.number() <= Pid::MAX);
         let after = of_record(&fields);
         let above = seen_above(&mut self.table, parent);
         self.table.insert(pid, parent, fields);
@@ -261,8 +274,8 @@ impl<K: ProcessTable> IndexedTable<K> {
         requires { IsSome (lookup pid self.old.processes) }
         ensures child { IfOk result (λ b. (me : Process) → lookup pid self.old.processes ≡ Some me → (n : ℕ) → process_of n pid b ≡ child_of birth me n) }
         ensures groups { IfOk result (λ b. (me : Process) → lookup pid self.old.processes ≡ Some me → (b.group ≡ me.group) × (b.session ≡ me.session)) }
-        ensures within { IfOk result (λ b. (1 ≤ b.group) × (b.group < self.new.limit)) }
-        ensures limit { self.new.limit ≡ self.old.limit }
+        ensures within { IfOk result (λ b. (1 ≤ b.group) × HasRoom self.new.sizes b.group) }
+        ensures sizes { self.new.sizes ≡ self.old.sizes }
         ensures looks { Looks 1 self.old self.new }
     {
         let spare = self.table.spare();

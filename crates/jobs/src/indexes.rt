@@ -5,6 +5,8 @@ ghost use Rattle.posix.specs.Processes.{Process, is_zombie};
 ghost use Rattle.posix.specs.Tables.{IsRising, above, adopted, children_in, first_pid};
 ghost use Rattle.posix.specs.Waits.{wanted_in};
 ghost use Rattle.pidset.specs.Indexes.{has_within, IsNextPair};
+ghost use Rattle.pidset.specs.Lists.{StaysApart, left_by};
+ghost use Rattle.pidset.specs.Rows.{Grows, HasRoom};
 ghost use Rattle.jobs.specs.Indexes.{AreIndexes, record_seen, snapshot_seen, member_in, anchor_in, is_of_sort, report_in, sort_of, list_of_parent, sorted, stopped_in, alarm_in, marked_in, CanMove, IsInside, AreMoved, least};
 
 use bitflags::Flags;
@@ -232,7 +234,6 @@ impl Indexes {
         ensures indexes { AreIndexes [] result }
         ensures anchors { result.anchors.pairs ≡ [] }
         ensures children { result.children.pairs ≡ [] }
-        ensures none { result.members.numbers ≡ 0 }
     {
         Indexes {
             children: Lists::new(alloc),
@@ -245,9 +246,9 @@ impl Indexes {
         }
     }
 
-    /// Makes room for `most` processes, with numbers up to `greatest`. What the indexes hold stays, also at the error
-    /// that there is no memory.
-    pub(crate) fn reserve(&mut self, most: usize, greatest: Pid) -> Result<(), AllocError>
+    /// Makes room for `most` processes, one of which may have this number. What the indexes hold stays, also at the
+    /// error that there is no memory.
+    pub(crate) fn reserve(&mut self, most: usize, pid: Pid) -> Result<(), AllocError>
         requires { most < 2 ^ 63 }
         ensures members { self.new.members.pairs ≡ self.old.members.pairs }
         ensures anchors { self.new.anchors.pairs ≡ self.old.anchors.pairs }
@@ -256,24 +257,34 @@ impl Indexes {
         ensures stopped { self.new.stopped.pairs ≡ self.old.stopped.pairs }
         ensures alarmed { self.new.alarmed.pairs ≡ self.old.alarmed.pairs }
         ensures subreapers { self.new.subreapers.pairs ≡ self.old.subreapers.pairs }
-        ensures grows_members { self.old.members.numbers ≤ self.new.members.numbers }
-        ensures most_members { self.old.members.numbers ≤ 2147483648 → self.new.members.numbers ≤ 2147483648 }
-        ensures wide { self.old.members.numbers ≤ self.old.anchors.numbers → self.new.members.numbers ≤ self.new.anchors.numbers }
-        ensures wide_children { self.old.members.numbers ≤ self.old.children.numbers → self.new.members.numbers ≤ self.new.children.numbers }
+        ensures grows_members { Grows self.old.members.sizes self.new.members.sizes }
+        ensures grows_anchors { Grows self.old.anchors.sizes self.new.anchors.sizes }
+        ensures grows_children { Grows self.old.children.sizes self.new.children.sizes }
         ensures grows_reporting { self.old.reporting.room ≤ self.new.reporting.room }
         ensures grows_stopped { self.old.stopped.room ≤ self.new.stopped.room }
         ensures grows_alarmed { self.old.alarmed.room ≤ self.new.alarmed.room }
         ensures grows_subreapers { self.old.subreapers.room ≤ self.new.subreapers.room }
-        ensures ok { OnOk result ((greatest < self.new.members.numbers) × (most ≤ self.new.reporting.room) × (most ≤ self.new.stopped.room) × (most ≤ self.new.alarmed.room) × (most ≤ self.new.subreapers.room)) }
+        ensures ok { OnOk result (HasRoom self.new.members.sizes pid × HasRoom self.new.anchors.sizes pid × HasRoom self.new.children.sizes pid × (most ≤ self.new.reporting.room) × (most ≤ self.new.stopped.room) × (most ≤ self.new.alarmed.room) × (most ≤ self.new.subreapers.room)) }
     {
-        // There is never less memory for the anchors and the children than for the members.
-        self.anchors.reserve(greatest)?;
-        self.children.reserve(greatest)?;
-        self.members.reserve(greatest)?;
+        self.members.reserve(pid)?;
+        self.anchors.reserve(pid)?;
+        self.children.reserve(pid)?;
         self.reporting.reserve(most)?;
         self.stopped.reserve(most)?;
         self.alarmed.reserve(most)?;
         self.subreapers.reserve(most)
+    }
+
+    /// The memory for a number goes, and that for all others on its page of 1,024 numbers.
+    pub(crate) fn give_up_page(&mut self, pid: Pid)
+        requires members { StaysApart pid self.old.members.pairs }
+        requires anchors { StaysApart pid self.old.anchors.pairs }
+        requires children { StaysApart pid self.old.children.pairs }
+        ensures { self.new ≡ record self.old { members = left_by pid self.old.members; anchors = left_by pid self.old.anchors; children = left_by pid self.old.children } }
+    {
+        self.members.give_up_page(pid);
+        self.anchors.give_up_page(pid);
+        self.children.give_up_page(pid);
     }
 
     /// The indexes follow a process with this parent from one state to another; none is the state of a process that

@@ -10,7 +10,6 @@ use Rattle.posix.specs.States.{World, State, boot}
 use Rattle.text.specs.EventTexts.{event_text, most_events}
 use Rattle.text.specs.WorldTexts.{world_text}
 use Rattle.sink.specs.Sinks.{Seen}
-use Rattle.laws.specs.Agree.{IsOrderly}
 use Rattle.laws.proofs.AgreeRuns.{run_trace}
 use Rattle.kernel.specs.declared.summary.Summary.{Summary}
 use Rattle.kernel.specs.declared.texts.RunError.{RunError}
@@ -22,10 +21,6 @@ pub world_least : (w : World) (s : State) → s ≡ boot w → IsRegular s → 1
 world_least w s is i =
     let b = i.bounded 1 i.first.what i.first.found in
     subst (λ (s : State). 1 ≤ s.world.pidmax) is (omega (arith, b.least, b.pid))
-
--- whose state is of its kinds
-pub world_ranges : (w : World) (s : State) → s ≡ boot w → IsOrderly s → IsWorld w
-world_ranges w s is o = subst (λ (s : State). IsWorld s.world) is o.kinds.world
 
 -- ---- traces
 
@@ -45,7 +40,7 @@ accounts world_bytes event_bytes a b summary w es is events most ranges bytes fe
     }
 
 -- so does the trace of a run that came to its end
-pub all_accounts : {S : Type 0} (old new : S) (world_bytes event_bytes : List ℕ) (a b : Seen) (r : Result Summary RunError) (w : World) (es : List Event) → world_text world_bytes ≡ Ok w → event_text w.consoles event_bytes ≡ Ok es → 1 ≤ w.pidmax → IsWorld w
+pub all_accounts : {S : Type 0} (old new : S) (world_bytes event_bytes : List ℕ) (a b : Seen) (r : Result Summary RunError) (w : World) (es : List Event) → world_text world_bytes ≡ Ok w → event_text w.consoles event_bytes ≡ Ok es → IfOk r (λ summary. 1 ≤ w.pidmax) → IsWorld w
     → AllByRecursion IsEvent es → length es ≤ most_events → Headline world_bytes event_bytes old new a b r → IfOk r (λ summary. Accounts a b summary)
 all_accounts old new world_bytes event_bytes a b (Ok summary) w es is events most ranges bytes few h = accounts world_bytes event_bytes a b summary w es is events most ranges bytes few h
 all_accounts old new world_bytes event_bytes a b (Err why) w es is events most ranges bytes few h = tt

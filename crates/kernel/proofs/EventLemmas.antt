@@ -1,5 +1,5 @@
 -- Counted runs of events, one after another.
-use Rattle.std.proofs.Common.{◌≡◌, ◌≢◌, ℕ, zero, suc, true, false, cond, Option, None, ◌+◌, ◌*◌, ◌<◌, ◌≤◌, List, [], ◌∷◌, ◌++◌, length, take, drop, ap, sym, ◌∙◌, append-nil, length-append, get_or, refl, subst, arith}
+use Rattle.std.proofs.Common.{◌≡◌, ◌≢◌, ℕ, zero, suc, true, false, cond, Option, None, ◌+◌, ◌<◌, ◌≤◌, List, [], ◌∷◌, ◌++◌, length, take, drop, ap, sym, ◌∙◌, append-nil, length-append, get_or, refl, subst, arith}
 use Rattle.std.specs.Prelude.{replicate, option_and_then}
 use Rattle.std.proofs.lemmas.List.{length-replicate, replicate-append-replicate, take_more, take-append-drop}
 use Rattle.std.proofs.lemmas.List.Concat.{flat_map-append}
@@ -46,11 +46,6 @@ run_fits rs r now old i most all lt is same at fits =
     let len : length ((expanded (take i rs) ++ run_events r) ++ expanded (drop (i + 1) rs)) ≡ (length (expanded (take i rs)) + r.count) + length (expanded (drop (i + 1) rs)) =
     simp (length-append, length-replicate) in
     omega (arith, split, len)
-
--- four ends for each event that was given, the run at i included
-pub ends_fit : (rs : List CountedEvent) (r : CountedEvent) (now old i most ends more : ℕ) (all : List Event) → i < length rs → r ≡ get_or rs i r → expanded rs ≡ all → now ≡ old + length (expanded (take i rs)) →
-    old + length all ≤ most → ends ≤ 4 * length (expanded (take i rs)) → more ≤ 4 * length (replicate r.count r.event) → ends + more ≤ 4 * most
-ends_fit rs r now old i most ends more all lt is same at fits a b = omega (arith, run_fits rs r now old i most all lt is same at fits, length-replicate r.count r.event)
 
 pub events_more : (rs : List CountedEvent) (r : CountedEvent) (i old now new : ℕ) → i < length rs → r ≡ get_or rs i r → now ≡ old + length (expanded (take i rs)) → new ≡ now + r.count →
     new ≡ old + length (expanded (take (i + 1) rs))

@@ -60,11 +60,6 @@ same_lines j k fs es at same = ap (λ (n : ℕ). numbered n fs) at ∙ ap (numbe
 
 -- ---- what was made of their lines
 
--- no events show no lines
-pub shows_none : (k n : ℕ) (x : Event) (s : State) (P : List Line → Type 0) → n ≡ 0 → P [] → Shows k s (replicate n x) s P
-shows_none k n x s P none p =
-    subst (λ (m : ℕ). Shows k s (replicate m x) s P) (sym none) (record { lines = []; run = (refl, refl); holds = p; few = omega arith })
-
 -- a run goes on, and so does what was made of its lines
 pub shows_next : (k j : ℕ) (xs ys zs : List Event) (s m e : State) (P Q R : List Line → Type 0) → j ≡ k + length xs → xs ++ ys ≡ zs → ((ls ms : List Line) → P ls → Q ms → R (ls ++ ms))
     → Shows k s xs m P → Shows j m ys e Q → Shows k s zs e R

@@ -2,7 +2,7 @@
 use Rattle.std.specs.Prelude.{◌≡◌, ℕ, ◌+◌, ◌-◌, ◌==◌, ◌||◌, if◌then◌else◌, Bool, true, false, List, [], map, option_map, Option, Some, None, is_some, replicate}
 use Rattle.posix.specs.declared.call.Call.{Call}
 use Rattle.posix.specs.declared.event.Event.{Event}
-use Rattle.posix.specs.declared.event.Event.TheVariants.{Step, Tick, Key, Hangup}
+use Rattle.posix.specs.declared.event.Event.TheVariants.{Step}
 use Rattle.posix.specs.declared.entry.Entry.{Entry}
 use Rattle.posix.specs.declared.entry.Entry.TheVariants.{Noted}
 use Rattle.posix.specs.declared.instr.Trap.{Trap}
@@ -101,12 +101,9 @@ is_followed_by_step before last (trap.Fault sig) = true
 abbrev pub with_step_behind : ℕ → StepsTaken → ℕ
 with_step_behind before taken = if is_followed_by_step before taken.last taken.trap then taken.last + 1 else taken.last
 
--- the number of the last event that is given at once, from the one after number before up to number last
-abbrev pub last_given : Event → ℕ → ℕ → State → ℕ
-last_given Step before last s = if s.halted then before + 1 else with_step_behind before (taken_at_once s before last (current_process s))
-last_given Tick before last s = before + 1
-last_given (Key console byte) before last s = before + 1
-last_given (Hangup console) before last s = before + 1
+-- the number of the last step that is given at once, from the one after number before up to number last
+abbrev pub last_given : ℕ → ℕ → State → ℕ
+last_given before last s = if s.halted then before + 1 else with_step_behind before (taken_at_once s before last (current_process s))
 
 -- what p noted, as lines
 abbrev pub note_line : ℕ → Note → Line

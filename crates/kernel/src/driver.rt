@@ -67,7 +67,7 @@ pub fn drive_to<K: ProcessTable, T, O: Observer<T>>(
     while kernel.events() < last {
         notes.clear();
         entries.clear();
-        let pid = kernel.advance(event, last, &mut notes, &mut entries);
+        let pid = kernel.repeat(event, last, &mut notes, &mut entries);
         observer.hear(
             pid,
             notes.as_slice(),

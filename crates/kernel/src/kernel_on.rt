@@ -222,7 +222,7 @@ impl<K: ProcessTable> KernelOn<K> {
         requires some { self.old.events < last }
         requires no_notes { notes.old.items ≡ [] }
         requires none { entries.old.items ≡ [] }
-        ensures events { self.new.events ≡ last_given Event.Step self.old.events last self.old.state }
+        ensures events { self.new.events ≡ last_given self.old.events last self.old.state }
         ensures from { self.old.events < self.new.events }
         ensures within { self.new.events ≤ last }
         ensures runs { RunsFrom (self.old.events + 1) self.old.state (replicate (self.new.events - self.old.events) Event.Step) (noted_lines result notes.new.items ++ numbered self.new.events entries.new.items) self.new.state }
@@ -251,50 +251,22 @@ impl<K: ProcessTable> KernelOn<K> {
         end.pid
     }
 
-    /// Gives one event several times at once, up to the event with number `last`: a `Step` as often as
-    /// [`KernelOn::steps`] gives it, any other event once. The notes, and what the last event shows besides, are added
-    /// to lists that are empty. The result is the process whose notes they are, where there are any.
-    #[inline]
-    pub fn repeat(
-        &mut self,
-        event: Event,
-        last: u64,
-        notes: &mut Notes,
-        entries: &mut Entries,
-    ) -> Pid
-        requires few { last ≤ most_events }
-        requires some { self.old.events < last }
-        requires no_notes { notes.old.items ≡ [] }
-        requires none { entries.old.items ≡ [] }
-        ensures events { self.new.events ≡ last_given event self.old.events last self.old.state }
-        ensures from { self.old.events < self.new.events }
-        ensures within { self.new.events ≤ last }
-        ensures runs { RunsFrom (self.old.events + 1) self.old.state (replicate (self.new.events - self.old.events) event) (noted_lines result notes.new.items ++ numbered self.new.events entries.new.items) self.new.state }
-        ensures regular { IsRegular self.new.state }
-        ensures settled { IsSettled self.new.state }
-        ensures no_fewer { self.old.visits ≤ self.new.visits }
-    {
-        match event {
-            Event::Step => self.steps(last, notes, entries),
-            Event::Tick | Event::Key { .. } | Event::Hangup { .. } => {
-                self.event_into(event, entries);
-                Pid::NONE
-            }
-        }
-    }
-
     /// Whether an event changes and shows nothing: after a halt none does, and where no process can act a step doesn't.
     #[inline]
     fn is_idle(&self, event: Event) -> bool
-        ensures { IsTrue result → event_next true self.now.state event ≡ silent self.now.state }
+        ensures idle { IsTrue result → event_next true self.now.state event ≡ silent self.now.state }
+        ensures acts { result ≡ false → (self.now.state.halted ≡ false) × (event ≡ Event.Step → IsSome (current_of self.now.state)) }
     {
         self.machine.is_halted()
             || (matches!(event, Event::Step) && self.machine.current().is_none())
     }
 
-    /// [`KernelOn::repeat`], but an event that changes and shows nothing is given as often as is asked.
+    /// Gives one event several times at once, up to the event with number `last`: one that changes and shows nothing as
+    /// often as is asked, a `Step` else as often as [`KernelOn::steps`] gives it, any other event once. The notes, and
+    /// what the last event shows besides, are added to lists that are empty. The result is the process whose notes they
+    /// are, where there are any.
     #[inline]
-    pub(crate) fn advance(
+    pub(crate) fn repeat(
         &mut self,
         event: Event,
         last: u64,
@@ -313,7 +285,13 @@ impl<K: ProcessTable> KernelOn<K> {
             self.events = last;
             return Pid::NONE;
         }
-        self.repeat(event, last, notes, entries)
+        match event {
+            Event::Step => self.steps(last, notes, entries),
+            Event::Tick | Event::Key { .. } | Event::Hangup { .. } => {
+                self.event_into(event, entries);
+                Pid::NONE
+            }
+        }
     }
 
     /// Nothing is done. That the state is regular, and nothing is left to settle, is then known, as ever of a kernel.

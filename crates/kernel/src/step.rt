@@ -176,6 +176,7 @@ fn run_instruction<K: ProcessTable>(
 /// A process that has a place, with this snapshot, acts: KILL ends it; it takes up its call; a signal is
 /// delivered to it; or it runs an instruction.
 #[tactic(auto, unfolding(posix::specs::Step::act, posix::specs::Step::act_in))]
+#[inline(never)]
 fn act<K: ProcessTable>(
     machine: &mut Machine<K>,
     pid: Pid,

@@ -7,7 +7,7 @@ ghost use Rattle.text.specs.WorldTexts.{world_text};
 ghost use Rattle.kernel.specs.Headline.{Headline, refused};
 ghost use Rattle.kernel.specs.Accounts.{Accounts};
 
-use crate::kernel_on::{Kernel, KernelOn};
+use crate::kernel_on::KernelOn;
 use crate::progress::write_trace;
 use crate::summary::Summary;
 use proctable::{ProcessTable, SlabTable};
@@ -70,17 +70,18 @@ fn run_kernel<K: ProcessTable, S: Sink>(
     }
 }
 
-/// [`run`], of a world and events that are read.
-pub fn run_read<S: Sink>(
+/// [`run_on`], of a world and events that are read.
+pub fn run_read<K: ProcessTable, S: Sink>(
     alloc: Global,
     world: &World,
     events: &EventList,
     out: &mut S,
 ) -> Result<Summary, RunError>
     requires few { length events.now ≤ most_events }
-    ensures { (world_bytes event_bytes : List ℕ) → world_text world_bytes ≡ Ok world.now → event_text world.now.consoles event_bytes ≡ Ok events.now → Headline world_bytes event_bytes out.old out.new (S.seen out.old) (S.seen out.new) result }
+    ensures headline { (world_bytes event_bytes : List ℕ) → world_text world_bytes ≡ Ok world.now → event_text world.now.consoles event_bytes ≡ Ok events.now → Headline world_bytes event_bytes out.old out.new (S.seen out.old) (S.seen out.new) result }
+    ensures least { IfOk result (λ summary. 1 ≤ world.now.pidmax) }
 {
-    let mut kernel = Kernel::boot(alloc, world).map_err(|_| RunError::Memory)?;
+    let mut kernel = KernelOn::<K>::boot(alloc, world).map_err(|_| RunError::Memory)?;
     let done = run_kernel(&mut kernel, events, out);
     // What is large is dropped by its name, by one function whose proof is short.
     drop(kernel);
@@ -106,11 +107,9 @@ pub fn run_on<K: ProcessTable, S: Sink>(
 {
     let world = read_world(alloc, world).map_err(world_error)?;
     let events = read_events(alloc, world.consoles(), events).map_err(events_error)?;
+    world.range_holds();
     events.range_holds();
-    let mut kernel = KernelOn::<K>::boot(alloc, &world).map_err(|_| RunError::Memory)?;
-    let done = run_kernel(&mut kernel, &events, out);
-    // What is large is dropped by its name, by one function whose proof is short.
-    drop(kernel);
+    let done = run_read::<K, S>(alloc, &world, &events, out);
     drop(world);
     done
 }

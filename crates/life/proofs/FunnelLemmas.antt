@@ -4,7 +4,7 @@ use Rattle.std.specs.Option.{IsSome}
 use Rattle.std.specs.List.{list_any}
 use Rattle.std.specs.Borrow.{MutBor}
 use Rattle.std.specs.Fn.{Once, FnOnceReturnsAtMut}
-use Rattle.std.proofs.lemmas.Bool.{eqb-true, eq-eqb, ne_eqb, and_parts, cases_eq, cond_both, or_left, or_right, or_parts}
+use Rattle.std.proofs.lemmas.Bool.{both_ways, eqb-true, eq-eqb, ne_eqb, and_parts, cases_eq, cond_both, or_left, or_right, or_parts}
 use Rattle.std.proofs.lemmas.List.{length-map}
 use Rattle.std.proofs.lemmas.Option.{same_Some}
 use Rattle.std.proofs.Math.Nat.{le_trans}
@@ -31,7 +31,10 @@ use Rattle.pidalloc.proofs.TallyLemmas.{AreBorne, are_borne}
 use Rattle.pidalloc.proofs.MoveLemmas.{tallied_regrouped, pids_regrouped, greatest_regrouped, CanRegroup, can_regroup}
 use Rattle.sched.specs.Places.{Places}
 use Rattle.pidset.specs.Lists.{ListsView}
+use Rattle.pidset.specs.Indexes.{IsMoved, is_pair_in}
 use Rattle.pidset.specs.Numbers.{PidSetView, with_number}
+use Rattle.pidset.specs.Rows.{HasRoom}
+use Rattle.pidset.proofs.NumberLemmas.{in_with}
 use Rattle.proctable.specs.declared.records.Record.{Record}
 use Rattle.proctable.specs.Records.{process_of, give_record, with_record}
 use Rattle.proctable.proofs.RecordLemmas.{changed_here}
@@ -51,6 +54,7 @@ use Rattle.life.specs.Changes.{has_moved, CanMoveNumbers, StaysInSession, StaysR
 use Rattle.pidset.specs.Indexes.{HaveParents}
 use Rattle.pidset.proofs.ParentLemmas.{parents_map}
 use Rattle.life.proofs.SoundLemmas.{found_in, kept_map, kept_ready, some_back, not_many, within_map}
+use Rattle.life.proofs.ReaderLemmas.{listed_forgotten, none_marked, within_marked}
 use Rattle.life.proofs.RecheckLemmas.{IsBeside, listed_with, listed_signals}
 use Rattle.life.proofs.SignalLemmas.{with_signals, only_noticed_of_change, touches_signals}
 use Rattle.posix.specs.declared.process.Life.{Life}
@@ -75,15 +79,15 @@ sound_changed s pids places p f k regular i = record {
   regular = regular;
   parents = parents_map IsOther (at p f) (at_pid p f k.pid) (at_keeps (λ r. r.parent) p f k.parent) (λ q r other. other) s.processes i.parents;
   counted = let c = i.counted in let l = length-map s.processes (at p f) in omega (arith, c, l);
-  kept = kept_map (at p f) (at_pid p f k.pid) (at_keeps (λ r. r.group) p f k.group) (at_keeps (λ r. r.session) p f k.session) s.world.pidmax s.processes pids places places (omega arith) i.kept;
+  kept = kept_map (at p f) (at_pid p f k.pid) (at_keeps (λ r. r.group) p f k.group) (at_keeps (λ r. r.session) p f k.session) s.world.pidmax s.processes pids places places (λ n here. here) i.kept;
 }
 
 -- foregrounds have members as before
 fresh_on : (u : Unchecked) (s : State) (p : ℕ) (f : Process → Process) → KeepsNumbers f → AreFreshBut u s.processes s.consoles → AreFreshBut u (changed p f s.processes) s.consoles
 fresh_on u s p f k fresh = fresh_still u s.processes (changed p f s.processes) s.consoles (λ ds h. fresh_changed p f k.group k.session s.processes ds h) fresh
 
--- and their numbers are below the same one
-within_on : {n : ℕ} (p : ℕ) (f : Process → Process) (rs : List Process) → KeepsNumbers f → AreWithin n rs → AreWithin n (changed p f rs)
+-- and there is memory for each
+within_on : {readers : ListsView} (p : ℕ) (f : Process → Process) (rs : List Process) → KeepsNumbers f → AreWithin readers rs → AreWithin readers (changed p f rs)
 unfolding changed
 within_on p f rs k h = within_map (at p f) rs (at_pid p f k.pid) (at_keeps (λ r. r.session) p f k.session) h
 
@@ -144,7 +148,7 @@ numbers_kept m p b c rs pids now places up found is k = by (has_moved (record_se
       tallied = tallied_regrouped pids p (give_record c) (λ r. refl) (process_of p (parent_of p rs) b) rs k.table up k.tallied found;
       room = λ q here. k.room q (some_back (at p (give_record c)) (at_pid p (give_record c) (λ r. refl)) q rs here);
     }))
-    by false e still = subst (λ x. IsKept m (with_record rs p c) x places) (sym still) (kept_ready m (with_record rs p c) pids now.ready places (rw (numbers_as rs up p b c found e) (kept_map (at p (keep_numbers c)) (at_pid p (keep_numbers c) (λ r. refl)) (at_keeps (λ r. r.group) p (keep_numbers c) (λ r. refl)) (at_keeps (λ r. r.session) p (keep_numbers c) (λ r. refl)) m rs pids places places (omega arith) k)))
+    by false e still = subst (λ x. IsKept m (with_record rs p c) x places) (sym still) (kept_ready m (with_record rs p c) pids now.ready places (rw (numbers_as rs up p b c found e) (kept_map (at p (keep_numbers c)) (at_pid p (keep_numbers c) (λ r. refl)) (at_keeps (λ r. r.group) p (keep_numbers c) (λ r. refl)) (at_keeps (λ r. r.session) p (keep_numbers c) (λ r. refl)) m rs pids places places (λ n here. here) k)))
 
 -- those who are rechecked: the process, and its parent if it has one that is there
 pub listed_changed : {readers : ListsView} (s t : State) (p parent : ℕ) (before after : PidSetView) (touched : List ℕ) → IsListed s before readers → Touches s t touched → IsBeside s t touched → t.order ≡ s.order → length t.processes ≡ length s.processes → ((q : ℕ) → IsSome (process s q) → IsSome (process t q))
@@ -183,31 +187,43 @@ pub there_record : (rs : List Process) (p : ℕ) (c : Record) (q : ℕ) → IsSo
 unfolding give_record
 there_record rs p c q there = some_changed p q (give_record c) (λ r. refl) rs there
 
--- it is in its session, or in one that it leads
-within_shown : {n : ℕ} (p : ℕ) (b c : Record) (rs : List Process) → lookup p rs ≡ Some (process_of p (parent_of p rs) b) → (c.session ≡ b.session) ⊎ (c.session ≡ p) → AreWithin n rs → AreWithin n (with_record rs p c)
+-- it is in its session, or in one that it leads, and stands in no list
+within_shown : {readers : ListsView} (p : ℕ) (b c : Record) (rs : List Process) → lookup p rs ≡ Some (process_of p (parent_of p rs) b) → (c.session ≡ b.session) ⊎ (c.session ≡ p) → ((session : ℕ) → is_pair_in session p readers.pairs ≡ false) → AreWithin readers rs → AreWithin readers (with_record rs p c)
 unfolding give_record changed
-within_shown {n = n} p b c rs found session h q r e =
-    let was = lookup_back (at p (give_record c)) (at_pid p (give_record c) (λ r. refl)) q rs r e in
-    let low = h q was.what was.found in
-    let mine = h p _ found in (
-      low.0,
-      elim (was.what.pid == p) as (λ t. (was.what.pid == p) ≡ t → r.session < n) [
-        | true ↦ λ t.
-            let now : r.session ≡ c.session = ap (λ (x : Process). x.session) was.is ∙ ap (λ b. (cond b (give_record c was.what) was.what).session) t in
-            ⊎_elim (λ same. let low : b.session < n = mine.1 in omega (arith, now, same, low)) (λ own. let low = mine.0 in omega (arith, now, own, low)) session
-        | false ↦ λ t.
-            let now : r.session ≡ was.what.session = ap (λ (x : Process). x.session) was.is ∙ ap (λ b. (cond b (give_record c was.what) was.what).session) t in
-            omega (arith, now, low.1)
-      ] refl,
-    )
+within_shown {readers = readers} p b c rs found session none h = record {
+  room = λ q r e.
+      let was = lookup_back (at p (give_record c)) (at_pid p (give_record c) (λ r. refl)) q rs r e in
+      let here = h.room q was.what was.found in
+      let mine = h.room p _ found in (
+        here.0,
+        elim (was.what.pid == p) as (λ t. (was.what.pid == p) ≡ t → HasRoom readers.sizes r.session) [
+          | true ↦ λ t.
+              let now : r.session ≡ c.session = ap (λ (x : Process). x.session) was.is ∙ ap (λ b. (cond b (give_record c was.what) was.what).session) t in
+              ⊎_elim (λ same. subst (λ n. HasRoom readers.sizes n) (sym (now ∙ same)) mine.1) (λ own. subst (λ n. HasRoom readers.sizes n) (sym (now ∙ own)) mine.0) session
+          | false ↦ λ t.
+              let now : r.session ≡ was.what.session = ap (λ (x : Process). x.session) was.is ∙ ap (λ b. (cond b (give_record c was.what) was.what).session) t in
+              subst (λ n. HasRoom readers.sizes n) (sym now) here.1
+        ] refl,
+      );
+  own = λ k q on.
+      let it = h.own k q on in
+      (it.0, lookup_other p q (give_record c) (λ r. refl) (λ mine. absurd (both_ways _ (none k) (subst (λ n. is_pair_in k n readers.pairs ≡ true) mine on))) rs it.0 it.1, it.2);
+}
 
-pub machine_shown : {groups_at_risk : PidSetView} {terminals : Terminals} (s : State) (pids now : Pids) (places : Places) (to_recheck after : PidSetView) (p parent : ℕ) (b c : Record) (ts : List Process) (foregrounds_unchecked : Unchecked)
+-- who is to be rechecked still is with a parent
+in_parent : (p parent : ℕ) (order ns : List ℕ) → is_in p ns ≡ true → is_in p (with_parent parent order ns) ≡ true
+in_parent p parent order ns e = elim (parent == 0) as (λ b. is_in p (cond b ns (cond (is_in parent order) ns (with_number parent ns))) ≡ true) [
+  | true ↦ e
+  | false ↦ elim (is_in parent order) as (λ b. is_in p (cond b ns (with_number parent ns)) ≡ true) [ true ↦ e | false ↦ in_with p parent ns ∙ or_right _ _ e ]
+]
+
+pub machine_shown : {groups_at_risk : PidSetView} {terminals : Terminals} {sets : ListsView} (s : State) (pids now : Pids) (places : Places) (to_recheck after : PidSetView) (p parent : ℕ) (b c : Record) (ts : List Process) (foregrounds_unchecked : Unchecked)
     → lookup p s.processes ≡ Some (process_of p (parent_of p s.processes) b) → ts ≡ with_record s.processes p c → IsRegular (record s { processes = with_record s.processes p c }) → (c.session ≡ b.session) ⊎ (c.session ≡ p) → parent ≡ parent_of p s.processes
     → now ≡ record (cond (has_moved (record_seen b) (record_seen c)) (regrouped pids b.group b.session c.group c.session) pids) { ready = now.ready } → foregrounds_unchecked ≡ cond (has_moved (record_seen b) (record_seen c)) (also_in b.session terminals.foregrounds_unchecked) terminals.foregrounds_unchecked → s.last_pid ≡ now.last
-    → IsMachine s pids places to_recheck groups_at_risk terminals → after.pids ≡ with_parent parent s.order (with_number p to_recheck.pids) → after.room ≡ to_recheck.room
-    → IsMachine (record s { processes = ts; last_pid = now.last }) now places after groups_at_risk (record terminals { foregrounds_unchecked = foregrounds_unchecked })
+    → IsMachine s pids places to_recheck groups_at_risk terminals → after.pids ≡ with_parent parent s.order (with_number p to_recheck.pids) → after.room ≡ to_recheck.room → IsMoved p None terminals.readers.pairs sets.pairs → sets.sizes ≡ terminals.readers.sizes
+    → IsMachine (record s { processes = ts; last_pid = now.last }) now places after groups_at_risk (record terminals { readers = sets; foregrounds_unchecked = foregrounds_unchecked })
 unfolding give_record
-machine_shown {groups_at_risk = groups_at_risk} {terminals = terminals} s pids now places to_recheck after p parent b c ts foregrounds_unchecked found is regular session its moved mark given i put room =
+machine_shown {groups_at_risk = groups_at_risk} {terminals = terminals} {sets = sets} s pids now places to_recheck after p parent b c ts foregrounds_unchecked found is regular session its moved mark given i put room forgot sizes =
     let rs = s.processes in
     let f = give_record c in
     let up = i.sound.regular.rising in
@@ -220,17 +236,18 @@ machine_shown {groups_at_risk = groups_at_risk} {terminals = terminals} s pids n
         counted = let n = i.sound.counted in let l = length_record rs p c in omega (arith, n, l);
         kept = numbers_kept s.world.pidmax p b c rs pids now places up found moved i.sound.kept;
       };
-      listed = listed_changed s t p (parent_of p rs) to_recheck after (p ∷ parent_of p rs ∷ []) i.listed (touches_shown s p f (λ r. refl) (λ r. refl) up me found) (refl, refl, λ q u e. e) refl (length_record rs p c)
+      listed = listed_forgotten t p after (listed_changed s t p (parent_of p rs) to_recheck after (p ∷ parent_of p rs ∷ []) i.listed (touches_shown s p f (λ r. refl) (λ r. refl) up me found) (refl, refl, λ q u e. e) refl (length_record rs p c)
           (λ q e. some_changed p q f (λ r. refl) rs e) (some_changed p p f (λ r. refl) rs (rw found refl)) (λ some. some_changed p (parent_of p rs) f (λ r. refl) rs (parent_there s pids places i.sound p me found some)) (absent_changed p f (λ r. refl) 0 rs (nobody_0 s i.sound.regular))
           (λ q e. each (λ q. (q ≡ p) ⊎ (q ≡ parent_of p rs)) (p ∷ parent_of p rs ∷ []) (inl refl, (inr refl, tt)) q e)
-          (subst (λ q. after.pids ≡ with_parent q s.order (with_number p to_recheck.pids)) its put) room;
+          (subst (λ q. after.pids ≡ with_parent q s.order (with_number p to_recheck.pids)) its put) room)
+          (ap (is_in p) put ∙ in_parent p parent s.order _ (in_with p p to_recheck.pids ∙ or_left _ _ (eq-eqb p p refl))) forgot;
       noted = subst (λ n. IsNoted n groups_at_risk) (sym room) i.noted;
       fresh = subst (λ u. AreFreshBut u (with_record rs p c) s.consoles) (sym mark) (elim (has_moved (record_seen b) (record_seen c)) as (λ m. has_moved (record_seen b) (record_seen c) ≡ m → AreFreshBut (cond m (also_in b.session terminals.foregrounds_unchecked) terminals.foregrounds_unchecked) (with_record rs p c) s.consoles) [
         | true ↦ λ e. fresh_moved terminals.foregrounds_unchecked p me f rs s.consoles up found i.fresh
         | false ↦ λ e. fresh_still terminals.foregrounds_unchecked rs (with_record rs p c) s.consoles (λ ds h. rw (numbers_as rs up p b c found e) (fresh_changed p (keep_numbers c) (λ r. refl) (λ r. refl) rs ds h)) i.fresh
       ] refl);
       indexed = i.indexed;
-      within = within_shown p b c rs found session i.within;
+      within = within_shown p b c rs found session (none_marked p _ _ forgot) (within_marked p None forgot sizes (λ k e. absurd (cc)) i.within);
     }))
 
 -- ---- a child that was stopped or continued

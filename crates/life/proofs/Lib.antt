@@ -1,5 +1,6 @@
 pub mod SoundLemmas
 pub mod RoomLemmas
+pub mod PageLemmas
 pub mod ReaderLemmas
 pub mod TerminalLemmas
 pub mod ReadingLemmas

@@ -1,5 +1,5 @@
 -- The walk over the zombies among the children of a process that ends, which tells its heir of each.
-use Rattle.std.proofs.Common.{◌≡◌, ◌≢◌, ℕ, ◌+◌, ◌<◌, ◌≤◌, true, false, not, refl, ap, sym, ◌∙◌, arith, List, [], ◌∷◌, length, map, filter, Option, Some, None, ◌==◌, nat_le, nat_lt}
+use Rattle.std.proofs.Common.{◌≡◌, ◌≢◌, ℕ, ◌+◌, ◌<◌, ◌≤◌, true, not, refl, ap, sym, ◌∙◌, arith, List, [], ◌∷◌, length, map, filter, Option, Some, None, ◌==◌, nat_lt}
 use Rattle.std.specs.Option.{IfSome, IsSome}
 use Rattle.std.proofs.lemmas.Bool.{eqb-true, ne_eqb, cond_both}
 use Rattle.std.proofs.lemmas.List.{length-map}

@@ -1,7 +1,7 @@
 -- What a notice of an end, and a record that goes, change in the parts of a machine.
-use Rattle.std.proofs.Common.{rules, eq-eqb, ◌≡◌, ◌≢◌, ℕ, ◌+◌, ◌<◌, ◌≤◌, inl, inr, Bool, true, false, cond, refl, ap, sym, ◌∙◌, arith, subst, List, [], length, Option, Some, None, option_map}
+use Rattle.std.proofs.Common.{rules, eq-eqb, ◌≡◌, ◌≢◌, ℕ, ◌+◌, ◌≤◌, inl, inr, Bool, true, false, cond, refl, ap, sym, ◌∙◌, arith, subst, List, [], length, Option, Some, None, option_map}
 use Rattle.std.specs.Option.{option_map_or, IsSome}
-use Rattle.std.proofs.lemmas.Bool.{cases_eq}
+use Rattle.std.proofs.lemmas.Bool.{both_ways, cases_eq}
 use Rattle.posix.specs.declared.process.PendingSignal.{PendingSignal}
 use Rattle.posix.specs.Processes.{Process, is_zombie}
 use Rattle.posix.specs.Tables.{lookup, at, changed, removed, parent_of}
@@ -17,7 +17,10 @@ use Rattle.pidalloc.proofs.TallyLemmas.{can_give_up, tallied_gone, tallied_ready
 use Rattle.sched.specs.Places.{Places}
 use Rattle.life.specs.Machines.{AreWithin, IsSound, IsMachine, Terminals, CanGo, IsGone, IsOther}
 use Rattle.life.proofs.RecheckLemmas.{listed_same}
+use Rattle.pidset.specs.Indexes.{is_pair_in}
+use Rattle.pidset.specs.Lists.{ListsView}
 use Rattle.pidset.specs.Numbers.{PidSetView}
+use Rattle.pidset.specs.Rows.{HasRoom}
 use Rattle.posix.proofs.MemberLemmas.{in_none}
 use Rattle.posix.proofs.TouchLemmas.{touches_none}
 use Rattle.pidset.proofs.ParentLemmas.{no_child, parents_removed}
@@ -43,12 +46,17 @@ sound_gone s p q a c last dropped r i found dead other g most =
     let parents = parents_removed IsOther c s.processes (no_child c s.processes (i.regular.childless c r other found dead)) i.parents in
     let many = length_removed c r s.processes i.regular.rising found in
     let tallied = subst (λ x. IsTallied x (removed c s.processes)) (sym g.rows) (tallied_ready (gone_from p c r.group r.session) (removed c s.processes) q.ready (tallied_gone p c r s.processes i.kept.table.size i.regular.rising i.kept.tallied found)) in
-    let room : (k : ℕ) → IsSome (lookup k (removed c s.processes)) → k < a.room = λ k here. elim (cases_eq k c) [ inl mine ↦ let no = subst IsSome (ap (λ n. lookup n (removed c s.processes)) mine ∙ lookup_removed c s.processes) here in absurd (cc) | inr other ↦ i.kept.room k (subst IsSome (lookup_kept c k s.processes other) here) ] in
+    let room : (k : ℕ) → IsSome (lookup k (removed c s.processes)) → HasRoom a.sizes k = λ k here. elim (cases_eq k c) [ inl mine ↦ let no = subst IsSome (ap (λ n. lookup n (removed c s.processes)) mine ∙ lookup_removed c s.processes) here in absurd (cc) | inr other ↦ i.kept.room k (subst IsSome (lookup_kept c k s.processes other) here) ] in
     record { regular = regular; parents = parents; counted = omega (arith, i.counted, many, most); kept = record { greatest = g.greatest ∙ i.kept.greatest; table = g.table; tallied = tallied; room = room } }
 
--- numbers are below the same one where one has gone
-pub within_removed : {n : ℕ} (c : ℕ) (rs : List Process) → AreWithin n rs → AreWithin n (removed c rs)
-within_removed c rs h q r e = elim (cases_eq q c) [ inl mine ↦ let no = sym (ap (λ n. lookup n (removed c rs)) mine ∙ lookup_removed c rs) ∙ e in absurd (cc) | inr other ↦ h q r (sym (lookup_kept c q rs other) ∙ e) ]
+-- there is memory for each where one has gone that stands in no list
+pub within_removed : {readers : ListsView} (c : ℕ) (rs : List Process) → ((session : ℕ) → is_pair_in session c readers.pairs ≡ false) → AreWithin readers rs → AreWithin readers (removed c rs)
+within_removed {readers = readers} c rs none h = record {
+  room = λ q r e. elim (cases_eq q c) [ inl mine ↦ let no = sym (ap (λ n. lookup n (removed c rs)) mine ∙ lookup_removed c rs) ∙ e in absurd (cc) | inr other ↦ h.room q r (sym (lookup_kept c q rs other) ∙ e) ];
+  own = λ k q on.
+      let it = h.own k q on in
+      (it.0, lookup_kept c q rs (λ mine. absurd (both_ways _ (none k) (subst (λ n. is_pair_in k n readers.pairs ≡ true) mine on))) ∙ it.1, it.2);
+}
 
 -- it stays a machine where only the count of those dropped changes, and whether it has halted
 pub machine_counted : {groups_at_risk : PidSetView} {terminals : Terminals} (s : State) (pids : Pids) (places : Places) (to_recheck : PidSetView) (dropped : ℕ) (halted : Bool) → dropped + length s.processes ≤ s.births

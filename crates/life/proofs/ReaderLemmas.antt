@@ -9,6 +9,7 @@ use Rattle.posix.specs.Processes.{Process, is_running, is_zombie}
 use Rattle.posix.specs.Consoles.{Console}
 use Rattle.posix.specs.States.{State, process, is_in, has_place, without}
 use Rattle.posix.specs.Regular.{IsRegular}
+use Rattle.posix.specs.Tables.{lookup}
 use Rattle.posix.specs.Terminals.{is_reader, is_in_read}
 use Rattle.posix.proofs.MemberLemmas.{others_stay}
 use Rattle.posix.proofs.TableLemmas.{pid_looked}
@@ -16,11 +17,12 @@ use Rattle.pidset.specs.declared.index.Pair.{Pair}
 use Rattle.pidset.specs.Indexes.{IsMoved, IsNextPair, is_key, is_pair_in}
 use Rattle.pidset.specs.Lists.{ListsView}
 use Rattle.pidset.specs.Numbers.{PidSetView, with_number}
+use Rattle.pidset.specs.Rows.{HasRoom}
 use Rattle.pidset.proofs.NumberLemmas.{in_with}
-use Rattle.life.specs.Machines.{AreWithin, IsListed, IsWaiting, IsWatched}
+use Rattle.life.specs.Machines.{AreWithin, IsInSession, IsListed, IsWaiting, IsWatched}
 use Rattle.life.specs.Consoles.{reads, reads_in, AreReaders}
 use Rattle.life.proofs.ConsoleLemmas.{reader_is}
-use Rattle.life.proofs.SoundLemmas.{there}
+use Rattle.life.proofs.SoundLemmas.{grows_same, there}
 
 -- ---- one who was rechecked
 
@@ -36,6 +38,10 @@ reads_waiting s p session e = by (has_place s p) (process s p) refl refl e
         visits true false e = absurd (cc)
         visits false b e = absurd (cc)
     by b o out found e = absurd (cc)
+
+-- and is in that session
+pub reads_within : (s : State) (p session : ℕ) → is_key session (reads s p) ≡ true → IsInSession session p s.processes
+reads_within s p session e = let it = reads_waiting s p session e in (it.reader, it.found, (reader_is session it.reader it.reads).own)
 
 -- and who does is found to
 reads_found : (s : State) (p session : ℕ) (r : Process) → process s p ≡ Some r → is_reader session r ≡ true → has_place s p ≡ false → is_key session (reads s p) ≡ true
@@ -85,8 +91,26 @@ listed_zombie {sets = sets} s p it l h found zombie put =
     not_running Running z = absurd (cc)
     not_running life z = refl
 
+-- and who is to be rechecked anyway
+pub listed_forgotten : {readers sets : ListsView} (s : State) (p : ℕ) (l : PidSetView) → IsListed s l readers → is_in p l.pids ≡ true → IsMoved p None readers.pairs sets.pairs → IsListed s l sets
+listed_forgotten {sets = sets} s p l h asked put =
+    let watched = watched_marked {sets = sets} s p None l.pids l.pids h.watched put (λ q ne. refl) (λ session e. absurd (cc)) (λ session r mine visits out unasked. absurd (both_ways _ unasked asked)) in
+    search (rules, arith)
+
 pub none_marked : (p : ℕ) (old new : List Pair) → IsMoved p None old new → (session : ℕ) → is_pair_in session p new ≡ false
 none_marked p old new put session = put session p ∙ ap (λ b. cond b false (is_pair_in session p old)) (eq-eqb p p refl)
+
+-- there is memory for each where p stands in another list, that of its session
+pub within_marked : {readers sets : ListsView} {rs : List Process} (p : ℕ) (key : Option ℕ) → IsMoved p key readers.pairs sets.pairs → sets.sizes ≡ readers.sizes → ((session : ℕ) → is_key session key ≡ true → IsInSession session p rs) → AreWithin readers rs → AreWithin sets rs
+within_marked {readers = readers} {sets = sets} {rs = rs} p key put same its h = record {
+  room = λ q r e. let here = h.room q r e in (grows_same same q here.0, grows_same same r.session here.1);
+  own = λ k q on. elim (q == p) as (λ b. (q == p) ≡ b → IsInSession k q rs) [
+    | true ↦ λ e.
+        let it = its k (sym (put k q ∙ ap (λ b. cond b (is_key k key) (is_pair_in k q readers.pairs)) e) ∙ on) in
+        (it.0, ap (λ n. lookup n rs) (eqb-true q p e) ∙ it.1, it.2)
+    | false ↦ λ e. h.own k q (sym (put k q ∙ ap (λ b. cond b (is_key k key) (is_pair_in k q readers.pairs)) e) ∙ on)
+  ] refl;
+}
 
 -- ---- all are rechecked who may wait to read from a terminal
 
@@ -95,18 +119,18 @@ pub reader_there : {readers : ListsView} (s : State) (l : PidSetView) (session p
 reader_there s l session p h on = elim (is_in p l.pids) as (λ b. is_in p l.pids ≡ b → IsSome (process s p)) [ true ↦ λ e. h.there p e | false ↦ λ e. rw (h.watched.waits session p on e).found refl ] refl
 
 -- there is memory for who is there, and for the list of its session
-pub readable : {n : ℕ} (s : State) (p : ℕ) → IsRegular s → AreWithin n s.processes → IsSome (process s p) → (1 ≤ p) × (p < n)
+pub readable : {readers : ListsView} (s : State) (p : ℕ) → IsRegular s → AreWithin readers s.processes → IsSome (process s p) → (1 ≤ p) × HasRoom readers.sizes p
 readable s p i within here =
     let it = there (process s p) here in
-    (omega (arith, (i.bounded p it.what it.found).least, pid_looked p s.processes it.what it.found), (within p it.what it.found).0)
+    (omega (arith, (i.bounded p it.what it.found).least, pid_looked p s.processes it.what it.found), (within.room p it.what it.found).0)
 
-pub session_readable : {n : ℕ} (s : State) (p : ℕ) → IsRegular s → AreWithin n s.processes → IfSome (reads s p) (λ session. (1 ≤ session) × (session < n))
-session_readable {n = n} s p i within = by (has_place s p) (process s p) refl
+pub session_readable : {readers : ListsView} (s : State) (p : ℕ) → IsRegular s → AreWithin readers s.processes → IfSome (reads s p) (λ session. (1 ≤ session) × HasRoom readers.sizes session)
+session_readable {readers = readers} s p i within = by (has_place s p) (process s p) refl
   where
-    by : (b : Bool) (o : Option Process) → process s p ≡ o → IfSome (cond b None (reads_in o)) (λ session. (1 ≤ session) × (session < n))
+    by : (b : Bool) (o : Option Process) → process s p ≡ o → IfSome (cond b None (reads_in o)) (λ session. (1 ≤ session) × HasRoom readers.sizes session)
     by true o found = tt
     by false None found = tt
-    by false (Some r) found = elim (is_running r.life && is_in_read r.blocked) as (λ b. IfSome (cond b (Some r.session) None) (λ session. (1 ≤ session) × (session < n))) [ true ↦ ((i.bounded p r found).session_least, (within p r found).1) | false ↦ tt ]
+    by false (Some r) found = elim (is_running r.life && is_in_read r.blocked) as (λ b. IfSome (cond b (Some r.session) None) (λ session. (1 ≤ session) × HasRoom readers.sizes session)) [ true ↦ ((i.bounded p r found).session_least, (within.room p r found).1) | false ↦ tt ]
 
 -- where one isn't known any more the others are known as before
 pub still_known : (session p q : ℕ) (old new : List Pair) → IsMoved p None old new → is_pair_in session q new ≡ true → (q ≢ p) × (is_pair_in session q old ≡ true)

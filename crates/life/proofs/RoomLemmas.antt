@@ -1,5 +1,5 @@
 -- A machine in which there is room for more.
-use Rattle.std.proofs.Common.{◌≡◌, ℕ, ◌<◌, ◌≤◌, Bool, true, false, refl, ap, sym, arith, subst, List}
+use Rattle.std.proofs.Common.{◌≡◌, ℕ, ◌<◌, ◌≤◌, Bool, true, false, refl, ap, sym, ◌∙◌, subst, List}
 use Rattle.std.proofs.lemmas.Bool.{both_ways}
 use Rattle.posix.specs.Processes.{Process}
 use Rattle.posix.specs.Consoles.{Console}
@@ -7,7 +7,9 @@ use Rattle.posix.specs.States.{World, State}
 use Rattle.pidalloc.specs.Rows.{Pids, row, is_free_in}
 use Rattle.pidalloc.proofs.TallyLemmas.{CanBear}
 use Rattle.sched.specs.Places.{Places}
+use Rattle.pidset.specs.Indexes.{is_pair_in}
 use Rattle.pidset.specs.Lists.{ListsView}
+use Rattle.pidset.specs.Rows.{Grows}
 use Rattle.pidset.specs.Numbers.{PidSetView, Rises}
 use Rattle.life.specs.Machines.{state_of, MachineView, AreSame, AreSameButRoom, IsKept, IsMachine, Terminals}
 use Rattle.life.proofs.RecheckLemmas.{listed_roomier}
@@ -15,8 +17,8 @@ use Rattle.life.proofs.SoundLemmas.{kept_ready}
 
 -- it stays one
 pub machine_roomier : {s t : State} {pids now : Pids} {places order : Places} {l m groups after : PidSetView} {terminals : Terminals} {sets : ListsView}
-    → IsMachine s pids places l groups terminals → t ≡ s → now ≡ record pids { ready = now.ready } → places.room ≤ order.room → m.pids ≡ l.pids → l.room ≤ m.room → after.pids ≡ groups.pids → m.room ≤ after.room
-    → sets.pairs ≡ terminals.readers.pairs → terminals.readers.numbers ≤ sets.numbers → IsMachine t now order m after (record terminals { readers = sets })
+    → IsMachine s pids places l groups terminals → t ≡ s → now ≡ record pids { ready = now.ready } → Grows places.sizes order.sizes → m.pids ≡ l.pids → l.room ≤ m.room → after.pids ≡ groups.pids → m.room ≤ after.room
+    → sets.pairs ≡ terminals.readers.pairs → Grows terminals.readers.sizes sets.sizes → IsMachine t now order m after (record terminals { readers = sets })
 machine_roomier {s = s} {pids = pids} {now = now} {places = places} {order = order} {l = l} {m = m} {groups = groups} {after = after} {terminals = terminals} {sets = sets} i same ready wider is more groups_same groups_more roomier longer =
     subst (λ x. IsMachine x now order m after (record terminals { readers = sets })) (sym same) (record {
       sound = record {
@@ -27,14 +29,17 @@ machine_roomier {s = s} {pids = pids} {now = now} {places = places} {order = ord
           greatest = i.sound.kept.greatest;
           table = i.sound.kept.table;
           tallied = i.sound.kept.tallied;
-          room = λ q here. let low = i.sound.kept.room q here in omega (arith, low, wider);
+          room = λ q here. wider q (i.sound.kept.room q here);
         }));
       };
       listed = listed_roomier s l m i.listed is more roomier;
       noted = record { rising = subst Rises (sym groups_same) i.noted.rising; room = groups_more };
       fresh = i.fresh;
       indexed = i.indexed;
-      within = λ p r e. let low = i.within p r e in (omega (arith, low.0, longer), omega (arith, low.1, longer));
+      within = record {
+        room = λ q r e. let here = i.within.room q r e in (longer q here.0, longer r.session here.1);
+        own = λ k q on. i.within.own k q (sym (ap (is_pair_in k q) roomier) ∙ on);
+      };
     })
 
 -- its state is the same

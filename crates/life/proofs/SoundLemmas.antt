@@ -1,5 +1,5 @@
 -- What keeps a machine sound.
-use Rattle.std.proofs.Common.{rules, ◌≡◌, ◌≢◌, ℕ, ◌+◌, ◌<◌, ◌≤◌, Bool, false, refl, ap, sym, ◌∙◌, arith, subst, List, [], ◌∷◌, length, map, replicate, Some, None, inl, inr}
+use Rattle.std.proofs.Common.{rules, ◌≡◌, ◌≢◌, ℕ, ◌+◌, ◌≤◌, Bool, false, refl, ap, sym, ◌∙◌, arith, subst, List, [], ◌∷◌, length, map, replicate, Some, None, inl, inr}
 use Rattle.std.specs.Option.{IsSome}
 use Rattle.std.proofs.lemmas.Bool.{cases_eq}
 use Rattle.std.proofs.lemmas.Option.{same_Some}
@@ -14,7 +14,7 @@ use Rattle.posix.specs.Ends.{made_zombie, leave_children_and_die}
 use Rattle.posix.proofs.NextLemmas.{IsNew, new_number}
 use Rattle.posix.proofs.RegularLemmas.{lookup_inserted, lookup_new, regular_as, regular_inserted, regular_first, regular_depart, heir_there}
 use Rattle.posix.proofs.TableLemmas.{length_inserted}
-use Rattle.posix.proofs.MapLemmas.{at_pid, lookup_back}
+use Rattle.posix.proofs.MapLemmas.{at_pid, lookup_back, lookup_on}
 use Rattle.posix.proofs.WalkLemmas.{all_looked}
 use Rattle.posix.proofs.ReportLemmas.{some_changed}
 use Rattle.pidalloc.specs.Rows.{Pids, IsPids, is_free_in, unborne_table, born_in}
@@ -24,6 +24,9 @@ use Rattle.sched.specs.Places.{Places}
 use Rattle.life.specs.Machines.{AreWithin, IsKept, IsSound, state_of, IsOther}
 pub use Rattle.jobs.proofs.SnapshotLemmas.{There, there, is_there, snapshot_are, some_read, none_read}
 use Rattle.jobs.proofs.NumberLemmas.{no_more, above_none, nobody_there}
+use Rattle.pidset.specs.Indexes.{is_pair_in}
+use Rattle.pidset.specs.Lists.{ListsView}
+use Rattle.pidset.specs.Rows.{Grows, HasRoom}
 use Rattle.pidset.proofs.ParentLemmas.{parents_map, parents_adopted, parents_inserted}
 
 -- what the value of a machine says of a process, its parts say
@@ -38,28 +41,34 @@ here_in p same h = subst (λ (s : State). IsSome (process s p)) (sym same) h
 pub heir_in : {s t : State} {p heir : ℕ} → s ≡ t → CanInherit t.processes p heir → CanInherit s.processes p heir
 heir_in {p = p} {heir = heir} same h = subst (λ (s : State). CanInherit s.processes p heir) (sym same) h
 
+-- there is room where there was
+pub grows_same : {old new : List ℕ} → new ≡ old → Grows old new
+grows_same same n here = subst (λ sizes. HasRoom sizes n) (sym same) here
+
 -- ---- changes of records
 
 -- who is there after a change of each record was there before
 pub some_back : (g : Process → Process) → ((r : Process) → (g r).pid ≡ r.pid) → (q : ℕ) (rs : List Process) → IsSome (lookup q (map g rs)) → IsSome (lookup q rs)
 some_back g keeps q rs here = let r = there (lookup q (map g rs)) here in rw (lookup_back g keeps q rs r.what r.found).found refl
 
--- numbers are below the same one where each record keeps its own and its session's
-pub within_map : {n : ℕ} (g : Process → Process) (rs : List Process) → ((r : Process) → (g r).pid ≡ r.pid) → ((r : Process) → (g r).session ≡ r.session) → AreWithin n rs → AreWithin n (map g rs)
-within_map {n = n} g rs keeps session h q r e =
-    let was = lookup_back g keeps q rs r e in
-    let low = h q was.what was.found in
-    let same = ap (λ (x : Process). x.session) was.is ∙ session was.what in
-    (low.0, omega (arith, low.1, same))
+-- there is memory for each where each record keeps its number and its session's
+pub within_map : {readers : ListsView} (g : Process → Process) (rs : List Process) → ((r : Process) → (g r).pid ≡ r.pid) → ((r : Process) → (g r).session ≡ r.session) → AreWithin readers rs → AreWithin readers (map g rs)
+within_map {readers = readers} g rs keeps session h = record {
+  room = λ q r e.
+      let was = lookup_back g keeps q rs r e in
+      let here = h.room q was.what was.found in
+      (here.0, subst (λ n. HasRoom readers.sizes n) (sym (ap (λ (x : Process). x.session) was.is ∙ session was.what)) here.1);
+  own = λ k q on. let it = h.own k q on in (g it.0, lookup_on g keeps q rs it.0 it.1, session it.0 ∙ it.2);
+}
 
 -- the numbers and the room stay kept where each record keeps its numbers
 pub kept_map : (g : Process → Process) → ((r : Process) → (g r).pid ≡ r.pid) → ((r : Process) → (g r).group ≡ r.group) → ((r : Process) → (g r).session ≡ r.session)
-    → (m : ℕ) (rs : List Process) (p : Pids) (a b : Places) → a.room ≤ b.room → IsKept m rs p a → IsKept m (map g rs) p b
-kept_map g kp kg ks m rs p a b e k = record {
+    → (m : ℕ) (rs : List Process) (p : Pids) (a b : Places) → Grows a.sizes b.sizes → IsKept m rs p a → IsKept m (map g rs) p b
+kept_map g kp kg ks m rs p a b wider k = record {
   greatest = k.greatest;
   table = k.table;
   tallied = tallied_map p g kp kg ks rs k.tallied;
-  room = λ q here. let low = k.room q (some_back g kp q rs here) in omega (arith, low, e);
+  room = λ q here. wider q (k.room q (some_back g kp q rs here));
 }
 
 -- whether the rows are ready for one number more makes no difference
@@ -72,12 +81,12 @@ kept_ready m rs p ready places k = record {
 }
 
 -- a machine stays sound where the places change but keep their room
-pub sound_order : (s : State) (order : List ℕ) (pids : Pids) (a b : Places) → a.room ≤ b.room → IsRegular (record s { order = order }) → IsSound s pids a → IsSound (record s { order = order }) pids b
-sound_order s order pids a b e regular i = record {
+pub sound_order : (s : State) (order : List ℕ) (pids : Pids) (a b : Places) → Grows a.sizes b.sizes → IsRegular (record s { order = order }) → IsSound s pids a → IsSound (record s { order = order }) pids b
+sound_order s order pids a b wider regular i = record {
   regular = regular;
   parents = i.parents;
   counted = i.counted;
-  kept = record { greatest = i.kept.greatest; table = i.kept.table; tallied = i.kept.tallied; room = λ q here. let low = i.kept.room q here in omega (arith, low, e) };
+  kept = record { greatest = i.kept.greatest; table = i.kept.table; tallied = i.kept.tallied; room = λ q here. wider q (i.kept.room q here) };
 }
 
 -- ---- ends
@@ -88,7 +97,7 @@ unfolding made_zombie
 there_made_zombie p w q rs there = some_changed p q (made_zombie w) (λ r. refl) rs there
 
 -- a process departs, and the machine stays sound
-pub sound_departed : (p heir w : ℕ) (s : State) (pids : Pids) (a b : Places) → 1 ≤ p → p ≢ 1 → CanInherit s.processes p heir → a.room ≤ b.room → IsSound s pids a → IsSound (leave_children_and_die s p heir w) pids b
+pub sound_departed : (p heir w : ℕ) (s : State) (pids : Pids) (a b : Places) → 1 ≤ p → p ≢ 1 → CanInherit s.processes p heir → Grows a.sizes b.sizes → IsSound s pids a → IsSound (leave_children_and_die s p heir w) pids b
 unfolding changed adopted made_zombie
 sound_departed p heir w s pids a b least other h room i =
     let dead = map (at p (made_zombie w)) s.processes in
@@ -97,11 +106,11 @@ sound_departed p heir w s pids a b least other h room i =
       parents = parents_adopted IsOther p heir dead (there_made_zombie p w heir s.processes (heir_there s p heir i.regular h)) (parents_map IsOther (at p (made_zombie w)) (at_pid p (made_zombie w) (λ r. refl)) (λ r. grind arith) (λ q r other. other) s.processes i.parents);
       counted = omega (arith, i.counted, length-map dead (reparented p heir), length-map s.processes (at p (made_zombie w)));
       kept = kept_map (reparented p heir) (λ r. grind arith) (λ r. grind arith) (λ r. grind arith) s.world.pidmax dead pids a b room
-          (kept_map (at p (made_zombie w)) (λ r. grind arith) (λ r. grind arith) (λ r. grind arith) s.world.pidmax s.processes pids a a (omega arith) i.kept);
+          (kept_map (at p (made_zombie w)) (λ r. grind arith) (λ r. grind arith) (λ r. grind arith) s.world.pidmax s.processes pids a a (λ n here. here) i.kept);
     }
 
--- and numbers are below the same one
-pub within_departed : {n : ℕ} (p heir w : ℕ) (rs : List Process) → AreWithin n rs → AreWithin n (adopted p heir (changed p (made_zombie w) rs))
+-- and there is memory for each
+pub within_departed : {readers : ListsView} (p heir w : ℕ) (rs : List Process) → AreWithin readers rs → AreWithin readers (adopted p heir (changed p (made_zombie w) rs))
 unfolding changed adopted made_zombie
 within_departed p heir w rs h = within_map (reparented p heir) _ (λ r. grind arith) (λ r. grind arith) (within_map (at p (made_zombie w)) rs (λ r. grind arith) (λ r. grind arith) h)
 
@@ -143,9 +152,9 @@ room_to_bear s t p places rs child parent group session now same i next me like 
 pub sound_born : (w : World) (rs : List Process) (cs : List Console) (p q : Pids) (a : Places) (births ticks dropped : ℕ) (h : Bool) (new me : Process)
     → IsSound (state_of w rs cs p a births ticks dropped h) p a → IsNew rs p.pidmax new.pid → lookup new.parent rs ≡ Some me → is_zombie me.life ≡ false
     → new.group ≡ me.group → new.session ≡ me.session → new.life ≡ me.life → new.alarm ≡ None
-    → q ≡ record (born_in p new.pid new.group new.session) { ready = q.ready } → q.pidmax ≡ p.pidmax → IsPids q → new.pid < a.room
+    → q ≡ record (born_in p new.pid new.group new.session) { ready = q.ready } → q.pidmax ≡ p.pidmax → IsPids q → HasRoom a.sizes new.pid
     → IsSound (state_of w (inserted new rs) cs q a (births + 1) ticks dropped h) q a
-sound_born w rs cs p q a births ticks dropped h new me i fresh there up group session life silent bore same table low =
+sound_born w rs cs p q a births ticks dropped h new me i fresh there up group session life silent bore same table fits =
     let s = state_of w rs cs p a births ticks dropped h in
     let number : IsNew rs w.pidmax new.pid = subst (λ m. IsNew rs m new.pid) i.kept.greatest fresh in
     let r = regular_inserted new q.last (births + 1) s i.regular number (ap is_zombie life ∙ up) silent me there up group session in
@@ -153,15 +162,22 @@ sound_born w rs cs p q a births ticks dropped h new me i fresh there up group se
     let parents = parents_inserted IsOther new rs fresh.fresh (λ other. is_there _ me there) i.parents in
     let many = length_inserted new rs in
     let tallied = subst (λ x. IsTallied x (inserted new rs)) (sym bore) (tallied_ready (born_in p new.pid new.group new.session) (inserted new rs) q.ready (tallied_born p new rs i.kept.table.size i.kept.tallied)) in
-    let room : (k : ℕ) → IsSome (lookup k (inserted new rs)) → k < a.room = λ k here. elim (cases_eq k new.pid) [ inl mine ↦ omega (arith, mine, low) | inr other ↦ i.kept.room k (subst IsSome (lookup_inserted new k rs other) here) ] in
+    let room : (k : ℕ) → IsSome (lookup k (inserted new rs)) → HasRoom a.sizes k = λ k here. elim (cases_eq k new.pid) [ inl mine ↦ subst (λ n. HasRoom a.sizes n) (sym mine) fits | inr other ↦ i.kept.room k (subst IsSome (lookup_inserted new k rs other) here) ] in
     record { regular = regular; parents = parents; counted = search (rules, arith); kept = record { greatest = same ∙ i.kept.greatest; table = table; tallied = tallied; room = room } }
 
--- where the numbers of one more are below the same one
-pub within_inserted : {n : ℕ} (new : Process) (rs : List Process) → lookup new.pid rs ≡ None → (new.pid < n) × (new.session < n) → AreWithin n rs → AreWithin n (inserted new rs)
-within_inserted {n = n} new rs fresh low h q r e = elim (cases_eq q new.pid) [
-  | inl mine ↦ let same : new ≡ r = same_Some _ _ (sym (ap (λ p. lookup p (inserted new rs)) mine ∙ lookup_new new rs fresh) ∙ e) in (omega (arith, mine, low.0), subst (λ (x : Process). x.session < n) same low.1)
-  | inr other ↦ h q r (sym (lookup_inserted new q rs other) ∙ e)
-]
+-- where there is memory for one more
+pub within_inserted : {readers : ListsView} (new : Process) (rs : List Process) → lookup new.pid rs ≡ None → HasRoom readers.sizes new.pid × HasRoom readers.sizes new.session → AreWithin readers rs → AreWithin readers (inserted new rs)
+within_inserted {readers = readers} new rs fresh fits h = record {
+  room = λ q r e. elim (cases_eq q new.pid) [
+    | inl mine ↦
+        let same : new ≡ r = same_Some _ _ (sym (ap (λ p. lookup p (inserted new rs)) mine ∙ lookup_new new rs fresh) ∙ e) in
+        (subst (λ n. HasRoom readers.sizes n) (sym mine) fits.0, subst (λ (x : Process). HasRoom readers.sizes x.session) same fits.1)
+    | inr other ↦ h.room q r (sym (lookup_inserted new q rs other) ∙ e)
+  ];
+  own = λ k q on.
+      let it = h.own k q on in
+      (it.0, lookup_inserted new q rs (λ mine. let no = sym fresh ∙ ap (λ n. lookup n rs) (sym mine) ∙ it.1 in absurd (cc)) ∙ it.1, it.2);
+}
 
 -- ---- the start
 
@@ -171,7 +187,7 @@ unfolding inserted
 first_alone = refl
 
 -- a machine with process 1 alone
-pub sound_first : (w : World) (cs : List Console) (q : Pids) (b : Places) → cs ≡ replicate w.consoles unused_console → 2 ≤ w.pidmax → q ≡ record (born_in (unborne_table w.pidmax) 1 1 1) { ready = q.ready } → q.pidmax ≡ w.pidmax → IsPids q → b.pids ≡ 1 ∷ [] → 1 < b.room
+pub sound_first : (w : World) (cs : List Console) (q : Pids) (b : Places) → cs ≡ replicate w.consoles unused_console → 2 ≤ w.pidmax → q ≡ record (born_in (unborne_table w.pidmax) 1 1 1) { ready = q.ready } → q.pidmax ≡ w.pidmax → IsPids q → b.pids ≡ 1 ∷ [] → HasRoom b.sizes 1
     → IsSound (state_of w (inserted first_process []) cs q b 1 0 0 false) q b
 sound_first w cs q b unused most bore same table order room = record {
   regular = regular_as (boot w) _ refl first_alone order refl unused (regular_first w (omega (arith, most)));
@@ -179,12 +195,13 @@ sound_first w cs q b unused most bore same table order room = record {
   counted = rw first_alone (omega arith);
   kept =
       let tallied = subst (λ x. IsTallied x (inserted first_process [])) (sym bore) (tallied_ready (born_in (unborne_table w.pidmax) 1 1 1) (inserted first_process []) q.ready (tallied_born (unborne_table w.pidmax) first_process [] (length-replicate _ _) (tallied_unborne w.pidmax))) in
-      record { greatest = same; table = table; tallied = tallied; room = λ k here. elim (cases_eq k 1) [ inl mine ↦ omega (arith, mine, room) | inr other ↦ let no = subst IsSome (lookup_inserted first_process k [] other ∙ nobody_there k) here in absurd (cc) ] };
+      record { greatest = same; table = table; tallied = tallied; room = λ k here. elim (cases_eq k 1) [ inl mine ↦ subst (λ n. HasRoom b.sizes n) (sym mine) room | inr other ↦ let no = subst IsSome (lookup_inserted first_process k [] other ∙ nobody_there k) here in absurd (cc) ] };
 }
 
 -- its number and that of its session are 1
-pub within_first : {n : ℕ} → 1 < n → AreWithin n (inserted first_process [])
-within_first room = within_inserted first_process [] (nobody_there 1) (room, room) (λ q r e. let no = sym (nobody_there q) ∙ e in absurd (cc))
+pub within_first : {readers : ListsView} → readers.pairs ≡ [] → HasRoom readers.sizes 1 → AreWithin readers (inserted first_process [])
+unfolding is_pair_in
+within_first {readers = readers} nobody room = within_inserted first_process [] (nobody_there 1) (room, room) (record { room = λ q r e. let no = sym (nobody_there q) ∙ e in absurd (cc); own = λ k q on. let no = sym (ap (is_pair_in k q) nobody) ∙ on in absurd (cc) })
 
 -- and it is the machine at boot
 pub first_is_boot : (w : World) (cs : List Console) (q : Pids) (b : Places) → cs ≡ replicate w.consoles unused_console → q.last ≡ 1 → b.pids ≡ 1 ∷ [] → state_of w (inserted first_process []) cs q b 1 0 0 false ≡ boot w

@@ -12,6 +12,7 @@ use Rattle.life.specs.Foregrounds.{AreFreshBut}
 use Rattle.pidalloc.specs.Rows.{Pids, IsPids, row, gone_from}
 use Rattle.pidalloc.specs.Tallies.{IsTallied}
 use Rattle.sched.specs.Places.{Places}
+use Rattle.pidset.specs.Rows.{HasRoom}
 use Rattle.pidset.specs.Numbers.{PidSetView, Rises}
 use Rattle.pidset.specs.declared.index.Pair.{Pair}
 use Rattle.pidset.specs.Indexes.{HaveParents, IsKeyed, is_pair_in}
@@ -127,7 +128,7 @@ pub record IsKept (pidmax : ℕ) (rs : List Process) (pids : Pids) (places : Pla
   pub greatest : pids.pidmax ≡ pidmax
   pub table : IsPids pids
   pub tallied : IsTallied pids rs
-  pub room : (p : ℕ) → IsSome (lookup p rs) → p < places.room
+  pub room : (p : ℕ) → IsSome (lookup p rs) → HasRoom places.sizes p
 
 -- each process other than process 1 has a parent that is there
 abbrev pub IsOther : ℕ → Process → Type 0
@@ -139,7 +140,7 @@ pub record IsSound (s : State) (pids : Pids) (places : Places) : Type 0 where
   pub counted : s.dropped + length s.processes ≤ s.births  -- each was born
   pub kept : IsKept s.world.pidmax s.processes pids places
 
--- all but the number of slots that have been read is as it was, and there may be more room for those who wait to read
+-- all but the number of slots that have been read is as it was, and there may be other room for those who wait to read
 pub record AreSameButRoom (old new : MachineView) : Type 0 where
   pub state : new.state ≡ old.state
   pub to_recheck : new.to_recheck ≡ old.to_recheck
@@ -189,9 +190,14 @@ pub record Terminals : Type 0 where
   pub foregrounds_unchecked : Unchecked
   pub terminals : List Pair
 
--- the number of each of these, and that of its session, is below n
-abbrev pub AreWithin : ℕ → List Process → Type 0
-AreWithin n rs = (p : ℕ) (r : Process) → lookup p rs ≡ Some r → (p < n) × (r.session < n)
+-- p is there, in this session
+abbrev pub IsInSession : ℕ → ℕ → List Process → Type 0
+IsInSession session p rs = (r : Process) × (lookup p rs ≡ Some r) × (r.session ≡ session)
+
+-- There is memory for the number of each, and for the list of its session; and who stands in a list is in its session.
+pub record AreWithin (readers : ListsView) (rs : List Process) : Type 0 where
+  pub room : (p : ℕ) (r : Process) → lookup p rs ≡ Some r → HasRoom readers.sizes p × HasRoom readers.sizes r.session
+  pub own : (session p : ℕ) → is_pair_in session p readers.pairs ≡ true → IsInSession session p rs
 
 -- what the type of a machine keeps
 pub record IsMachine (s : State) (pids : Pids) (places : Places) (to_recheck groups_at_risk : PidSetView) (terminals : Terminals) : Type 0 where
@@ -200,7 +206,7 @@ pub record IsMachine (s : State) (pids : Pids) (places : Places) (to_recheck gro
   pub noted : IsNoted to_recheck.room groups_at_risk
   pub fresh : AreFreshBut terminals.foregrounds_unchecked s.processes s.consoles
   pub indexed : AreTerminals s.consoles terminals.terminals
-  pub within : AreWithin terminals.readers.numbers s.processes  -- there is a list for each session, and memory for each process in it
+  pub within : AreWithin terminals.readers s.processes
 
 -- ---- one record that goes
 

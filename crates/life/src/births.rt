@@ -57,6 +57,7 @@ impl<K: ProcessTable> Machine<K> {
         ensures to_recheck { OnOk result (self.new.to_recheck ≡ with_number child (with_number parent self.old.to_recheck)) }
         ensures costs { Costs 3 self.old self.new }
     {
+        let before = self.pids.last();
         self.table.reserve(child)?;
         self.pids.reserve()?;
         self.order.reserve(child)?;
@@ -69,6 +70,7 @@ impl<K: ProcessTable> Machine<K> {
         self.to_recheck.insert(parent);
         self.to_recheck.insert(child);
         self.births += 1;
+        self.leave_page(before);
         Ok(())
     }
 }

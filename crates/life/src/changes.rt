@@ -69,6 +69,7 @@ impl<K: ProcessTable> Machine<K> {
             after,
         } = self.table.change_seen(pid, change);
         recheck_with_parent(&mut self.to_recheck, &self.order, pid, parent);
+        self.readers.put(pid, None);
         move_numbers(
             &mut self.pids,
             &mut self.foregrounds_unchecked,

@@ -17,6 +17,7 @@ mod moves;
 mod names;
 pub mod noted_bursts;
 mod orphans;
+mod pages;
 pub mod programs;
 mod rechecks;
 mod sameness;

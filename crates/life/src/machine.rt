@@ -16,6 +16,7 @@ ghost use Rattle.life.specs.Loans.{lent, looked};
 ghost use Rattle.life.specs.Machines.{AreTerminals, Finds, FindsAndCounts, Runs, IsThere, IfThere};
 ghost use Rattle.life.specs.NotedBursts.{most_notes, exec_with_notes};
 ghost use Rattle.pidset.specs.Numbers.{with_number};
+ghost use Rattle.pidset.specs.Rows.{HasRoom};
 ghost use Rattle.sched.specs.Places.{next_behind};
 
 use crate::consoles::{Unchecked, nobodys, unused};
@@ -91,7 +92,7 @@ impl Lists {
         ensures pidmax { IfOk result (λ l. l.pids.pidmax ≡ pidmax) }
         ensures kept { IfOk result (λ l. IsPids l.pids) }
         ensures order { IfOk result (λ l. l.order.pids ≡ 1 ∷ []) }
-        ensures places { IfOk result (λ l. 1 < l.order.room) }
+        ensures places { IfOk result (λ l. HasRoom l.order.sizes 1) }
         ensures nobody { IfOk result (λ l. l.to_recheck.pids ≡ []) }
         ensures rechecks { IfOk result (λ l. l.to_recheck.room ≡ 2) }
         ensures no_group { IfOk result (λ l. l.groups_at_risk.pids ≡ []) }
@@ -128,7 +129,7 @@ impl Terminals {
         ensures consoles { IfOk result (λ t. t.consoles.items ≡ replicate count unused_console) }
         ensures terminals { IfOk result (λ t. AreTerminals (replicate count unused_console) t.terminals.pairs) }
         ensures nobody { IfOk result (λ t. t.readers.pairs ≡ []) }
-        ensures room { IfOk result (λ t. 1 < t.readers.numbers) }
+        ensures room { IfOk result (λ t. HasRoom t.readers.sizes 1) }
     {
         let consoles = unused(alloc, count)?;
         let terminals = nobodys(alloc, count)?;

@@ -17,7 +17,7 @@ use Rattle.exploring.specs.Serving.{Means as MeansOfExploring}
 use Rattle.exploring.specs.Words.{Asked as AskedOfExploring}
 use Rattle.explaining.specs.Serving.{IsRefused as IsOtherTrace, Means as MeansOfExplaining}
 use Rattle.explaining.specs.Words.{Asked as AskedOfExplaining, OfTrace as OfTraceAlone, OfRun}
-use Rattle.commands.specs.Commands.{Draws, Explains, Explores, Helps, Names, Purpose, RunsOrAudits, ServesAs, Shows, TellsLaw, TellsVersion, purpose_of}
+use Rattle.commands.specs.Commands.{AuditsInWords, Draws, Explains, Explores, Helps, Names, Purpose, RunsOrAudits, ServesAs, Shows, TellsVersion, purpose_of}
 use Rattle.commands.specs.Named.{Place, ServesNamed, named_in, place_in}
 use Rattle.commands.specs.Serving.{Serves, ServesWords}
 use Rattle.page.specs.Answers.{AreServed, BeginsTrace, IsAnswered, IsAudited, IsGiven, IsRun, IsTrace}
@@ -66,7 +66,7 @@ as_along f contents words old new before after status TellsVersion h = h
 as_along f contents words old new before after status (Explores more) h = (exploring_along f contents _ old new before after status h.0, h.1)
 as_along f contents words old new before after status (Shows more) h = h
 as_along f contents words old new before after status (Explains more) h = (explaining_along f contents _ old new before after status h.0, h.1)
-as_along f contents words old new before after status (TellsLaw more) h = (record { done = h.0.done; refused = h.0.refused; other_words = λ e. let r = h.0.other_words e in (r.0, ap f r.1) }, h.1)
+as_along f contents words old new before after status (AuditsInWords more) h = (record { done = h.0.done; refused = h.0.refused; other_words = λ e. let r = h.0.other_words e in (r.0, ap f r.1) }, h.1)
 as_along f contents words old new before after status (Draws more) h = (means_of_along f _ _ _ _ _ old new status (λ d. d) h.0, h.1)
 as_along f contents words old new before after status (Names more) h = (means_of_along f _ _ _ _ _ old new status (λ d. d) h.0, h.1)
 as_along f contents words old new before after status RunsOrAudits h = (means_along f contents words old new before after status h.0, h.1)
@@ -124,7 +124,7 @@ as_most contents words old new before after status TellsVersion (inr h) = omega 
 as_most contents words old new before after status (Explores more) h = h.1
 as_most contents words old new before after status (Shows more) h = omega (arith, h)
 as_most contents words old new before after status (Explains more) h = omega (arith, h.1)
-as_most contents words old new before after status (TellsLaw more) h = omega (arith, h.1)
+as_most contents words old new before after status (AuditsInWords more) h = omega (arith, h.1)
 as_most contents words old new before after status (Draws more) h = omega (arith, h.1)
 as_most contents words old new before after status (Names more) h = omega (arith, h.1)
 as_most contents words old new before after status RunsOrAudits h = omega (arith, h.1)

@@ -1,13 +1,13 @@
 -- A table after many changes.
-use Rattle.std.proofs.Common.{◌≡◌, ℕ, ◌+◌, ◌≤◌, Bool, true, cond, ◌&&◌, refl, ap, sym, ◌∙◌, arith, subst, List, [], ◌∷◌, length, filter, filter_map, None, Some, unwrap_or, ◌==◌, length-set}
+use Rattle.std.proofs.Common.{◌≡◌, ℕ, ◌+◌, refl, ap, ◌∙◌, arith, List, [], ◌∷◌, length, filter_map, None, Some, unwrap_or, ◌==◌, length-set}
 use Rattle.std.specs.List.{last_or}
 use Rattle.std.proofs.lemmas.Bool.{eqb-true}
 use Rattle.std.proofs.lemmas.Bool.Decides.{nat_tests}
 use Rattle.std.proofs.lemmas.List.{length-replicate}
 use Rattle.posix.specs.NextPid.{next_free}
-use Rattle.pidalloc.specs.Rows.{Row, Role, Process, Group, Session, Pids, row, count_of, one_more, one_less, borne, given_up, unborne, unborne_table, is_free_in}
-use Rattle.pidalloc.specs.Bags.{Change, Bear, GiveUp, after, AreAllowed, same_role, bears_it, gives_it_up, times_borne, times_given_up, is_free_after, number_of_process, last_borne}
-use Rattle.pidalloc.proofs.RowLemmas.{row_with, when, no_row}
+use Rattle.pidalloc.specs.Rows.{Role, Process, Group, Session, Pids, row, count_of, one_more, one_less, borne, given_up, unborne, unborne_table, is_free_in}
+use Rattle.pidalloc.specs.Bags.{Change, Bear, GiveUp, after, AreAllowed, times_borne, times_given_up, is_free_after, number_of_process, last_borne}
+use Rattle.pidalloc.proofs.RowLemmas.{row_with, no_row}
 use Rattle.pidalloc.proofs.FreeLemmas.{next_free_same}
 
 -- what a row counts after any changes

@@ -1,5 +1,5 @@
 -- The rows of a table of numbers where a process gets another group, or another group and session.
-use Rattle.std.proofs.Common.{◌≡◌, ℕ, ◌<◌, ◌≤◌, ◌^◌, Bool, refl, ap, sym, ◌∙◌, arith, List, length, Some, ◌==◌, length-set}
+use Rattle.std.proofs.Common.{◌≡◌, ℕ, ◌<◌, ◌≤◌, ◌^◌, Bool, refl, ap, ◌∙◌, arith, List, length, Some, ◌==◌, length-set}
 use Rattle.std.proofs.lemmas.Bool.{eq-eqb}
 use Rattle.posix.specs.Processes as records
 use Rattle.posix.specs.Tables.{IsRising, at, lookup, changed, removed}

@@ -1,5 +1,5 @@
 -- Pages of rows.
-use Rattle.std.proofs.Common.{◌≡◌, ℕ, zero, suc, ◌+◌, ◌*◌, ◌/◌, ◌%◌, ◌<◌, ◌≤◌, ◌==◌, Bool, true, false, cond, not, ◌&&◌, List, [], ◌∷◌, ◌++◌, length, length-set, map, replicate, count_by, refl, ap, sym, ◌∙◌, subst, arith, inl, inr, ◌⊎◌}
+use Rattle.std.proofs.Common.{◌≡◌, ◌≢◌, ℕ, zero, suc, ◌+◌, ◌*◌, ◌/◌, ◌%◌, ◌<◌, ◌≤◌, ◌==◌, Bool, true, false, cond, not, ◌&&◌, List, [], ◌∷◌, ◌++◌, length, length-set, map, replicate, count_by, refl, ap, sym, ◌∙◌, subst, arith, inl, inr, ◌⊎◌}
 use Rattle.std.specs.Prelude.{slice_set, slice_index_or, nat_lt, is_some, Option, Some, None, IfSome}
 use Rattle.std.specs.List.{range_with_len}
 use Rattle.std.proofs.lemmas.Bool.{eqb-true, eq-eqb, ne_eqb, cases_lt, ltb-true}
@@ -7,7 +7,7 @@ use Rattle.std.proofs.lemmas.Bool.Decides.{nat_tests}
 use Rattle.std.proofs.lemmas.List.{length-replicate, get_or-set_same, get_or-set_other, get_or_past, get_or_default}
 use Rattle.std.proofs.lemmas.List.Sums.{sum_by-cons, count_by-le-length}
 use Rattle.std.proofs.lemmas.List.FromFn.{get_or-map-range_with_len, length-map-range_with_len}
-use Rattle.pidalloc.specs.Rows.{Row, Role, Pids, IsPids, IsTable, unborne, row, is_free_row, is_free_in, is_ready, count_of, row_at, page_at, row_in, rows_in, AreSame, AreKept, IsRowChanged, IsKeptUnlessFree, page_size, ArePages, HasRow, one_more, one_less, borne, given_up, last_given}
+use Rattle.pidalloc.specs.Rows.{Row, Role, Pids, IsPids, IsTable, unborne, row, is_free_row, is_free_in, is_ready, count_of, row_at, page_at, row_in, rows_in, AreSame, AreKept, IsRowChanged, IsKeptUnlessFree, page_size, ArePages, AreUnborneAbove, HasRow, one_more, one_less, borne, given_up, last_given}
 use Rattle.pidalloc.proofs.RowLemmas.{same_row, no_row, counted_borne}
 
 -- ---- how many are borne
@@ -29,6 +29,17 @@ count_cons r rows = sum_by-cons (λ r. one (is_borne r)) r rows
 pub none_borne : (rows : List Row) → count_by is_borne rows ≡ 0 → rows ≡ replicate (length rows) unborne
 none_borne [] e = refl
 none_borne (r ∷ rows) e = grind (arith, count_cons r rows, free_row_is r, none_borne rows, e)
+
+-- somebody bears one
+pub some_borne : (rows : List Row) → count_by is_borne rows ≢ 0 → (i : ℕ) × (is_free_row (row_at rows i) ≡ false)
+some_borne [] some = absurd (some refl)
+some_borne (r ∷ rows) some = elim (is_free_row r) as (λ b. is_free_row r ≡ b → (i : ℕ) × (is_free_row (row_at (r ∷ rows) i) ≡ false)) [
+  | false ↦ λ e. (0, e)
+  | true ↦ λ e.
+      let none : one (is_borne r) ≡ 0 = ap (λ b. one (not b)) e in
+      let it = some_borne rows (λ others. let all = count_cons r rows in some (omega (arith, all, none, others))) in
+      (suc it.0, it.1)
+] refl
 
 -- each is borne
 pub all_borne : (rows : List Row) → count_by is_borne rows ≡ length rows → (i : ℕ) → i < length rows → is_free_row (row_at rows i) ≡ false
@@ -144,6 +155,7 @@ table_kept pidmax last old new before after borne_below borne_from t same unused
   bound = t.bound;
   low = λ k lo hi. rw (same_rows old new same k) (t.low k lo hi);
   high = λ k lo hi. rw (same_rows old new same k) (t.high k lo hi);
+  beyond = λ k past. rw (same_rows old new same k) (t.beyond k past);
 }
 
 -- the row of a number in a page that is there
@@ -170,6 +182,40 @@ free_at pidmax pages page from at e few h top =
 pub free_beyond : (pidmax : ℕ) (pages : List (List Row)) (from : ℕ) → length pages ≤ from / 1024 → from ≤ pidmax → is_free_in (rows_in pidmax pages) from ≡ true
 unfolding is_free_in row_in
 free_beyond pidmax pages from e top = ap is_free_row (row_of pidmax pages from top ∙ ap (λ page. row_at page (from % 1024)) (get_or_past pages (from / 1024) [] e))
+
+-- nobody bears a number on a page of numbers that nobody bears
+pub free_on : (pidmax k : ℕ) (pages : List (List Row)) → ((i : ℕ) → is_free_row (row_at (page_at pages k) i) ≡ true) → (q : ℕ) → q / 1024 ≡ k → is_free_in (rows_in pidmax pages) q ≡ true
+unfolding is_free_in row_in
+free_on pidmax k pages free q same = elim (cases_lt pidmax q) [
+  | inl past ↦ let size = rows_size pidmax pages in ap is_free_row (get_or_past (rows_in pidmax pages) q unborne (omega (arith, size, past)))
+  | inr l ↦ ap is_free_row (row_of pidmax pages q l) ∙ ap (λ j. is_free_row (row_at (page_at pages j) (q % 1024))) same ∙ free (q % 1024)
+]
+
+-- and somebody bears one on a page where somebody bears one
+pub borne_on : (pidmax k i : ℕ) (pages : List (List Row)) → length (page_at pages k) ≤ 1024 → AreUnborneAbove pidmax pages → is_free_row (row_at (page_at pages k) i) ≡ false → (q : ℕ) × (q / 1024 ≡ k) × (is_free_in (rows_in pidmax pages) q ≡ false)
+unfolding is_free_in row_in
+borne_on pidmax k i pages few beyond e =
+    let place : i < 1024 = elim (cases_lt (length (page_at pages k)) (i + 1)) [
+      | inl past ↦ absurd (let z = sym e ∙ ap is_free_row (get_or_past (page_at pages k) i unborne (omega (arith, past))) in let f : false ≡ true = z in cc)
+      | inr l ↦ omega (arith, l, few)
+    ] in
+    let q = k * 1024 + i in
+    let at : q / 1024 ≡ k = omega (arith, place) in
+    let on : q % 1024 ≡ i = omega (arith, place) in
+    let borne : is_free_row (row_at (page_at pages (q / 1024)) (q % 1024)) ≡ false = ap (λ j. is_free_row (row_at (page_at pages j) (q % 1024))) at ∙ ap (λ j. is_free_row (row_at (page_at pages k) j)) on ∙ e in
+    (q, at, elim (cases_lt pidmax q) [ inl past ↦ absurd (let z = sym borne ∙ beyond q past in let f : false ≡ true = z in cc) | inr l ↦ ap is_free_row (row_of pidmax pages q l) ∙ borne ])
+
+-- nobody bears one above the greatest once one up to it has changed
+pub beyond_changed : (pidmax n : ℕ) (f : Row → Row) (old new : List (List Row)) → n ≤ pidmax → IsRowChanged n f old new → AreUnborneAbove pidmax old → AreUnborneAbove pidmax new
+beyond_changed pidmax n f old new top change beyond k past = ap is_free_row (change k ∙ ap (λ b. cond b (f (row_in old n)) (row_in old k)) (ne_eqb n k (λ e. omega (arith, e, past, top)))) ∙ beyond k past
+
+pub beyond_none : (pidmax : ℕ) → AreUnborneAbove pidmax []
+unfolding row_in
+beyond_none pidmax k past = refl
+
+-- a page has no more than 1,024 rows
+pub page_within : (pidmax k : ℕ) (pages : List (List Row)) (spare : Option (List Row)) → ArePages (page_size pidmax) pages spare → length (page_at pages k) ≤ 1024
+page_within pidmax k pages spare p = elim (p.sized k) [ inl none ↦ omega (arith, none) | inr some ↦ omega (arith, some) ]
 
 -- a row that isn't as that of a number that nobody bears stands in a page
 pub page_there : (pages : List (List Row)) (n : ℕ) → (row_in pages n ≡ unborne → ⊥) → (n / 1024 < length pages) × (n % 1024 < length (page_at pages (n / 1024)))

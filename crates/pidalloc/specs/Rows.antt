@@ -125,6 +125,10 @@ is_ready pidmax pages spare = is_some spare && nat_lt (pidmax / 1024) (length pa
 abbrev pub AreAllBorne : List (List Row) → ℕ → ℕ → Type 0
 AreAllBorne pages from end = (k : ℕ) → from ≤ k → k < end → is_free_row (row_in pages k) ≡ false
 
+-- nobody bears a number above the greatest
+abbrev pub AreUnborneAbove : ℕ → List (List Row) → Type 0
+AreUnborneAbove pidmax pages = (k : ℕ) → pidmax < k → is_free_row (row_in pages k) ≡ true
+
 -- there are rows for a number, or, if nobody bears it, the spare page is there for them
 pub record HasRow (pages : List (List Row)) (spare : Option (List Row)) (n : ℕ) : Type 0 where
   pub size : ℕ
@@ -134,7 +138,7 @@ pub record HasRow (pages : List (List Row)) (spare : Option (List Row)) (n : ℕ
   pub page : is_free_row (row_in pages n) ≡ true → spare ≡ Some (replicate size unborne)
 
 -- what holds of a table: its numbers are in range, its pages have as many rows as there are numbers, at most 1,024, and
--- the numbers from 2 on below borne_below and those from borne_from on are borne
+-- the numbers from 2 on below borne_below and those from borne_from on are borne, and none above the greatest
 pub record IsTable (pidmax last : ℕ) (pages : List (List Row)) (spare : Option (List Row)) (borne_below borne_from : ℕ) : Type 0 where
   pub given : last ≤ pidmax
   pub least : 2 ≤ pidmax
@@ -143,6 +147,7 @@ pub record IsTable (pidmax last : ℕ) (pages : List (List Row)) (spare : Option
   pub bound : borne_below ≤ pidmax + 1
   pub low : AreAllBorne pages 2 borne_below
   pub high : AreAllBorne pages borne_from (pidmax + 1)
+  pub beyond : AreUnborneAbove pidmax pages
 
 -- the rows are the same
 abbrev pub AreSame : List (List Row) → List (List Row) → Type 0

@@ -56,7 +56,8 @@ impl Page {
 
     /// Whether nobody bears any of the numbers.
     pub fn is_unused(&self) -> bool
-        ensures { result ≡ true → self.now ≡ replicate (length self.now) unborne }
+        ensures unused { result ≡ true → self.now ≡ replicate (length self.now) unborne }
+        ensures borne { result ≡ false → (i : ℕ) × (is_free_row (row_at self.now i) ≡ false) }
     {
         self.borne == 0
     }

@@ -2,7 +2,7 @@
 
 ghost use Rattle.std.specs.Prelude.{◌≡◌, ◌+◌, ◌-◌, ◌<◌, ◌≤◌, ◌/◌, ◌%◌, ◌*◌, ◌⊎◌, ℕ, true, false, Some, None, [], IfSome, OnOk, is_some, unwrap_or, length, replicate, slice_set};
 ghost use Rattle.posix.specs.NextPid.{next_free, first_free};
-ghost use Rattle.pidalloc.specs.Rows.{IsPids, unborne, unborne_table, row, is_free_in, count_of, borne, given_up, born_in, gone_from, regrouped, page_at, row_in, rows_in, is_free_row, one_more, one_less, last_given, AreKept, IsRowChanged, IsKeptUnlessFree, page_size, HasRow, AreStillPages};
+ghost use Rattle.pidalloc.specs.Rows.{IsPids, unborne, unborne_table, row, is_free_in, count_of, borne, given_up, born_in, gone_from, regrouped, page_at, row_at, row_in, rows_in, is_free_row, one_more, one_less, last_given, AreKept, IsRowChanged, IsKeptUnlessFree, page_size, HasRow, AreStillPages};
 
 use crate::page::Page;
 use crate::row::Role;
@@ -163,6 +163,18 @@ fn tidy(pages: &mut Vec<Page>, spare: &mut Option<Page>, alloc: Global, at: usiz
     }
 }
 
+/// Whether nobody bears any of the numbers of a page.
+#[inline]
+fn is_unborne(pages: &Vec<Page>, at: usize) -> bool
+    ensures free { result ≡ true → (i : ℕ) → is_free_row (row_at (page_at pages.now.items at) i) ≡ true }
+    ensures borne { result ≡ false → (i : ℕ) × (is_free_row (row_at (page_at pages.now.items at) i) ≡ false) }
+{
+    match pages.get(at) {
+        Some(page) => page.is_unused(),
+        None => true,
+    }
+}
+
 /// The number given last once `number` is borne in this role.
 fn given(role: Role, number: u32, last: u32) -> u32
     ensures { result ≡ last_given role number last }
@@ -217,6 +229,17 @@ impl PidTable {
         ensures { result ≡ self.now.last }
     {
         Pid::new(self.last).unwrap_or(Pid::NONE)
+    }
+
+    /// Whether the page of a number can go: nobody bears any of the 1,024 numbers on it, and the one given last isn't
+    /// on it, so that the next one given may not be either.
+    #[inline]
+    pub fn is_left(&self, pid: Pid) -> bool
+        ensures free { result ≡ true → (q : ℕ) → q / 1024 ≡ pid / 1024 → is_free_in self.now.rows q ≡ true }
+        ensures borne { result ≡ false → (self.now.last / 1024 ≡ pid / 1024) ⊎ ((q : ℕ) × (q / 1024 ≡ pid / 1024) × (is_free_in self.now.rows q ≡ false)) }
+    {
+        let at = page_of(pid.number());
+        at != page_of(self.last) && is_unborne(&self.pages, at)
     }
 
     /// The least free number from `from` on in its page, and whether there is one; else the first of the next page.
@@ -301,7 +324,7 @@ impl PidTable {
 
     /// One process more bears `pid` in this role. As a process's own number it is also the one given
     /// last.
-    #[tactic(auto, using(crate::proofs::PageLemmas::row_of, crate::proofs::PageLemmas::rows_size, crate::proofs::PageLemmas::given_within), unfolding(crate::specs::Rows::borne))]
+    #[tactic(auto, using(crate::proofs::PageLemmas::row_of, crate::proofs::PageLemmas::rows_size, crate::proofs::PageLemmas::given_within, crate::proofs::PageLemmas::beyond_changed), unfolding(crate::specs::Rows::borne))]
     pub fn bear(&mut self, pid: Pid, role: Role)
         requires range { pid ≤ self.old.pidmax }
         requires count { count_of role (row self.old.rows pid) < 4294967295 }
@@ -318,7 +341,7 @@ impl PidTable {
     }
 
     /// One process less bears `pid` in this role.
-    #[tactic(auto, using(crate::proofs::PageLemmas::row_of, crate::proofs::PageLemmas::rows_size), unfolding(crate::specs::Rows::given_up))]
+    #[tactic(auto, using(crate::proofs::PageLemmas::row_of, crate::proofs::PageLemmas::rows_size, crate::proofs::PageLemmas::beyond_changed), unfolding(crate::specs::Rows::given_up))]
     pub fn give_up(&mut self, pid: Pid, role: Role)
         requires range { pid ≤ self.old.pidmax }
         requires count { 1 ≤ count_of role (row self.old.rows pid) }

@@ -5,6 +5,7 @@ pub mod IndexLemmas
 pub mod AnchorLemmas
 pub mod ParentLemmas
 pub mod WalkLemmas
+pub mod RowLemmas
 mod NodeLemmas
 mod LinkLemmas
 mod ListLemmas

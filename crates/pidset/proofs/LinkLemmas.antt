@@ -1,47 +1,54 @@
 -- Lists that are linked, as a process goes into one or is taken out.
-use Rattle.std.proofs.Common.{◌≡◌, ◌≢◌, ◌⊎◌, ℕ, ◌<◌, ◌≤◌, cond, refl, ap, sym, ◌∙◌, arith, List, [], length, ◌==◌, inl, inr}
+use Rattle.std.proofs.Common.{◌≡◌, ◌≢◌, ◌⊎◌, ℕ, ◌<◌, ◌≤◌, cond, refl, ap, sym, ◌∙◌, subst, arith, ◌==◌, inl, inr}
 use Rattle.std.proofs.lemmas.Bool.Decides.{nat_tests}
-use Rattle.std.proofs.lemmas.List.{get_or_past}
 use Rattle.pidset.specs.declared.lists.Node.{Node}
-use Rattle.pidset.specs.Lists.{node_of, list_of, behind_of, before_of, Stands, IsLeast, AreLinked, IsListed, IsPlaceFor, with_list, joined}
-use Rattle.pidset.proofs.NodeLemmas.{nowhere, IsListSet, list_set, joins}
+use Rattle.pidset.specs.Rows.{HasRow}
+use Rattle.pidset.specs.Lists.{Nodes, node_of, list_of, behind_of, before_of, Stands, IsLeast, AreLinked, IsListed, IsPlaceFor, with_list, joined}
+use Rattle.pidset.proofs.RowLemmas.{row_kept}
+use Rattle.pidset.proofs.NodeLemmas.{nowhere, node_or_none, IsListSet, list_set, joins}
 
 -- ---- who stands inside
 
 -- who stands in a list has a node
-pub inside : (ns : List Node) (k i : ℕ) → k ≢ 0 → list_of ns i ≡ k → i < length ns
+pub inside : (ns : Nodes) (i : ℕ) → list_of ns i ≢ 0 → HasRow ns i
 unfolding list_of
-inside ns k i nk e = grind (arith, get_or_past ns i nowhere)
+inside ns i some = elim (node_or_none ns i) [ inl h ↦ h | inr e ↦ absurd (some (ap (λ (n : Node). n.list) e)) ]
 
-pub stands_inside : (ns : List Node) (k i : ℕ) → k ≢ 0 → 0 < length ns → Stands ns k i → i < length ns
-stands_inside ns k i nk some h = grind (arith, inside ns k i)
-
--- a list with no node has no first
-pub first_outside : (ns : List Node) (k : ℕ) → length ns ≤ k → behind_of ns k 0 ≡ 0
+first_none : (ns : Nodes) (k : ℕ) → node_of ns k ≡ nowhere → behind_of ns k 0 ≡ 0
 unfolding behind_of
-first_outside ns k h = ap (λ (n : Node). n.first) (get_or_past ns k nowhere h)
+first_none ns k e = ap (λ (n : Node). n.first) e
 
-pub behind_inside : (ns : List Node) (k a : ℕ) → AreLinked ns → k ≢ 0 → 0 < length ns → Stands ns k a → behind_of ns k a < length ns
-behind_inside ns k a l nk some h = grind (arith, l.behind k a nk h, inside ns k (behind_of ns k a))
+pub stands_inside : (ns : Nodes) (k i : ℕ) → k ≢ 0 → Stands ns k i → i ≢ 0 → HasRow ns i
+stands_inside ns k i nk h ni = inside ns i (λ e. grind arith)
 
--- the list of a process, and who stands beside it there
-pub list_inside : (ns : List Node) (p : ℕ) → AreLinked ns → list_of ns p ≢ 0 → 1 ≤ p → (list_of ns p < length ns) × (behind_of ns (list_of ns p) p < length ns)
-list_inside ns p l some h = grind (arith, l.behind (list_of ns p) 0 some (inl refl), first_outside ns (list_of ns p), inside ns (list_of ns p) p, behind_inside ns (list_of ns p) p)
+-- so has who stands beside it
+pub behind_inside : (ns : Nodes) (k a m : ℕ) → AreLinked ns → k ≢ 0 → Stands ns k a → m ≡ behind_of ns k a → m ≢ 0 → HasRow ns m
+behind_inside ns k a m l nk h is = rw is (λ some. stands_inside ns k (behind_of ns k a) nk (grind (arith, (l.behind k a nk h).there)) some)
+
+pub before_inside : (ns : Nodes) (k b m : ℕ) → AreLinked ns → k ≢ 0 → Stands ns k b → m ≡ before_of ns k b → m ≢ 0 → HasRow ns m
+before_inside ns k b m l nk h is = rw is (stands_inside ns k (before_of ns k b) nk (l.before k b nk h).0)
+
+-- a list in which somebody stands has a node
+pub list_inside : (ns : Nodes) (p : ℕ) → AreLinked ns → list_of ns p ≢ 0 → 1 ≤ p → HasRow ns (list_of ns p)
+list_inside ns p l some h = elim (node_or_none ns (list_of ns p)) [
+  | inl h ↦ h
+  | inr e ↦ absurd (let m = (l.behind (list_of ns p) 0 some (inl refl)).least p refl h in let z = first_none ns (list_of ns p) e in omega (arith, m.0, z))
+]
 
 -- ---- the process p, between a and b in the list k, is taken out
 
 -- in a list n, z is behind x now, where y was
-removed_behind : (old new : List Node) (k p a b n x y z : ℕ) → k ≢ 0 → p ≢ 0 → n ≢ 0 → Stands new n x → (Stands old n x → IsLeast old n x y) → IsLeast old k p b → Stands old k a → list_of old p ≡ k → IsLeast old k a p
+removed_behind : (old new : Nodes) (k p a b n x y z : ℕ) → k ≢ 0 → p ≢ 0 → n ≢ 0 → Stands new n x → (Stands old n x → IsLeast old n x y) → IsLeast old k p b → Stands old k a → list_of old p ≡ k → IsLeast old k a p
     → ((i : ℕ) → list_of new i ≡ cond (i == p) 0 (list_of old i)) → (n ≡ k → z ≡ cond (x == a) b y) → (n ≢ k → (x ≡ a → a ≡ 0) → z ≡ y) → IsLeast new n x z
 removed_behind old new k p a b n x y z nk np nn hx m g ha e l list is at = record { there = grind (arith, nat_tests); least = λ q hq h. grind (arith, nat_tests) }
 
 -- and z is before y now, where x was
-removed_before : (old new : List Node) (k p a b n x y z : ℕ) → k ≢ 0 → p ≢ 0 → n ≢ 0 → b ≢ p → a < p → Stands new n y → (Stands old n y → Stands old n x × (behind_of old n x ≡ y)) → Stands old k a → Stands old k b → behind_of old k a ≡ p → behind_of old k p ≡ b → list_of old p ≡ k
+removed_before : (old new : Nodes) (k p a b n x y z : ℕ) → k ≢ 0 → p ≢ 0 → n ≢ 0 → b ≢ p → a < p → Stands new n y → (Stands old n y → Stands old n x × (behind_of old n x ≡ y)) → Stands old k a → Stands old k b → behind_of old k a ≡ p → behind_of old k p ≡ b → list_of old p ≡ k
     → ((i : ℕ) → list_of new i ≡ cond (i == p) 0 (list_of old i)) → ((i : ℕ) → n ≡ k → behind_of new n i ≡ cond (i == a) b (behind_of old n i)) → ((i : ℕ) → n ≢ k → (i ≡ a → a ≡ 0) → behind_of new n i ≡ behind_of old n i)
     → (n ≡ k → z ≡ cond (y == b) a x) → (n ≢ k → (y ≡ b → b ≡ 0) → z ≡ x) → Stands new n z × (behind_of new n z ≡ y)
 removed_before old new k p a b n x y z nk np nn nb less hy m ha hb ea ep e list behind else is at = (grind (arith, nat_tests), grind (arith, nat_tests))
 
-pub removed : (old new : List Node) (k p a b : ℕ) → AreLinked old → k ≢ 0 → 1 ≤ p → list_of old p ≡ k → a ≡ before_of old k p → b ≡ behind_of old k p → new ≡ with_list (joined old k a b) p 0 → IsListed old new p 0
+pub removed : (old new : Nodes) (k p a b : ℕ) → AreLinked old → k ≢ 0 → 1 ≤ p → list_of old p ≡ k → a ≡ before_of old k p → b ≡ behind_of old k p → new ≡ with_list (joined old k a b) p 0 → IsListed old new p 0
 removed old new k p a b l nk some e ea eb is =
     let np : p ≢ 0 = omega (arith, some) in
     let up : IsLeast old k p b = rw eb (l.behind k p nk (inr e)) in
@@ -49,13 +56,13 @@ removed old new k p a b l nk some e ea eb is =
     let sa : behind_of old k a ≡ p = rw ea (l.before k p nk (inr e)).1 in
     let m : IsLeast old k a p = rw (← sa) (l.behind k a nk ha) in
     let hb : Stands old k b = grind arith in
-    let h = inside old k p nk e in
-    let j = joins old k a b (grind (arith, list_inside old p)) (stands_inside old k a nk (omega (arith, h)) ha) (stands_inside old k b nk (omega (arith, h)) hb) in
-    let js = j.size in
-    let s : IsListSet (joined old k a b) new p 0 = rw is (list_set (joined old k a b) p 0 (omega (arith, h, js))) in
+    let some_list : list_of old p ≢ 0 = λ z. nk (sym e ∙ z) in
+    let j = joins old k a b (subst (HasRow old) e (list_inside old p l some_list some)) (stands_inside old k a nk ha) (stands_inside old k b nk hb) in
+    let js = j.sizes in
+    let s : IsListSet (joined old k a b) new p 0 = rw is (list_set (joined old k a b) p 0 (row_kept old _ p js (inside old p some_list))) in
     let list : (i : ℕ) → list_of new i ≡ cond (i == p) 0 (list_of old i) = (λ i. s.list i ∙ ap (cond (i == p) 0) (j.list i)) in
     record {
-      size = s.size ∙ js;
+      sizes = s.sizes ∙ js;
       linked = record {
         none = grind (arith, list 0, l.none);
         behind = λ n x nn h. removed_behind old new k p a b n x _ _ nk np nn h (l.behind n x nn) up ha e m list (λ t. s.behind n x ∙ j.behind n x t) (λ t u. s.behind n x ∙ j.else_behind n x t u);
@@ -67,45 +74,45 @@ removed old new k p a b l nk some e ea eb is =
 -- ---- the process p is put in, between a and b in the list k
 
 -- in a list n, z is behind x now, where y was
-added_behind : (old new : List Node) (k p a b n x y z : ℕ) → k ≢ 0 → p ≢ 0 → n ≢ 0 → Stands new n x → (Stands old n x → IsLeast old n x y) → IsLeast old k a b → Stands old k a → a < p → (b ≡ 0) ⊎ (p < b) → list_of old p ≡ 0
+added_behind : (old new : Nodes) (k p a b n x y z : ℕ) → k ≢ 0 → p ≢ 0 → n ≢ 0 → Stands new n x → (Stands old n x → IsLeast old n x y) → IsLeast old k a b → Stands old k a → a < p → (b ≡ 0) ⊎ (p < b) → list_of old p ≡ 0
     → ((i : ℕ) → list_of new i ≡ cond (i == p) k (list_of old i)) → (n ≡ k → z ≡ cond (x == p) b (cond (x == a) p y)) → (n ≢ k → (x ≡ p → p ≡ 0) → (x ≡ a → a ≡ 0) → z ≡ y) → IsLeast new n x z
 added_behind old new k p a b n x y z nk np nn hx m l ha less high e list is at = record { there = grind (arith, nat_tests); least = λ q hq g. grind (arith, nat_tests) }
 
 -- y is p, or was behind x, and neither is where p comes between
-abbrev WasBehind : List Node → ℕ → ℕ → ℕ → ℕ → ℕ → ℕ → ℕ → Type 0
+abbrev WasBehind : Nodes → ℕ → ℕ → ℕ → ℕ → ℕ → ℕ → ℕ → Type 0
 WasBehind old k p a b n x y = ((n ≡ k) × (y ≡ p)) ⊎ ((y ≢ p) × (x ≢ p) × Stands old n x × (behind_of old n x ≡ y) × (n ≢ k → (x ≡ a → a ≡ 0) × (y ≡ b → b ≡ 0)))
 
-was_behind : (old new : List Node) (k p a b n x y : ℕ) → k ≢ 0 → p ≢ 0 → n ≢ 0 → Stands new n y → (Stands old n y → Stands old n x × (behind_of old n x ≡ y)) → Stands old k a → Stands old k b → list_of old p ≡ 0 → ((i : ℕ) → list_of new i ≡ cond (i == p) k (list_of old i)) → WasBehind old k p a b n x y
+was_behind : (old new : Nodes) (k p a b n x y : ℕ) → k ≢ 0 → p ≢ 0 → n ≢ 0 → Stands new n y → (Stands old n y → Stands old n x × (behind_of old n x ≡ y)) → Stands old k a → Stands old k b → list_of old p ≡ 0 → ((i : ℕ) → list_of new i ≡ cond (i == p) k (list_of old i)) → WasBehind old k p a b n x y
 was_behind old new k p a b n x y nk np nn hy m ha hb e list = grind (arith, nat_tests)
 
 -- z is before y now, where x was: it stands there, and y is behind it
-added_stands : (old new : List Node) (k p a b n x y z : ℕ) → p ≢ 0 → WasBehind old k p a b n x y → Stands old k a → list_of old p ≡ 0
+added_stands : (old new : Nodes) (k p a b n x y z : ℕ) → p ≢ 0 → WasBehind old k p a b n x y → Stands old k a → list_of old p ≡ 0
     → ((i : ℕ) → list_of new i ≡ cond (i == p) k (list_of old i)) → (n ≡ k → z ≡ cond (y == b) p (cond (y == p) a x)) → (n ≢ k → (y ≡ b → b ≡ 0) → (y ≡ p → p ≡ 0) → z ≡ x) → Stands new n z
 added_stands old new k p a b n x y z np m ha e list is at = grind (arith, nat_tests)
 
-added_back : (old new : List Node) (k p a b n x y z : ℕ) → p ≢ 0 → a < p → WasBehind old k p a b n x y → behind_of old k a ≡ b
+added_back : (old new : Nodes) (k p a b n x y z : ℕ) → p ≢ 0 → a < p → WasBehind old k p a b n x y → behind_of old k a ≡ b
     → (n ≡ k → behind_of new n z ≡ cond (z == p) b (cond (z == a) p (behind_of old n z))) → (n ≢ k → (z ≡ p → p ≡ 0) → (z ≡ a → a ≡ 0) → behind_of new n z ≡ behind_of old n z)
     → (n ≡ k → z ≡ cond (y == b) p (cond (y == p) a x)) → (n ≢ k → (y ≡ b → b ≡ 0) → (y ≡ p → p ≡ 0) → z ≡ x) → behind_of new n z ≡ y
 added_back old new k p a b n x y z np less m ea behind else is at = grind (arith, nat_tests)
 
-pub added : (old new : List Node) (k p a b : ℕ) → AreLinked old → 1 ≤ k → k < length old → 1 ≤ p → p < length old → list_of old p ≡ 0 → IsPlaceFor old k p a b → new ≡ with_list (joined (joined old k a p) k p b) p k → IsListed old new p k
+pub added : (old new : Nodes) (k p a b : ℕ) → AreLinked old → 1 ≤ k → HasRow old k → 1 ≤ p → HasRow old p → list_of old p ≡ 0 → IsPlaceFor old k p a b → new ≡ with_list (joined (joined old k a p) k p b) p k → IsListed old new p k
 added old new k p a b l some hk one hp e place is =
     let nk : k ≢ 0 = omega (arith, some) in
     let np : p ≢ 0 = omega (arith, one) in
     let ha = place.stands in
     let up : IsLeast old k a b = rw (← place.behind) (l.behind k a nk ha) in
     let hb : Stands old k b = grind arith in
-    let mid : List Node = joined old k a p in
-    let j = joins old k a p hk (stands_inside old k a nk (omega (arith, hk)) ha) hp in
-    let js = j.size in
-    let f = joins mid k p b (omega (arith, hk, js)) (omega (arith, hp, js)) (let h = stands_inside old k b nk (omega (arith, hk)) hb in omega (arith, h, js)) in
-    let fs = f.size in
-    let s : IsListSet (joined mid k p b) new p k = rw is (list_set (joined mid k p b) p k (omega (arith, hp, js, fs))) in
+    let mid : Nodes = joined old k a p in
+    let j = joins old k a p hk (stands_inside old k a nk ha) (λ _. hp) in
+    let js = j.sizes in
+    let f = joins mid k p b (row_kept old mid k js hk) (λ _. row_kept old mid p js hp) (λ h. row_kept old mid b js (stands_inside old k b nk hb h)) in
+    let fs = f.sizes in
+    let s : IsListSet (joined mid k p b) new p k = rw is (list_set (joined mid k p b) p k (row_kept old _ p (fs ∙ js) hp)) in
     let list : (i : ℕ) → list_of new i ≡ cond (i == p) k (list_of old i) = (λ i. s.list i ∙ ap (cond (i == p) k) (f.list i ∙ j.list i)) in
     let behind : (n i : ℕ) → n ≡ k → behind_of new n i ≡ cond (i == p) b (cond (i == a) p (behind_of old n i)) = (λ n i t. s.behind n i ∙ f.behind n i t ∙ ap (cond (i == p) b) (j.behind n i t)) in
     let else : (n i : ℕ) → n ≢ k → (i ≡ p → p ≡ 0) → (i ≡ a → a ≡ 0) → behind_of new n i ≡ behind_of old n i = (λ n i t u v. s.behind n i ∙ f.else_behind n i t u ∙ j.else_behind n i t v) in
     record {
-      size = s.size ∙ fs ∙ js;
+      sizes = s.sizes ∙ fs ∙ js;
       linked = record {
         none = grind (arith, list 0, l.none);
         behind = λ n x nn h. added_behind old new k p a b n x _ _ nk np nn h (l.behind n x nn) up ha place.low place.high e list (behind n x) (else n x);
@@ -120,6 +127,18 @@ added old new k p a b l some hk one hp e place is =
 
 -- ---- nodes that say the same
 
-pub kept : (old new : List Node) → ((i : ℕ) → node_of new i ≡ node_of old i) → AreLinked old → AreLinked new
-unfolding list_of behind_of before_of
-kept old new same l = grind arith
+stands_still : (old new : Nodes) (k a : ℕ) → ((i : ℕ) → list_of new i ≡ list_of old i) → Stands new k a → Stands old k a
+stands_still old new k a list (inl e) = inl e
+stands_still old new k a list (inr e) = inr (sym (list a) ∙ e)
+
+-- the links of all that stand in lists, and of all lists, are the same
+pub kept : (old new : Nodes) → ((i : ℕ) → list_of new i ≡ list_of old i) → ((k a : ℕ) → k ≢ 0 → Stands old k a → (behind_of new k a ≡ behind_of old k a) × (before_of new k a ≡ before_of old k a)) → AreLinked old → AreLinked new
+kept old new list same l = record {
+  none = list 0 ∙ l.none;
+  behind = λ k a nk h. let g = stands_still old new k a list h in rw (same k a nk g).0 (let m = l.behind k a nk g in record {
+    there = grind (arith, m.there, list (behind_of old k a));
+    least = λ q e. m.least q (sym (list q) ∙ e);
+  });
+  before = λ k b nk h. let g = stands_still old new k b list h in rw (same k b nk g).1 (let m = l.before k b nk g in
+      (stands_still new old k (before_of old k b) (λ i. sym (list i)) m.0, (same k (before_of old k b) nk m.0).0 ∙ m.1));
+}

@@ -1,51 +1,114 @@
 -- What the nodes of lists say, and what of it a change of one node changes.
-use Rattle.std.proofs.Common.{◌≡◌, ◌≢◌, ℕ, ◌<◌, cond, ap, ◌∙◌, arith, List, length, ◌==◌, slice_set, length-set, get_or, get_or-set_same, get_or-set_other}
+use Rattle.std.proofs.Common.{◌≡◌, ◌≢◌, ◌⊎◌, ℕ, ◌/◌, cond, sym, ◌∙◌, arith, ◌==◌, inl, inr}
+use Rattle.std.proofs.lemmas.Bool.{eq-eqb, ne_eqb, cases_eq}
 use Rattle.std.proofs.lemmas.Bool.Decides.{nat_tests}
-use Rattle.std.proofs.lemmas.List.{get_or_read}
 use Rattle.pidset.specs.declared.lists.Node.{Node}
-use Rattle.pidset.specs.Lists.{node_of, list_of, behind_of, before_of, with_list, with_behind, with_before, joined}
+use Rattle.pidset.specs.Rows.{HasRow, IsApart, row_or, sizes_of, with_row, without_page}
+use Rattle.pidset.specs.Lists.{Nodes, node_of, list_of, behind_of, before_of, with_list, with_behind, with_before, joined}
+use Rattle.pidset.proofs.RowLemmas.{row_set, row_kept, row_or_none, row_left, row_gone, sizes_kept}
 
 -- ---- a node is read
-
-pub node_read : (ns : List Node) (x i : ℕ) (n : Node) → n ≡ get_or ns x n → x ≡ i → i < length ns → n ≡ node_of ns i
-node_read ns x i n e same h = get_or_read ns x n (rw same h) e _ ∙ ap (node_of ns) same
-
--- ---- a node is set
 
 -- the node of a process in no list, and of an empty list
 abbrev pub nowhere : Node
 nowhere = record { list = 0; before = 0; behind = 0; first = 0; last = 0 }
 
-node_set : (ns : List Node) (x i : ℕ) (n : Node) → x < length ns → node_of (slice_set ns x n) i ≡ cond (i == x) n (node_of ns i)
-node_set ns x i n h = grind (arith, nat_tests, get_or-set_same ns x n nowhere h, get_or-set_other ns x i n nowhere)
+pub node_read : (ns : Nodes) (i : ℕ) (n : Node) → ((other : Node) → row_or other ns i ≡ n) → n ≡ node_of ns i
+unfolding node_of
+node_read ns i n is = sym (is nowhere)
+
+pub node_or_none : (ns : Nodes) (i : ℕ) → HasRow ns i ⊎ (node_of ns i ≡ nowhere)
+unfolding node_of
+node_or_none ns i = row_or_none ns i nowhere
+
+-- ---- a page of nodes is given up
+
+pub node_left : (ns : Nodes) (n i : ℕ) → IsApart i n → node_of (without_page ns n) i ≡ node_of ns i
+unfolding node_of
+node_left ns n i apart = row_left ns n i nowhere apart
+
+pub node_gone : (ns : Nodes) (n i : ℕ) → i / 1024 ≡ n / 1024 → node_of (without_page ns n) i ≡ nowhere
+unfolding node_of
+node_gone ns n i same = row_gone ns n i nowhere same
+
+-- ---- a node is set
+
+node_set : (ns : Nodes) (x i : ℕ) (n : Node) → HasRow ns x → node_of (with_row ns x n) i ≡ cond (i == x) n (node_of ns i)
+unfolding node_of
+node_set ns x i n h = row_set ns x i n nowhere h
 
 -- p stands in the list k from now on, and nothing else changed
-pub record IsListSet (old new : List Node) (p k : ℕ) : Type 0 where
-  pub size : length new ≡ length old
+pub record IsListSet (old new : Nodes) (p k : ℕ) : Type 0 where
+  pub sizes : sizes_of new ≡ sizes_of old
   pub list : (i : ℕ) → list_of new i ≡ cond (i == p) k (list_of old i)
   pub behind : (j i : ℕ) → behind_of new j i ≡ behind_of old j i
   pub before : (j i : ℕ) → before_of new j i ≡ before_of old j i
 
-pub list_set : (ns : List Node) (p k : ℕ) → p < length ns → IsListSet ns (with_list ns p k) p k
-unfolding list_of behind_of before_of with_list
-list_set ns p k h = grind (arith, nat_tests, node_set, length-set {A = Node})
+list_set_so : (old new : Nodes) (p k : ℕ) → sizes_of new ≡ sizes_of old → ((i : ℕ) → node_of new i ≡ cond (i == p) (record (node_of old p) { list = k }) (node_of old i)) → IsListSet old new p k
+unfolding list_of behind_of before_of
+list_set_so old new p k sizes is = record {
+  sizes = sizes;
+  list = λ i. grind (arith, nat_tests, is i);
+  behind = λ j i. grind (arith, nat_tests, is i, is j);
+  before = λ j i. grind (arith, nat_tests, is i, is j);
+}
+
+pub list_set : (ns : Nodes) (p k : ℕ) → HasRow ns p → IsListSet ns (with_list ns p k) p k
+unfolding with_list
+list_set ns p k h = list_set_so ns _ p k (sizes_kept ns p _) (λ i. node_set ns p i _ h)
 
 -- b comes right behind a in the list k from now on, and nothing else changed
-pub record IsJoined (old new : List Node) (k a b : ℕ) : Type 0 where
-  pub size : length new ≡ length old
+pub record IsJoined (old new : Nodes) (k a b : ℕ) : Type 0 where
+  pub sizes : sizes_of new ≡ sizes_of old
   pub list : (i : ℕ) → list_of new i ≡ list_of old i
   pub behind : (n i : ℕ) → n ≡ k → behind_of new n i ≡ cond (i == a) b (behind_of old n i)
   pub before : (n i : ℕ) → n ≡ k → before_of new n i ≡ cond (i == b) a (before_of old n i)
   pub else_behind : (n i : ℕ) → n ≢ k → (i ≡ a → a ≡ 0) → behind_of new n i ≡ behind_of old n i
   pub else_before : (n i : ℕ) → n ≢ k → (i ≡ b → b ≡ 0) → before_of new n i ≡ before_of old n i
 
-pub joins : (ns : List Node) (k a b : ℕ) → k < length ns → a < length ns → b < length ns → IsJoined ns (joined ns k a b) k a b
-unfolding list_of behind_of before_of with_behind with_before
-joins ns k a b hk ha hb = record {
-  size = grind (arith, length-set {A = Node});
-  list = λ i. grind (arith, nat_tests, node_set, length-set {A = Node});
-  behind = λ n i h. grind (arith, nat_tests, node_set, length-set {A = Node});
-  before = λ n i h. grind (arith, nat_tests, node_set, length-set {A = Node});
-  else_behind = λ n i h t. grind (arith, nat_tests, node_set, length-set {A = Node});
-  else_before = λ n i h t. grind (arith, nat_tests, node_set, length-set {A = Node});
+-- whose node changes where one comes behind a in the list k, and how
+abbrev IsBehindSet : Nodes → Nodes → ℕ → ℕ → ℕ → Type 0
+IsBehindSet old new k a b = (i : ℕ) → node_of new i ≡ cond (a == 0) (cond (i == k) (record (node_of old k) { first = b }) (node_of old i)) (cond (i == a) (record (node_of old a) { behind = b }) (node_of old i))
+
+abbrev IsBeforeSet : Nodes → Nodes → ℕ → ℕ → ℕ → Type 0
+IsBeforeSet old new k b a = (i : ℕ) → node_of new i ≡ cond (b == 0) (cond (i == k) (record (node_of old k) { last = a }) (node_of old i)) (cond (i == b) (record (node_of old b) { before = a }) (node_of old i))
+
+behind_set : (ns : Nodes) (k a b : ℕ) → HasRow ns k → (a ≢ 0 → HasRow ns a) → IsBehindSet ns (with_behind ns k a b) k a b
+unfolding with_behind
+behind_set ns k a b hk ha i = elim (cases_eq a 0) [ inl e ↦ rw (eq-eqb a 0 e) (node_set ns k i _ hk) | inr ne ↦ rw (ne_eqb a 0 ne) (node_set ns a i _ (ha ne)) ]
+
+before_set : (ns : Nodes) (k b a : ℕ) → HasRow ns k → (b ≢ 0 → HasRow ns b) → IsBeforeSet ns (with_before ns k b a) k b a
+unfolding with_before
+before_set ns k b a hk hb i = elim (cases_eq b 0) [ inl e ↦ rw (eq-eqb b 0 e) (node_set ns k i _ hk) | inr ne ↦ rw (ne_eqb b 0 ne) (node_set ns b i _ (hb ne)) ]
+
+sizes_behind : (ns : Nodes) (k a b : ℕ) → sizes_of (with_behind ns k a b) ≡ sizes_of ns
+unfolding with_behind
+sizes_behind ns k a b = elim (cases_eq a 0) [ inl e ↦ rw (eq-eqb a 0 e) (sizes_kept ns k _) | inr ne ↦ rw (ne_eqb a 0 ne) (sizes_kept ns a _) ]
+
+sizes_before : (ns : Nodes) (k b a : ℕ) → sizes_of (with_before ns k b a) ≡ sizes_of ns
+unfolding with_before
+sizes_before ns k b a = elim (cases_eq b 0) [ inl e ↦ rw (eq-eqb b 0 e) (sizes_kept ns k _) | inr ne ↦ rw (ne_eqb b 0 ne) (sizes_kept ns b _) ]
+
+-- it has the nodes that it had
+pub row_behind : (ns new : Nodes) (k a b i : ℕ) → new ≡ with_behind ns k a b → HasRow ns i → HasRow new i
+row_behind ns new k a b i is h = rw is (row_kept ns (with_behind ns k a b) i (sizes_behind ns k a b) h)
+
+pub row_joined : (ns new : Nodes) (k a b i : ℕ) → new ≡ joined ns k a b → HasRow ns i → HasRow new i
+row_joined ns new k a b i is h = rw is (row_kept ns (joined ns k a b) i (sizes_before (with_behind ns k a b) k b a ∙ sizes_behind ns k a b) h)
+
+joins_so : (old mid new : Nodes) (k a b : ℕ) → sizes_of new ≡ sizes_of old → IsBehindSet old mid k a b → IsBeforeSet mid new k b a → IsJoined old new k a b
+unfolding list_of behind_of before_of
+joins_so old mid new k a b sizes one two = record {
+  sizes = sizes;
+  list = λ i. grind (arith, nat_tests, one, two);
+  behind = λ n i h. grind (arith, nat_tests, one, two);
+  before = λ n i h. grind (arith, nat_tests, one, two);
+  else_behind = λ n i h t. grind (arith, nat_tests, one, two);
+  else_before = λ n i h t. grind (arith, nat_tests, one, two);
 }
+
+pub joins : (ns : Nodes) (k a b : ℕ) → HasRow ns k → (a ≢ 0 → HasRow ns a) → (b ≢ 0 → HasRow ns b) → IsJoined ns (joined ns k a b) k a b
+joins ns k a b hk ha hb =
+    let mid : Nodes = with_behind ns k a b in
+    let s = sizes_behind ns k a b in
+    joins_so ns mid (with_before mid k b a) k a b (sizes_before mid k b a ∙ s) (behind_set ns k a b hk ha) (before_set mid k b a (row_kept ns mid k s hk) (λ h. row_kept ns mid b s (hb h)))

@@ -8,6 +8,7 @@ pub mod numbered;
 mod page;
 pub mod pages;
 pub mod pid_set;
+pub mod rows;
 
 pub use index::Index;
 pub use lists::Lists;
@@ -15,3 +16,4 @@ pub use numbered::Numbered;
 pub use pages::Pages;
 pub use pid_set::PidSet;
 pub use posix::Pid;
+pub use rows::Rows;

@@ -1,10 +1,12 @@
 //! Processes in lists with numbers, such as the members of process groups: nodes that are linked both ways, and found
 //! by the number.
 
-ghost use Rattle.std.specs.Prelude.{◌≡◌, ◌≢◌, ◌<◌, ◌≤◌, ◌==◌, ℕ, [], IfSome, OnOk, cond, length, vec_len};
+ghost use Rattle.std.specs.Prelude.{◌≡◌, ◌≢◌, ◌<◌, ◌≤◌, ◌==◌, ℕ, [], IfSome, OnOk, cond};
 ghost use Rattle.pidset.specs.Indexes.{ArePairsRekeyed, IsNextPair, IsMoved, IsAt};
-ghost use Rattle.pidset.specs.Lists.{AreLinked, IsAbove, IsListed, IsPlaceFor, IsFrom, list_of, behind_of, before_of, with_list, with_behind, with_before, joined};
+ghost use Rattle.pidset.specs.Rows.{Grows, HasRoom, HasRow, sizes_of};
+ghost use Rattle.pidset.specs.Lists.{AreLinked, StaysApart, left_by, IsAbove, IsListed, IsPlaceFor, IsFrom, list_of, behind_of, before_of, with_list, with_behind, with_before, joined};
 
+use crate::rows::Rows;
 use posix::Pid;
 use std::alloc::{AllocError, Global};
 use std::marker::Model;
@@ -39,44 +41,48 @@ impl Node {
 /// [`Lists::reserve`] alone: for a node of each number, of a process or of a list.
 #[derive(Drop)]
 pub struct Lists {
-    nodes: Vec<Node>,
+    nodes: Rows<Node>,
 }
 
 impl Model for Lists {
-    ghost use Rattle.std.specs.Prelude.{vec_len};
-    ghost use Rattle.pidset.specs.Lists.{AreLinked, ListsView, pairs_from};
+    ghost use Rattle.pidset.specs.Lists.{AreLinked, ListsView, pairs_in};
+    ghost use Rattle.pidset.specs.Rows.{sizes_of};
 
     ghost Value = { ListsView };
 
-    ghost view = { λ s. record { pairs = pairs_from 0 s.nodes.items; numbers = vec_len s.nodes } };
+    ghost view = { λ s. record { pairs = pairs_in s.nodes; sizes = sizes_of s.nodes } };
 
-    ghost invariant = { λ s. AreLinked s.nodes.items };
+    ghost invariant = { λ s. AreLinked s.nodes };
 }
 
 impl Lists {
     /// No processes. It takes no memory.
-    #[tactic(auto, unfolding(crate::specs::Lists::pairs_from, crate::specs::Lists::list_of, crate::specs::Lists::behind_of, crate::specs::Lists::before_of))]
+    #[tactic(auto, unfolding(crate::specs::Lists::pairs_in, crate::specs::Lists::node_of, crate::specs::Lists::list_of, crate::specs::Lists::behind_of, crate::specs::Lists::before_of))]
     pub fn new(alloc: Global) -> Lists
-        ensures { result ≡ record { pairs = []; numbers = 0 } }
+        ensures { result ≡ record { pairs = []; sizes = [] } }
     {
         Lists {
-            nodes: Vec::new(alloc),
+            nodes: Rows::new(alloc),
         }
     }
 
-    /// Makes room for the numbers up to `greatest`. Who stands in the lists stays, and the room never falls, also at
-    /// the error that there is no memory.
-    pub fn reserve(&mut self, greatest: Pid) -> Result<(), AllocError>
-        ensures numbers { OnOk result (greatest < self.new.numbers) }
+    /// Makes room for a number. Who stands in the lists stays, and room that was there, also at the error that there is
+    /// no memory.
+    pub fn reserve(&mut self, pid: Pid) -> Result<(), AllocError>
+        ensures room { OnOk result (HasRoom self.new.sizes pid) }
+        ensures grows { Grows self.old.sizes self.new.sizes }
         ensures pairs { self.new.pairs ≡ self.old.pairs }
-        ensures grows { self.old.numbers ≤ self.new.numbers }
-        ensures most { (m : ℕ) → self.old.numbers ≤ m → greatest < m → self.new.numbers ≤ m }
     {
-        let count = index(greatest) + 1;
-        if count <= self.nodes.len() {
-            return Ok(());
-        }
-        self.nodes.resize(count, Node::NOWHERE)
+        self.nodes.reserve(pid, Node::NOWHERE)
+    }
+
+    /// The room for a number goes, and that for all others on its page of 1,024 numbers, where none of them stands in a
+    /// list or is the number of one in which somebody stands.
+    pub fn give_up_page(&mut self, pid: Pid)
+        requires { StaysApart pid self.old.pairs }
+        ensures { self.new ≡ left_by pid self.old }
+    {
+        self.nodes.give_up_page(pid);
     }
 
     /// The process in a list with the least number above `after`.
@@ -84,7 +90,7 @@ impl Lists {
     pub fn next(&self, list: Pid, after: Pid) -> Option<Pid>
         ensures { IsNextPair list after self.now.pairs result }
     {
-        if list == Pid::NONE || index(list) >= self.nodes.len() {
+        if list == Pid::NONE || !self.nodes.has(list) {
             return None;
         }
         let mut next = next_near(&self.nodes, list, after);
@@ -99,7 +105,7 @@ impl Lists {
     pub fn list(&self, pid: Pid) -> Option<Pid>
         ensures { IsAt pid result self.now.pairs }
     {
-        if index(pid) >= self.nodes.len() {
+        if !self.nodes.has(pid) {
             return None;
         }
         let list = list_at(&self.nodes, pid);
@@ -109,10 +115,10 @@ impl Lists {
     /// Puts a process into a list, or into none, and takes it out of that in which it stood.
     #[inline]
     pub fn put(&mut self, pid: Pid, list: Option<Pid>)
-        requires pid { (1 ≤ pid) × (pid < self.old.numbers) }
-        requires list { IfSome list (λ k. (1 ≤ k) × (k < self.old.numbers)) }
+        requires pid { (1 ≤ pid) × HasRoom self.old.sizes pid }
+        requires list { IfSome list (λ k. (1 ≤ k) × HasRoom self.old.sizes k) }
         ensures moved { IsMoved pid list self.old.pairs self.new.pairs }
-        ensures numbers { self.new.numbers ≡ self.old.numbers }
+        ensures sizes { self.new.sizes ≡ self.old.sizes }
     {
         let new = list.unwrap_or(Pid::NONE);
         if list_at(&self.nodes, pid) == new {
@@ -128,115 +134,108 @@ impl Lists {
     #[inline]
     pub fn rekey(&mut self, from: Pid, to: Pid)
         requires apart { from ≢ to }
-        requires from { (1 ≤ from) × (from < self.old.numbers) }
-        requires to { (1 ≤ to) × (to < self.old.numbers) }
+        requires from { (1 ≤ from) × HasRoom self.old.sizes from }
+        requires to { (1 ≤ to) × HasRoom self.old.sizes to }
         ensures pairs { ArePairsRekeyed from to self.old.pairs self.new.pairs }
-        ensures numbers { self.new.numbers ≡ self.old.numbers }
+        ensures sizes { self.new.sizes ≡ self.old.sizes }
     {
         move_all(&mut self.nodes, from, to);
     }
 }
 
-/// The index of the node of a number.
-#[inline(always)]
-fn index(pid: Pid) -> usize
-    ensures is { result ≡ pid }
-    ensures range { pid ≤ 2147483647 }
-{
-    pid.number() as usize
-}
-
 /// The list in which a process stands; number 0 for none.
 #[inline]
-#[tactic(auto, using(crate::proofs::NodeLemmas::node_read), unfolding(crate::specs::Lists::list_of))]
-fn list_at(nodes: &[Node], pid: Pid) -> Pid
-    requires { pid < length nodes.now }
+fn list_at(nodes: &Rows<Node>, pid: Pid) -> Pid
+    requires { HasRow nodes.now pid }
     ensures { result ≡ list_of nodes.now pid }
 {
-    nodes[index(pid)].list
+    nodes.get(pid).list
 }
 
 /// Who stands behind another in a list, and its first behind number 0; number 0 for nobody.
 #[inline]
-#[tactic(auto, using(crate::proofs::NodeLemmas::node_read), unfolding(crate::specs::Lists::behind_of))]
-fn behind(nodes: &[Node], list: Pid, at: Pid) -> Pid
-    requires list_inside { list < length nodes.now }
-    requires at_inside { at < length nodes.now }
+fn behind(nodes: &Rows<Node>, list: Pid, at: Pid) -> Pid
+    requires list_inside { HasRow nodes.now list }
+    requires at_inside { at ≢ 0 → HasRow nodes.now at }
     ensures { result ≡ behind_of nodes.now list at }
 {
     if at == Pid::NONE {
-        nodes[index(list)].first
+        nodes.get(list).first
     } else {
-        nodes[index(at)].behind
+        nodes.get(at).behind
     }
 }
 
 /// Who stands before another in a list, and its last before number 0; number 0 for nobody.
 #[inline]
-#[tactic(auto, using(crate::proofs::NodeLemmas::node_read), unfolding(crate::specs::Lists::before_of))]
-fn before(nodes: &[Node], list: Pid, at: Pid) -> Pid
-    requires list_inside { list < length nodes.now }
-    requires at_inside { at < length nodes.now }
+fn before(nodes: &Rows<Node>, list: Pid, at: Pid) -> Pid
+    requires list_inside { HasRow nodes.now list }
+    requires at_inside { at ≢ 0 → HasRow nodes.now at }
     ensures { result ≡ before_of nodes.now list at }
 {
     if at == Pid::NONE {
-        nodes[index(list)].last
+        nodes.get(list).last
     } else {
-        nodes[index(at)].before
+        nodes.get(at).before
     }
 }
 
 /// A process stands in a list from now on, or in none.
 #[inline]
-#[tactic(auto, unfolding(crate::specs::Lists::with_list))]
-fn set_list(nodes: &mut Vec<Node>, pid: Pid, list: Pid)
-    requires { pid < vec_len nodes.old }
-    ensures { nodes.new.items ≡ with_list nodes.old.items pid list }
+fn set_list(nodes: &mut Rows<Node>, pid: Pid, list: Pid)
+    requires { HasRow nodes.old pid }
+    ensures { nodes.new ≡ with_list nodes.old pid list }
 {
-    nodes[index(pid)].list = list;
+    let mut node = nodes.get(pid);
+    node.list = list;
+    nodes.set(pid, node);
 }
 
 /// One comes right behind another in a list from now on, or is its first.
 #[inline]
-#[tactic(auto, unfolding(crate::specs::Lists::with_behind))]
-fn set_behind(nodes: &mut Vec<Node>, list: Pid, at: Pid, to: Pid)
-    requires list_inside { list < vec_len nodes.old }
-    requires at_inside { at < vec_len nodes.old }
-    ensures items { nodes.new.items ≡ with_behind nodes.old.items list at to }
-    ensures len { vec_len nodes.new ≡ vec_len nodes.old }
+fn set_behind(nodes: &mut Rows<Node>, list: Pid, at: Pid, to: Pid)
+    requires list_inside { HasRow nodes.old list }
+    requires at_inside { at ≢ 0 → HasRow nodes.old at }
+    ensures { nodes.new ≡ with_behind nodes.old list at to }
 {
     if at == Pid::NONE {
-        nodes[index(list)].first = to;
+        let mut node = nodes.get(list);
+        node.first = to;
+        nodes.set(list, node);
     } else {
-        nodes[index(at)].behind = to;
+        let mut node = nodes.get(at);
+        node.behind = to;
+        nodes.set(at, node);
     }
 }
 
 /// One comes right before another in a list from now on, or is its last.
 #[inline]
-#[tactic(auto, unfolding(crate::specs::Lists::with_before))]
-fn set_before(nodes: &mut Vec<Node>, list: Pid, at: Pid, to: Pid)
-    requires list_inside { list < vec_len nodes.old }
-    requires at_inside { at < vec_len nodes.old }
-    ensures items { nodes.new.items ≡ with_before nodes.old.items list at to }
-    ensures len { vec_len nodes.new ≡ vec_len nodes.old }
+fn set_before(nodes: &mut Rows<Node>, list: Pid, at: Pid, to: Pid)
+    requires list_inside { HasRow nodes.old list }
+    requires at_inside { at ≢ 0 → HasRow nodes.old at }
+    ensures { nodes.new ≡ with_before nodes.old list at to }
 {
     if at == Pid::NONE {
-        nodes[index(list)].last = to;
+        let mut node = nodes.get(list);
+        node.last = to;
+        nodes.set(list, node);
     } else {
-        nodes[index(at)].before = to;
+        let mut node = nodes.get(at);
+        node.before = to;
+        nodes.set(at, node);
     }
 }
 
 /// From where on the process with the least number above `after` in a list is looked for: behind `after`, where it
 /// stands there, else at the first.
 #[inline]
-fn next_near(nodes: &[Node], list: Pid, after: Pid) -> Pid
+fn next_near(nodes: &Rows<Node>, list: Pid, after: Pid) -> Pid
     requires linked { AreLinked nodes.now }
-    requires list { (1 ≤ list) × (list < length nodes.now) }
+    requires list { (1 ≤ list) × HasRow nodes.now list }
     ensures { IsFrom nodes.now list after result }
 {
-    if index(after) < nodes.len() && list_at(nodes, after) == list {
+    if nodes.has(after) && list_at(nodes, after) == list {
         behind(nodes, list, after)
     } else {
         behind(nodes, list, Pid::NONE)
@@ -246,10 +245,10 @@ fn next_near(nodes: &[Node], list: Pid, after: Pid) -> Pid
 /// Who stands right before the place of a process that goes into a list. It is looked for from `above` back to the
 /// first: from one there with a greater number, or from number 0 behind the last.
 #[tactic(auto, using(crate::proofs::LinkLemmas::inside))]
-fn place_for(nodes: &[Node], list: Pid, pid: Pid, above: Pid) -> Pid
+fn place_for(nodes: &Rows<Node>, list: Pid, pid: Pid, above: Pid) -> Pid
     requires linked { AreLinked nodes.now }
-    requires list { (1 ≤ list) × (list < length nodes.now) }
-    requires pid { (1 ≤ pid) × (pid < length nodes.now) }
+    requires list { (1 ≤ list) × HasRow nodes.now list }
+    requires pid { (1 ≤ pid) × HasRow nodes.now pid }
     requires apart { list_of nodes.now pid ≡ 0 }
     requires above { IsAbove nodes.now list pid above }
     ensures { IsPlaceFor nodes.now list pid result (behind_of nodes.now list result) }
@@ -264,12 +263,11 @@ fn place_for(nodes: &[Node], list: Pid, pid: Pid, above: Pid) -> Pid
 
 /// One comes right behind another in a list from now on. Number 0 stands before the first, and behind the last.
 #[inline]
-fn join(nodes: &mut Vec<Node>, list: Pid, before: Pid, behind: Pid)
-    requires list_inside { list < vec_len nodes.old }
-    requires before_inside { before < vec_len nodes.old }
-    requires behind_inside { behind < vec_len nodes.old }
-    ensures items { nodes.new.items ≡ joined nodes.old.items list before behind }
-    ensures len { vec_len nodes.new ≡ vec_len nodes.old }
+fn join(nodes: &mut Rows<Node>, list: Pid, before: Pid, behind: Pid)
+    requires list_inside { HasRow nodes.old list }
+    requires before_inside { before ≢ 0 → HasRow nodes.old before }
+    requires behind_inside { behind ≢ 0 → HasRow nodes.old behind }
+    ensures { nodes.new ≡ joined nodes.old list before behind }
 {
     set_behind(nodes, list, before, behind);
     set_before(nodes, list, behind, before);
@@ -278,10 +276,10 @@ fn join(nodes: &mut Vec<Node>, list: Pid, before: Pid, behind: Pid)
 /// Takes a process out of the list in which it stands, if it stands in one.
 #[inline]
 #[tactic(auto, using(crate::proofs::LinkLemmas::list_inside))]
-fn take_out(nodes: &mut Vec<Node>, pid: Pid)
-    requires linked { AreLinked nodes.old.items }
-    requires pid { (1 ≤ pid) × (pid < vec_len nodes.old) }
-    ensures { IsListed nodes.old.items nodes.new.items pid 0 }
+fn take_out(nodes: &mut Rows<Node>, pid: Pid)
+    requires linked { AreLinked nodes.old }
+    requires pid { (1 ≤ pid) × HasRow nodes.old pid }
+    ensures { IsListed nodes.old nodes.new pid 0 }
 {
     let list = list_at(nodes, pid);
     if list == Pid::NONE {
@@ -295,14 +293,13 @@ fn take_out(nodes: &mut Vec<Node>, pid: Pid)
 
 /// Puts a process that stands in no list into one, in which `above` has a greater number or is number 0.
 #[inline]
-#[tactic(auto, using(crate::proofs::LinkLemmas::behind_inside))]
-fn put_in(nodes: &mut Vec<Node>, list: Pid, pid: Pid, above: Pid)
-    requires linked { AreLinked nodes.old.items }
-    requires list { (1 ≤ list) × (list < vec_len nodes.old) }
-    requires pid { (1 ≤ pid) × (pid < vec_len nodes.old) }
-    requires apart { list_of nodes.old.items pid ≡ 0 }
-    requires above { IsAbove nodes.old.items list pid above }
-    ensures { IsListed nodes.old.items nodes.new.items pid list }
+fn put_in(nodes: &mut Rows<Node>, list: Pid, pid: Pid, above: Pid)
+    requires linked { AreLinked nodes.old }
+    requires list { (1 ≤ list) × HasRow nodes.old list }
+    requires pid { (1 ≤ pid) × HasRow nodes.old pid }
+    requires apart { list_of nodes.old pid ≡ 0 }
+    requires above { IsAbove nodes.old list pid above }
+    ensures { IsListed nodes.old nodes.new pid list }
 {
     let before = place_for(nodes, list, pid, above);
     let behind = behind(nodes, list, before);
@@ -313,14 +310,14 @@ fn put_in(nodes: &mut Vec<Node>, list: Pid, pid: Pid, above: Pid)
 
 /// Puts all that stand in one list into another.
 #[tactic(auto, using(crate::proofs::LinkLemmas::inside))]
-fn move_all(nodes: &mut Vec<Node>, from: Pid, to: Pid)
-    requires linked { AreLinked nodes.old.items }
+fn move_all(nodes: &mut Rows<Node>, from: Pid, to: Pid)
+    requires linked { AreLinked nodes.old }
     requires apart { from ≢ to }
-    requires from { (1 ≤ from) × (from < vec_len nodes.old) }
-    requires to { (1 ≤ to) × (to < vec_len nodes.old) }
-    ensures list { (i : ℕ) → list_of nodes.new.items i ≡ cond (list_of nodes.old.items i == from) to (list_of nodes.old.items i) }
-    ensures linked { AreLinked nodes.new.items }
-    ensures len { vec_len nodes.new ≡ vec_len nodes.old }
+    requires from { (1 ≤ from) × HasRow nodes.old from }
+    requires to { (1 ≤ to) × HasRow nodes.old to }
+    ensures list { (i : ℕ) → list_of nodes.new i ≡ cond (list_of nodes.old i == from) to (list_of nodes.old i) }
+    ensures linked { AreLinked nodes.new }
+    ensures sizes { sizes_of nodes.new ≡ sizes_of nodes.old }
 {
     // The place of each is before that of the one moved last, whose number is greater.
     let mut above = Pid::NONE;

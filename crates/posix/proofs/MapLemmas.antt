@@ -4,7 +4,7 @@ use Rattle.std.specs.Option.{IsSome}
 use Rattle.std.proofs.lemmas.Bool.{eqb-true, eqb-false, cases_eq, cond_both}
 use Rattle.std.proofs.lemmas.List.{length-map}
 use Rattle.posix.specs.Processes.{Process}
-use Rattle.posix.specs.Tables.{lookup, at, changed, removed, is_child, children_in, first_pid, reparented, adopted}
+use Rattle.posix.specs.Tables.{lookup, at, changed, removed, is_child, children_in, reparented, adopted}
 
 -- made to one process only, a change keeps what it keeps
 pub at_keeps : {A : Type 0} (field : Process → A) (p : ℕ) (f : Process → Process) → ((r : Process) → field (f r) ≡ field r) → (r : Process) → field (at p f r) ≡ field r
@@ -97,8 +97,3 @@ children_elsewhere p q n ne rs e = elim (cases_eq n p) [
   | inl same ↦ rw same (children_adopted p q (λ x. ne (same ∙ sym x)) rs)
   | inr other ↦ children_others p q n other ne rs ∙ e
 ]
-
--- the first keeps its number
-pub first_map : (g : Process → Process) → ((r : Process) → (g r).pid ≡ r.pid) → (rs : List Process) → first_pid (map g rs) ≡ first_pid rs
-first_map g keeps [] = refl
-first_map g keeps (r ∷ rs) = ap Some (keeps r)

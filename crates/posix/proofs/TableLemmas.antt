@@ -63,13 +63,6 @@ length_removed p r (x ∷ xs) up e = grind (arith, λ (i : x.pid ≡ p). ap leng
 
 -- ---- at the place of a process
 
--- the process at its place is found by its pid
-pub lookup_at : (rs : List Process) → IsRising rs → (p i : ℕ) (r : Process) → slice_get rs i ≡ Some r → r.pid ≡ p → lookup p rs ≡ Some r
-unfolding lookup IsRising
-lookup_at [] up p i r e here = absurd (cc)
-lookup_at (x ∷ xs) up p zero r e here = grind (arith, here)
-lookup_at (x ∷ xs) up p (suc i) r e here = grind (arith, here, eqb-true x.pid p, above_get x.pid xs up.0 i r e, lookup_at xs up.1 p i r e here)
-
 -- a change of a process is a change at its place
 pub changed_at : (rs : List Process) → IsRising rs → (p i : ℕ) (r : Process) (f : Process → Process) → slice_get rs i ≡ Some r → r.pid ≡ p → changed p f rs ≡ slice_set rs i (f r)
 unfolding changed IsRising

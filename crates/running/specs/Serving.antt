@@ -124,7 +124,7 @@ IsTextOf contents words trace = (name : Text) × (words ≡ name ∷ []) × IfSo
 
 -- What a status of an audit means that tells the broken law, too: whether the laws of a trace hold of the file that the
 -- words name; with other words nothing is put.
-pub record MeansOfAudit {S : Type 0} (contents : Contents) (words : List Text) (old new : S) (before after : Seen) (status : ℕ) : Type 0 where
+pub record MeansOfAuditInWords {S : Type 0} (contents : Contents) (words : List Text) (old new : S) (before after : Seen) (status : ℕ) : Type 0 where
   pub done : status ≡ 0 → OfTrace (IsTextOf contents words) (IsAccepted before after)
   pub refused : status ≡ 1 → OfTrace (IsTextOf contents words) IsFaulty
   pub other_words : status ≡ 2 → (length words ≢ 1) × (new ≡ old)

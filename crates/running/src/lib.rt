@@ -4,4 +4,4 @@
 mod serving;
 mod words;
 
-pub use serving::{put_own, serve, serve_told_audit};
+pub use serving::{put_own, serve, serve_audit_in_words};

@@ -4,17 +4,17 @@ ghost use Rattle.std.specs.Prelude.{◌≡◌, ◌≤◌, IfOk, IfErr, IfSome, O
 ghost use Rattle.inputs.specs.declared.files.FileFault.{FileFault};
 ghost use Rattle.sink.specs.Sinks.{BreaksOff, TakesAll};
 ghost use Rattle.inputs.specs.Reads.{AreInFiles};
-ghost use Rattle.running.specs.Serving.{AreOther, AskFor, AskForAudit, Ends, IsToldAs, Means, MeansOfAudit, answer_of, failure_of, status_of};
+ghost use Rattle.running.specs.Serving.{AreOther, AskFor, AskForAudit, Ends, IsToldAs, Means, MeansOfAuditInWords, answer_of, failure_of, status_of};
 
 use crate::words::{Request, requested};
 use arrayvec::ArrayString;
 use audit::{AuditFault, TraceFault, audit_text};
 use inputs::{FileFault, ReadFiles, WordsFault, tell_unread};
+use judging::line_at;
 use kernel::{RunError, Sink, SinkFault, put_all, run};
 use std::alloc::Global;
 use std::fmt::Write;
 use std::hash::RandomState;
-use trace::next_line;
 
 /// Why the program doesn't end with status 0.
 #[derive(Clone, Copy)]
@@ -121,28 +121,13 @@ fn put_fault<'a, O: Sink>(why: TraceFault, out: &mut O) -> Result<(), Failure<'a
     put_answer(text.as_str().as_bytes(), out)
 }
 
-/// A line of a text, by its number from 1; what is left where there are fewer.
-fn line_at(text: &[u8], number: u64) -> &[u8] {
-    let mut rest = text;
-    for _ in 1..number {
-        let Some((_, more)) = next_line(rest) else {
-            return rest;
-        };
-        rest = more;
-    }
-    match next_line(rest) {
-        Some((line, _)) => line,
-        None => rest,
-    }
-}
-
 /// Tells the first faulty line of a trace, and which law it breaks. The longest of these laws has less than 60 bytes.
 fn put_law<'a, O: Sink>(why: TraceFault, trace: &[u8], out: &mut O) -> Result<(), Failure<'a>>
     ensures { IfErr result (λ why. why ≡ Failure.Run RunError.Write) }
 {
     let mut law = ArrayString::<64>::new();
     let _ = writeln!(law, "   {}", why.fault);
-    put_answer(line_at(trace, why.line), out)?;
+    put_answer(line_at(trace, why.line).unwrap_or(&[]), out)?;
     put_answer(law.as_str().as_bytes(), out)
 }
 
@@ -252,7 +237,7 @@ pub fn put_own<O: Sink, E: Sink>(text: &[u8], out: &mut O, err: &mut E) -> u8
 /// Audits the one file that the words behind `explain --audit` name, as `audit` does, and tells behind a fault the line, and
 /// the law that it breaks, in words. Gives the status of the program: 0 where the laws of a trace hold, 1 for a faulty
 /// trace, 2 for other words, 3 for a device or memory. A failing `err` changes no status.
-pub fn serve_told_audit<'a, F: ReadFiles, O: Sink, E: Sink>(
+pub fn serve_audit_in_words<'a, F: ReadFiles, O: Sink, E: Sink>(
     alloc: Global,
     words: &'a [&'a str],
     files: &F,
@@ -261,7 +246,7 @@ pub fn serve_told_audit<'a, F: ReadFiles, O: Sink, E: Sink>(
     err: &mut E,
 ) -> u8
     ensures status { result ≤ 3 }
-    ensures meaning { MeansOfAudit (F.contents files.now) (map (λ w. w.now) words.entry.now) out.old out.new (O.seen out.old) (O.seen out.new) result }
+    ensures meaning { MeansOfAuditInWords (F.contents files.now) (map (λ w. w.now) words.entry.now) out.old out.new (O.seen out.old) (O.seen out.new) result }
 {
     match words {
         [trace] => ended(audit_file(alloc, files, keys, trace, true, out), err),

@@ -1,16 +1,12 @@
--- Who comes after a number in a list that is linked.
-use Rattle.std.proofs.Common.{◌≡◌, ℕ, zero, suc, true, false, cond, refl, ap, sym, ◌∙◌, List, [], ◌∷◌, Some, None, slice_get, get_or, take, ◌==◌, arith}
+-- Who comes after a number in a ring.
+use Rattle.std.proofs.Common.{◌≡◌, ℕ, zero, suc, true, false, cond, refl, ap, List, [], ◌∷◌, Some, None, slice_get, take, ◌==◌, arith}
 use Rattle.std.proofs.lemmas.Bool.{eqb-true, eq-eqb}
 use Rattle.posix.specs.States.{is_in}
 use Rattle.posix.specs.Regular.{IsDistinct}
 use Rattle.posix.proofs.MemberLemmas.{in_none}
-use Rattle.sched.specs.declared.links.Node.{Node}
-use Rattle.sched.specs.Links.{Linked, next_of, read_off, IsLinked, IsKept}
+use Rattle.sched.specs.Rings.{Nodes, next_of, IsLinked, IsRing, IsKept}
 use Rattle.sched.specs.Places.{next_behind}
 use Rattle.sched.proofs.MemberLemmas.{in_longer}
-use Rattle.sched.proofs.LinkLemmas.{next_read}
-use Rattle.sched.proofs.RingLemmas.{root_out}
-use Rattle.sched.proofs.ListLemmas.{seen, known}
 
 -- one that isn't there
 pub behind_absent : (p : ℕ) (ps : List ℕ) → is_in p ps ≡ false → next_behind p ps ≡ None
@@ -18,27 +14,16 @@ unfolding next_behind is_in
 behind_absent p [] out = refl
 behind_absent p (q ∷ qs) out = grind (arith, eqb-true, eq-eqb q q refl, out, behind_absent p qs)
 
--- what the nodes lead to behind q
-follows : (ns : List Node) (q : ℕ) (qs : List ℕ) (a : ℕ) → IsLinked ns q qs a → is_in a qs ≡ false → slice_get qs 0 ≡ cond (next_of ns q == a) None (Some (next_of ns q))
-unfolding IsLinked is_in
-follows ns q [] a l out = grind (arith, eq-eqb, l.0)
-follows ns q (x ∷ xs) a l out = grind (arith, eqb-true, eq-eqb, l.0, out)
-
--- so many as come after one that is there
-pub behind_linked : (ns : List Node) (b : ℕ) (ps : List ℕ) (a p : ℕ) → IsLinked ns b ps a → is_in p ps ≡ true → is_in a ps ≡ false → next_behind p ps ≡ cond (next_of ns p == a) None (Some (next_of ns p))
+-- one that is there, where the nodes lead to a
+behind_linked : (ns : Nodes) (b : ℕ) (ps : List ℕ) (a p : ℕ) → IsLinked ns b ps a → is_in p (b ∷ ps) ≡ true → is_in a ps ≡ false → next_behind p (b ∷ ps) ≡ cond (next_of ns p == a) None (Some (next_of ns p))
 unfolding IsLinked next_behind is_in
-behind_linked ns b [] a p l there out = absurd (in_none p there)
-behind_linked ns b (q ∷ qs) a p l there out = grind (arith, eqb-true, there, out, follows ns q qs a l.2, behind_linked ns q qs a p l.2)
+behind_linked ns b [] a p l there out = grind (arith, eqb-true, eq-eqb, there, l.0)
+behind_linked ns b (q ∷ qs) a p l there out = grind (arith, eqb-true, eq-eqb, there, out, l.0, behind_linked ns q qs a p l.2)
 
--- of a list that is read off: what its node says of one that stands in it
-pub node_says : (ns : List Node) (n p : ℕ) (v : Linked) (node : Node) → IsKept ns (read_off n ns 0) → seen ns n ≡ v → is_in p v.numbers ≡ true → node ≡ get_or ns p node
-    → next_behind p v.numbers ≡ cond (node.next == 0) None (Some node.next)
-node_says ns n p v node kept view there read =
-    let at = known ns n p v kept view there in
-    let next : node.next ≡ next_of ns p = next_read ns p node at.inside read in
-    ap (λ (l : Linked). next_behind p l.numbers) (sym view)
-    ∙ behind_linked ns 0 (read_off n ns 0) 0 p kept.ring.linked at.there (root_out kept.ring)
-    ∙ ap (λ k. cond (k == 0) None (Some k)) (sym next)
+pub behind_kept : (ns : Nodes) (f p : ℕ) (ps : List ℕ) → IsKept ns f ps → is_in p ps ≡ true → next_behind p ps ≡ cond (next_of ns p == f) None (Some (next_of ns p))
+unfolding IsRing IsDistinct
+behind_kept ns f p [] k there = absurd (in_none p there)
+behind_kept ns f p (x ∷ xs) k there = rw k.ring.0 (behind_linked ns x xs x p k.ring.1 there k.distinct.0)
 
 -- ---- one after another
 

@@ -1,5 +1,4 @@
 pub mod MemberLemmas
 pub mod LinkLemmas
 pub mod RingLemmas
-pub mod ListLemmas
 pub mod BehindLemmas

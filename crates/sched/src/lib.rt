@@ -1,7 +1,6 @@
 //! The order in which processes act.
 #![tactic(auto)]
 
-pub mod links;
 pub mod order;
 
 pub use order::Order;

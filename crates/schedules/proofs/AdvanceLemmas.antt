@@ -5,12 +5,6 @@ use borrow.Rule.Slice.PartMut.{put_mid}
 use Rattle.schedules.specs.Families.{Spots}
 use Rattle.schedules.specs.Walks.{all_at, next_of_ticks, put_before}
 
--- none from this place on can, where it can't, and none behind it
-pub none_from : (upto i : ℕ) (ps : Spots) → i < length ps → upto ≤ slice_index ps i + 1 → next_of_ticks upto (drop (suc i) ps) ≡ None → next_of_ticks upto (drop i ps) ≡ None
-none_from upto i [] within late none = grind (arith)
-none_from upto zero (p ∷ ps) within late none = grind (arith)
-none_from upto (suc i) (p ∷ ps) within late none = none_from upto i ps (grind (arith)) late none
-
 -- it goes on, where it can, and none behind it
 pub goes_on : (upto i n : ℕ) (ps : Spots) → i < length ps → i + n ≡ length ps → slice_index ps i + 1 < upto → next_of_ticks upto (drop (suc i) ps) ≡ None
     → next_of_ticks upto ps ≡ Some (take i ps ++ replicate n (slice_index ps i + 1))

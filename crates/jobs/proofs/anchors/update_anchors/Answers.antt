@@ -1,12 +1,18 @@
 use Rattle.std.proofs.Common.{◌∙◌, ap, sym}
 use Rattle.pidset.proofs.AnchorLemmas.{anchors_turned}
 use Rattle.jobs.specs.Indexes.{anchor_in, child_key}
-use Rattle.jobs.proofs.AnchorLemmas.{seen_at, seen_found, key_at, child_is, number_within, stance_kept, anchors_put, anchors_same}
+use Rattle.jobs.proofs.AnchorLemmas.{anchor_within, seen_at, seen_found, key_at, child_is, number_within, stance_kept, anchors_put, anchors_same}
 use Rattle.jobs.proofs.SnapshotLemmas.{is_there}
 use Rattle.jobs.proofs.anchors.update_anchors.Goals as goal
 
 pub put-requires-clause-pid : goal.put-requires-clause-pid
 put-requires-clause-pid g c = number_within _ c.args.pid _ c.requires.within c.requires.kin.none (is_there _ _ (seen_found c.args.pid _ _ c.requires.after).1)
+
+pub put-requires-clause-list : goal.put-requires-clause-list
+put-requires-clause-list g c = rw c.anchor_key.ensures (anchor_within c.args.anchors.now.sizes c.args.pid _ c.args.change.now.after c.seen_in-parent.result c.requires.within c.requires.after)
+
+pub update_anchors_of_children-requires-clause-within : goal.update_anchors_of_children-requires-clause-within
+update_anchors_of_children-requires-clause-within g c = rw (c.put.ensures.sizes, c.seen_in-parent.ensures.contents) c.requires.within
 
 pub put-requires-then-is_dead-clause-pid : goal.put-requires-then-is_dead-clause-pid
 put-requires-then-is_dead-clause-pid g c = number_within _ c.args.pid _ c.requires.within c.requires.kin.none (is_there _ _ (seen_found c.args.pid _ _ c.requires.after).1)

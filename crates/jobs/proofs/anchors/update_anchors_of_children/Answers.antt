@@ -13,7 +13,7 @@ loop-next-init g c =
     record {
       contents = refl;
       room = refl;
-      numbers = refl;
+      sizes = refl;
       read = rw first.1 (omega arith);
       no_fewer = omega arith;
       begins = rw first.1 (sym first.0);
@@ -24,6 +24,9 @@ pub update_anchor-requires-clause-there : goal.update_anchor-requires-clause-the
 update_anchor-requires-clause-there g c =
     let l = c.loop-next.invariant in
     rw (l.contents, (at_child _ c.requires.kin.rising c.args.pid c.in-Some.child (rw c.in-Some.is at l.begins)).found) refl
+
+pub update_anchor-requires-clause-within : goal.update_anchor-requires-clause-within
+update_anchor-requires-clause-within g c = rw (c.loop-next.invariant.sizes, c.loop-next.invariant.contents) c.requires.within
 
 pub loop-next-smaller : goal.loop-next-smaller
 loop-next-smaller g c =
@@ -39,7 +42,7 @@ loop-next-preserved g c =
     rw (c.next_child-next-in-Some.ensures rs c.requires.kin c.requires.there ∙ sibling_is c.args.pid c.in-Some.child rs i) record {
       contents = put.contents ∙ l.contents;
       room = put.costs.room ∙ l.room;
-      numbers = put.numbers ∙ l.numbers;
+      sizes = put.sizes ∙ l.sizes;
       read = let w = put.costs.visits in let r = rw (c.in-Some.is, i.left) at l.read in omega (arith, w, r);
       no_fewer = le_trans l.no_fewer put.costs.no_fewer;
       begins = i.next;

@@ -13,7 +13,7 @@ invariant-loop-next g l =
     record {
       contents : g.K.ProcessTable.contents l.table ≡ rs;
       room : g.K.ProcessTable.room l.table ≡ g.K.ProcessTable.room l.fn.table;
-      numbers : l.anchors.numbers ≡ l.fn.anchors.numbers;
+      sizes : l.anchors.sizes ≡ l.fn.anchors.sizes;
       read : g.K.ProcessTable.visits l.table + 2 * length (left_of l.next children) ≤ g.K.ProcessTable.visits l.fn.table + 1 + 2 * length children;
       no_fewer : g.K.ProcessTable.visits l.fn.table ≤ g.K.ProcessTable.visits l.table;
       begins : first_pid (left_of l.next children) ≡ l.next;

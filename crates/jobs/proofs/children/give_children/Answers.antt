@@ -18,7 +18,7 @@ loop-next-init g c =
       adopted = refl;
       left = sym first.1;
       room = refl;
-      numbers = refl;
+      sizes = refl;
       read = rw first.1 (omega arith);
       no_fewer = omega arith;
       begins = rw first.1 (sym first.0);
@@ -35,7 +35,7 @@ pub put-requires-clause-pid : goal.put-requires-clause-pid
 put-requires-clause-pid g c =
     let l = c.loop-next.invariant in
     let i = at_child _ c.requires.kin.rising c.args.from c.in-Some.child (rw c.in-Some.is at l.begins) in
-    rw l.numbers (number_within _ c.in-Some.child _ c.requires.within c.requires.kin.none (rw i.found refl))
+    rw l.sizes (number_within _ c.in-Some.child _ c.requires.within c.requires.kin.none (rw i.found refl))
 
 pub put-requires-clause-list : goal.put-requires-clause-list
 put-requires-clause-list g c =
@@ -43,7 +43,7 @@ put-requires-clause-list g c =
     let heir = c.args.heir.now in
     let i = at_child _ c.requires.kin.rising c.args.from c.in-Some.child (rw c.in-Some.is at l.begins) in
     let key = key_read c.args.from c.args.to c.in-Some.child _ _ heir c.set_parent.result l.rising i (rw c.in-Some.is at l.left) c.set_parent.ensures.value in
-    rw (c.anchor_key.ensures ∙ ap (λ w. anchor_in w (Some heir)) c.of_snapshot-it.ensures ∙ key, l.numbers) (key_within _ c.in-Some.child _ i.what heir c.requires.within i.found)
+    rw (c.anchor_key.ensures ∙ ap (λ w. anchor_in w (Some heir)) c.of_snapshot-it.ensures ∙ key, l.sizes) (key_within _ c.in-Some.child _ i.what heir c.requires.within i.found)
 
 pub loop-next-smaller : goal.loop-next-smaller
 loop-next-smaller g c =
@@ -64,7 +64,7 @@ loop-next-preserved g c =
       adopted = ap (adopted c.args.from c.args.to) moved.contents ∙ one_adopted c.args.from c.args.to c.in-Some.child _ _ i.what up i.found i.parent l.adopted;
       left = ap (children_in c.args.from) moved.contents ∙ one_left c.args.from c.args.to c.in-Some.child _ _ c.requires.apart up i (rw c.in-Some.is at l.left);
       room = moved.room ∙ l.room;
-      numbers = c.put.ensures.numbers ∙ l.numbers;
+      sizes = c.put.ensures.sizes ∙ l.sizes;
       read = let v = moved.visits in let r = rw (c.in-Some.is, i.left) at l.read in omega (arith, v, r);
       no_fewer = le_trans l.no_fewer moved.no_fewer;
       begins = i.next;

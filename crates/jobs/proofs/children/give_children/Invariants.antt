@@ -16,7 +16,7 @@ invariant-loop-next g l =
       adopted : adopted l.from l.to now ≡ adopted l.from l.to rs;
       left : children_in l.from now ≡ left_of l.next children;
       room : g.K.ProcessTable.room l.table ≡ g.K.ProcessTable.room l.fn.table;
-      numbers : l.anchors.numbers ≡ l.fn.anchors.numbers;
+      sizes : l.anchors.sizes ≡ l.fn.anchors.sizes;
       read : g.K.ProcessTable.visits l.table + length (left_of l.next children) ≤ g.K.ProcessTable.visits l.fn.table + length children;
       no_fewer : g.K.ProcessTable.visits l.fn.table ≤ g.K.ProcessTable.visits l.table;
       begins : first_pid (left_of l.next children) ≡ l.next;

@@ -77,7 +77,7 @@ invariant_of-self-2 g c =
     let parent = c.change_in-seen.ensures.parent in
     let index = (rw (r.0.is, c.reindex.ensures.anchors) at c.update_anchors.ensures.index) rs (elsewhere_record rs c.args.pid r.0.after) (rw (r.0.found, r.1) refl) (sym parent) c.self.invariant.anchors.index in
     kept_moved _ rs _ c.args.pid r.0.before r.0.after c.self.inside.indexes c.reindex.new.self c.update_anchors.new.anchors r.0.found (c.update_anchors.ensures.contents ∙ r.0.is) (rw (parent, r.2) at c.reindex.ensures.moved)
-    (ready_run r.0 (processes_of c.self.view_is) c.requires.grouped c.self.invariant).1 index (rw c.reindex.ensures.anchors at c.update_anchors.ensures.numbers) c.reindex.ensures.children c.self.invariant
+    (ready_run r.0 (processes_of c.self.view_is) c.requires.grouped c.self.invariant).1 index (rw c.reindex.ensures.anchors at c.update_anchors.ensures.sizes) c.reindex.ensures.children c.self.invariant
 
 pub returns-clause-costs : goal.returns-clause-costs
 unfolding give_record

@@ -27,4 +27,4 @@ returns-clause-looks g c = rw (← c.self.view_is) (record {
 pub returns-clause-within : goal.returns-clause-within
 returns-clause-within g c =
     let w = c.self.invariant.within c.args.pid _ (rw c.spare-spare.ensures.contents at c.update.ensures.value) in
-    IfOk-weaker c.fork.result _ _ (λ b child. let same = (child_groups _ c.args.pid c.args.birth c.update.result.now b c.update.ensures.value child _ c.update.ensures.value).0 in let low = w.1 in let high = w.2 in (omega (arith, same, low), omega (arith, same, high))) c.fork.ensures
+    IfOk-weaker c.fork.result _ _ (λ b child. let same = (child_groups _ c.args.pid c.args.birth c.update.result.now b c.update.ensures.value child _ c.update.ensures.value).0 in rw same (w.1.0, w.2)) c.fork.ensures

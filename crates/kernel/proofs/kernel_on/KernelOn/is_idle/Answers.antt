@@ -7,11 +7,11 @@ use Rattle.posix.proofs.CountLemmas.{next_halted}
 use Rattle.kernel.proofs.EventLemmas.{rest_idle}
 use Rattle.kernel.proofs.kernel_on.KernelOn.is_idle.Goals as goal
 
-pub returns-then-is_halted : goal.returns-then-is_halted
-returns-then-is_halted g c = λ _. next_halted true c.args.self.now.state c.args.event (search rules)
+pub returns-then-is_halted-clause-idle : goal.returns-then-is_halted-clause-idle
+returns-then-is_halted-clause-idle g c = λ _. next_halted true c.args.self.now.state c.args.event (search rules)
 
-pub returns-then-matches : goal.returns-then-matches
-returns-then-matches g c = λ none.
+pub returns-then-matches-clause-idle : goal.returns-then-matches-clause-idle
+returns-then-matches-clause-idle g c = λ none.
     let s = c.args.self.now.state in
     let is : c.args.event ≡ Step = search rules in
     let going : s.halted ≡ false = search rules in

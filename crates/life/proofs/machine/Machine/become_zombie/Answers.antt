@@ -11,7 +11,7 @@ use Rattle.jobs.proofs.RunLemmas.{run_as, parent_is, put_as, put_grouped}
 use Rattle.life.proofs.EndLemmas.{keeps_made_zombie, there_after, zombie_after}
 use Rattle.life.proofs.RecheckLemmas.{has_room, room_after, room_of, pids_of, listed_more, listed_where}
 use Rattle.life.proofs.DepartureLemmas.{listed_left, deaf_parent, quiet_zombie}
-use Rattle.life.proofs.SoundLemmas.{there, here_in, heir_in, found_in, sound_departed, there_made_zombie, within_departed}
+use Rattle.life.proofs.SoundLemmas.{grows_same, there, here_in, heir_in, found_in, sound_departed, there_made_zombie, within_departed}
 use Rattle.life.proofs.ForegroundLemmas.{fresh_departed}
 use Rattle.life.proofs.ViewLemmas.{state_is}
 use Rattle.life.proofs.MoveLemmas.{zombie_put}
@@ -71,7 +71,7 @@ invariant_of-self g c =
     let told = c.is_some-told.result in
     let made = run_as (made_zombie c.args.status) c.change_seen-parent.ensures.run i.sound.regular.rising (λ b d r k q. search rules) in
     let up = parent_is p c.change_seen-parent.result.parent s.processes me.what c.change_seen-parent.ensures.parent found in
-    let sound = sound_departed p heir c.args.status s m.pids m.order c.drop_place.new.self (omega (arith, pid_looked p s.processes me.what found, (i.sound.regular.bounded p me.what found).least)) c.requires.other h (omega (arith, c.drop_place.ensures.room)) i.sound in
+    let sound = sound_departed p heir c.args.status s m.pids m.order c.drop_place.new.self (omega (arith, pid_looked p s.processes me.what found, (i.sound.regular.bounded p me.what found).least)) c.requires.other h (grows_same c.drop_place.ensures.sizes) i.sound in
     let listed = listed_left s p heir c.args.status parent me.what m.to_recheck c.insert.new.self c.recheck_where.new.to_recheck c.recheck_where-2.new.to_recheck awaited told i.sound.regular i.listed found up
     (rw up (i.sound.parents p me.what c.requires.other found)) (heir_there s p heir i.sound.regular h) c.insert.ensures.pids c.insert.ensures.room c.recheck_where.ensures c.recheck_where-2.ensures
     (deaf_parent s p parent c.args.status me.what _ c.change_seen-parent.result.after awaited found up made c.change_seen-parent.ensures.after c.is_awaited-awaited.ensures.value)

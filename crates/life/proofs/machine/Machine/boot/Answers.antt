@@ -30,7 +30,7 @@ invariant_of-result g c =
       fresh = subst AreFresh (sym (first_is_boot c.in_ok-world.world _ c.in_ok-lists.lists.pids c.in_ok-lists.lists.order unused c.in_ok-lists.ensures.last c.in_ok-lists.ensures.order)) (first_fresh c.in_ok-world.world);
       noted = record { rising = rw c.in_ok-lists.ensures.no_group tt; room = omega (arith, c.in_ok-lists.ensures.rechecks, c.in_ok-lists.ensures.groups) };
       indexed = subst (λ cs. AreTerminals cs c.in_ok-terminals.terminals.terminals.pairs) (sym c.in_ok-terminals.ensures.consoles) c.in_ok-terminals.ensures.terminals;
-      within = within_first c.in_ok-terminals.ensures.room;
+      within = within_first c.in_ok-terminals.ensures.nobody c.in_ok-terminals.ensures.room;
     })
 
 pub returns-clause-state : goal.returns-clause-state

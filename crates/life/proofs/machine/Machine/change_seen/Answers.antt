@@ -10,6 +10,7 @@ use Rattle.life.specs.Machines.{MachineView}
 use Rattle.life.specs.Rechecks.{with_numbers}
 use Rattle.life.specs.Changes.{StaysRegular, StaysInSession}
 use Rattle.life.proofs.SoundLemmas.{here_in}
+use Rattle.life.proofs.ReaderLemmas.{readable}
 use Rattle.life.proofs.RecheckLemmas.{has_room, room_after, pids_of, room_of}
 use Rattle.life.proofs.FunnelLemmas.{not_moved, machine_shown, can_move_numbers, seen_is, parent_there, there_record}
 use Rattle.life.proofs.ViewLemmas.{state_is}
@@ -23,6 +24,9 @@ pub recheck_with_parent-requires-clause-fits : goal.recheck_with_parent-requires
 unfolding with_numbers
 recheck_with_parent-requires-clause-fits g c =
     room_after _ _ (record (c.self.inside.to_recheck) { pids = with_number c.args.pid c.self.inside.to_recheck.pids }) (c.args.pid ∷ []) c.self.invariant.sound.regular c.self.invariant.listed (here_in c.args.pid (state_is c.self.view_is) c.requires.there, tt) refl refl
+
+pub put-requires-clause-pid : goal.put-requires-clause-pid
+put-requires-clause-pid g c = readable _ c.args.pid c.self.invariant.sound.regular c.self.invariant.within (here_in c.args.pid (state_is c.self.view_is) c.requires.there)
 
 pub move_numbers-requires : goal.move_numbers-requires
 move_numbers-requires g c =
@@ -44,7 +48,7 @@ invariant_of-self g c =
     let mark = rw (before, after) at c.move_numbers.ensures.foregrounds_unchecked in
     let session = subst (λ (s : State). StaysInSession g.F.FnOnce c.args.change s.processes c.args.pid) (sym (state_is c.self.view_is)) c.requires.session in
     machine_shown _ _ c.move_numbers.new.pids _ _ c.recheck_with_parent.new.to_recheck c.args.pid c.change_seen-parent.result.parent run.before run.after _ c.move_numbers.new.foregrounds_unchecked run.found run.is (stays c.self.invariant.sound.regular _ _ _ run.found run.ran) (session _ _ _ run.found run.ran) c.change_seen-parent.ensures.parent
-    moved mark (sym c.move_numbers.ensures.last) c.self.invariant (pids_of c.recheck_with_parent.ensures) (room_of c.recheck_with_parent.ensures)
+    moved mark (sym c.move_numbers.ensures.last) c.self.invariant (pids_of c.recheck_with_parent.ensures) (room_of c.recheck_with_parent.ensures) c.put.ensures.moved c.put.ensures.sizes
 
 pub returns-clause-there : goal.returns-clause-there
 returns-clause-there g c = λ some.

@@ -1,12 +1,14 @@
-use Rattle.std.proofs.Common.{◌≡◌, ◌<◌, ◌≤◌, sym, ap, subst, ◌∙◌, Some}
+use Rattle.std.proofs.Common.{◌≡◌, ◌≤◌, sym, ap, subst, ◌∙◌, Some}
 use Rattle.std.specs.Option.{IfSome}
 use Rattle.posix.specs.States.{State, process}
 use Rattle.posix.specs.Settle.{wakes}
+use Rattle.pidset.specs.Indexes.{is_key}
+use Rattle.pidset.specs.Rows.{HasRoom}
 use Rattle.life.specs.Consoles.{reads}
 use Rattle.life.proofs.RecheckLemmas.{listed_rechecked, pids_of, room_of}
-use Rattle.life.proofs.ReaderLemmas.{readable, session_readable, watched_rechecked}
+use Rattle.life.proofs.ReaderLemmas.{readable, reads_within, session_readable, watched_rechecked, within_marked}
 use Rattle.life.proofs.SoundLemmas.{here_in}
-use Rattle.life.specs.Machines.{AreWithin, IsNoted}
+use Rattle.life.specs.Machines.{IsNoted, state_of}
 use Rattle.life.proofs.ViewLemmas.{state_is}
 use Rattle.life.proofs.machine.Machine.finish_recheck.Goals as goal
 
@@ -16,11 +18,13 @@ put-requires-clause-pid g c = readable _ c.args.pid c.self.invariant.sound.regul
 pub put-requires-clause-list : goal.put-requires-clause-list
 put-requires-clause-list g c =
     let session = c.requires.session ∙ ap (λ (s : State). reads s c.args.pid) (sym (state_is c.self.view_is)) in
-    subst (λ o. IfSome o (λ n. (1 ≤ n) × (n < c.self.inside.readers.numbers))) (sym session) (session_readable _ c.args.pid c.self.invariant.sound.regular c.self.invariant.within)
+    subst (λ o. IfSome o (λ n. (1 ≤ n) × HasRoom c.self.inside.readers.sizes n)) (sym session) (session_readable _ c.args.pid c.self.invariant.sound.regular c.self.invariant.within)
 
 pub invariant_of-self : goal.invariant_of-self
 invariant_of-self g c =
     let i = c.self.invariant in
+    let m = c.self.inside in
+    let s = state_of m.world m.table.processes m.consoles.items m.pids m.order m.births m.ticks m.dropped m.halted in
     let same = state_is c.self.view_is in
     let session = c.requires.session ∙ ap (λ (s : State). reads s c.args.pid) (sym same) in
     record {
@@ -30,5 +34,5 @@ invariant_of-self g c =
       noted = subst (λ n. IsNoted n c.self.inside.groups_at_risk) (sym (room_of c.take_off.ensures)) i.noted;
       fresh = i.fresh;
       indexed = i.indexed;
-      within = subst (λ n. AreWithin n c.self.inside.table.processes) (sym c.put.ensures.numbers) i.within;
+      within = within_marked c.args.pid _ c.put.ensures.moved c.put.ensures.sizes (λ k e. reads_within s c.args.pid k (sym (ap (is_key k) session) ∙ e)) i.within;
     }

@@ -5,6 +5,7 @@ use Rattle.posix.specs.Outcomes.{finished}
 use Rattle.posix.specs.Births.{child_of}
 use Rattle.pidalloc.specs.Rows.{is_free_in}
 use Rattle.pidset.specs.Numbers.{with_number}
+use Rattle.pidset.specs.Rows.{HasRoom}
 use Rattle.jobs.proofs.ReadLemmas.{processes_of}
 use Rattle.life.specs.Machines.{MachineView, IsNoted}
 use Rattle.life.specs.Rechecks.{with_numbers}
@@ -17,6 +18,14 @@ use Rattle.life.proofs.ForegroundLemmas.{fresh_still}
 use Rattle.life.proofs.ViewLemmas.{state_is}
 use Rattle.posix.proofs.FreshLemmas.{fresh_inserted}
 use Rattle.life.proofs.machine.Machine.fork.Goals as goal
+
+pub invariant_of-self-in_err-reserve-4 : goal.invariant_of-self-in_err-reserve-4
+invariant_of-self-in_err-reserve-4 g c =
+    let m = c.self.inside in
+    machine_roomier c.self.invariant
+    (state_roomier m.world m.table.processes c.reserve.new.self.processes m.consoles.items m.pids c.reserve-2.new.self m.order c.reserve-3.new.self m.births m.ticks m.dropped m.halted (processes_of c.in_ok-reserve.ensures.rest) c.in_ok-reserve-2.ensures.rest c.in_ok-reserve-3.ensures.pids)
+    c.in_ok-reserve-2.ensures.rest c.in_ok-reserve-3.ensures.grows
+    refl (omega arith) refl c.self.invariant.noted.room c.in_err-reserve-4.ensures.pairs c.in_err-reserve-4.ensures.grows
 
 pub invariant_of-self-in_err-make_room : goal.invariant_of-self-in_err-make_room
 invariant_of-self-in_err-make_room g c =
@@ -78,6 +87,9 @@ bear_all-requires g c =
 pub insert-requires-clause-fresh : goal.insert-requires-clause-fresh
 insert-requires-clause-fresh g c = ap (lookup c.args.child) (c.in_ok-fields.ensures.looks.processes ∙ processes_of c.in_ok-reserve.ensures.rest) ∙ (next_is_new _ _ _ _ c.args.child (state_is c.self.view_is) c.self.invariant.sound c.requires.child).fresh
 
+pub insert-requires-clause-inside : goal.insert-requires-clause-inside
+insert-requires-clause-inside g c = subst (λ sizes. HasRoom sizes c.args.child) (sym c.newborn.ensures.sizes) c.in_ok-reserve.ensures.number
+
 pub insert-requires-clause-number : goal.insert-requires-clause-number
 insert-requires-clause-number g c = λ none. absurd (omega (arith, none, (next_is_new _ _ _ _ c.args.child (state_is c.self.view_is) c.self.invariant.sound c.requires.child).least))
 
@@ -99,10 +111,10 @@ invariant_of-self-2 g c =
     let same = state_roomier m.world m.table.processes m.table.processes m.consoles.items m.pids c.reserve-2.new.self m.order c.reserve-3.new.self m.births m.ticks m.dropped m.halted refl c.in_ok-reserve-2.ensures.rest c.in_ok-reserve-3.ensures.pids in
     let roomy = machine_roomier c.self.invariant same c.in_ok-reserve-2.ensures.rest c.in_ok-reserve-3.ensures.grows c.make_room.ensures.to_recheck c.make_room.ensures.grows c.make_room.ensures.groups_at_risk c.make_room.ensures.groups c.in_ok-reserve-4.ensures.pairs c.in_ok-reserve-4.ensures.grows in
     let new = next_is_new _ _ _ _ c.args.child (same ∙ state_is c.self.view_is) roomy.sound c.requires.child in
-    let sound = sound_born _ _ _ _ _ _ _ _ _ _ _ me.what roomy.sound new found me.living groups.0 groups.1 (ap (λ (r : Process). r.life) child) (ap (λ (r : Process). r.alarm) child) c.bear_all.ensures.value c.bear_all.ensures.pidmax c.bear_all.ensures.kept c.in_ok-reserve-3.ensures.enough in
+    let sound = sound_born _ _ _ _ _ _ _ _ _ _ _ me.what roomy.sound new found me.living groups.0 groups.1 (ap (λ (r : Process). r.life) child) (ap (λ (r : Process). r.alarm) child) c.bear_all.ensures.value c.bear_all.ensures.pidmax c.bear_all.ensures.kept c.in_ok-reserve-3.ensures.room in
     let count = c.len-count.ensures.value ∙ ap (λ (rs : List Process). length rs) (processes_of c.in_ok-reserve.ensures.rest) in
     let fits : length m.table.processes + 1 < c.make_room.new.to_recheck.room = omega (arith, count, c.in_ok-make_room.ensures.ok) in
     let listed = listed_born _ _ _ _ _ _ roomy.listed fits new.fresh (is_there _ me.what found) (c.insert-3.ensures.pids ∙ ap (with_number c.args.child) c.insert-2.ensures.pids) (c.insert-3.ensures.room ∙ c.insert-2.ensures.room) in
     let noted = subst (λ n. IsNoted n c.make_room.new.groups_at_risk) (sym (c.insert-3.ensures.room ∙ c.insert-2.ensures.room)) roomy.noted in
     rw (c.insert.ensures.processes, c.in_ok-fields.ensures.looks.processes, processes_of c.in_ok-reserve.ensures.rest)
-    (record { sound = sound; listed = listed; noted = noted; fresh = fresh_still c.self.inside.foregrounds_unchecked _ _ _ (λ ds h. fresh_inserted (process_of c.args.child c.args.parent c.in_ok-fields.fields) _ ds h) roomy.fresh; indexed = roomy.indexed; within = within_inserted (process_of c.args.child c.args.parent c.in_ok-fields.fields) _ new.fresh (c.in_ok-reserve-4.ensures.numbers, subst (λ n. n < c.reserve-4.new.self.numbers) (sym groups.1) (roomy.within c.args.parent me.what found).1) roomy.within })
+    (record { sound = sound; listed = listed; noted = noted; fresh = fresh_still c.self.inside.foregrounds_unchecked _ _ _ (λ ds h. fresh_inserted (process_of c.args.child c.args.parent c.in_ok-fields.fields) _ ds h) roomy.fresh; indexed = roomy.indexed; within = within_inserted (process_of c.args.child c.args.parent c.in_ok-fields.fields) _ new.fresh (c.in_ok-reserve-4.ensures.room, subst (λ n. HasRoom c.reserve-4.new.self.sizes n) (sym groups.1) (roomy.within.room c.args.parent me.what found).1) roomy.within })

@@ -1,18 +1,19 @@
 use Rattle.std.proofs.lemmas.Option.{same_Some}
-use Rattle.std.proofs.Common.{◌≡◌, option_map, Some, rules, subst, ◌∙◌, ap, sym, arith, refl, List, length}
+use Rattle.std.proofs.Common.{◌≡◌, option_map, Some, None, rules, subst, ◌∙◌, ap, sym, arith, refl, List, length}
 use Rattle.posix.specs.Processes.{Process}
 use Rattle.posix.proofs.TableLemmas.{length_removed}
+use Rattle.posix.specs.States.{State}
 use Rattle.posix.specs.Tables.{lookup, removed}
 use Rattle.proctable.specs.Records.{snapshot_of}
 use Rattle.proctable.specs.declared.snapshot.Snapshot.{Snapshot}
-use Rattle.life.specs.Machines.{AreWithin, IsNoted}
+use Rattle.life.specs.Machines.{IsNoted}
 use Rattle.life.specs.Foregrounds.{AreFreshBut, also_in}
 use Rattle.life.specs.Rechecks.{without_gone}
 use Rattle.life.proofs.ForegroundLemmas.{fresh_removed}
 use Rattle.life.proofs.SoundLemmas.{found_in}
 use Rattle.life.proofs.PartLemmas.{can_go, sound_gone, within_removed}
 use Rattle.life.proofs.RecheckLemmas.{has_room, listed_removed, pids_of, room_of}
-use Rattle.life.proofs.ReaderLemmas.{readable, listed_zombie, none_marked}
+use Rattle.life.proofs.ReaderLemmas.{readable, listed_zombie, none_marked, within_marked}
 use Rattle.life.proofs.ViewLemmas.{state_is}
 use Rattle.life.proofs.machine.Machine.reap.Goals as goal
 
@@ -43,7 +44,7 @@ invariant_of-self g c =
       noted = subst (λ n. IsNoted n c.self.inside.groups_at_risk) (sym (room_of c.forget.ensures)) c.self.invariant.noted;
       fresh = subst (λ u. AreFreshBut u (removed c.args.pid c.self.inside.table.processes) c.self.inside.consoles.items) (sym (c.also_in-self-inside.ensures ∙ ap (λ g. also_in g c.self.inside.foregrounds_unchecked) session)) (fresh_removed _ c.args.pid it.0 _ _ c.self.invariant.sound.regular.rising found c.self.invariant.fresh);
       indexed = c.self.invariant.indexed;
-      within = subst (λ n. AreWithin n (removed c.args.pid c.self.inside.table.processes)) (sym c.put.ensures.numbers) (within_removed c.args.pid _ c.self.invariant.within);
+      within = within_removed c.args.pid _ (none_marked c.args.pid _ _ c.put.ensures.moved) (within_marked c.args.pid None c.put.ensures.moved c.put.ensures.sizes (λ k e. absurd (cc)) c.self.invariant.within);
     })
 
 pub returns : goal.returns
@@ -54,8 +55,9 @@ returns g c =
     let session = λ (r : Process) (e : lookup c.args.pid rs ≡ Some r). ap (λ (f : Snapshot). f.session) (same_Some _ (snapshot_of r) (c.discard-snapshot.ensures.value ∙ ap (option_map snapshot_of) e)) in
     let one = length_removed c.args.pid it.0 rs c.self.invariant.sound.regular.rising found in
     let left = ap (λ (l : List Process). length l) c.discard-snapshot.ensures.processes in
+    let same = c.leave_pages.ensures.same in
     record {
-      changes = record { state = rw (c.discard-snapshot.ensures.processes, (c.discard-snapshot.ensures.counts it.0 found).last, ← c.self.view_is) refl; to_recheck = search rules; costs = search rules };
-      foregrounds_unchecked = λ r e. c.also_in-self-inside.ensures ∙ ap (λ g. also_in g c.self.inside.foregrounds_unchecked) (session r (found_in _ _ (state_is c.self.view_is) c.args.pid r e)) ∙ search rules;
-      born = omega (arith, one, left, c.self.invariant.sound.counted);
+      changes = record { state = same.state ∙ rw (c.discard-snapshot.ensures.processes, (c.discard-snapshot.ensures.counts it.0 found).last, ← c.self.view_is) refl; to_recheck = search rules; costs = search rules };
+      foregrounds_unchecked = λ r e. same.foregrounds_unchecked ∙ c.also_in-self-inside.ensures ∙ ap (λ g. also_in g c.self.inside.foregrounds_unchecked) (session r (found_in _ _ (state_is c.self.view_is) c.args.pid r e)) ∙ search rules;
+      born = omega (arith, one, left, c.self.invariant.sound.counted, ap (λ (s : State). length s.processes) same.state, ap (λ (s : State). s.dropped) same.state, ap (λ (s : State). s.births) same.state);
     }

@@ -1,9 +1,9 @@
-use Rattle.std.proofs.Common.{◌≡◌, sym, subst, true, ◌∷◌, []}
+use Rattle.std.proofs.Common.{◌≡◌, sym, subst, true, ◌∷◌, [], None}
 use Rattle.pidset.specs.Indexes.{is_pair_in}
-use Rattle.life.specs.Machines.{AreWithin, MachineView, IsNoted}
+use Rattle.life.specs.Machines.{MachineView, IsNoted}
 use Rattle.life.specs.Rechecks.{with_numbers}
 use Rattle.life.proofs.RecheckLemmas.{has_room, listed_more}
-use Rattle.life.proofs.ReaderLemmas.{readable, reader_there, watched_forgotten}
+use Rattle.life.proofs.ReaderLemmas.{readable, reader_there, watched_forgotten, within_marked}
 use Rattle.life.proofs.machine.Machine.recheck_reader.Goals as goal
 
 pub insert-requires : goal.insert-requires
@@ -26,5 +26,5 @@ invariant_of-self g c =
       noted = subst (λ n. IsNoted n c.self.inside.groups_at_risk) (sym c.insert.ensures.room) i.noted;
       fresh = i.fresh;
       indexed = i.indexed;
-      within = subst (λ n. AreWithin n c.self.inside.table.processes) (sym c.put.ensures.numbers) i.within;
+      within = within_marked c.args.pid None c.put.ensures.moved c.put.ensures.sizes (λ k e. absurd (cc)) i.within;
     }

@@ -12,4 +12,4 @@ invariant_of-self c =
     let i = c.self.inside in
     let v = c.self.invariant in
     let none : c.first_free-pid.result ≡ None = grind arith in
-    record { given = v.given; least = v.least; limit = v.limit; sized = v.sized; bound = v.bound; low = v.low; high = borne_from_none i.pidmax (i.last + 1) i.pages.items (rw (← c.self.view_is) at (sym c.first_free-pid.ensures ∙ none)) }
+    record { given = v.given; least = v.least; limit = v.limit; sized = v.sized; bound = v.bound; low = v.low; high = borne_from_none i.pidmax (i.last + 1) i.pages.items (rw (← c.self.view_is) at (sym c.first_free-pid.ensures ∙ none)); beyond = v.beyond }

@@ -20,10 +20,10 @@ invariant_of-self c =
       | in-Some w ↦
           let same = w.self-is ∙ w.number-self-inside.ensures.value in
           let b = borne_to_found i.pidmax w.in-Some.pid i.pages.items v.least (found c ∙ w.in-Some.is) in
-          record { given = v.given; least = v.least; limit = v.limit; sized = v.sized; bound = rw same b.0; low = subst (AreAllBorne i.pages.items 2) (sym same) b.1; high = v.high }
+          record { given = v.given; least = v.least; limit = v.limit; sized = v.sized; bound = rw same b.0; low = subst (AreAllBorne i.pages.items 2) (sym same) b.1; high = v.high; beyond = v.beyond }
       | in-None w ↦
           let end = w.self-is in
-          record { given = v.given; least = v.least; limit = v.limit; sized = v.sized; bound = omega (arith, end); low = subst (AreAllBorne i.pages.items 2) (sym end) (borne_to_end i.pidmax i.pages.items v.least (found c ∙ w.in-None.is)); high = v.high }
+          record { given = v.given; least = v.least; limit = v.limit; sized = v.sized; bound = omega (arith, end); low = subst (AreAllBorne i.pages.items 2) (sym end) (borne_to_end i.pidmax i.pages.items v.least (found c ∙ w.in-None.is)); high = v.high; beyond = v.beyond }
     ]
 
 pub returns-clause-value : goal.returns-clause-value

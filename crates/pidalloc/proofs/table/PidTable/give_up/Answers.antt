@@ -1,6 +1,6 @@
 use Rattle.std.proofs.Common.{rules}
 use Rattle.pidalloc.specs.Rows.{one_less, page_size}
-use Rattle.pidalloc.proofs.PageLemmas.{pids_given_up, changed_to}
+use Rattle.pidalloc.proofs.PageLemmas.{beyond_changed, pids_given_up, changed_to}
 use Rattle.pidalloc.proofs.table.PidTable.give_up.Goals as goal
 
 pub returns-then-not-give_up_in-clause-value : goal.returns-then-not-give_up_in-clause-value
@@ -18,5 +18,8 @@ returns-clause-value c =
 pub invariant_of-self-2 : goal.invariant_of-self-2
 invariant_of-self-2 c =
     let v = c.self.invariant in
+    let i = c.self.inside in
+    let top = rw (← c.self.view_is) at c.requires.range in
+    let change = rw c.number-number.ensures.value at c.give_up_in.ensures.rows in
     let sized = c.tidy.ensures.kept.pages (page_size c.self.inside.pidmax) (record { sized = λ k. rw (c.give_up_in.ensures.sizes k) (v.sized.sized k); unused = v.sized.unused }) in
-    record { given = v.given; least = v.least; limit = v.limit; sized = sized; bound = search rules; low = search rules; high = search rules }
+    record { given = v.given; least = v.least; limit = v.limit; sized = sized; bound = search rules; low = search rules; high = search rules; beyond = beyond_changed i.pidmax c.args.pid (one_less c.args.role) i.pages.items c.tidy.new.pages.items top (changed_to c.args.pid (one_less c.args.role) i.pages.items c.give_up_in.new.pages.items c.tidy.new.pages.items change c.tidy.ensures.kept.rows) v.beyond }

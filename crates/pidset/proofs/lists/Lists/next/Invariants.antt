@@ -4,7 +4,7 @@ use Rattle.pidset.proofs.lists.Lists.next.Given as goal
 
 -- nobody between is left out
 abbrev pub invariant-loop-next : goal.invariant-loop-next
-invariant-loop-next l = IsFrom l.self-inside.nodes.items l.list l.after l.next
+invariant-loop-next l = IsFrom l.self-inside.nodes l.list l.after l.next
 
 abbrev pub decreases-loop-next : goal.decreases-loop-next
 decreases-loop-next l = cond (l.next == 0) 0 (l.after + 1 - l.next)

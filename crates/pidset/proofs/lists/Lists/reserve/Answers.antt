@@ -1,9 +1,9 @@
-use Rattle.std.proofs.Common.{◌+◌, arith, is_ok}
+use Rattle.std.proofs.Common.{ap}
 use Rattle.pidset.proofs.ListLemmas.{grown}
 use Rattle.pidset.proofs.lists.Lists.reserve.Goals as goal
 
 pub invariant_of-self : goal.invariant_of-self
-invariant_of-self c = (grown c.self.inside.nodes.items c.resize.new.self.items (is_ok c.resize.result) (c.index-count.result + 1) _ c.args.self.now.pairs (cc) c.self.invariant (grind arith) c.resize.ensures.items).linked
+invariant_of-self c = (grown c.self.inside.nodes c.reserve.new.self c.args.self.now.pairs (ap (λ v. v.pairs) c.self.view_is) c.self.invariant c.reserve.ensures.rows).linked
 
 pub returns-clause-pairs : goal.returns-clause-pairs
-returns-clause-pairs c = (grown c.self.inside.nodes.items c.resize.new.self.items (is_ok c.resize.result) (c.index-count.result + 1) _ c.args.self.now.pairs (cc) c.self.invariant (grind arith) c.resize.ensures.items).pairs
+returns-clause-pairs c = (grown c.self.inside.nodes c.reserve.new.self c.args.self.now.pairs (ap (λ v. v.pairs) c.self.view_is) c.self.invariant c.reserve.ensures.rows).pairs

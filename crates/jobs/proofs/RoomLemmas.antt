@@ -1,0 +1,126 @@
+-- For which numbers the lists of a table have memory, and what goes with a page.
+use Rattle.std.proofs.Common.{◌≡◌, ℕ, ◌<◌, ◌/◌, refl, ap, sym, ◌∙◌, arith, true, List, [], ◌∷◌, Option, Some, None, slice_index_or, slice_set, ◌≤◌, ◌%◌, ◌==◌, zero, suc, inl, inr}
+use Rattle.std.specs.Prelude.{option_and_then}
+use Rattle.std.specs.Option.{IfSome}
+use Rattle.std.proofs.lemmas.Bool.{cases_eq, cond_both, eqb-false, eqb-true}
+use Rattle.std.proofs.lemmas.Bool.Decides.{nat_tests}
+use Rattle.std.proofs.lemmas.List.{get_or-set_other}
+use Rattle.posix.specs.Processes.{Process}
+use Rattle.posix.specs.Groups.{is_anchor}
+use Rattle.posix.specs.Tables.{lookup}
+use Rattle.posix.proofs.TableLemmas.{pid_looked}
+use Rattle.pidset.specs.declared.index.Pair.{Pair}
+use Rattle.pidset.specs.Indexes.{IsIndex, anchor_key, is_key}
+use Rattle.pidset.specs.Lists.{StaysApart, left_by}
+use Rattle.pidset.specs.Rows.{Grows, HasRoom, IsApart, sizes_without}
+use Rattle.jobs.specs.declared.indexes.Indexes.{Indexes}
+use Rattle.jobs.specs.declared.indexes.IndexedFields.{IndexedFields}
+use Rattle.jobs.specs.Indexes.{IsInside, common, lesser, member_in, member_key, parent_key, sizes_in}
+use Rattle.jobs.specs.IndexedTables.{IsKept}
+use Rattle.jobs.proofs.SnapshotLemmas.{there}
+
+-- ---- the memory that all have
+
+common_at : (ms ns : List ℕ) (i : ℕ) → slice_index_or (common ms ns) i 0 ≡ lesser (slice_index_or ms i 0) (slice_index_or ns i 0)
+unfolding common
+common_at [] ns i = grind (arith, nat_tests)
+common_at (m ∷ ms) [] i = grind (arith, nat_tests)
+common_at (m ∷ ms) (n ∷ ns) zero = refl
+common_at (m ∷ ms) (n ∷ ns) (suc i) = common_at ms ns i
+
+-- what is below the lesser is below both
+below_both : (i m n : ℕ) → i < lesser m n → (i < m) × (i < n)
+below_both i m n h = (grind (arith, nat_tests, h), grind (arith, nat_tests, h))
+
+below_lesser : (i m n : ℕ) → i < m → i < n → i < lesser m n
+below_lesser i m n low also = grind (arith, nat_tests, low, also)
+
+both_room : (ms ns : List ℕ) (p : ℕ) → HasRoom (common ms ns) p → HasRoom ms p × HasRoom ns p
+both_room ms ns p room = below_both (p % 1024) _ _ (rw (common_at ms ns (p / 1024)) at room)
+
+common_room : (ms ns : List ℕ) (p : ℕ) → HasRoom ms p → HasRoom ns p → HasRoom (common ms ns) p
+common_room ms ns p room also = rw (common_at ms ns (p / 1024)) (below_lesser (p % 1024) _ _ room also)
+
+pub members_room : (b : Indexes) → Grows (sizes_in b) b.members.sizes
+members_room b p room = (both_room _ _ p (both_room _ _ p room).0).0
+
+pub anchors_room : (b : Indexes) → Grows (sizes_in b) b.anchors.sizes
+anchors_room b p room = (both_room _ _ p (both_room _ _ p room).0).1
+
+pub children_room : (b : Indexes) → Grows (sizes_in b) b.children.sizes
+children_room b p room = (both_room _ _ p room).1
+
+pub all_room : (b : Indexes) (p : ℕ) → HasRoom b.members.sizes p → HasRoom b.anchors.sizes p → HasRoom b.children.sizes p → HasRoom (sizes_in b) p
+all_room b p members anchors children = common_room _ _ p (common_room _ _ p members anchors) children
+
+-- p is inside the members
+pub inside_members : (p : ℕ) (it : Option IndexedFields) (b : Indexes) → IsInside p it b → HasRoom b.members.sizes p × IfSome (member_in it) (λ k. (1 ≤ k) × HasRoom b.members.sizes k)
+inside_members p None b h = (members_room b p h.0, tt)
+inside_members p (Some w) b h = (members_room b p h.0, (h.1.0.0, members_room b w.group h.1.1))
+
+-- all have memory for more where each has
+pub grown : (old new : Indexes) → Grows old.members.sizes new.members.sizes → Grows old.anchors.sizes new.anchors.sizes → Grows old.children.sizes new.children.sizes → Grows (sizes_in old) (sizes_in new)
+grown old new members anchors children p room = all_room new p (members p (members_room old p room)) (anchors p (anchors_room old p room)) (children p (children_room old p room))
+
+-- ---- a page goes
+
+-- no process has a number on the page of n, or is in a process group that has
+abbrev pub AreApart : ℕ → List Process → Type 0
+AreApart n rs = (p : ℕ) (r : Process) → lookup p rs ≡ Some r → IsApart r.pid n × IsApart r.group n
+
+-- so nobody stands in an index of these under a number on it, where none has such a key
+stays_apart : (key : Process → Option ℕ) (n : ℕ) (rs : List Process) (pairs : List Pair) → AreApart n rs → ((p : ℕ) (r : Process) → lookup p rs ≡ Some r → IfSome (key r) (λ k. IsApart k n)) → IsIndex key rs pairs → StaysApart n pairs
+stays_apart key n rs pairs apart keyed index k p e = by (lookup p rs) refl (sym (index p k) ∙ e)
+  where
+    under : (o : Option ℕ) → IfSome o (λ k. IsApart k n) → is_key k o ≡ true → IsApart k n
+    under None a h = absurd (cc)
+    under (Some m) a h = rw (eqb-true m k h) at a
+
+    by : (o : Option Process) → lookup p rs ≡ o → is_key k (option_and_then key o) ≡ true → IsApart k n × IsApart p n
+    by None f h = absurd (cc)
+    by (Some r) f h = (under (key r) (keyed p r f) h, rw (pid_looked p rs r f) at (apart p r f).0)
+
+-- nor in one of those of a table
+pub members_apart : {m : ℕ} (n : ℕ) (rs : List Process) (b : Indexes) → AreApart n rs → IsKept m b rs → StaysApart n b.members.pairs
+members_apart n rs b apart k = stays_apart member_key n rs b.members.pairs apart (λ p r f. (apart p r f).1) k.indexes.members
+
+pub anchors_apart : {m : ℕ} (n : ℕ) (rs : List Process) (b : Indexes) → AreApart n rs → IsKept m b rs → StaysApart n b.anchors.pairs
+anchors_apart n rs b apart k = stays_apart (anchor_key rs) n rs b.anchors.pairs apart (λ p r f. cond_both (is_anchor rs r) (Some r.group) None (λ o. IfSome o (λ k. IsApart k n)) (λ _. (apart p r f).1) (λ _. tt)) k.anchors.index
+
+pub children_apart : {m : ℕ} (n : ℕ) (rs : List Process) (b : Indexes) → AreApart n rs → IsKept m b rs → StaysApart n b.children.pairs
+children_apart n rs b apart k = stays_apart parent_key n rs b.children.pairs apart (λ p r f. cond_both (r.parent == 0) None (Some r.parent) (λ o. IfSome o (λ k. IsApart k n)) (λ _. tt) (λ some.
+    let up = there _ (k.anchors.parents p r (eqb-false r.parent 0 some) f) in
+    rw (pid_looked r.parent rs up.what up.found) at (apart r.parent up.what up.found).0)) k.children.index
+
+-- ---- the room that is left
+
+-- a number of another page has room as before
+stays : (sizes : List ℕ) (n m : ℕ) → IsApart m n → HasRoom sizes m → HasRoom (sizes_without sizes n) m
+stays sizes n m apart room = rw (get_or-set_other sizes (n / 1024) (m / 1024) 0 0 apart) room
+
+-- what goes in both goes in common
+common_set : (ms ns : List ℕ) (i : ℕ) → common (slice_set ms i 0) (slice_set ns i 0) ≡ slice_set (common ms ns) i 0
+unfolding common
+common_set [] ns i = refl
+common_set (m ∷ ms) [] zero = refl
+common_set (m ∷ ms) [] (suc i) = refl
+common_set (m ∷ ms) (n ∷ ns) zero = refl
+common_set (m ∷ ms) (n ∷ ns) (suc i) = ap (λ rest. lesser m n ∷ rest) (common_set ms ns i)
+
+abbrev pub indexes_left : ℕ → Indexes → Indexes
+indexes_left n b = record b { members = left_by n b.members; anchors = left_by n b.anchors; children = left_by n b.children }
+
+pub sizes_left : (n : ℕ) (b : Indexes) → sizes_in (indexes_left n b) ≡ sizes_without (sizes_in b) n
+sizes_left n b = ap (λ ms. common ms (sizes_without b.children.sizes n)) (common_set b.members.sizes b.anchors.sizes (n / 1024)) ∙ common_set (common b.members.sizes b.anchors.sizes) b.children.sizes (n / 1024)
+
+-- all is kept without the room for that page
+pub kept_left : (m n : ℕ) (rs : List Process) (b : Indexes) → AreApart n rs → IsKept m b rs → IsKept m (indexes_left n b) rs
+kept_left m n rs b apart k = record {
+  rising = k.rising;
+  numbers = k.numbers;
+  within = rw (sizes_left n b) (λ p r f. let a = apart p r f in let w = k.within p r f in (stays (sizes_in b) n r.pid a.0 w.0, w.1, stays (sizes_in b) n r.group a.1 w.2));
+  count = k.count;
+  indexes = record { members = k.indexes.members; reporting = k.indexes.reporting; stopped = k.indexes.stopped; alarmed = k.indexes.alarmed; subreapers = k.indexes.subreapers };
+  anchors = record { index = k.anchors.index; parents = k.anchors.parents };
+  children = record { index = k.children.index; root = k.children.root };
+}
