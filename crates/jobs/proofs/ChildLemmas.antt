@@ -1,12 +1,13 @@
 -- The children of processes, by their index, and their adoption.
-use Rattle.std.proofs.Common.{◌≡◌, ◌≢◌, ℕ, ◌<◌, ◌≤◌, ◌==◌, ◌&&◌, nat_lt, refl, ap, sym, ◌∙◌, arith, subst, List, [], ◌∷◌, map, filter, Option, Some, None, ◌⊎◌, ⊎_elim, inl, inr}
-use Rattle.std.specs.Prelude.{option_and_then}
+use Rattle.std.proofs.Common.{Bool, true, false, cond, ◌≡◌, ◌≢◌, ℕ, ◌<◌, ◌≤◌, ◌==◌, ◌&&◌, nat_lt, refl, ap, sym, ◌∙◌, arith, subst, List, [], ◌∷◌, map, filter, Option, Some, None, ◌⊎◌, ⊎_elim, inl, inr}
+use Rattle.std.specs.Prelude.{is_some, not, option_and_then}
 use Rattle.std.specs.Option.{IfSome, IsSome}
 use Rattle.std.proofs.lemmas.Bool.{cases_eq, cond_both, eq-eqb, eqb-true, eqb-false, and_parts}
 use Rattle.std.proofs.lemmas.Bool.Decides.{nat_tests}
 use Rattle.std.proofs.lemmas.List.Elements.{filter_agree}
 use Rattle.posix.specs.Processes.{Process}
 use Rattle.posix.specs.Tables.{IsRising, lookup, at, changed, parent_of, above, first_pid, is_child, children_in, left_of, next_sibling, reparented, adopted, inserted, removed}
+use Rattle.posix.specs.Waits.{reports, wanted_in}
 use Rattle.posix.proofs.TableLemmas.{changed_id, pid_looked, pid_reparented, remove_above, rising_adopted, rising_filter}
 use Rattle.posix.proofs.MapLemmas.{adopted_changed, lookup_back, lookup_on, at_pid, at_keeps}
 use Rattle.posix.proofs.RegularLemmas.{lookup_inserted, lookup_new, lookup_left}
@@ -34,6 +35,38 @@ kids_are k some rs = filter_agree _ (is_child k) (λ r. grind (arith, nat_tests,
 -- the next under one that is there is its next child
 pub next_kid : (k n : ℕ) (rs : List Process) (pairs : List Pair) (next : Option ℕ) → AreKin rs pairs → IsSome (lookup k rs) → IsNextPair k n pairs next → next ≡ first_pid (above n (children_in k rs))
 next_kid k n rs pairs next kin there i = next_pair parent_key rs pairs k n next kin.rising kin.index i ∙ ap (λ l. first_pid (above n l)) (kids_are k (λ none. let no = rw (none, kin.none) at there in absurd (cc)) rs)
+
+-- it has none where nobody stands under it
+pub childless : (k : ℕ) (rs : List Process) (pairs : List Pair) (next : Option ℕ) (none : Bool) → AreKin rs pairs → k ≢ 0 → IsNextPair k 0 pairs next → is_some next ≡ not none → none ≡ not (is_some (first_pid (children_in k rs)))
+unfolding children_in
+childless k rs pairs next none kin some i e =
+    let is : next ≡ first_pid (children_in k rs) = next_pair parent_key rs pairs k 0 next kin.rising kin.index i ∙ ap (λ l. first_pid (above 0 l)) (kids_are k some rs) ∙ ap first_pid (passing_above (is_child k) rs kin.rising (least_number rs kin.none)) in
+    back none ∙ sym (ap not e) ∙ ap (λ o. not (is_some o)) is
+  where
+    back : (b : Bool) → b ≡ not (not b)
+    back true = refl
+    back false = refl
+
+none_at : (l : List Process) → not (is_some (first_pid l)) ≡ true → l ≡ []
+none_at [] e = refl
+none_at (r ∷ rest) e = absurd (cc)
+
+-- then no child of it is wanted
+pub none_wanted : (k n options : ℕ) (rs : List Process) → not (is_some (first_pid (children_in k rs))) ≡ true → None ≡ first_pid (above n (wanted_in options k rs))
+unfolding wanted_in
+none_wanted k n options rs none = rw (none_at (children_in k rs) none) refl
+
+-- and none is given to another
+pub none_adopted : (from to : ℕ) (rs : List Process) → not (is_some (first_pid (children_in from rs))) ≡ true → rs ≡ adopted from to rs
+unfolding children_in adopted
+none_adopted from to rs none = by rs (none_at (children_in from rs) none)
+  where
+    by : (l : List Process) → children_in from l ≡ [] → l ≡ adopted from to l
+    by [] e = refl
+    by (r ∷ rest) e = elim (is_child from r) as (λ b. cond b (r ∷ children_in from rest) (children_in from rest) ≡ [] → r ∷ rest ≡ cond b (record r { parent = to }) r ∷ adopted from to rest) [
+      | true ↦ λ own. absurd (cc)
+      | false ↦ λ none. ap (λ l. r ∷ l) (by rest none)
+    ] e
 
 -- and above 0 its first one, from which on all are left
 pub first_kid : (k : ℕ) (rs : List Process) (pairs : List Pair) (next : Option ℕ) → AreKin rs pairs → IsSome (lookup k rs) → (AreKin rs pairs → IsSome (lookup k rs) → next ≡ first_pid (above 0 (children_in k rs))) → (next ≡ first_pid (children_in k rs)) × (left_of next (children_in k rs) ≡ children_in k rs)

@@ -4,19 +4,19 @@ use Rattle.std.specs.Prelude.{option_and_then}
 use Rattle.std.specs.Option.{IfSome}
 use Rattle.std.proofs.lemmas.Bool.{cases_eq, cond_both, eqb-false, eqb-true}
 use Rattle.std.proofs.lemmas.Bool.Decides.{nat_tests}
-use Rattle.std.proofs.lemmas.List.{get_or-set_other}
 use Rattle.posix.specs.Processes.{Process}
 use Rattle.posix.specs.Groups.{is_anchor}
 use Rattle.posix.specs.Tables.{lookup}
 use Rattle.posix.proofs.TableLemmas.{pid_looked}
 use Rattle.pidset.specs.declared.index.Pair.{Pair}
 use Rattle.pidset.specs.Indexes.{IsIndex, anchor_key, is_key}
-use Rattle.pidset.specs.Lists.{StaysApart, left_by}
-use Rattle.pidset.specs.Rows.{Grows, HasRoom, IsApart, sizes_without}
+use Rattle.pidset.specs.Lists.{IsPageUnused, without_page_of}
+use Rattle.pidset.specs.Rows.{Grows, HasRoom, IsOnAnotherPage, sizes_without}
+use Rattle.pidset.proofs.RowLemmas.{room_stays}
 use Rattle.jobs.specs.declared.indexes.Indexes.{Indexes}
 use Rattle.jobs.specs.declared.indexes.IndexedFields.{IndexedFields}
 use Rattle.jobs.specs.Indexes.{IsInside, common, lesser, member_in, member_key, parent_key, sizes_in}
-use Rattle.jobs.specs.IndexedTables.{IsKept}
+use Rattle.jobs.specs.IndexedTables.{AreOnOtherPages, IsKept}
 use Rattle.jobs.proofs.SnapshotLemmas.{there}
 
 -- ---- the memory that all have
@@ -64,39 +64,31 @@ grown old new members anchors children p room = all_room new p (members p (membe
 
 -- ---- a page goes
 
--- no process has a number on the page of n, or is in a process group that has
-abbrev pub AreApart : ℕ → List Process → Type 0
-AreApart n rs = (p : ℕ) (r : Process) → lookup p rs ≡ Some r → IsApart r.pid n × IsApart r.group n
-
--- so nobody stands in an index of these under a number on it, where none has such a key
-stays_apart : (key : Process → Option ℕ) (n : ℕ) (rs : List Process) (pairs : List Pair) → AreApart n rs → ((p : ℕ) (r : Process) → lookup p rs ≡ Some r → IfSome (key r) (λ k. IsApart k n)) → IsIndex key rs pairs → StaysApart n pairs
+-- where no process is on the page of n nobody stands in an index of these under a number on it, where none has such a key
+stays_apart : (key : Process → Option ℕ) (n : ℕ) (rs : List Process) (pairs : List Pair) → AreOnOtherPages n rs → ((p : ℕ) (r : Process) → lookup p rs ≡ Some r → IfSome (key r) (λ k. IsOnAnotherPage k n)) → IsIndex key rs pairs → IsPageUnused n pairs
 stays_apart key n rs pairs apart keyed index k p e = by (lookup p rs) refl (sym (index p k) ∙ e)
   where
-    under : (o : Option ℕ) → IfSome o (λ k. IsApart k n) → is_key k o ≡ true → IsApart k n
+    under : (o : Option ℕ) → IfSome o (λ k. IsOnAnotherPage k n) → is_key k o ≡ true → IsOnAnotherPage k n
     under None a h = absurd (cc)
     under (Some m) a h = rw (eqb-true m k h) at a
 
-    by : (o : Option Process) → lookup p rs ≡ o → is_key k (option_and_then key o) ≡ true → IsApart k n × IsApart p n
+    by : (o : Option Process) → lookup p rs ≡ o → is_key k (option_and_then key o) ≡ true → IsOnAnotherPage k n × IsOnAnotherPage p n
     by None f h = absurd (cc)
     by (Some r) f h = (under (key r) (keyed p r f) h, rw (pid_looked p rs r f) at (apart p r f).0)
 
 -- nor in one of those of a table
-pub members_apart : {m : ℕ} (n : ℕ) (rs : List Process) (b : Indexes) → AreApart n rs → IsKept m b rs → StaysApart n b.members.pairs
+pub members_apart : {m : ℕ} (n : ℕ) (rs : List Process) (b : Indexes) → AreOnOtherPages n rs → IsKept m b rs → IsPageUnused n b.members.pairs
 members_apart n rs b apart k = stays_apart member_key n rs b.members.pairs apart (λ p r f. (apart p r f).1) k.indexes.members
 
-pub anchors_apart : {m : ℕ} (n : ℕ) (rs : List Process) (b : Indexes) → AreApart n rs → IsKept m b rs → StaysApart n b.anchors.pairs
-anchors_apart n rs b apart k = stays_apart (anchor_key rs) n rs b.anchors.pairs apart (λ p r f. cond_both (is_anchor rs r) (Some r.group) None (λ o. IfSome o (λ k. IsApart k n)) (λ _. (apart p r f).1) (λ _. tt)) k.anchors.index
+pub anchors_apart : {m : ℕ} (n : ℕ) (rs : List Process) (b : Indexes) → AreOnOtherPages n rs → IsKept m b rs → IsPageUnused n b.anchors.pairs
+anchors_apart n rs b apart k = stays_apart (anchor_key rs) n rs b.anchors.pairs apart (λ p r f. cond_both (is_anchor rs r) (Some r.group) None (λ o. IfSome o (λ k. IsOnAnotherPage k n)) (λ _. (apart p r f).1) (λ _. tt)) k.anchors.index
 
-pub children_apart : {m : ℕ} (n : ℕ) (rs : List Process) (b : Indexes) → AreApart n rs → IsKept m b rs → StaysApart n b.children.pairs
-children_apart n rs b apart k = stays_apart parent_key n rs b.children.pairs apart (λ p r f. cond_both (r.parent == 0) None (Some r.parent) (λ o. IfSome o (λ k. IsApart k n)) (λ _. tt) (λ some.
+pub children_apart : {m : ℕ} (n : ℕ) (rs : List Process) (b : Indexes) → AreOnOtherPages n rs → IsKept m b rs → IsPageUnused n b.children.pairs
+children_apart n rs b apart k = stays_apart parent_key n rs b.children.pairs apart (λ p r f. cond_both (r.parent == 0) None (Some r.parent) (λ o. IfSome o (λ k. IsOnAnotherPage k n)) (λ _. tt) (λ some.
     let up = there _ (k.anchors.parents p r (eqb-false r.parent 0 some) f) in
     rw (pid_looked r.parent rs up.what up.found) at (apart r.parent up.what up.found).0)) k.children.index
 
 -- ---- the room that is left
-
--- a number of another page has room as before
-stays : (sizes : List ℕ) (n m : ℕ) → IsApart m n → HasRoom sizes m → HasRoom (sizes_without sizes n) m
-stays sizes n m apart room = rw (get_or-set_other sizes (n / 1024) (m / 1024) 0 0 apart) room
 
 -- what goes in both goes in common
 common_set : (ms ns : List ℕ) (i : ℕ) → common (slice_set ms i 0) (slice_set ns i 0) ≡ slice_set (common ms ns) i 0
@@ -108,17 +100,17 @@ common_set (m ∷ ms) (n ∷ ns) zero = refl
 common_set (m ∷ ms) (n ∷ ns) (suc i) = ap (λ rest. lesser m n ∷ rest) (common_set ms ns i)
 
 abbrev pub indexes_left : ℕ → Indexes → Indexes
-indexes_left n b = record b { members = left_by n b.members; anchors = left_by n b.anchors; children = left_by n b.children }
+indexes_left n b = record b { members = without_page_of n b.members; anchors = without_page_of n b.anchors; children = without_page_of n b.children }
 
 pub sizes_left : (n : ℕ) (b : Indexes) → sizes_in (indexes_left n b) ≡ sizes_without (sizes_in b) n
 sizes_left n b = ap (λ ms. common ms (sizes_without b.children.sizes n)) (common_set b.members.sizes b.anchors.sizes (n / 1024)) ∙ common_set (common b.members.sizes b.anchors.sizes) b.children.sizes (n / 1024)
 
 -- all is kept without the room for that page
-pub kept_left : (m n : ℕ) (rs : List Process) (b : Indexes) → AreApart n rs → IsKept m b rs → IsKept m (indexes_left n b) rs
+pub kept_left : (m n : ℕ) (rs : List Process) (b : Indexes) → AreOnOtherPages n rs → IsKept m b rs → IsKept m (indexes_left n b) rs
 kept_left m n rs b apart k = record {
   rising = k.rising;
   numbers = k.numbers;
-  within = rw (sizes_left n b) (λ p r f. let a = apart p r f in let w = k.within p r f in (stays (sizes_in b) n r.pid a.0 w.0, w.1, stays (sizes_in b) n r.group a.1 w.2));
+  within = rw (sizes_left n b) (λ p r f. let a = apart p r f in let w = k.within p r f in (room_stays (sizes_in b) n r.pid a.0 w.0, w.1, room_stays (sizes_in b) n r.group a.1 w.2));
   count = k.count;
   indexes = record { members = k.indexes.members; reporting = k.indexes.reporting; stopped = k.indexes.stopped; alarmed = k.indexes.alarmed; subreapers = k.indexes.subreapers };
   anchors = record { index = k.anchors.index; parents = k.anchors.parents };

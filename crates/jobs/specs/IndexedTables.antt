@@ -12,7 +12,7 @@ use Rattle.proctable.specs.declared.own_part.OwnPart.{OwnPart}
 use Rattle.proctable.specs.Records.{give_own, process_of, with_record}
 use Rattle.jobs.specs.declared.indexes.Indexes.{Indexes}
 use Rattle.pidset.specs.declared.index.Pair.{Pair}
-use Rattle.pidset.specs.Rows.{HasRoom}
+use Rattle.pidset.specs.Rows.{HasRoom, IsOnAnotherPage}
 use Rattle.pidset.specs.Indexes.{HaveParents, IsAnchorIndex, IsIndex}
 use Rattle.jobs.specs.Indexes.{AreIndexes, IsNumber, record_seen, keeps_group_and_session, parent_key, sizes_in}
 
@@ -31,6 +31,10 @@ AreNumbers rs = (p : ℕ) → (p ≡ 0) ⊎ (greatest_pid < p) → lookup p rs �
 -- there is memory for each number, and for that of each process group
 abbrev pub AreWithin : List ℕ → List Process → Type 0
 AreWithin sizes rs = (p : ℕ) (r : Process) → lookup p rs ≡ Some r → HasRoom sizes r.pid × IsNumber r.group × HasRoom sizes r.group
+
+-- no process has a number on the page of n, or is in a process group that has
+abbrev pub AreOnOtherPages : ℕ → List Process → Type 0
+AreOnOtherPages n rs = (p : ℕ) (r : Process) → lookup p rs ≡ Some r → IsOnAnotherPage r.pid n × IsOnAnotherPage r.group n
 
 -- it has a parent
 abbrev pub HasParent : ℕ → Process → Type 0

@@ -10,11 +10,11 @@ ghost use Rattle.posix.specs.Alarms.{is_due};
 ghost use Rattle.posix.specs.Choice.{chosen};
 ghost use Rattle.posix.specs.Births.{child_of};
 ghost use Rattle.posix.specs.Waits.{wanted_in};
-ghost use Rattle.pidset.specs.Rows.{HasRoom, IsApart, sizes_without};
+ghost use Rattle.pidset.specs.Rows.{HasRoom, sizes_without};
 ghost use Rattle.proctable.specs.Records.{process_of, snapshot_of, own_of, own_row};
 ghost use Rattle.jobs.specs.contracts.indexed_table.IndexedTable.{the_row as jobs_row};
 ghost use Rattle.jobs.specs.Indexes.{is_living_subreaper, record_seen, seen_of};
-ghost use Rattle.jobs.specs.IndexedTables.{takes_signal, ChangesSignals, IsRun, StaysGrouped, lent, looked, Looks, Finds, Costs, Spends, StaysPut};
+ghost use Rattle.jobs.specs.IndexedTables.{takes_signal, AreOnOtherPages, ChangesSignals, IsRun, StaysGrouped, lent, looked, Looks, Finds, Costs, Spends, StaysPut};
 
 use crate::anchors::{seen_above, seen_there, update_anchors};
 use crate::children::{give_children, next_child};
@@ -89,7 +89,7 @@ impl<K: ProcessTable> IndexedTable<K> {
     /// The room for a number goes, and that for all others on its page of 1,024 numbers, where no process has one of
     /// them, or is in a process group that has.
     pub fn give_up_page(&mut self, pid: Pid)
-        requires { (p : ℕ) (r : Process) → lookup p self.old.processes ≡ Some r → IsApart r.pid pid × IsApart r.group pid }
+        requires { AreOnOtherPages pid self.old.processes }
         ensures { self.new ≡ record (self.old) { sizes = sizes_without self.old.sizes pid } }
     {
         self.indexes.give_up_page(pid);
@@ -178,6 +178,15 @@ impl<K: ProcessTable> IndexedTable<K> {
         Some(snapshot)
     }
 
+    /// Whether a process has no children, zombies included. No slot is read.
+    #[inline(always)]
+    fn is_childless(&self, pid: Pid) -> bool
+        requires { pid ≢ 0 }
+        ensures { result ≡ not (is_some (first_pid (children_in pid self.now.processes))) }
+    {
+        self.indexes.children.next(pid, Pid::NONE).is_none()
+    }
+
     /// The child with the least number of a process that is there, zombies included; none where it has no
     /// child.
     pub fn first_child(&mut self, pid: Pid) -> Option<Pid>
@@ -214,6 +223,9 @@ impl<K: ProcessTable> IndexedTable<K> {
         ensures processes { self.new.processes ≡ adopted from to self.old.processes }
         ensures costs { Costs (1 + length (children_in from self.old.processes)) self.old self.new }
     {
+        if self.is_childless(from) {
+            return;
+        }
         let heir = seen_there(&mut self.table, to);
         give_children(
             &mut self.table,
@@ -256,6 +268,10 @@ impl<K: ProcessTable> IndexedTable<K> {
     pub fn next_wanted(&self, parent: Pid, options: WaitidOptions, after: Pid) -> Option<Pid>
         ensures { result ≡ first_pid (above after (wanted_in options.0 parent self.now.processes)) }
     {
+        // Mostly it has no children, and then its list tells it.
+        if parent != Pid::NONE && self.is_childless(parent) {
+            return None;
+        }
         self.indexes.next_wanted(parent, options, after)
     }
 

@@ -5,7 +5,7 @@ ghost use Rattle.posix.specs.Processes.{Process, is_zombie};
 ghost use Rattle.posix.specs.Tables.{IsRising, above, adopted, children_in, first_pid};
 ghost use Rattle.posix.specs.Waits.{wanted_in};
 ghost use Rattle.pidset.specs.Indexes.{has_within, IsNextPair};
-ghost use Rattle.pidset.specs.Lists.{StaysApart, left_by};
+ghost use Rattle.pidset.specs.Lists.{IsPageUnused, without_page_of};
 ghost use Rattle.pidset.specs.Rows.{Grows, HasRoom};
 ghost use Rattle.jobs.specs.Indexes.{AreIndexes, record_seen, snapshot_seen, member_in, anchor_in, is_of_sort, report_in, sort_of, list_of_parent, sorted, stopped_in, alarm_in, marked_in, CanMove, IsInside, AreMoved, least};
 
@@ -277,10 +277,10 @@ impl Indexes {
 
     /// The memory for a number goes, and that for all others on its page of 1,024 numbers.
     pub(crate) fn give_up_page(&mut self, pid: Pid)
-        requires members { StaysApart pid self.old.members.pairs }
-        requires anchors { StaysApart pid self.old.anchors.pairs }
-        requires children { StaysApart pid self.old.children.pairs }
-        ensures { self.new ≡ record self.old { members = left_by pid self.old.members; anchors = left_by pid self.old.anchors; children = left_by pid self.old.children } }
+        requires members { IsPageUnused pid self.old.members.pairs }
+        requires anchors { IsPageUnused pid self.old.anchors.pairs }
+        requires children { IsPageUnused pid self.old.children.pairs }
+        ensures { self.new ≡ record self.old { members = without_page_of pid self.old.members; anchors = without_page_of pid self.old.anchors; children = without_page_of pid self.old.children } }
     {
         self.members.give_up_page(pid);
         self.anchors.give_up_page(pid);

@@ -53,7 +53,7 @@ use Rattle.life.proofs.ForegroundLemmas.{fresh_moved, fresh_still}
 use Rattle.life.specs.Changes.{has_moved, CanMoveNumbers, StaysInSession, StaysRegular, lives}
 use Rattle.pidset.specs.Indexes.{HaveParents}
 use Rattle.pidset.proofs.ParentLemmas.{parents_map}
-use Rattle.life.proofs.SoundLemmas.{found_in, kept_map, kept_ready, some_back, not_many, within_map}
+use Rattle.life.proofs.SoundLemmas.{found_in, kept_map, some_back, not_many, within_map}
 use Rattle.life.proofs.ReaderLemmas.{listed_forgotten, none_marked, within_marked}
 use Rattle.life.proofs.RecheckLemmas.{IsBeside, listed_with, listed_signals}
 use Rattle.life.proofs.SignalLemmas.{with_signals, only_noticed_of_change, touches_signals}
@@ -137,18 +137,18 @@ numbers_as rs up p b c found still = grind (arith, up, found, still, changed_her
 
 -- the rows count the records with it, where the numbers that it bears move with it
 numbers_kept : (m p : ℕ) (b c : Record) (rs : List Process) (pids now : Pids) (places : Places) → IsRising rs → lookup p rs ≡ Some (process_of p (parent_of p rs) b)
-    → now ≡ record (cond (has_moved (record_seen b) (record_seen c)) (regrouped pids b.group b.session c.group c.session) pids) { ready = now.ready } → IsKept m rs pids places → IsKept m (with_record rs p c) now places
+    → now ≡ cond (has_moved (record_seen b) (record_seen c)) (regrouped pids b.group b.session c.group c.session) pids → IsKept m rs pids places → IsKept m (with_record rs p c) now places
 unfolding give_record changed
 numbers_kept m p b c rs pids now places up found is k = by (has_moved (record_seen b) (record_seen c)) refl is
   where
-    by : (t : Bool) → has_moved (record_seen b) (record_seen c) ≡ t → now ≡ record (cond t (regrouped pids b.group b.session c.group c.session) pids) { ready = now.ready } → IsKept m (with_record rs p c) now places
-    by true e moved = subst (λ x. IsKept m (with_record rs p c) x places) (sym moved) (kept_ready m (with_record rs p c) (regrouped pids b.group b.session c.group c.session) now.ready places (record {
+    by : (t : Bool) → has_moved (record_seen b) (record_seen c) ≡ t → now ≡ cond t (regrouped pids b.group b.session c.group c.session) pids → IsKept m (with_record rs p c) now places
+    by true e moved = subst (λ x. IsKept m (with_record rs p c) x places) (sym moved) (record {
       greatest = greatest_regrouped pids b.group b.session c.group c.session ∙ k.greatest;
       table = pids_regrouped pids b.group b.session c.group c.session k.table;
       tallied = tallied_regrouped pids p (give_record c) (λ r. refl) (process_of p (parent_of p rs) b) rs k.table up k.tallied found;
       room = λ q here. k.room q (some_back (at p (give_record c)) (at_pid p (give_record c) (λ r. refl)) q rs here);
-    }))
-    by false e still = subst (λ x. IsKept m (with_record rs p c) x places) (sym still) (kept_ready m (with_record rs p c) pids now.ready places (rw (numbers_as rs up p b c found e) (kept_map (at p (keep_numbers c)) (at_pid p (keep_numbers c) (λ r. refl)) (at_keeps (λ r. r.group) p (keep_numbers c) (λ r. refl)) (at_keeps (λ r. r.session) p (keep_numbers c) (λ r. refl)) m rs pids places places (λ n here. here) k)))
+    })
+    by false e still = subst (λ x. IsKept m (with_record rs p c) x places) (sym still) (rw (numbers_as rs up p b c found e) (kept_map (at p (keep_numbers c)) (at_pid p (keep_numbers c) (λ r. refl)) (at_keeps (λ r. r.group) p (keep_numbers c) (λ r. refl)) (at_keeps (λ r. r.session) p (keep_numbers c) (λ r. refl)) m rs pids places places (λ n here. here) k))
 
 -- those who are rechecked: the process, and its parent if it has one that is there
 pub listed_changed : {readers : ListsView} (s t : State) (p parent : ℕ) (before after : PidSetView) (touched : List ℕ) → IsListed s before readers → Touches s t touched → IsBeside s t touched → t.order ≡ s.order → length t.processes ≡ length s.processes → ((q : ℕ) → IsSome (process s q) → IsSome (process t q))
@@ -219,7 +219,7 @@ in_parent p parent order ns e = elim (parent == 0) as (λ b. is_in p (cond b ns 
 
 pub machine_shown : {groups_at_risk : PidSetView} {terminals : Terminals} {sets : ListsView} (s : State) (pids now : Pids) (places : Places) (to_recheck after : PidSetView) (p parent : ℕ) (b c : Record) (ts : List Process) (foregrounds_unchecked : Unchecked)
     → lookup p s.processes ≡ Some (process_of p (parent_of p s.processes) b) → ts ≡ with_record s.processes p c → IsRegular (record s { processes = with_record s.processes p c }) → (c.session ≡ b.session) ⊎ (c.session ≡ p) → parent ≡ parent_of p s.processes
-    → now ≡ record (cond (has_moved (record_seen b) (record_seen c)) (regrouped pids b.group b.session c.group c.session) pids) { ready = now.ready } → foregrounds_unchecked ≡ cond (has_moved (record_seen b) (record_seen c)) (also_in b.session terminals.foregrounds_unchecked) terminals.foregrounds_unchecked → s.last_pid ≡ now.last
+    → now ≡ cond (has_moved (record_seen b) (record_seen c)) (regrouped pids b.group b.session c.group c.session) pids → foregrounds_unchecked ≡ cond (has_moved (record_seen b) (record_seen c)) (also_in b.session terminals.foregrounds_unchecked) terminals.foregrounds_unchecked → s.last_pid ≡ now.last
     → IsMachine s pids places to_recheck groups_at_risk terminals → after.pids ≡ with_parent parent s.order (with_number p to_recheck.pids) → after.room ≡ to_recheck.room → IsMoved p None terminals.readers.pairs sets.pairs → sets.sizes ≡ terminals.readers.sizes
     → IsMachine (record s { processes = ts; last_pid = now.last }) now places after groups_at_risk (record terminals { readers = sets; foregrounds_unchecked = foregrounds_unchecked })
 unfolding give_record

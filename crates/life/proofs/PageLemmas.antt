@@ -1,54 +1,54 @@
 -- A machine without the memory for a page of numbers that nobody bears.
-use Rattle.std.proofs.Common.{◌≡◌, ℕ, ◌/◌, ◌%◌, ◌<◌, true, refl, ap, sym, ◌∙◌, arith, subst, List, Some}
+use Rattle.std.proofs.Common.{◌≡◌, ℕ, ◌/◌, true, refl, ap, sym, ◌∙◌, arith, subst, List, Some}
 use Rattle.std.proofs.lemmas.Bool.{both_ways}
-use Rattle.std.proofs.lemmas.List.{get_or-set_other}
 use Rattle.posix.specs.Processes.{Process}
 use Rattle.posix.specs.Tables.{lookup}
 use Rattle.posix.specs.States.{State}
 use Rattle.pidalloc.specs.Rows.{Pids, is_free_in}
 use Rattle.sched.specs.Places.{Places}
 use Rattle.pidset.specs.Indexes.{is_pair_in}
-use Rattle.pidset.specs.Lists.{ListsView, left_by}
+use Rattle.pidset.specs.Lists.{ListsView, without_page_of}
 use Rattle.pidset.specs.Numbers.{PidSetView}
-use Rattle.pidset.specs.Rows.{HasRoom, IsApart, sizes_without}
-use Rattle.life.specs.Machines.{IsMachine, IsSound, Terminals}
+use Rattle.pidset.specs.Rows.{IsOnAnotherPage, sizes_without}
+use Rattle.pidset.proofs.RowLemmas.{room_stays}
+use Rattle.life.specs.Machines.{IsKept, IsMachine, IsSound, Terminals}
 use Rattle.life.proofs.FunnelLemmas.{borne_of}
 use Rattle.life.proofs.RecheckLemmas.{listed_roomier}
-use Rattle.life.proofs.SoundLemmas.{grows_same, there}
+use Rattle.life.proofs.SoundLemmas.{grows_same, kept_roomier, there}
 
 -- nobody bears a number on the page of n
 abbrev pub IsUnborne : ℕ → Pids → Type 0
 IsUnborne n pids = (q : ℕ) → q / 1024 ≡ n / 1024 → is_free_in pids.rows q ≡ true
 
 -- so the number of each process is on another one, and those of its group and session
-pub apart : {s : State} {pids : Pids} {places : Places} (n : ℕ) → IsSound s pids places → IsUnborne n pids → (p : ℕ) (r : Process) → lookup p s.processes ≡ Some r → IsApart p n × IsApart r.group n × IsApart r.session n
+pub apart : {s : State} {pids : Pids} {places : Places} (n : ℕ) → IsSound s pids places → IsUnborne n pids → (p : ℕ) (r : Process) → lookup p s.processes ≡ Some r → IsOnAnotherPage p n × IsOnAnotherPage r.group n × IsOnAnotherPage r.session n
 apart {s = s} {pids = pids} {places = places} n i free p r found =
     let borne = borne_of s pids places i p r found in
     (λ e. absurd (both_ways _ borne.own (free p e)), λ e. absurd (both_ways _ borne.group (free r.group e)), λ e. absurd (both_ways _ borne.session (free r.session e)))
 
--- there is room on other pages as before
-room_left : (sizes : List ℕ) (n q : ℕ) → IsApart q n → HasRoom sizes q → HasRoom (sizes_without sizes n) q
-room_left sizes n q apart here = subst (λ size. q % 1024 < size) (sym (get_or-set_other sizes (n / 1024) (q / 1024) 0 0 apart)) here
+-- the rows are the same
+pub same_rows : (old new : Pids) (sizes : List ℕ) → new ≡ record old { sizes = sizes } → new ≡ record old { sizes = new.sizes }
+same_rows old new sizes e = e ∙ ap (λ (l : List ℕ). record old { sizes = l }) (sym (ap (λ (p : Pids). p.sizes) e))
 
 -- it stays one
-pub machine_left : {s t : State} {pids : Pids} {places order : Places} {l groups : PidSetView} {terminals : Terminals} {sets : ListsView} (n : ℕ)
-    → IsMachine s pids places l groups terminals → IsUnborne n pids → t ≡ s → order.sizes ≡ sizes_without places.sizes n → sets ≡ left_by n terminals.readers → IsMachine t pids order l groups (record terminals { readers = sets })
-machine_left {s = s} {pids = pids} {places = places} {order = order} {l = l} {groups = groups} {terminals = terminals} {sets = sets} n i free same ordered left =
+pub machine_left : {s t : State} {pids now : Pids} {places order : Places} {l groups : PidSetView} {terminals : Terminals} {sets : ListsView} (n : ℕ)
+    → IsMachine s pids places l groups terminals → IsUnborne n pids → t ≡ s → now ≡ record pids { sizes = now.sizes } → order.sizes ≡ sizes_without places.sizes n → sets ≡ without_page_of n terminals.readers → IsMachine t now order l groups (record terminals { readers = sets })
+machine_left {s = s} {pids = pids} {now = now} {places = places} {order = order} {l = l} {groups = groups} {terminals = terminals} {sets = sets} n i free same rest ordered left =
     let pairs : sets.pairs ≡ terminals.readers.pairs = ap (λ (v : ListsView). v.pairs) left in
     let sizes : sets.sizes ≡ sizes_without terminals.readers.sizes n = ap (λ (v : ListsView). v.sizes) left in
-    subst (λ x. IsMachine x pids order l groups (record terminals { readers = sets })) (sym same) (record {
+    subst (λ x. IsMachine x now order l groups (record terminals { readers = sets })) (sym same) (record {
       sound = record {
         regular = i.sound.regular;
         parents = i.sound.parents;
         counted = i.sound.counted;
-        kept = record {
+        kept = subst (λ x. IsKept s.world.pidmax s.processes x order) (sym rest) (kept_roomier s.world.pidmax s.processes pids now.sizes order (record {
           greatest = i.sound.kept.greatest;
           table = i.sound.kept.table;
           tallied = i.sound.kept.tallied;
           room = λ q here.
               let it = there (lookup q s.processes) here in
-              grows_same ordered q (room_left places.sizes n q (apart n i.sound free q it.what it.found).0 (i.sound.kept.room q here));
-        };
+              grows_same ordered q (room_stays places.sizes n q (apart n i.sound free q it.what it.found).0 (i.sound.kept.room q here));
+        }));
       };
       listed = listed_roomier s l l i.listed refl (omega arith) pairs;
       noted = i.noted;
@@ -58,7 +58,7 @@ machine_left {s = s} {pids = pids} {places = places} {order = order} {l = l} {gr
         room = λ q r e.
             let here = i.within.room q r e in
             let off = apart n i.sound free q r e in
-            (grows_same sizes q (room_left terminals.readers.sizes n q off.0 here.0), grows_same sizes r.session (room_left terminals.readers.sizes n r.session off.2 here.1));
+            (grows_same sizes q (room_stays terminals.readers.sizes n q off.0 here.0), grows_same sizes r.session (room_stays terminals.readers.sizes n r.session off.2 here.1));
         own = λ k q on. i.within.own k q (sym (ap (is_pair_in k q) pairs) ∙ on);
       };
     })

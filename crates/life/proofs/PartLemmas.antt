@@ -13,7 +13,7 @@ use Rattle.posix.proofs.MapLemmas.{lookup_on, lookup_map}
 use Rattle.posix.proofs.RegularLemmas.{keeps_at, keeps_noticed, lookup_kept, lookup_removed, regular_as, regular_removed}
 use Rattle.pidalloc.specs.Rows.{Pids, gone_from}
 use Rattle.pidalloc.specs.Tallies.{IsTallied}
-use Rattle.pidalloc.proofs.TallyLemmas.{can_give_up, tallied_gone, tallied_ready}
+use Rattle.pidalloc.proofs.TallyLemmas.{can_give_up, tallied_gone}
 use Rattle.sched.specs.Places.{Places}
 use Rattle.life.specs.Machines.{AreWithin, IsSound, IsMachine, Terminals, CanGo, IsGone, IsOther}
 use Rattle.life.proofs.RecheckLemmas.{listed_same}
@@ -45,7 +45,7 @@ sound_gone s p q a c last dropped r i found dead other g most =
     let regular = regular_as _ (record s { processes = removed c s.processes; last_pid = last; dropped = dropped }) refl refl refl refl refl (regular_removed c r s i.regular other found dead) in
     let parents = parents_removed IsOther c s.processes (no_child c s.processes (i.regular.childless c r other found dead)) i.parents in
     let many = length_removed c r s.processes i.regular.rising found in
-    let tallied = subst (λ x. IsTallied x (removed c s.processes)) (sym g.rows) (tallied_ready (gone_from p c r.group r.session) (removed c s.processes) q.ready (tallied_gone p c r s.processes i.kept.table.size i.regular.rising i.kept.tallied found)) in
+    let tallied = subst (λ x. IsTallied x (removed c s.processes)) (sym g.rows) (tallied_gone p c r s.processes i.kept.table.size i.regular.rising i.kept.tallied found) in
     let room : (k : ℕ) → IsSome (lookup k (removed c s.processes)) → HasRoom a.sizes k = λ k here. elim (cases_eq k c) [ inl mine ↦ let no = subst IsSome (ap (λ n. lookup n (removed c s.processes)) mine ∙ lookup_removed c s.processes) here in absurd (cc) | inr other ↦ i.kept.room k (subst IsSome (lookup_kept c k s.processes other) here) ] in
     record { regular = regular; parents = parents; counted = omega (arith, i.counted, many, most); kept = record { greatest = g.greatest ∙ i.kept.greatest; table = g.table; tallied = tallied; room = room } }
 

@@ -9,23 +9,23 @@ use Rattle.pidalloc.proofs.TallyLemmas.{CanBear}
 use Rattle.sched.specs.Places.{Places}
 use Rattle.pidset.specs.Indexes.{is_pair_in}
 use Rattle.pidset.specs.Lists.{ListsView}
-use Rattle.pidset.specs.Rows.{Grows}
+use Rattle.pidset.specs.Rows.{Grows, HasRoom}
 use Rattle.pidset.specs.Numbers.{PidSetView, Rises}
 use Rattle.life.specs.Machines.{state_of, MachineView, AreSame, AreSameButRoom, IsKept, IsMachine, Terminals}
 use Rattle.life.proofs.RecheckLemmas.{listed_roomier}
-use Rattle.life.proofs.SoundLemmas.{kept_ready}
+use Rattle.life.proofs.SoundLemmas.{kept_roomier}
 
 -- it stays one
 pub machine_roomier : {s t : State} {pids now : Pids} {places order : Places} {l m groups after : PidSetView} {terminals : Terminals} {sets : ListsView}
-    → IsMachine s pids places l groups terminals → t ≡ s → now ≡ record pids { ready = now.ready } → Grows places.sizes order.sizes → m.pids ≡ l.pids → l.room ≤ m.room → after.pids ≡ groups.pids → m.room ≤ after.room
+    → IsMachine s pids places l groups terminals → t ≡ s → now ≡ record pids { sizes = now.sizes } → Grows places.sizes order.sizes → m.pids ≡ l.pids → l.room ≤ m.room → after.pids ≡ groups.pids → m.room ≤ after.room
     → sets.pairs ≡ terminals.readers.pairs → Grows terminals.readers.sizes sets.sizes → IsMachine t now order m after (record terminals { readers = sets })
-machine_roomier {s = s} {pids = pids} {now = now} {places = places} {order = order} {l = l} {m = m} {groups = groups} {after = after} {terminals = terminals} {sets = sets} i same ready wider is more groups_same groups_more roomier longer =
+machine_roomier {s = s} {pids = pids} {now = now} {places = places} {order = order} {l = l} {m = m} {groups = groups} {after = after} {terminals = terminals} {sets = sets} i same rest wider is more groups_same groups_more roomier longer =
     subst (λ x. IsMachine x now order m after (record terminals { readers = sets })) (sym same) (record {
       sound = record {
         regular = i.sound.regular;
         parents = i.sound.parents;
         counted = i.sound.counted;
-        kept = subst (λ x. IsKept s.world.pidmax s.processes x order) (sym ready) (kept_ready s.world.pidmax s.processes pids now.ready order (record {
+        kept = subst (λ x. IsKept s.world.pidmax s.processes x order) (sym rest) (kept_roomier s.world.pidmax s.processes pids now.sizes order (record {
           greatest = i.sound.kept.greatest;
           table = i.sound.kept.table;
           tallied = i.sound.kept.tallied;
@@ -43,9 +43,9 @@ machine_roomier {s = s} {pids = pids} {now = now} {places = places} {order = ord
     })
 
 -- its state is the same
-pub state_roomier : (w : World) (rs ts : List Process) (cs : List Console) (pids now : Pids) (places order : Places) (births ticks dropped : ℕ) (halted : Bool) → ts ≡ rs → now ≡ record pids { ready = now.ready } → order.pids ≡ places.pids
+pub state_roomier : (w : World) (rs ts : List Process) (cs : List Console) (pids now : Pids) (places order : Places) (births ticks dropped : ℕ) (halted : Bool) → ts ≡ rs → now ≡ record pids { sizes = now.sizes } → order.pids ≡ places.pids
     → state_of w ts cs now order births ticks dropped halted ≡ state_of w rs cs pids places births ticks dropped halted
-state_roomier w rs ts cs pids now places order births ticks dropped halted same ready alike = let last : now.last ≡ pids.last = ap (λ (p : Pids). p.last) ready in rw (same, last, alike) refl
+state_roomier w rs ts cs pids now places order births ticks dropped halted same rest alike = let last : now.last ≡ pids.last = ap (λ (p : Pids). p.last) rest in rw (same, last, alike) refl
 
 -- what is the same is so but for room
 pub same_but_room : {old new : MachineView} → AreSame old new → AreSameButRoom old new
@@ -59,20 +59,20 @@ pub record CanBearAll (p : Pids) (n group session : ℕ) : Type 0 where
   pub pid_count : (row p.rows n).process < 4294967295
   pub group_count : (row p.rows group).group < 4294967295
   pub session_count : (row p.rows session).session < 4294967295
-  pub ready : p.ready ≡ true
+  pub room : HasRoom p.sizes n
   pub group_borne : is_free_in p.rows group ≡ true → group ≡ n
   pub session_borne : is_free_in p.rows session ≡ true → session ≡ n
 
--- it has it once it is ready
-pub can_bear_all : (p now : Pids) (n group session : ℕ) → now ≡ record p { ready = now.ready } → now.ready ≡ true → n ≤ p.pidmax → CanBear p n group session → is_free_in p.rows group ≡ false → is_free_in p.rows session ≡ false → CanBearAll now n group session
-can_bear_all p now n group session same ready low can group_borne session_borne = record {
+-- it has it once there is room for the number
+pub can_bear_all : (p now : Pids) (n group session : ℕ) → now ≡ record p { sizes = now.sizes } → HasRoom now.sizes n → n ≤ p.pidmax → CanBear p n group session → is_free_in p.rows group ≡ false → is_free_in p.rows session ≡ false → CanBearAll now n group session
+can_bear_all p now n group session same room low can group_borne session_borne = record {
   pid_range = subst (λ (x : Pids). n ≤ x.pidmax) (sym same) low;
   group_range = subst (λ (x : Pids). group ≤ x.pidmax) (sym same) can.group_range;
   session_range = subst (λ (x : Pids). session ≤ x.pidmax) (sym same) can.session_range;
   pid_count = subst (λ (x : Pids). (row x.rows n).process < 4294967295) (sym same) can.pid_count;
   group_count = subst (λ (x : Pids). (row x.rows group).group < 4294967295) (sym same) can.group_count;
   session_count = subst (λ (x : Pids). (row x.rows session).session < 4294967295) (sym same) can.session_count;
-  ready = ready;
+  room = room;
   group_borne = λ free. absurd (both_ways (is_free_in now.rows group) (subst (λ (x : Pids). is_free_in x.rows group ≡ false) (sym same) group_borne) free);
   session_borne = λ free. absurd (both_ways (is_free_in now.rows session) (subst (λ (x : Pids). is_free_in x.rows session ≡ false) (sym same) session_borne) free);
 }

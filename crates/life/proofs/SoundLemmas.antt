@@ -19,7 +19,7 @@ use Rattle.posix.proofs.WalkLemmas.{all_looked}
 use Rattle.posix.proofs.ReportLemmas.{some_changed}
 use Rattle.pidalloc.specs.Rows.{Pids, IsPids, is_free_in, unborne_table, born_in}
 use Rattle.pidalloc.specs.Tallies.{IsTallied}
-use Rattle.pidalloc.proofs.TallyLemmas.{CanBear, can_bear, next_same, tallied_unborne, tallied_born, tallied_map, tallied_ready}
+use Rattle.pidalloc.proofs.TallyLemmas.{CanBear, can_bear, next_same, tallied_unborne, tallied_born, tallied_map}
 use Rattle.sched.specs.Places.{Places}
 use Rattle.life.specs.Machines.{AreWithin, IsKept, IsSound, state_of, IsOther}
 pub use Rattle.jobs.proofs.SnapshotLemmas.{There, there, is_there, snapshot_are, some_read, none_read}
@@ -71,9 +71,9 @@ kept_map g kp kg ks m rs p a b wider k = record {
   room = λ q here. wider q (k.room q (some_back g kp q rs here));
 }
 
--- whether the rows are ready for one number more makes no difference
-pub kept_ready : (m : ℕ) (rs : List Process) (p : Pids) (ready : Bool) (places : Places) → IsKept m rs p places → IsKept m rs (record p { ready = ready }) places
-kept_ready m rs p ready places k = record {
+-- for which numbers the rows have memory makes no difference
+pub kept_roomier : (m : ℕ) (rs : List Process) (p : Pids) (sizes : List ℕ) (places : Places) → IsKept m rs p places → IsKept m rs (record p { sizes = sizes }) places
+kept_roomier m rs p sizes places k = record {
   greatest = k.greatest;
   table = record { size = k.table.size; given = k.table.given; least = k.table.least; limit = k.table.limit };
   tallied = k.tallied;
@@ -152,7 +152,7 @@ room_to_bear s t p places rs child parent group session now same i next me like 
 pub sound_born : (w : World) (rs : List Process) (cs : List Console) (p q : Pids) (a : Places) (births ticks dropped : ℕ) (h : Bool) (new me : Process)
     → IsSound (state_of w rs cs p a births ticks dropped h) p a → IsNew rs p.pidmax new.pid → lookup new.parent rs ≡ Some me → is_zombie me.life ≡ false
     → new.group ≡ me.group → new.session ≡ me.session → new.life ≡ me.life → new.alarm ≡ None
-    → q ≡ record (born_in p new.pid new.group new.session) { ready = q.ready } → q.pidmax ≡ p.pidmax → IsPids q → HasRoom a.sizes new.pid
+    → q ≡ born_in p new.pid new.group new.session → q.pidmax ≡ p.pidmax → IsPids q → HasRoom a.sizes new.pid
     → IsSound (state_of w (inserted new rs) cs q a (births + 1) ticks dropped h) q a
 sound_born w rs cs p q a births ticks dropped h new me i fresh there up group session life silent bore same table fits =
     let s = state_of w rs cs p a births ticks dropped h in
@@ -161,7 +161,7 @@ sound_born w rs cs p q a births ticks dropped h new me i fresh there up group se
     let regular = regular_as _ (state_of w (inserted new rs) cs q a (births + 1) ticks dropped h) refl refl refl refl refl r in
     let parents = parents_inserted IsOther new rs fresh.fresh (λ other. is_there _ me there) i.parents in
     let many = length_inserted new rs in
-    let tallied = subst (λ x. IsTallied x (inserted new rs)) (sym bore) (tallied_ready (born_in p new.pid new.group new.session) (inserted new rs) q.ready (tallied_born p new rs i.kept.table.size i.kept.tallied)) in
+    let tallied = subst (λ x. IsTallied x (inserted new rs)) (sym bore) (tallied_born p new rs i.kept.table.size i.kept.tallied) in
     let room : (k : ℕ) → IsSome (lookup k (inserted new rs)) → HasRoom a.sizes k = λ k here. elim (cases_eq k new.pid) [ inl mine ↦ subst (λ n. HasRoom a.sizes n) (sym mine) fits | inr other ↦ i.kept.room k (subst IsSome (lookup_inserted new k rs other) here) ] in
     record { regular = regular; parents = parents; counted = search (rules, arith); kept = record { greatest = same ∙ i.kept.greatest; table = table; tallied = tallied; room = room } }
 
@@ -187,14 +187,14 @@ unfolding inserted
 first_alone = refl
 
 -- a machine with process 1 alone
-pub sound_first : (w : World) (cs : List Console) (q : Pids) (b : Places) → cs ≡ replicate w.consoles unused_console → 2 ≤ w.pidmax → q ≡ record (born_in (unborne_table w.pidmax) 1 1 1) { ready = q.ready } → q.pidmax ≡ w.pidmax → IsPids q → b.pids ≡ 1 ∷ [] → HasRoom b.sizes 1
+pub sound_first : (w : World) (cs : List Console) (q : Pids) (b : Places) → cs ≡ replicate w.consoles unused_console → 2 ≤ w.pidmax → q ≡ record (born_in (unborne_table w.pidmax) 1 1 1) { sizes = q.sizes } → q.pidmax ≡ w.pidmax → IsPids q → b.pids ≡ 1 ∷ [] → HasRoom b.sizes 1
     → IsSound (state_of w (inserted first_process []) cs q b 1 0 0 false) q b
 sound_first w cs q b unused most bore same table order room = record {
   regular = regular_as (boot w) _ refl first_alone order refl unused (regular_first w (omega (arith, most)));
   parents = parents_inserted IsOther first_process [] (nobody_there 1) (λ other. absurd (other refl)) (λ p r other e. let no = sym (nobody_there p) ∙ e in absurd (cc));
   counted = rw first_alone (omega arith);
   kept =
-      let tallied = subst (λ x. IsTallied x (inserted first_process [])) (sym bore) (tallied_ready (born_in (unborne_table w.pidmax) 1 1 1) (inserted first_process []) q.ready (tallied_born (unborne_table w.pidmax) first_process [] (length-replicate _ _) (tallied_unborne w.pidmax))) in
+      let tallied = subst (λ x. IsTallied x (inserted first_process [])) (sym bore) (tallied_born (unborne_table w.pidmax) first_process [] (length-replicate _ _) (tallied_unborne w.pidmax)) in
       record { greatest = same; table = table; tallied = tallied; room = λ k here. elim (cases_eq k 1) [ inl mine ↦ subst (λ n. HasRoom b.sizes n) (sym mine) room | inr other ↦ let no = subst IsSome (lookup_inserted first_process k [] other ∙ nobody_there k) here in absurd (cc) ] };
 }
 

@@ -224,7 +224,7 @@ pub record CanGo (rs : List Process) (pids : Pids) (pid : ℕ) : Type 0 where
 
 -- how the counts are once it has gone
 pub record IsGone (old new : Pids) (pid : ℕ) (it : Process) : Type 0 where
-  pub rows : new ≡ record (gone_from old pid it.group it.session) { ready = new.ready }
+  pub rows : new ≡ gone_from old pid it.group it.session
   pub greatest : new.pidmax ≡ old.pidmax
   pub last : new.last ≡ old.last
   pub table : IsPids new

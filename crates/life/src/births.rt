@@ -59,7 +59,7 @@ impl<K: ProcessTable> Machine<K> {
     {
         let before = self.pids.last();
         self.table.reserve(child)?;
-        self.pids.reserve()?;
+        self.pids.reserve(child)?;
         self.order.reserve(child)?;
         self.readers.reserve(child)?;
         let count = self.table.len() + 2;
@@ -70,7 +70,7 @@ impl<K: ProcessTable> Machine<K> {
         self.to_recheck.insert(parent);
         self.to_recheck.insert(child);
         self.births += 1;
-        self.leave_page(before);
+        self.give_up_unborne_page(before);
         Ok(())
     }
 }

@@ -174,7 +174,7 @@ fn move_numbers(
     after: &IndexedFields,
 )
     requires { CanMoveNumbers pids.old before.now after.now }
-    ensures pids { pids.new ≡ record (if has_moved before.now after.now then regrouped pids.old before.now.group before.now.session after.now.group after.now.session else pids.old) { ready = pids.new.ready } }
+    ensures pids { pids.new ≡ (if has_moved before.now after.now then regrouped pids.old before.now.group before.now.session after.now.group after.now.session else pids.old) }
     ensures last { pids.new.last ≡ pids.old.last }
     ensures foregrounds_unchecked { foregrounds_unchecked.new ≡ (if has_moved before.now after.now then also_in_by before.now.session foregrounds_unchecked.old else foregrounds_unchecked.old) }
 {

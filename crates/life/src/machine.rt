@@ -87,7 +87,7 @@ impl Lists {
     #[tactic(auto, unfolding(posix::specs::States::is_in))]
     fn first(alloc: Global, pidmax: u32) -> Result<Lists, AllocError>
         requires { (2 ≤ pidmax) × (pidmax ≤ 4194304) }
-        ensures pids { IfOk result (λ l. l.pids ≡ record (born_in (unborne_table pidmax) 1 1 1) { ready = l.pids.ready }) }
+        ensures pids { IfOk result (λ l. l.pids ≡ record (born_in (unborne_table pidmax) 1 1 1) { sizes = l.pids.sizes }) }
         ensures last { IfOk result (λ l. l.pids.last ≡ 1) }
         ensures pidmax { IfOk result (λ l. l.pids.pidmax ≡ pidmax) }
         ensures kept { IfOk result (λ l. IsPids l.pids) }
@@ -99,7 +99,7 @@ impl Lists {
         ensures groups { IfOk result (λ l. l.groups_at_risk.room ≡ 2) }
     {
         let mut pids = PidTable::new(alloc, pidmax);
-        pids.reserve()?;
+        pids.reserve(Pid::INIT)?;
         pids.bear_all(Pid::INIT, Pid::INIT, Pid::INIT);
         let mut order = Order::new(alloc);
         order.reserve(Pid::INIT)?;

@@ -1,33 +1,73 @@
 //! The memory for numbers that nobody bears any more.
 
-ghost use Rattle.std.specs.Prelude.{◌≡◌};
+ghost use Rattle.std.specs.Prelude.{◌≡◌, ◌/◌, ℕ, true};
+ghost use Rattle.posix.specs.States.{is_in};
+ghost use Rattle.pidset.specs.Lists.{IsPageUnused, without_page_of};
+ghost use Rattle.pidset.specs.Rows.{IsOnAnotherPage, sizes_without};
+ghost use Rattle.pidalloc.specs.Rows.{is_free_in};
+ghost use Rattle.jobs.specs.IndexedTables.{AreOnOtherPages};
 ghost use Rattle.life.specs.Machines.{AreSameButRoom};
 
 use crate::machine::Machine;
+use jobs::IndexedTable;
+use pidalloc::PidTable;
+use pidset::Lists;
 use posix::Pid;
 use proctable::ProcessTable;
+use sched::Order;
+
+/// The room for a number goes in the parts of a machine, and that for all others on its page of 1,024 numbers. It stands
+/// by itself, since few births and ends come so far.
+#[inline(never)]
+fn give_up_page<K: ProcessTable>(
+    pids: &mut PidTable,
+    order: &mut Order,
+    table: &mut IndexedTable<K>,
+    readers: &mut Lists,
+    pid: Pid,
+)
+    requires pids { (q : ℕ) → q / 1024 ≡ pid / 1024 → is_free_in pids.old.rows q ≡ true }
+    requires order { (p : ℕ) → is_in p order.old.pids ≡ true → IsOnAnotherPage p pid }
+    requires table { AreOnOtherPages pid table.old.processes }
+    requires readers { IsPageUnused pid readers.old.pairs }
+    ensures pids { pids.new ≡ record (pids.old) { sizes = sizes_without pids.old.sizes pid } }
+    ensures order { order.new ≡ record (order.old) { sizes = sizes_without order.old.sizes pid } }
+    ensures table { table.new ≡ record (table.old) { sizes = sizes_without table.old.sizes pid } }
+    ensures readers { readers.new ≡ without_page_of pid readers.old }
+{
+    pids.give_up_page(pid);
+    order.give_up_page(pid);
+    table.give_up_page(pid);
+    readers.give_up_page(pid);
+}
 
 impl<K: ProcessTable> Machine<K> {
     /// The memory for a number goes, and that for all others on its page of 1,024 numbers, where nobody bears any of
     /// them and the one given last isn't among them. No slot is read.
-    pub(crate) fn leave_page(&mut self, pid: Pid)
+    #[inline(always)]
+    pub(crate) fn give_up_unborne_page(&mut self, pid: Pid)
         ensures same { AreSameButRoom self.old self.new }
         ensures visits { self.new.visits ≡ self.old.visits }
     {
-        if self.pids.is_left(pid) {
-            self.order.give_up_page(pid);
-            self.table.give_up_page(pid);
-            self.readers.give_up_page(pid);
+        if self.pids.can_give_up_page(pid) {
+            give_up_page(
+                &mut self.pids,
+                &mut self.order,
+                &mut self.table,
+                &mut self.readers,
+                pid,
+            );
         }
     }
 
     /// So for each of the numbers that a process bore.
-    pub(crate) fn leave_pages(&mut self, pid: Pid, group: Pid, session: Pid)
+    #[inline(always)]
+    pub(crate) fn give_up_unborne_pages(&mut self, pid: Pid, group: Pid, session: Pid)
         ensures same { AreSameButRoom self.old self.new }
         ensures visits { self.new.visits ≡ self.old.visits }
     {
-        self.leave_page(pid);
-        self.leave_page(group);
-        self.leave_page(session);
+        self.give_up_unborne_page(pid);
+        self.give_up_unborne_page(group);
+        self.give_up_unborne_page(session);
     }
 }

@@ -292,7 +292,7 @@ impl<K: ProcessTable> Machine<K> {
         self.readers.put(pid, None);
         forget(&mut self.to_recheck, pid, snapshot.parent);
         self.foregrounds_unchecked = also_in(&self.foregrounds_unchecked, snapshot.session);
-        self.leave_pages(pid, snapshot.group, snapshot.session);
+        self.give_up_unborne_pages(pid, snapshot.group, snapshot.session);
     }
 
     /// A wait has reported the news of a process that is there: they become none. Nobody can act by it who couldn't.

@@ -5,7 +5,7 @@ use Rattle.std.proofs.lemmas.Bool.{cases_eq}
 use Rattle.posix.specs.NextPid.{first_free}
 use Rattle.posix.proofs.RangeLemmas.{find_range_none}
 use Rattle.pidalloc.specs.Rows.{Row, is_free_row, is_free_in, row_in, rows_in, AreAllBorne}
-use Rattle.pidalloc.proofs.PageLemmas.{row_of}
+use Rattle.pidalloc.proofs.TableLemmas.{row_of}
 
 -- ---- searches
 

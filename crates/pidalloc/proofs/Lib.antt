@@ -3,5 +3,6 @@ pub mod FreeLemmas
 pub mod TallyLemmas
 pub mod BagLemmas
 pub mod MoveLemmas
-pub mod PageLemmas
+pub mod CountLemmas
+pub mod TableLemmas
 pub mod BoundLemmas

@@ -1,5 +1,5 @@
 -- The rows of a table of numbers and the records of the processes that bear them.
-use Rattle.std.proofs.Common.{◌≡◌, ℕ, ◌+◌, ◌<◌, ◌≤◌, ◌^◌, Bool, false, refl, ap, sym, ◌∙◌, arith, List, [], ◌∷◌, length, map, Some, ◌==◌}
+use Rattle.std.proofs.Common.{◌≡◌, ℕ, ◌+◌, ◌<◌, ◌≤◌, ◌^◌, false, refl, ap, sym, ◌∙◌, arith, List, [], ◌∷◌, length, map, Some, ◌==◌}
 use Rattle.std.proofs.lemmas.Bool.{eq-eqb}
 use Rattle.std.proofs.lemmas.Bool.Decides.{nat_tests}
 use Rattle.posix.specs.Processes.{Process}
@@ -100,10 +100,6 @@ are_borne p pid r rs t e a b c = let f = tally_found pid r rs e in record {
   group = counted_borne roles.Group (row p.rows r.group) (let l = f.group in let g = ap (λ (r : Row). r.group) (t r.group b) in omega (arith, l, g));
   session = counted_borne roles.Session (row p.rows r.session) (let l = f.session in let g = ap (λ (r : Row). r.session) (t r.session c) in omega (arith, l, g));
 }
-
--- what a table counts is the same whether it is ready or not
-pub tallied_ready : (p : Pids) (rs : List Process) (ready : Bool) → IsTallied p rs → IsTallied (record p { ready = ready }) rs
-tallied_ready p rs ready t = t
 
 -- ---- a whole birth, and a whole removal
 

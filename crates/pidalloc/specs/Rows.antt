@@ -1,17 +1,18 @@
 -- How often each number is borne as what.
-use Rattle.std.specs.Prelude.{◌≡◌, ℕ, ◌+◌, ◌-◌, ◌<◌, ◌≤◌, ◌/◌, ◌%◌, ◌⊎◌, Bool, true, false, not, if◌then◌else◌, ◌&&◌, ◌==◌, nat_lt, min, List, [], Option, Some, None, is_some, IfSome, length, map, replicate, count_by, slice_index_or, slice_set}
+use Rattle.std.specs.Prelude.{◌≡◌, ℕ, ◌+◌, ◌-◌, ◌*◌, ◌<◌, ◌≤◌, ◌/◌, Bool, true, false, not, if◌then◌else◌, ◌&&◌, ◌==◌, nat_lt, List, [], length, map, replicate, count_by, slice_index_or, slice_set}
 use Rattle.std.specs.List.{range_with_len}
+use Rattle.pidset.specs.Rows.{row_or, sizes_of}
 pub use Rattle.pidalloc.specs.declared.row.Row.{Row}
 pub use Rattle.pidalloc.specs.declared.row.Role.{Role}
 pub use Rattle.pidalloc.specs.declared.row.Role.TheVariants.{Process, Group, Session}
 
--- the greatest number, the one given last, and the row of each number from 0 on; and whether there is room for one
--- number more that nobody bears yet
+-- the greatest number, the one given last, and the row of each number from 0 on; and for how many numbers of each page
+-- there is memory
 pub record Pids : Type 0 where
   pub pidmax : ℕ
   pub last : ℕ
   pub rows : List Row
-  pub ready : Bool
+  pub sizes : List ℕ
 
 -- what holds of every table
 pub record IsPids (p : Pids) : Type 0 where
@@ -46,7 +47,7 @@ one_less Session r = record r { session = r.session - 1 }
 -- ---- the table
 
 abbrev pub unborne_table : ℕ → Pids
-unborne_table pidmax = record { pidmax = pidmax; last = 1; rows = replicate (pidmax + 1) unborne; ready = false }
+unborne_table pidmax = record { pidmax = pidmax; last = 1; rows = replicate (pidmax + 1) unborne; sizes = [] }
 
 abbrev pub row : List Row → ℕ → Row
 row rows n = slice_index_or rows n unborne
@@ -82,44 +83,26 @@ gone_from p n group session = given_up (given_up (given_up p n Process) group Gr
 unfoldable pub regrouped : Pids → ℕ → ℕ → ℕ → ℕ → Pids
 regrouped p group session to_group to_session = given_up (given_up (borne (borne p to_group Group) to_session Session) group Group) session Session
 
--- ---- pages of rows
-
--- the row at a place; a page may have no rows
-abbrev pub row_at : List Row → ℕ → Row
-row_at rows i = slice_index_or rows i unborne
-
--- at most 1,024 rows, of which so many are of numbers that are borne
-pub record IsPage (rows : List Row) (borne : ℕ) : Type 0 where
-  pub size : length rows ≤ 1024
-  pub count : borne ≡ count_by (λ r. not (is_free_row r)) rows
-
-abbrev pub page_at : List (List Row) → ℕ → List Row
-page_at pages k = slice_index_or pages k []
-
--- how many rows a page has that has rows
-abbrev pub page_size : ℕ → ℕ
-page_size pidmax = min 1024 (pidmax + 1)
-
--- a page has no rows or so many, and the spare page so many, of numbers that nobody bears
-pub record ArePages (size : ℕ) (pages : List (List Row)) (spare : Option (List Row)) : Type 0 where
-  pub sized : (k : ℕ) → (length (page_at pages k) ≡ 0) ⊎ (length (page_at pages k) ≡ size)
-  pub unused : IfSome spare (λ page. page ≡ replicate size unborne)
-
--- pages that had so many rows have as many
-abbrev pub AreStillPages : List (List Row) → Option (List Row) → List (List Row) → Option (List Row) → Type 0
-AreStillPages old before new after = (size : ℕ) → ArePages size old before → ArePages size new after
+-- ---- rows in pages
 
 -- the row of a number
 unfoldable pub row_in : List (List Row) → ℕ → Row
-row_in pages n = row_at (page_at pages (n / 1024)) (n % 1024)
+row_in pages n = row_or unborne pages n
 
 -- the rows of all numbers up to the greatest one
 unfoldable pub rows_in : ℕ → List (List Row) → List Row
 rows_in pidmax pages = map (row_in pages) (range_with_len 0 (pidmax + 1))
 
--- there is a page for each number, with rows or without, and one of rows that nobody bears a number of
-abbrev pub is_ready : ℕ → List (List Row) → Option (List Row) → Bool
-is_ready pidmax pages spare = is_some spare && nat_lt (pidmax / 1024) (length pages)
+abbrev pub one : Bool → ℕ
+one b = if b then 1 else 0
+
+-- how many numbers of a page are borne
+unfoldable pub borne_on : List (List Row) → ℕ → ℕ
+borne_on pages k = count_by (λ n. not (is_free_row (row_in pages n))) (range_with_len (k * 1024) 1024)
+
+-- there is memory for a number where there is a row for it, and a count for each page
+abbrev pub sizes_in : ℕ → List ℕ → List (List Row) → List ℕ
+sizes_in pidmax counts pages = if nat_lt (pidmax / 1024) (length counts) then sizes_of pages else []
 
 -- each number from one on and below another is borne
 abbrev pub AreAllBorne : List (List Row) → ℕ → ℕ → Type 0
@@ -129,40 +112,18 @@ AreAllBorne pages from end = (k : ℕ) → from ≤ k → k < end → is_free_ro
 abbrev pub AreUnborneAbove : ℕ → List (List Row) → Type 0
 AreUnborneAbove pidmax pages = (k : ℕ) → pidmax < k → is_free_row (row_in pages k) ≡ true
 
--- there are rows for a number, or, if nobody bears it, the spare page is there for them
-pub record HasRow (pages : List (List Row)) (spare : Option (List Row)) (n : ℕ) : Type 0 where
-  pub size : ℕ
-  pub sized : ArePages size pages spare
-  pub inside : n / 1024 < length pages
-  pub place : n % 1024 < size
-  pub page : is_free_row (row_in pages n) ≡ true → spare ≡ Some (replicate size unborne)
-
--- what holds of a table: its numbers are in range, its pages have as many rows as there are numbers, at most 1,024, and
--- the numbers from 2 on below borne_below and those from borne_from on are borne, and none above the greatest
-pub record IsTable (pidmax last : ℕ) (pages : List (List Row)) (spare : Option (List Row)) (borne_below borne_from : ℕ) : Type 0 where
+-- what holds of a table: its numbers are in range, it is known how many are borne on each page, the numbers from 2 on
+-- below borne_below and those from borne_from on are borne, and none above the greatest
+pub record IsTable (pidmax last : ℕ) (pages : List (List Row)) (counts : List ℕ) (borne_below borne_from : ℕ) : Type 0 where
   pub given : last ≤ pidmax
   pub least : 2 ≤ pidmax
   pub limit : pidmax ≤ 4194304
-  pub sized : ArePages (page_size pidmax) pages spare
+  pub counted : (k : ℕ) → slice_index_or counts k 0 ≡ borne_on pages k
   pub bound : borne_below ≤ pidmax + 1
   pub low : AreAllBorne pages 2 borne_below
   pub high : AreAllBorne pages borne_from (pidmax + 1)
   pub beyond : AreUnborneAbove pidmax pages
 
--- the rows are the same
-abbrev pub AreSame : List (List Row) → List (List Row) → Type 0
-AreSame old new = (n : ℕ) → row_in new n ≡ row_in old n
-
--- as many pages have the same rows
-pub record AreKept (old : List (List Row)) (before : Option (List Row)) (new : List (List Row)) (after : Option (List Row)) : Type 0 where
-  pub rows : AreSame old new
-  pub size : length new ≡ length old
-  pub pages : AreStillPages old before new after
-
 -- the row of n changed so, and no other
 abbrev pub IsRowChanged : ℕ → (Row → Row) → List (List Row) → List (List Row) → Type 0
 IsRowChanged n f old new = (q : ℕ) → row_in new q ≡ if n == q then f (row_in old n) else row_in old q
-
--- the spare page stays, or goes for the row of a number that nobody bears
-abbrev pub IsKeptUnlessFree : Row → Option (List Row) → Option (List Row) → Type 0
-IsKeptUnlessFree r old new = (new ≡ old) ⊎ ((new ≡ None) × (is_free_row r ≡ true))

@@ -2,7 +2,6 @@
 #![tactic(auto)]
 
 pub mod laws;
-mod page;
 pub mod row;
 pub mod table;
 

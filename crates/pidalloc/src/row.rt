@@ -22,15 +22,11 @@ pub struct Row {
 
 impl Row {
     /// The row of a number that nobody bears.
-    pub fn unborne() -> Row
-        ensures { result ≡ record { process = 0; group = 0; session = 0 } }
-    {
-        Row {
-            process: 0,
-            group: 0,
-            session: 0,
-        }
-    }
+    pub const UNBORNE: Row = Row {
+        process: 0,
+        group: 0,
+        session: 0,
+    };
 
     /// Whether nobody bears the number.
     pub fn is_free(self) -> bool

@@ -1,29 +1,28 @@
 //! The numbers up to a greatest one, and who bears them.
 
-ghost use Rattle.std.specs.Prelude.{◌≡◌, ◌+◌, ◌-◌, ◌<◌, ◌≤◌, ◌/◌, ◌%◌, ◌*◌, ◌⊎◌, ℕ, true, false, Some, None, [], IfSome, OnOk, is_some, unwrap_or, length, replicate, slice_set};
+ghost use Rattle.std.specs.Prelude.{◌≡◌, ◌+◌, ◌-◌, ◌<◌, ◌≤◌, ◌/◌, ◌%◌, ◌*◌, ◌⊎◌, ◌==◌, ◌&&◌, ℕ, true, false, Some, None, [], OnOk, length, slice_index_or};
 ghost use Rattle.posix.specs.NextPid.{next_free, first_free};
-ghost use Rattle.pidalloc.specs.Rows.{IsPids, unborne, unborne_table, row, is_free_in, count_of, borne, given_up, born_in, gone_from, regrouped, page_at, row_at, row_in, rows_in, is_free_row, one_more, one_less, last_given, AreKept, IsRowChanged, IsKeptUnlessFree, page_size, HasRow, AreStillPages};
+ghost use Rattle.pidset.specs.Rows.{Grows, HasRoom, HasRow, sizes_of, sizes_without};
+ghost use Rattle.pidalloc.specs.Rows.{IsPids, unborne_table, row, is_free_in, is_free_row, count_of, borne, given_up, born_in, gone_from, regrouped, row_in, one, one_more, one_less, last_given, IsRowChanged};
 
-use crate::page::Page;
-use crate::row::Role;
+use crate::row::{Role, Row};
+use pidset::Rows;
 use posix::Pid;
 use std::alloc::{AllocError, Global};
 use std::marker::Model;
-use std::mem::replace;
 
 /// How often each number from 0 to a greatest one is borne as a process's own, a group's and a
 /// session's, and the number that was given last.
 ///
-/// Each 1,024 numbers of which one is borne have a page of rows, so the size follows the processes. A table of fewer
-/// numbers has rows for these alone. Memory is taken in [`PidTable::reserve`] alone.
+/// The rows are in pages of 1,024 numbers, so the size follows the numbers that are borne. Memory is taken in
+/// [`PidTable::reserve`] alone.
 #[derive(Drop)]
 pub struct PidTable {
-    alloc: Global,
     pidmax: u32,
     last: u32,
-    pages: Vec<Page>,
-    /// A page for a number that nobody bears yet.
-    spare: Option<Page>,
+    rows: Rows<Row>,
+    /// How many numbers of each page are borne.
+    counts: Vec<u32>,
     /// All numbers from 2 on that are below this one are borne.
     borne_below: u32,
     /// All numbers from this one on are borne.
@@ -31,16 +30,16 @@ pub struct PidTable {
 }
 
 impl Model for PidTable {
-    ghost use Rattle.pidalloc.specs.Rows.{Pids, IsTable, rows_in, is_ready};
+    ghost use Rattle.pidalloc.specs.Rows.{Pids, IsTable, rows_in, sizes_in};
 
     ghost Value = { Pids };
 
-    ghost view = { λ t. record { pidmax = t.pidmax; last = t.last; rows = rows_in t.pidmax t.pages.items; ready = is_ready t.pidmax t.pages.items t.spare } };
+    ghost view = { λ t. record { pidmax = t.pidmax; last = t.last; rows = rows_in t.pidmax t.rows; sizes = sizes_in t.pidmax t.counts.items t.rows } };
 
-    ghost invariant = { λ t. IsTable t.pidmax t.last t.pages.items t.spare t.borne_below t.borne_from };
+    ghost invariant = { λ t. IsTable t.pidmax t.last t.rows t.counts.items t.borne_below t.borne_from };
 }
 
-/// In which page the row of a number stands.
+/// On which page a number is.
 #[inline(always)]
 fn page_of(number: u32) -> usize
     ensures { result ≡ number / 1024 }
@@ -48,131 +47,71 @@ fn page_of(number: u32) -> usize
     (number / 1024) as usize
 }
 
-/// Where it stands in there.
-#[inline(always)]
-fn place_of(number: u32) -> usize
-    ensures is { result ≡ number % 1024 }
-    ensures range { result < 1024 }
+/// Makes `count` counts, of which the new ones are 0. An error where there is no memory for them.
+#[inline]
+fn make_counts(counts: &mut Vec<u32>, count: usize) -> Result<(), AllocError>
+    ensures same { (k : ℕ) → slice_index_or counts.new.items k 0 ≡ slice_index_or counts.old.items k 0 }
+    ensures grows { length counts.old.items ≤ length counts.new.items }
+    ensures enough { OnOk result (count ≤ length counts.new.items) }
 {
-    (number % 1024) as usize
-}
-
-/// How many rows a page has that has rows: as many as there are numbers, at most 1,024.
-fn page_size(pidmax: u32) -> usize
-    ensures { result ≡ page_size pidmax }
-{
-    (pidmax as usize + 1).min(1024)
-}
-
-/// Makes `count` pages, of which the new ones have no rows. An error where there is no memory for them.
-fn make_pages(pages: &mut Vec<Page>, alloc: Global, count: usize) -> Result<(), AllocError>
-    ensures same { (k : ℕ) → page_at pages.new.items k ≡ page_at pages.old.items k }
-    ensures grows { length pages.old.items ≤ length pages.new.items }
-    ensures enough { OnOk result (count ≤ length pages.new.items) }
-{
-    while pages.len() < count {
-        pages.push(Page::none(alloc))?;
+    if count <= counts.len() {
+        return Ok(());
     }
-    Ok(())
+    counts.resize(count, 0)
 }
 
-/// There is a page of `size` rows, at most 1,024, of numbers that nobody bears. An error where there is no memory for it.
-fn make_spare(spare: &mut Option<Page>, alloc: Global, size: usize) -> Result<(), AllocError>
-    requires size { size ≤ 1024 }
-    requires unused { IfSome spare.old (λ page. page ≡ replicate size unborne) }
-    ensures ok { OnOk result (spare.new ≡ Some (replicate size unborne)) }
-    ensures stays { IfSome spare.old (λ page. spare.new ≡ Some page) }
-    ensures kept { IfSome spare.new (λ page. page ≡ replicate size unborne) }
+/// How many numbers of a page are borne.
+#[inline]
+fn count_at(counts: &Vec<u32>, page: usize) -> u32
+    ensures { result ≡ slice_index_or counts.now.items page 0 }
 {
-    if spare.is_none() {
-        *spare = Some(Page::unborne(alloc, size)?);
-    }
-    Ok(())
-}
-
-/// The spare page takes the place of a page that has no rows.
-fn lay(pages: &mut Vec<Page>, spare: &mut Option<Page>, at: usize)
-    requires inside { at < length pages.old.items }
-    requires there { is_some spare.old ≡ true }
-    ensures pages { pages.new.items ≡ slice_set pages.old.items at (unwrap_or spare.old []) }
-    ensures spare { spare.new ≡ None }
-{
-    if let Some(page) = spare.take() {
-        pages[at] = page;
+    match counts.get(page) {
+        Some(count) => *count,
+        None => 0,
     }
 }
 
-/// A page that has rows, of numbers that nobody bears, is the spare page from now on.
-fn put_away(pages: &mut Vec<Page>, spare: &mut Option<Page>, alloc: Global, at: usize)
-    requires { at < length pages.old.items }
-    ensures pages { pages.new.items ≡ slice_set pages.old.items at [] }
-    ensures spare { spare.new ≡ Some (page_at pages.old.items at) }
+/// One number more of a page is borne, if nobody bore it before.
+#[inline]
+fn count_borne(counts: &mut Vec<u32>, page: usize, was_free: bool)
+    requires inside { was_free ≡ true → page < length counts.old.items }
+    requires few { slice_index_or counts.old.items page 0 ≤ 1024 }
+    ensures counts { (k : ℕ) → slice_index_or counts.new.items k 0 ≡ slice_index_or counts.old.items k 0 + one (was_free && (k == page)) }
+    ensures size { length counts.new.items ≡ length counts.old.items }
 {
-    let page = replace(&mut pages[at], Page::none(alloc));
-    *spare = Some(page);
-}
-
-/// There are rows for a number: if nobody bears it, the spare page is there for them.
-fn make_row(pages: &mut Vec<Page>, spare: &mut Option<Page>, number: u32)
-    requires { HasRow pages.old.items spare.old number }
-    ensures kept { AreKept pages.old.items spare.old pages.new.items spare.new }
-    ensures there { number % 1024 < length (page_at pages.new.items (number / 1024)) }
-    ensures spare { IsKeptUnlessFree (row_in pages.old.items number) spare.old spare.new }
-{
-    let at = page_of(number);
-    if !pages[at].is_there() {
-        lay(pages, spare, at);
+    if was_free {
+        counts[page] += 1;
     }
 }
 
-/// One process more bears a number in this role.
-fn bear_in(pages: &mut Vec<Page>, spare: &mut Option<Page>, number: u32, role: Role)
-    requires row { HasRow pages.old.items spare.old number }
-    requires count { count_of role (row_in pages.old.items number) < 4294967295 }
-    ensures rows { IsRowChanged number (one_more role) pages.old.items pages.new.items }
-    ensures size { length pages.new.items ≡ length pages.old.items }
-    ensures spare { IsKeptUnlessFree (row_in pages.old.items number) spare.old spare.new }
-    ensures pages { AreStillPages pages.old.items spare.old pages.new.items spare.new }
+/// One process more bears a number in this role; whether nobody bore it before.
+#[inline]
+fn bear_in(rows: &mut Rows<Row>, pid: Pid, role: Role) -> bool
+    requires there { HasRow rows.old pid }
+    requires count { count_of role (row_in rows.old pid) < 4294967295 }
+    ensures rows { IsRowChanged pid (one_more role) rows.old rows.new }
+    ensures sizes { sizes_of rows.new ≡ sizes_of rows.old }
+    ensures free { result ≡ is_free_row (row_in rows.old pid) }
 {
-    make_row(pages, spare, number);
-    pages[page_of(number)].bear(place_of(number), role);
+    let mut row = rows.get(pid);
+    let was_free = row.is_free();
+    row.bear(role);
+    rows.set(pid, row);
+    was_free
 }
 
 /// One process less bears a number in this role; whether nobody bears it any more.
-fn give_up_in(pages: &mut Vec<Page>, number: u32, role: Role) -> bool
-    requires { 1 ≤ count_of role (row_in pages.old.items number) }
-    ensures rows { IsRowChanged number (one_less role) pages.old.items pages.new.items }
-    ensures size { length pages.new.items ≡ length pages.old.items }
-    ensures inside { number / 1024 < length pages.new.items }
-    ensures there { number % 1024 < length (page_at pages.new.items (number / 1024)) }
-    ensures free { result ≡ is_free_row (row_in pages.new.items number) }
-    ensures sizes { (k : ℕ) → length (page_at pages.new.items k) ≡ length (page_at pages.old.items k) }
-{
-    pages[page_of(number)].give_up(place_of(number), role)
-}
-
-/// Rows of numbers that nobody bears go, of a page that has rows.
-fn tidy(pages: &mut Vec<Page>, spare: &mut Option<Page>, alloc: Global, at: usize)
-    requires inside { at < length pages.old.items }
-    requires there { 1 ≤ length (page_at pages.old.items at) }
-    ensures kept { AreKept pages.old.items spare.old pages.new.items spare.new }
-    ensures spare { (spare.new ≡ spare.old) ⊎ (is_some spare.new ≡ true) }
-{
-    if pages[at].is_unused() {
-        put_away(pages, spare, alloc, at);
-    }
-}
-
-/// Whether nobody bears any of the numbers of a page.
 #[inline]
-fn is_unborne(pages: &Vec<Page>, at: usize) -> bool
-    ensures free { result ≡ true → (i : ℕ) → is_free_row (row_at (page_at pages.now.items at) i) ≡ true }
-    ensures borne { result ≡ false → (i : ℕ) × (is_free_row (row_at (page_at pages.now.items at) i) ≡ false) }
+fn give_up_in(rows: &mut Rows<Row>, pid: Pid, role: Role) -> bool
+    requires { 1 ≤ count_of role (row_in rows.old pid) }
+    ensures rows { IsRowChanged pid (one_less role) rows.old rows.new }
+    ensures sizes { sizes_of rows.new ≡ sizes_of rows.old }
+    ensures free { result ≡ is_free_row (row_in rows.new pid) }
 {
-    match pages.get(at) {
-        Some(page) => page.is_unused(),
-        None => true,
-    }
+    let mut row = rows.get(pid);
+    row.give_up(role);
+    rows.set(pid, row);
+    row.is_free()
 }
 
 /// The number given last once `number` is borne in this role.
@@ -194,25 +133,25 @@ impl PidTable {
         ensures kept { IsPids result }
     {
         PidTable {
-            alloc,
             pidmax,
             last: 1,
-            pages: Vec::new(alloc),
-            spare: None,
+            rows: Rows::new(alloc),
+            counts: Vec::new(alloc),
             borne_below: 2,
             borne_from: pidmax + 1,
         }
     }
 
-    /// Makes it certain that one number more can be borne, whichever that is. Nothing else changes, also at the
-    /// error that there is no memory for it.
-    pub fn reserve(&mut self) -> Result<(), AllocError>
-        ensures ready { OnOk result (self.new.ready ≡ true) }
-        ensures stays { self.old.ready ≡ true → self.new.ready ≡ true }
-        ensures rest { self.new ≡ record (self.old) { ready = self.new.ready } }
+    /// Makes it certain that a number can be borne, where it is none above the greatest. Nothing else changes, also at
+    /// the error that there is no memory for it.
+    #[inline]
+    pub fn reserve(&mut self, pid: Pid) -> Result<(), AllocError>
+        ensures room { OnOk result (HasRoom self.new.sizes pid) }
+        ensures grows { Grows self.old.sizes self.new.sizes }
+        ensures rest { self.new ≡ record (self.old) { sizes = self.new.sizes } }
     {
-        make_pages(&mut self.pages, self.alloc, page_of(self.pidmax) + 1)?;
-        make_spare(&mut self.spare, self.alloc, page_size(self.pidmax))
+        make_counts(&mut self.counts, page_of(self.pidmax) + 1)?;
+        self.rows.reserve(pid, Row::UNBORNE)
     }
 
     /// The greatest number: 2 to 4,194,304.
@@ -234,47 +173,45 @@ impl PidTable {
     /// Whether the page of a number can go: nobody bears any of the 1,024 numbers on it, and the one given last isn't
     /// on it, so that the next one given may not be either.
     #[inline]
-    pub fn is_left(&self, pid: Pid) -> bool
+    pub fn can_give_up_page(&self, pid: Pid) -> bool
         ensures free { result ≡ true → (q : ℕ) → q / 1024 ≡ pid / 1024 → is_free_in self.now.rows q ≡ true }
         ensures borne { result ≡ false → (self.now.last / 1024 ≡ pid / 1024) ⊎ ((q : ℕ) × (q / 1024 ≡ pid / 1024) × (is_free_in self.now.rows q ≡ false)) }
     {
-        let at = page_of(pid.number());
-        at != page_of(self.last) && is_unborne(&self.pages, at)
+        let page = page_of(pid.number());
+        page != page_of(self.last) && count_at(&self.counts, page) == 0
     }
 
-    /// The least free number from `from` on in its page, and whether there is one; else the first of the next page.
-    fn look(&self, from: u32) -> (u32, bool)
-        requires { from ≤ self.now.pidmax }
-        ensures range { (from ≤ result.0) × (result.0 ≤ 4195328) }
-        ensures borne { (k : ℕ) → from ≤ k → k < result.0 → k ≤ self.now.pidmax → is_free_in self.now.rows k ≡ false }
-        ensures free { result.1 ≡ true → result.0 ≤ self.now.pidmax → is_free_in self.now.rows result.0 ≡ true }
-        ensures farther { result.1 ≡ false → from < result.0 }
+    /// The room for a number goes, and that for all others on its page of 1,024 numbers, none of which is borne.
+    pub fn give_up_page(&mut self, pid: Pid)
+        requires { (q : ℕ) → q / 1024 ≡ pid / 1024 → is_free_in self.old.rows q ≡ true }
+        ensures { self.new ≡ record (self.old) { sizes = sizes_without self.old.sizes pid } }
     {
-        match self.pages.get(page_of(from)) {
-            Some(page) => {
-                let at = page.first_free(place_of(from));
-                (from / 1024 * 1024 + at as u32, at < 1024)
-            }
-            None => (from, true),
-        }
+        self.rows.give_up_page(pid);
     }
 
-    /// The least free number from `from` on.
+    /// Whether nobody bears a number.
+    #[inline]
+    fn is_free(&self, pid: Pid) -> bool
+        ensures { pid ≤ self.now.pidmax → result ≡ is_free_in self.now.rows pid }
+    {
+        !self.rows.has(pid) || self.rows.get(pid).is_free()
+    }
+
+    /// The least free number from `from` on. A page of which all numbers are borne is passed over.
     fn first_free(&self, from: u32) -> Option<Pid>
         requires { from ≤ self.now.pidmax + 1 }
         ensures { result ≡ first_free (is_free_in self.now.rows) from (self.now.pidmax + 1 - from) }
     {
         let mut at = from;
         while at <= self.pidmax {
-            let (next, found) = self.look(at);
-            if found {
-                return if next <= self.pidmax {
-                    Pid::new(next)
-                } else {
-                    None
-                };
+            let pid = Pid::new(at)?;
+            if count_at(&self.counts, page_of(at)) == 1024 {
+                at = (at / 1024 + 1) * 1024;
+            } else if self.is_free(pid) {
+                return Some(pid);
+            } else {
+                at += 1;
             }
-            at = next;
         }
         None
     }
@@ -324,43 +261,35 @@ impl PidTable {
 
     /// One process more bears `pid` in this role. As a process's own number it is also the one given
     /// last.
-    #[tactic(auto, using(crate::proofs::PageLemmas::row_of, crate::proofs::PageLemmas::rows_size, crate::proofs::PageLemmas::given_within, crate::proofs::PageLemmas::beyond_changed), unfolding(crate::specs::Rows::borne))]
     pub fn bear(&mut self, pid: Pid, role: Role)
         requires range { pid ≤ self.old.pidmax }
         requires count { count_of role (row self.old.rows pid) < 4294967295 }
-        requires ready { is_free_in self.old.rows pid ≡ true → self.old.ready ≡ true }
-        ensures value { self.new ≡ record (borne self.old pid role) { ready = self.new.ready } }
-        ensures ready { is_free_in self.old.rows pid ≡ false → self.new.ready ≡ self.old.ready }
+        requires room { is_free_in self.old.rows pid ≡ true → HasRoom self.old.sizes pid }
+        ensures value { self.new ≡ borne self.old pid role }
         ensures borne { is_free_in self.new.rows pid ≡ false }
         ensures others { (q : ℕ) → is_free_in self.old.rows q ≡ false → is_free_in self.new.rows q ≡ false }
         ensures kept { IsPids self.new }
     {
         let number = pid.number();
-        bear_in(&mut self.pages, &mut self.spare, number, role);
+        let was_free = bear_in(&mut self.rows, pid, role);
+        count_borne(&mut self.counts, page_of(number), was_free);
         self.last = given(role, number, self.last);
     }
 
     /// One process less bears `pid` in this role.
-    #[tactic(auto, using(crate::proofs::PageLemmas::row_of, crate::proofs::PageLemmas::rows_size, crate::proofs::PageLemmas::beyond_changed), unfolding(crate::specs::Rows::given_up))]
     pub fn give_up(&mut self, pid: Pid, role: Role)
         requires range { pid ≤ self.old.pidmax }
         requires count { 1 ≤ count_of role (row self.old.rows pid) }
-        ensures value { self.new ≡ record (given_up self.old pid role) { ready = self.new.ready } }
-        ensures ready { self.old.ready ≡ true → self.new.ready ≡ true }
+        ensures value { self.new ≡ given_up self.old pid role }
         ensures kept { IsPids self.new }
     {
-        let number = pid.number();
-        if !give_up_in(&mut self.pages, number, role) {
+        if !give_up_in(&mut self.rows, pid, role) {
             return;
         }
+        let number = pid.number();
+        self.counts[page_of(number)] -= 1;
         self.borne_below = self.borne_below.min(number);
         self.borne_from = self.borne_from.max(number + 1);
-        tidy(
-            &mut self.pages,
-            &mut self.spare,
-            self.alloc,
-            page_of(number),
-        );
     }
 
     /// A process was born: it bears its own number, which is the one given last, its group's and its
@@ -373,10 +302,10 @@ impl PidTable {
         requires pid_count { (row self.old.rows pid).process < 4294967295 }
         requires group_count { (row self.old.rows group).group < 4294967295 }
         requires session_count { (row self.old.rows session).session < 4294967295 }
-        requires ready { self.old.ready ≡ true }
+        requires room { HasRoom self.old.sizes pid }
         requires group_borne { is_free_in self.old.rows group ≡ true → group ≡ pid }
         requires session_borne { is_free_in self.old.rows session ≡ true → session ≡ pid }
-        ensures value { self.new ≡ record (born_in self.old pid group session) { ready = self.new.ready } }
+        ensures value { self.new ≡ born_in self.old pid group session }
         ensures last { self.new.last ≡ pid }
         ensures pidmax { self.new.pidmax ≡ self.old.pidmax }
         ensures kept { IsPids self.new }
@@ -396,8 +325,7 @@ impl PidTable {
         requires pid_count { 1 ≤ (row self.old.rows pid).process }
         requires group_count { 1 ≤ (row self.old.rows group).group }
         requires session_count { 1 ≤ (row self.old.rows session).session }
-        ensures value { self.new ≡ record (gone_from self.old pid group session) { ready = self.new.ready } }
-        ensures ready { self.old.ready ≡ true → self.new.ready ≡ true }
+        ensures value { self.new ≡ gone_from self.old pid group session }
         ensures last { self.new.last ≡ self.old.last }
         ensures pidmax { self.new.pidmax ≡ self.old.pidmax }
         ensures kept { IsPids self.new }
@@ -421,8 +349,7 @@ impl PidTable {
         requires to_session_count { (row self.old.rows to_session).session < 4294967295 }
         requires to_group_borne { is_free_in self.old.rows to_group ≡ false }
         requires to_session_borne { is_free_in self.old.rows to_session ≡ false }
-        ensures value { self.new ≡ record (regrouped self.old group session to_group to_session) { ready = self.new.ready } }
-        ensures ready { self.old.ready ≡ true → self.new.ready ≡ true }
+        ensures value { self.new ≡ regrouped self.old group session to_group to_session }
         ensures last { self.new.last ≡ self.old.last }
         ensures pidmax { self.new.pidmax ≡ self.old.pidmax }
         ensures kept { IsPids self.new }

@@ -7,8 +7,8 @@ use Rattle.std.proofs.lemmas.Bool.Decides.{nat_tests}
 use Rattle.pidset.specs.declared.index.Pair.{Pair}
 use Rattle.pidset.specs.declared.lists.Node.{Node}
 use Rattle.pidset.specs.Indexes.{ArePairsRekeyed, IsAt, IsNextPair, IsMoved, is_pair_in}
-use Rattle.pidset.specs.Rows.{HasRoom, HasRow, IsApart, sizes_of, row_or, without_page}
-use Rattle.pidset.specs.Lists.{ListsView, Nodes, StaysApart, left_by, node_of, list_of, behind_of, before_of, pair_of, pairs_in, AreLinked, IsFrom}
+use Rattle.pidset.specs.Rows.{HasRoom, HasRow, IsOnAnotherPage, sizes_of, row_or, without_page}
+use Rattle.pidset.specs.Lists.{ListsView, Nodes, IsPageUnused, without_page_of, node_of, list_of, behind_of, before_of, pair_of, pairs_in, AreLinked, IsFrom}
 use Rattle.pidset.proofs.RowLemmas.{page_there, sizes_left}
 use Rattle.pidset.proofs.NodeLemmas.{nowhere, node_left, node_gone}
 use Rattle.pidset.proofs.LinkLemmas.{inside, list_inside, kept}
@@ -109,10 +109,10 @@ grown old new pairs is l same = record {
 -- ---- a page is given up
 
 -- who stands in a list keeps its node, and so does the list
-apart_from : (ns : Nodes) (n k p : ℕ) → StaysApart n (pairs_in ns) → k ≢ 0 → list_of ns p ≡ k → IsApart k n × IsApart p n
+apart_from : (ns : Nodes) (n k p : ℕ) → IsPageUnused n (pairs_in ns) → k ≢ 0 → list_of ns p ≡ k → IsOnAnotherPage k n × IsOnAnotherPage p n
 apart_from ns n k p apart nk e = apart k p (in_pairs ns k p ∙ grind (arith, nat_tests))
 
-left_list : (ns : Nodes) (n : ℕ) → StaysApart n (pairs_in ns) → (i : ℕ) → list_of (without_page ns n) i ≡ list_of ns i
+left_list : (ns : Nodes) (n : ℕ) → IsPageUnused n (pairs_in ns) → (i : ℕ) → list_of (without_page ns n) i ≡ list_of ns i
 unfolding list_of
 left_list ns n apart i = elim (cases_eq (i / 1024) (n / 1024)) [
   | inr far ↦ ap (λ (n : Node). n.list) (node_left ns n i far)
@@ -120,26 +120,26 @@ left_list ns n apart i = elim (cases_eq (i / 1024) (n / 1024)) [
 ]
 
 -- a list whose node goes has no first and no last
-ends : (ns : Nodes) (n k : ℕ) → StaysApart n (pairs_in ns) → AreLinked ns → k ≢ 0 → k / 1024 ≡ n / 1024 → (behind_of ns k 0 ≡ 0) × (before_of ns k 0 ≡ 0)
+ends : (ns : Nodes) (n k : ℕ) → IsPageUnused n (pairs_in ns) → AreLinked ns → k ≢ 0 → k / 1024 ≡ n / 1024 → (behind_of ns k 0 ≡ 0) × (before_of ns k 0 ≡ 0)
 ends ns n k apart l nk same =
     let nobody : (p : ℕ) → list_of ns p ≢ k = λ p e. (apart_from ns n k p apart nk e).0 same in
     (elim (l.behind k 0 nk (inl refl)).there [ inl e ↦ e | inr w ↦ absurd (nobody _ w.1) ], elim (l.before k 0 nk (inl refl)).0 [ inl e ↦ e | inr e ↦ absurd (nobody _ e) ])
 
-left_ends : (ns : Nodes) (n k : ℕ) → StaysApart n (pairs_in ns) → AreLinked ns → k ≢ 0 → (behind_of (without_page ns n) k 0 ≡ behind_of ns k 0) × (before_of (without_page ns n) k 0 ≡ before_of ns k 0)
+left_ends : (ns : Nodes) (n k : ℕ) → IsPageUnused n (pairs_in ns) → AreLinked ns → k ≢ 0 → (behind_of (without_page ns n) k 0 ≡ behind_of ns k 0) × (before_of (without_page ns n) k 0 ≡ before_of ns k 0)
 unfolding behind_of before_of
 left_ends ns n k apart l nk = elim (cases_eq (k / 1024) (n / 1024)) [
   | inr far ↦ let e = node_left ns n k far in (ap (λ (n : Node). n.first) e, ap (λ (n : Node). n.last) e)
   | inl same ↦ let e = node_gone ns n k same in let z = ends ns n k apart l nk same in (ap (λ (n : Node). n.first) e ∙ sym z.0, ap (λ (n : Node). n.last) e ∙ sym z.1)
 ]
 
-left_links : (ns : Nodes) (n k a : ℕ) → IsApart a n → a ≢ 0 → (behind_of (without_page ns n) k a ≡ behind_of ns k a) × (before_of (without_page ns n) k a ≡ before_of ns k a)
+left_links : (ns : Nodes) (n k a : ℕ) → IsOnAnotherPage a n → a ≢ 0 → (behind_of (without_page ns n) k a ≡ behind_of ns k a) × (before_of (without_page ns n) k a ≡ before_of ns k a)
 unfolding behind_of before_of
 left_links ns n k a far some = rw (ne_eqb a 0 some) (let e = node_left ns n a far in (ap (λ (n : Node). n.behind) e, ap (λ (n : Node). n.before) e))
 
-pub left : (ns new : Nodes) (n : ℕ) (v : ListsView) → record { pairs = pairs_in ns; sizes = sizes_of ns } ≡ v → new ≡ without_page ns n → AreLinked ns → StaysApart n v.pairs
-    → AreLinked new × (record { pairs = pairs_in new; sizes = sizes_of new } ≡ left_by n v)
+pub left : (ns new : Nodes) (n : ℕ) (v : ListsView) → record { pairs = pairs_in ns; sizes = sizes_of ns } ≡ v → new ≡ without_page ns n → AreLinked ns → IsPageUnused n v.pairs
+    → AreLinked new × (record { pairs = pairs_in new; sizes = sizes_of new } ≡ without_page_of n v)
 left ns new n v is e l stays =
-    let apart : StaysApart n (pairs_in ns) = subst (λ w. StaysApart n w.pairs) (sym is) stays in
+    let apart : IsPageUnused n (pairs_in ns) = subst (λ w. IsPageUnused n w.pairs) (sym is) stays in
     let list = left_list ns n apart in
     rw (e, ← is) (
       kept ns (without_page ns n) list (λ k a nk h. elim (cases_eq a 0) [

@@ -3,7 +3,7 @@ use Rattle.std.proofs.Common.{◌≡◌, ◌≢◌, ◌⊎◌, ℕ, ◌/◌, con
 use Rattle.std.proofs.lemmas.Bool.{eq-eqb, ne_eqb, cases_eq}
 use Rattle.std.proofs.lemmas.Bool.Decides.{nat_tests}
 use Rattle.pidset.specs.declared.lists.Node.{Node}
-use Rattle.pidset.specs.Rows.{HasRow, IsApart, row_or, sizes_of, with_row, without_page}
+use Rattle.pidset.specs.Rows.{HasRow, IsOnAnotherPage, row_or, sizes_of, with_row, without_page}
 use Rattle.pidset.specs.Lists.{Nodes, node_of, list_of, behind_of, before_of, with_list, with_behind, with_before, joined}
 use Rattle.pidset.proofs.RowLemmas.{row_set, row_kept, row_or_none, row_left, row_gone, sizes_kept}
 
@@ -23,7 +23,7 @@ node_or_none ns i = row_or_none ns i nowhere
 
 -- ---- a page of nodes is given up
 
-pub node_left : (ns : Nodes) (n i : ℕ) → IsApart i n → node_of (without_page ns n) i ≡ node_of ns i
+pub node_left : (ns : Nodes) (n i : ℕ) → IsOnAnotherPage i n → node_of (without_page ns n) i ≡ node_of ns i
 unfolding node_of
 node_left ns n i apart = row_left ns n i nowhere apart
 

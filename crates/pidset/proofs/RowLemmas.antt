@@ -3,7 +3,7 @@ use Rattle.std.proofs.Common.{◌≡◌, ℕ, zero, suc, ◌%◌, ◌/◌, ◌<�
 use Rattle.std.specs.Prelude.{slice_set, slice_index_or, nat_lt}
 use Rattle.std.proofs.lemmas.Bool.{eq-eqb, ne_eqb, ltb-false, cases_eq, cases_lt}
 use Rattle.std.proofs.lemmas.List.{map-set, set-get_or, set_past, get_or_past, get_or-map, length-map}
-use Rattle.pidset.specs.Rows.{HasRoom, IsApart, HasRow, page_at, sizes_of, sizes_without, row_or, with_row, without_page}
+use Rattle.pidset.specs.Rows.{HasRoom, IsOnAnotherPage, HasRow, page_at, sizes_of, sizes_without, row_or, with_row, without_page}
 
 -- ---- the sizes
 
@@ -69,7 +69,11 @@ pub sizes_left : {T : Type 0} (pages : List (List T)) (n : ℕ) → sizes_of (wi
 unfolding without_page
 sizes_left pages n = map-set length pages (n / 1024) []
 
-pub row_left : {T : Type 0} (pages : List (List T)) (n m : ℕ) (other : T) → IsApart m n → row_or other (without_page pages n) m ≡ row_or other pages m
+-- there is room for numbers of other pages as before
+pub room_stays : (sizes : List ℕ) (n m : ℕ) → IsOnAnotherPage m n → HasRoom sizes m → HasRoom (sizes_without sizes n) m
+room_stays sizes n m apart room = rw (get_or-set_other sizes (n / 1024) (m / 1024) 0 0 apart) room
+
+pub row_left : {T : Type 0} (pages : List (List T)) (n m : ℕ) (other : T) → IsOnAnotherPage m n → row_or other (without_page pages n) m ≡ row_or other pages m
 unfolding without_page
 row_left pages n m other apart = ap (λ p. get_or p (m % 1024) other) (get_or-set_other pages (n / 1024) (m / 1024) [] [] apart)
 

@@ -4,7 +4,7 @@ use Rattle.std.specs.List.{range_with_len}
 use Rattle.pidset.specs.declared.index.Pair.{Pair}
 use Rattle.pidset.specs.declared.lists.Node.{Node}
 use Rattle.pidset.specs.Indexes.{is_pair_in}
-use Rattle.pidset.specs.Rows.{IsApart, row_or, sizes_without, sizes_of, with_row}
+use Rattle.pidset.specs.Rows.{IsOnAnotherPage, row_or, sizes_without, sizes_of, with_row}
 
 -- the processes under the numbers of their lists, and for how many numbers of each page there is memory
 pub record ListsView : Type 0 where
@@ -12,12 +12,12 @@ pub record ListsView : Type 0 where
   pub sizes : List ℕ
 
 -- nobody whose number is on the page of n stands in a list, and none in a list whose number is on it
-abbrev pub StaysApart : ℕ → List Pair → Type 0
-StaysApart n pairs = (k p : ℕ) → is_pair_in k p pairs ≡ true → IsApart k n × IsApart p n
+abbrev pub IsPageUnused : ℕ → List Pair → Type 0
+IsPageUnused n pairs = (k p : ℕ) → is_pair_in k p pairs ≡ true → IsOnAnotherPage k n × IsOnAnotherPage p n
 
 -- the lists without memory for the numbers on the page of n
-abbrev pub left_by : ℕ → ListsView → ListsView
-left_by n v = record { pairs = v.pairs; sizes = sizes_without v.sizes n }
+abbrev pub without_page_of : ℕ → ListsView → ListsView
+without_page_of n v = record { pairs = v.pairs; sizes = sizes_without v.sizes n }
 
 -- the nodes, by pages
 abbrev pub Nodes : Type 0

@@ -14,8 +14,8 @@ abbrev pub sizes_without : List ℕ → ℕ → List ℕ
 sizes_without sizes n = slice_set sizes (n / 1024) 0
 
 -- n has another page than m
-abbrev pub IsApart : ℕ → ℕ → Type 0
-IsApart n m = n / 1024 ≢ m / 1024
+abbrev pub IsOnAnotherPage : ℕ → ℕ → Type 0
+IsOnAnotherPage n m = n / 1024 ≢ m / 1024
 
 module _ {T : Type 0} where
   abbrev pub page_at : List (List T) → ℕ → List T

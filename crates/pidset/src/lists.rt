@@ -4,7 +4,7 @@
 ghost use Rattle.std.specs.Prelude.{◌≡◌, ◌≢◌, ◌<◌, ◌≤◌, ◌==◌, ℕ, [], IfSome, OnOk, cond};
 ghost use Rattle.pidset.specs.Indexes.{ArePairsRekeyed, IsNextPair, IsMoved, IsAt};
 ghost use Rattle.pidset.specs.Rows.{Grows, HasRoom, HasRow, sizes_of};
-ghost use Rattle.pidset.specs.Lists.{AreLinked, StaysApart, left_by, IsAbove, IsListed, IsPlaceFor, IsFrom, list_of, behind_of, before_of, with_list, with_behind, with_before, joined};
+ghost use Rattle.pidset.specs.Lists.{AreLinked, IsPageUnused, without_page_of, IsAbove, IsListed, IsPlaceFor, IsFrom, node_of, list_of, behind_of, before_of, with_list, with_behind, with_before, joined};
 
 use crate::rows::Rows;
 use posix::Pid;
@@ -68,6 +68,7 @@ impl Lists {
 
     /// Makes room for a number. Who stands in the lists stays, and room that was there, also at the error that there is
     /// no memory.
+    #[inline]
     pub fn reserve(&mut self, pid: Pid) -> Result<(), AllocError>
         ensures room { OnOk result (HasRoom self.new.sizes pid) }
         ensures grows { Grows self.old.sizes self.new.sizes }
@@ -79,8 +80,8 @@ impl Lists {
     /// The room for a number goes, and that for all others on its page of 1,024 numbers, where none of them stands in a
     /// list or is the number of one in which somebody stands.
     pub fn give_up_page(&mut self, pid: Pid)
-        requires { StaysApart pid self.old.pairs }
-        ensures { self.new ≡ left_by pid self.old }
+        requires { IsPageUnused pid self.old.pairs }
+        ensures { self.new ≡ without_page_of pid self.old }
     {
         self.nodes.give_up_page(pid);
     }
@@ -143,67 +144,81 @@ impl Lists {
     }
 }
 
+/// The node of a number.
+#[inline(always)]
+fn node_at(nodes: &Rows<Node>, pid: Pid) -> Node
+    requires { HasRow nodes.now pid }
+    ensures { result ≡ node_of nodes.now pid }
+{
+    nodes.get(pid)
+}
+
 /// The list in which a process stands; number 0 for none.
 #[inline]
+#[tactic(auto, unfolding(crate::specs::Lists::list_of))]
 fn list_at(nodes: &Rows<Node>, pid: Pid) -> Pid
     requires { HasRow nodes.now pid }
     ensures { result ≡ list_of nodes.now pid }
 {
-    nodes.get(pid).list
+    node_at(nodes, pid).list
 }
 
 /// Who stands behind another in a list, and its first behind number 0; number 0 for nobody.
 #[inline]
+#[tactic(auto, unfolding(crate::specs::Lists::behind_of))]
 fn behind(nodes: &Rows<Node>, list: Pid, at: Pid) -> Pid
     requires list_inside { HasRow nodes.now list }
     requires at_inside { at ≢ 0 → HasRow nodes.now at }
     ensures { result ≡ behind_of nodes.now list at }
 {
     if at == Pid::NONE {
-        nodes.get(list).first
+        node_at(nodes, list).first
     } else {
-        nodes.get(at).behind
+        node_at(nodes, at).behind
     }
 }
 
 /// Who stands before another in a list, and its last before number 0; number 0 for nobody.
 #[inline]
+#[tactic(auto, unfolding(crate::specs::Lists::before_of))]
 fn before(nodes: &Rows<Node>, list: Pid, at: Pid) -> Pid
     requires list_inside { HasRow nodes.now list }
     requires at_inside { at ≢ 0 → HasRow nodes.now at }
     ensures { result ≡ before_of nodes.now list at }
 {
     if at == Pid::NONE {
-        nodes.get(list).last
+        node_at(nodes, list).last
     } else {
-        nodes.get(at).before
+        node_at(nodes, at).before
     }
 }
 
 /// A process stands in a list from now on, or in none.
 #[inline]
+#[tactic(auto, unfolding(crate::specs::Lists::with_list))]
 fn set_list(nodes: &mut Rows<Node>, pid: Pid, list: Pid)
     requires { HasRow nodes.old pid }
     ensures { nodes.new ≡ with_list nodes.old pid list }
 {
-    let mut node = nodes.get(pid);
+    let mut node = node_at(nodes, pid);
     node.list = list;
     nodes.set(pid, node);
 }
 
 /// One comes right behind another in a list from now on, or is its first.
 #[inline]
+#[tactic(auto, unfolding(crate::specs::Lists::with_behind))]
 fn set_behind(nodes: &mut Rows<Node>, list: Pid, at: Pid, to: Pid)
     requires list_inside { HasRow nodes.old list }
     requires at_inside { at ≢ 0 → HasRow nodes.old at }
     ensures { nodes.new ≡ with_behind nodes.old list at to }
 {
     if at == Pid::NONE {
-        let mut node = nodes.get(list);
+        let mut node = node_at(nodes, list);
         node.first = to;
         nodes.set(list, node);
     } else {
-        let mut node = nodes.get(at);
+        let mut node = node_at(nodes, at);
         node.behind = to;
         nodes.set(at, node);
     }
@@ -211,17 +226,18 @@ fn set_behind(nodes: &mut Rows<Node>, list: Pid, at: Pid, to: Pid)
 
 /// One comes right before another in a list from now on, or is its last.
 #[inline]
+#[tactic(auto, unfolding(crate::specs::Lists::with_before))]
 fn set_before(nodes: &mut Rows<Node>, list: Pid, at: Pid, to: Pid)
     requires list_inside { HasRow nodes.old list }
     requires at_inside { at ≢ 0 → HasRow nodes.old at }
     ensures { nodes.new ≡ with_before nodes.old list at to }
 {
     if at == Pid::NONE {
-        let mut node = nodes.get(list);
+        let mut node = node_at(nodes, list);
         node.last = to;
         nodes.set(list, node);
     } else {
-        let mut node = nodes.get(at);
+        let mut node = node_at(nodes, at);
         node.before = to;
         nodes.set(at, node);
     }

@@ -113,7 +113,21 @@ impl<T: Copy> Rows<T> {
 
     /// Makes room for a number: it has this row, if it has none yet. Others have their rows as before, or this one, also
     /// at the error that there is no memory.
+    #[inline]
     pub fn reserve(&mut self, pid: Pid, row: T) -> Result<(), AllocError>
+        ensures room { OnOk result (HasRow self.new pid) }
+        ensures grows { (n : ℕ) → HasRow self.old n → HasRow self.new n }
+        ensures rows { (n : ℕ) → row_or row self.new n ≡ row_or row self.old n }
+    {
+        if self.has(pid) {
+            return Ok(());
+        }
+        self.grow(pid, row)
+    }
+
+    /// So where there may be no row yet. It stands by itself, since few births come so far.
+    #[inline(never)]
+    fn grow(&mut self, pid: Pid, row: T) -> Result<(), AllocError>
         ensures room { OnOk result (HasRow self.new pid) }
         ensures grows { (n : ℕ) → HasRow self.old n → HasRow self.new n }
         ensures rows { (n : ℕ) → row_or row self.new n ≡ row_or row self.old n }

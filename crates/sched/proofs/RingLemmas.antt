@@ -7,7 +7,7 @@ use Rattle.posix.specs.Regular.{IsDistinct}
 use Rattle.posix.proofs.MemberLemmas.{in_first, in_none, in_last, in_without, is_other, out_of}
 use Rattle.posix.proofs.OrderLemmas.{distinct_last, one_less, without_absent}
 use Rattle.posix.proofs.RegularLemmas.{distinct_without}
-use Rattle.pidset.specs.Rows.{HasRow, IsApart, sizes_of, with_row, without_page}
+use Rattle.pidset.specs.Rows.{HasRow, IsOnAnotherPage, sizes_of, with_row, without_page}
 use Rattle.pidset.proofs.RowLemmas.{row_or_none, row_kept, row_left, row_gone}
 use Rattle.sched.specs.declared.order.Node.{Node}
 use Rattle.sched.specs.Places.{Places}
@@ -138,7 +138,7 @@ unfolding prev_of next_of
 order_grown old new n f ps o same = order_stays old new n f ps o (λ i. ap (λ (m : Node). m.next) (same i)) (λ i e. ap (λ (m : Node). m.prev) (same i))
 
 -- a page goes
-pub order_left : (old : Nodes) (n f p : ℕ) (ps : List ℕ) → IsOrder old n f ps → ((i : ℕ) → is_in i ps ≡ true → IsApart i p) → IsOrder (without_page old p) n f ps
+pub order_left : (old : Nodes) (n f p : ℕ) (ps : List ℕ) → IsOrder old n f ps → ((i : ℕ) → is_in i ps ≡ true → IsOnAnotherPage i p) → IsOrder (without_page old p) n f ps
 unfolding prev_of next_of
 order_left old n f p ps o apart = order_stays old (without_page old p) n f ps o
     (λ i. elim (cases_eq (i / 1024) (p / 1024)) [

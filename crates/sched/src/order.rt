@@ -3,7 +3,7 @@
 ghost use Rattle.std.specs.Prelude.{ℕ, ◌≡◌, ◌+◌, ◌≤◌, ◌==◌, cond, true, false, [], ◌∷◌, ◌++◌, length, slice_get, OnOk};
 ghost use Rattle.posix.specs.States.{is_in, without};
 ghost use Rattle.posix.specs.Regular.{IsDistinct};
-ghost use Rattle.pidset.specs.Rows.{Grows, HasRoom, HasRow, IsApart, sizes_without};
+ghost use Rattle.pidset.specs.Rows.{Grows, HasRoom, HasRow, IsOnAnotherPage, sizes_without};
 ghost use Rattle.sched.specs.Places.{next_behind};
 ghost use Rattle.sched.specs.Rings.{IsJoined};
 
@@ -66,6 +66,7 @@ impl Order {
 
     /// Makes room for the process with a number. The order stays, and room that was there, also at the error that there
     /// is no memory.
+    #[inline]
     pub fn reserve(&mut self, pid: Pid) -> Result<(), AllocError>
         ensures room { OnOk result (HasRoom self.new.sizes pid) }
         ensures grows { Grows self.old.sizes self.new.sizes }
@@ -76,7 +77,7 @@ impl Order {
 
     /// The room for a number goes, and that for all others on its page of 1,024 numbers. None of them has a place.
     pub fn give_up_page(&mut self, pid: Pid)
-        requires { (p : ℕ) → is_in p self.old.pids ≡ true → IsApart p pid }
+        requires { (p : ℕ) → is_in p self.old.pids ≡ true → IsOnAnotherPage p pid }
         ensures { self.new ≡ record { pids = self.old.pids; sizes = sizes_without self.old.sizes pid } }
     {
         self.nodes.give_up_page(pid);

@@ -1,9 +1,13 @@
-use Rattle.std.proofs.Common.{◌∙◌, ap, arith}
+use Rattle.std.proofs.Common.{◌∙◌, ap, arith, sym}
 use Rattle.posix.specs.Tables.{adopted}
 use Rattle.jobs.specs.declared.indexes.Indexes.{Indexes}
+use Rattle.jobs.proofs.ChildLemmas.{none_adopted}
 use Rattle.jobs.proofs.KeptLemmas.{kept_adopted, kin_kept, number_kept, widen}
 use Rattle.jobs.proofs.RoomLemmas.{anchors_room, children_room}
 use Rattle.jobs.proofs.indexed_table.IndexedTable.adopt.Goals as goal
+
+pub returns-then-is_childless-clause-processes : goal.returns-then-is_childless-clause-processes
+returns-then-is_childless-clause-processes g c = none_adopted c.args.from c.args.to _ (sym c.is_childless.ensures ∙ c.if-is_childless.true)
 
 pub give_children-requires-clause-kin : goal.give_children-requires-clause-kin
 give_children-requires-clause-kin g c = rw c.seen_there-heir.ensures.contents (kin_kept c.self.invariant)

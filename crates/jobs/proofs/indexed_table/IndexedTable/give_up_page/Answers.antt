@@ -1,5 +1,5 @@
 use Rattle.std.proofs.Common.{refl}
-use Rattle.jobs.proofs.RoomLemmas.{AreApart, anchors_apart, children_apart, kept_left, members_apart, sizes_left}
+use Rattle.jobs.proofs.RoomLemmas.{anchors_apart, children_apart, kept_left, members_apart, sizes_left}
 use Rattle.jobs.proofs.indexed_table.IndexedTable.give_up_page.Goals as goal
 
 pub give_up_page-requires-clause-members : goal.give_up_page-requires-clause-members

@@ -20,7 +20,7 @@ first_alone = refl
 pub invariant_of-result : goal.invariant_of-result
 unfolding Rises is_in
 invariant_of-result g c =
-    let bore = c.in_ok-lists.ensures.pids ∙ ap (λ m. record (born_in (unborne_table m) 1 1 1) { ready = c.in_ok-lists.lists.pids.ready }) c.pidmax-pidmax.ensures.value in
+    let bore = c.in_ok-lists.ensures.pids ∙ ap (λ m. record (born_in (unborne_table m) 1 1 1) { sizes = c.in_ok-lists.lists.pids.sizes }) c.pidmax-pidmax.ensures.value in
     let most = c.in_ok-lists.ensures.pidmax ∙ c.pidmax-pidmax.ensures.value in
     let unused : c.in_ok-terminals.terminals.consoles.items ≡ replicate c.in_ok-world.world.consoles unused_console = c.in_ok-terminals.ensures.consoles ∙ ap (λ n. replicate n unused_console) c.consoles.ensures.value in
     rw (c.in_ok-table.ensures.processes ∙ first_alone)

@@ -71,7 +71,7 @@ bear_all-requires g c =
     let bears = room_to_bear _ _ _ _ _ c.args.child c.args.parent _ _ (state_is c.self.view_is) (processes_of c.in_ok-reserve.ensures.rest) c.self.invariant.sound c.requires.child c.requires.parent c.in_ok-fields.ensures.groups in
     let new = next_is_new _ _ _ _ c.args.child (state_is c.self.view_is) c.self.invariant.sound c.requires.child in
     let up = borne_of _ _ _ c.self.invariant.sound c.args.parent me.what found in
-    let can = can_bear_all _ _ c.args.child _ _ c.in_ok-reserve-2.ensures.rest c.in_ok-reserve-2.ensures.ready new.greatest bears (ap (is_free_in c.self.inside.pids.rows) groups.0 ∙ up.group) (ap (is_free_in c.self.inside.pids.rows) groups.1 ∙ up.session) in
+    let can = can_bear_all _ _ c.args.child _ _ c.in_ok-reserve-2.ensures.rest c.in_ok-reserve-2.ensures.room new.greatest bears (ap (is_free_in c.self.inside.pids.rows) groups.0 ∙ up.group) (ap (is_free_in c.self.inside.pids.rows) groups.1 ∙ up.session) in
     record {
       pid_range = can.pid_range;
       group_range = can.group_range;
@@ -79,7 +79,7 @@ bear_all-requires g c =
       pid_count = can.pid_count;
       group_count = can.group_count;
       session_count = can.session_count;
-      ready = can.ready;
+      room = can.room;
       group_borne = can.group_borne;
       session_borne = can.session_borne;
     }

@@ -55,7 +55,7 @@ returns g c =
     let session = λ (r : Process) (e : lookup c.args.pid rs ≡ Some r). ap (λ (f : Snapshot). f.session) (same_Some _ (snapshot_of r) (c.discard-snapshot.ensures.value ∙ ap (option_map snapshot_of) e)) in
     let one = length_removed c.args.pid it.0 rs c.self.invariant.sound.regular.rising found in
     let left = ap (λ (l : List Process). length l) c.discard-snapshot.ensures.processes in
-    let same = c.leave_pages.ensures.same in
+    let same = c.give_up_unborne_pages.ensures.same in
     record {
       changes = record { state = same.state ∙ rw (c.discard-snapshot.ensures.processes, (c.discard-snapshot.ensures.counts it.0 found).last, ← c.self.view_is) refl; to_recheck = search rules; costs = search rules };
       foregrounds_unchecked = λ r e. same.foregrounds_unchecked ∙ c.also_in-self-inside.ensures ∙ ap (λ g. also_in g c.self.inside.foregrounds_unchecked) (session r (found_in _ _ (state_is c.self.view_is) c.args.pid r e)) ∙ search rules;

@@ -1,6 +1,6 @@
 use Rattle.std.proofs.Common.{subst}
 use Rattle.pidalloc.specs.Rows.{IsPids}
-use Rattle.pidalloc.proofs.PageLemmas.{pids_of}
+use Rattle.pidalloc.proofs.TableLemmas.{pids_of}
 use Rattle.pidalloc.proofs.table.PidTable.pidmax.Goals as goal
 
 pub returns-clause-kept : goal.returns-clause-kept
