@@ -1,6 +1,6 @@
 -- How many slots a wait and a kill read, and who is to be rechecked after them.
-use Rattle.std.proofs.Common.{subst, ◌≡◌, ℕ, ℤ, ◌+◌, ◌≤◌, Bool, true, false, cond, not, ◌==◌, ◌||◌, refl, ap, sym, ◌∙◌, arith, List, [], ◌∷◌, length, filter, Option, Some, None, Result, Ok}
-use Rattle.std.proofs.lemmas.Bool.{eqb-true, or_right}
+use Rattle.std.proofs.Common.{subst, ◌≡◌, ℕ, ℤ, ◌+◌, ◌≤◌, Bool, true, false, cond, ◌==◌, refl, ap, sym, ◌∙◌, arith, List, [], ◌∷◌, length, filter, Option, Some, None, Result, Ok}
+use Rattle.std.proofs.lemmas.Bool.{eqb-true}
 use Rattle.std.proofs.lemmas.List.{length-map}
 use Rattle.posix.specs.declared.target.Target.{Target}
 use Rattle.posix.specs.declared.target.Target.TheVariants as whom
@@ -19,31 +19,23 @@ use Rattle.posix.specs.SignalNumbers.{CONT, is_realtime}
 use Rattle.posix.proofs.MapLemmas.{lookup_on, at_keeps, at_pid}
 use Rattle.calls.proofs.ContinueLemmas.{sent_slots}
 use Rattle.posix.proofs.WalkLemmas.{numbered_one, numbered_none}
-use Rattle.pidset.specs.Numbers.{with_number}
 use Rattle.jobs.specs.IndexedTables.{takes_signal}
 use Rattle.life.specs.declared.caller.Caller.{Caller}
 use Rattle.life.specs.Callers.{caller_of}
 use Rattle.life.specs.Machines.{MachineView, AreSame, Looks, with_processes}
 use Rattle.life.specs.Queues.{is_sent, sent_as, rechecking_as}
 use Rattle.life.proofs.SendLemmas.{targets_nobody, rechecked_nobody}
-use Rattle.life.specs.Rechecks.{AreTaking, NeedNoChild, is_one, rechecking_signalled, slots_of_send, slots_of_survey_of_one, without_gone}
+use Rattle.life.specs.Rechecks.{AreTaking, is_one, rechecking_signalled, slots_of_send, slots_of_survey_of_one, without_gone}
 use Rattle.life.specs.Foregrounds.{also_in}
 use Rattle.posix.proofs.OrderLemmas.{distinct_pids}
 use Rattle.life.proofs.TakingLemmas.{taking_all}
 use Rattle.calls.specs.Outcomes.{CostsAtMost, IsQuiet, CostsWithRechecks, AreFew, is_cont, slots_of_kill, slots_of_continued, slots_before, meant_in}
-use Rattle.calls.proofs.ChosenLemmas.{changed_there}
 use Rattle.calls.proofs.KillLemmas.{number_is}
 use Rattle.life.specs.declared.consoles.Unchecked.TheVariants.{Nothing, In}
 use Rattle.calls.specs.Counts.{slots_of_rechecks, slots_of_checking}
-use Rattle.calls.proofs.CountLemmas.{rechecks_none, rechecks_brief, rechecks_taking}
+use Rattle.calls.proofs.CountLemmas.{rechecks_none, rechecks_taking}
 
 -- ---- who is to be rechecked
-
--- whoever has finished a call is in none
-brief_finished : (results : List (ℕ × ℤ)) (p : ℕ) (me : Process) (rs : List Process) (ns : List ℕ) → lookup p rs ≡ Some me → ((q : ℕ) → is_in q ns ≡ true → q ≡ p) → NeedNoChild (changed p (finished results) rs) ns
-unfolding finished
-brief_finished results p me rs ns found alone q e =
-    (finished results me, ap (λ n. lookup n (changed p (finished results) rs)) (alone q e) ∙ changed_there p (finished results) (λ r. refl) rs me found, or_right _ _ refl)
 
 -- a signal stays chosen where a call is finished
 taking_still : (results : List (ℕ × ℤ)) (p : ℕ) (rs : List Process) (ns : List ℕ) → AreTaking rs ns → AreTaking (changed p (finished results) rs) ns
@@ -91,34 +83,24 @@ brief_done p results old new h is costs = let c = costs h.place in brief_alone 1
 
 -- ---- a wait
 
--- where the record of a child has gone, its parent alone is to be rechecked
-gone_alone : (child p : ℕ) → ((q : ℕ) → is_in q (without_gone child p []) ≡ true → q ≡ p) × (length (without_gone child p []) ≤ 1)
-unfolding with_number without is_in
-gone_alone child p = elim (p == child) as (λ b. ((q : ℕ) → is_in q (cond (not b) (p ∷ []) []) ≡ true → q ≡ p) × (length (cond (not b) (p ∷ []) []) ≤ 1)) [
-  | true ↦ (λ q e. absurd (cc), omega arith)
-  | false ↦ (λ q e. sym (eqb-true p q (one (p == q) e)), omega arith)
-]
-  where
-    one : (b : Bool) → (b || false) ≡ true → b ≡ true
-    one true e = refl
-    one false e = e
+-- where the record of a child has gone, and its parent has a place, nobody is to be rechecked
+gone_alone : (child p : ℕ) (order : List ℕ) → is_in p order ≡ true → without_gone child p order [] ≡ []
+unfolding without
+gone_alone child p order place = rw place refl
 
 -- a zombie was collected, and then reported
-pub brief_reaped : (p child : ℕ) (results : List (ℕ × ℤ)) (old mid new : MachineView) (me it : Process) → 1 ≤ it.session → IsQuiet p old → mid.state ≡ record (old.state) { processes = removed child old.state.processes } → mid.to_recheck ≡ without_gone child p old.to_recheck
-    → mid.foregrounds_unchecked ≡ also_in it.session old.foregrounds_unchecked → mid.visits ≤ old.visits + 5 → process mid.state p ≡ Some me → new.state ≡ finish mid.state p results → (has_place mid.state p ≡ true → CostsAtMost 1 mid new) → CostsWithRechecks 9 old new
-brief_reaped p child results old mid new me it least h gone list lost read here is costs =
+pub brief_reaped : (p child : ℕ) (results : List (ℕ × ℤ)) (old mid new : MachineView) (it : Process) → 1 ≤ it.session → IsQuiet p old → mid.state ≡ record (old.state) { processes = removed child old.state.processes } → mid.to_recheck ≡ without_gone child p old.state.order old.to_recheck
+    → mid.foregrounds_unchecked ≡ also_in it.session old.foregrounds_unchecked → mid.visits ≤ old.visits + 5 → new.state ≡ finish mid.state p results → (has_place mid.state p ≡ true → CostsAtMost 1 mid new) → CostsWithRechecks 7 old new
+brief_reaped p child results old mid new it least h gone list lost read is costs =
     let c = costs (ap (λ (s : State). has_place s p) gone ∙ h.place) in
-    let ns : new.to_recheck ≡ without_gone child p [] = c.to_recheck ∙ list ∙ ap (without_gone child p) h.none in
-    let alone = gone_alone child p in
+    let none : new.to_recheck ≡ [] = c.to_recheck ∙ list ∙ ap (without_gone child p old.state.order) h.none ∙ gone_alone child p old.state.order h.place in
     let lost : new.foregrounds_unchecked ≡ In it.session = c.foregrounds_unchecked ∙ lost ∙ ap (also_in it.session) h.checked in
-    let brief : NeedNoChild new.state.processes new.to_recheck = rw (is, ns) (brief_finished results p me mid.state.processes (without_gone child p []) here alone.0) in
-    let few : length new.to_recheck ≤ 1 = rw ns alone.1 in
     record {
       reads =
-          let rechecks = rechecks_brief new.state.processes None new.to_recheck brief in
+          let rechecks = rechecks_none new.state.processes None new.to_recheck none in
           let checks = ap slots_of_checking lost in
           let one = c.visits in
-          omega (arith, read, one, rechecks, few, checks);
+          omega (arith, read, one, rechecks, checks);
       unchecked = subst AreFew (sym lost) (λ none. omega (arith, least, none));
       consoles = ap (λ (s : State). s.consoles) (is ∙ ap (λ (s : State). finish s p results) gone);
     }

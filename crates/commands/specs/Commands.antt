@@ -9,7 +9,7 @@ use Rattle.exploring.specs.Words.{request_of_words as exploring_asked}
 use Rattle.inputs.specs.Reads.{Contents}
 use Rattle.naming.specs.Serving.{Means as MeansOfNaming, text_in_words}
 use Rattle.sink.specs.Sinks.{Seen}
-use Rattle.running.specs.Serving.{IsToldAs, Means, MeansOfAuditInWords, Words}
+use Rattle.commands.specs.Running.{IsToldAs, Means, MeansOfAuditInWords, Words}
 use Rattle.commands.specs.declared.help.TheConstants.{HELP, VERSION}
 use Rattle.commands.specs.declared.serving.Command.{Command}
 use Rattle.commands.specs.declared.serving.Command.TheVariants as command

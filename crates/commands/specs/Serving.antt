@@ -1,7 +1,7 @@
 -- What a status of the program means, of any words.
 use Rattle.std.specs.Prelude.{◌≤◌, ℕ, List, Option, None, Some, Ok, Err, map}
 use Rattle.inputs.specs.Reads.{Contents, Text}
-use Rattle.running.specs.Serving.{Means, Words}
+use Rattle.commands.specs.Running.{Means, Words}
 use Rattle.sink.specs.Sinks.{Seen}
 use Rattle.commands.specs.Commands.{ServesAs, purpose_of}
 use Rattle.commands.specs.Named.{ServesNamed, named_in, place_in}

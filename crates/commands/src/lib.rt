@@ -1,9 +1,12 @@
-//! What the words of the command line are for, and what each command serves. A host adds files, outputs and a person.
+//! What the words of the command line are for, what each command serves, and what `run` and `audit` do. A host adds files,
+//! outputs and a person.
 #![tactic(auto)]
 
 mod help;
 mod named;
 mod options;
+mod running;
 mod serving;
+mod words;
 
 pub use serving::serve;

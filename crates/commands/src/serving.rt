@@ -7,12 +7,12 @@ ghost use Rattle.commands.specs.Serving.{Serves};
 
 use crate::help::{HELP, VERSION};
 use crate::named::{serve_named, takes_names};
+use crate::running::{put_own, serve as serve_run_or_audit, serve_audit_in_words};
 use explaining::{serve_explain, serve_lanes};
 use exploring::{Progress, serve as serve_explore};
 use inputs::{ReadFiles, WordsFault};
 use kernel::Sink;
 use naming::serve as serve_names;
-use running::{put_own, serve as serve_run_or_audit, serve_audit_in_words};
 use showing::{Ask, serve as serve_show};
 use std::alloc::Global;
 use std::hash::RandomState;

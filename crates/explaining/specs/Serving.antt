@@ -6,7 +6,7 @@ use Rattle.inputs.specs.Failures.{MeansOf, status_of}
 use Rattle.inputs.specs.Reads.{Contents, Text}
 use Rattle.inputs.specs.declared.failure.FileFailure.{FileFailure}
 use Rattle.sink.specs.Sinks.{BreaksOff, Seen, TakesAll}
-use Rattle.comparing.specs.Serving.{IsCompared, IsOther}
+use Rattle.showing.specs.Comparing.{IsCompared, IsOther}
 use Rattle.explaining.specs.Explanations.{IsBegun, OfExplained}
 use Rattle.explaining.specs.Words.{Asked, OfTrace, OfRun, asked_in_words}
 

@@ -2,7 +2,7 @@
 use Rattle.std.specs.Prelude.{List, Option, None, Some, codes}
 use Rattle.clap.specs.Words.{App, Row, Rule, fault_of, first_of, matches_of, new_rule, with_rule}
 use Rattle.clap.specs.declared.builder.action.ArgAction.TheVariants.{Set}
-use Rattle.comparing.specs.Serving.{Named, said as said_names}
+use Rattle.showing.specs.Comparing.{Named, said as said_names}
 use Rattle.inputs.specs.Reads.{Text}
 use Rattle.inputs.specs.Words.{command_with_file, unless_refused}
 use Rattle.explaining.specs.declared.words.Asked.{Asked as DeclaredAsked}

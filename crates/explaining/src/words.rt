@@ -7,8 +7,8 @@ ghost use Rattle.explaining.specs.Drawings.{drawing_asked};
 ghost use Rattle.explaining.specs.Words.{asked_by_names, asked_in_words, command_line, more_rule, said};
 
 use clap::{Arg, ArgAction, Command};
-use comparing::Named;
 use inputs::{NoRequest, command_with_file, command_with_flag, is_used, value_of};
+use showing::Named;
 use std::alloc::{AllocError, Global};
 
 /// What the words behind `explain` ask for.

@@ -1,29 +1,25 @@
 -- Who has just found that it has to wait for a child, and is blocked in that wait, can't act.
-use Rattle.std.proofs.Common.{◌≡◌, ◌≢◌, ℕ, true, false, cond, ◌&&◌, refl, ap, sym, ◌∙◌, Some, None, Option, is_some, List, []}
+use Rattle.std.proofs.Common.{◌≡◌, ◌≢◌, ℕ, true, false, refl, ap, sym, ◌∙◌, Some, None, Option, is_some}
 use Rattle.std.proofs.Math.Bool.{and-false}
 use Rattle.posix.specs.declared.process.Blocked.{Blocked}
 use Rattle.posix.specs.declared.process.Blocked.TheVariants as blocked
 use Rattle.posix.specs.SignalNumbers.{KILL}
 use Rattle.posix.specs.declared.waits.WaitCall.{WaitCall}
 use Rattle.posix.specs.Processes.{Process, is_running}
-use Rattle.std.proofs.lemmas.Bool.{eq-eqb, cond_both}
-use Rattle.std.proofs.lemmas.Option.{same_Some}
-use Rattle.pidset.specs.Numbers.{with_number}
 use Rattle.life.specs.Rechecks.{is_in_wait}
-use Rattle.life.specs.Consoles.{reads, reads_in}
+use Rattle.life.specs.Consoles.{reads}
 use Rattle.posix.specs.Terminals.{is_in_read}
-use Rattle.posix.specs.States.{State, change, lose_place, process, has_place, without}
+use Rattle.posix.specs.States.{State, change, process, has_place}
 use Rattle.posix.specs.Outcomes.{Block}
 use Rattle.posix.specs.Waits.{wait_by}
 use Rattle.posix.specs.Choice.{chosen}
 use Rattle.posix.specs.Attempts.{attempt_again}
-use Rattle.posix.specs.Settle.{can_act, can_go_on, is_block, wakes}
+use Rattle.posix.specs.Settle.{can_act, can_go_on, is_block}
 use Rattle.posix.specs.Step.{enter}
-use Rattle.posix.proofs.SeeLemmas.{can_act_alike, can_act_order}
+use Rattle.posix.proofs.SeeLemmas.{can_act_alike}
 use Rattle.posix.proofs.TouchLemmas.{Unseen, sees_unseen}
 use Rattle.posix.proofs.WaitLemmas.{by_wait}
 use Rattle.calls.proofs.ChosenLemmas.{changed_there, no_kill_chosen}
-use Rattle.kernel.proofs.RecheckedLemmas.{still_rests}
 
 -- ---- a wait blocks in a wait
 
@@ -46,59 +42,45 @@ waiter_rests s me call none waits =
     let signalled : is_some (chosen me.life me.signals) ≡ false = ap is_some none in
     rw (no_kill_chosen me.life me.signals other, waits, signalled, and-false) (and-false (is_running me.life))
 
--- nor once it is blocked, and has lost its place
+-- nor once it is blocked
 pub blocked_rests : (s : State) (p : ℕ) (me : Process) (call : WaitCall) (b : Blocked) → process s p ≡ Some me → chosen me.life me.signals ≡ None → wait_by call s me ≡ Block b
-    → (r : Process) → process (lose_place (change s p (enter b)) p) p ≡ Some r → wakes (lose_place (change s p (enter b)) p) r ≡ false
+    → (r : Process) → process (change s p (enter b)) p ≡ Some r → can_act (change s p (enter b)) r ≡ false
 blocked_rests s p me call b here none waits r e =
     let same : b ≡ blocked.Wait call = wait_blocks s me call b waits in
     let there = changed_there p (enter b) (unseen_enter b).pid s.processes me here in
     let is : enter b me ≡ r = cc in
-    let t = lose_place (change s p (enter b)) p in
+    let t = change s p (enter b) in
     let still : can_act s (enter b me) ≡ false = ap (λ c. can_act s (enter c me)) same ∙ waiter_rests s me call none (ap is_block waits) in
-    still_rests t r (ap (can_act t) (sym is) ∙ can_act_alike s t (enter b me) (enter b me) (record { parent = (enter b me).parent; is = refl }) refl (sees_unseen p (enter b me).pid (enter b) (unseen_enter b) s.processes) ∙ still)
+    ap (can_act t) (sym is) ∙ can_act_alike s t (enter b me) (enter b me) (record { parent = (enter b me).parent; is = refl }) refl (sees_unseen p (enter b me).pid (enter b) (unseen_enter b) s.processes) ∙ still
+
+-- nor does it read
+pub blocked_unread : (s : State) (p : ℕ) (me : Process) (call : WaitCall) (b : Blocked) → process s p ≡ Some me → wait_by call s me ≡ Block b → (r : Process) → process (change s p (enter b)) p ≡ Some r → is_in_read r.blocked ≡ false
+unfolding enter
+blocked_unread s p me call b here waits r e =
+    let there = changed_there p (enter b) (unseen_enter b).pid s.processes me here in
+    let is : enter b me ≡ r = cc in
+    ap (λ (r : Process). is_in_read r.blocked) (sym is) ∙ ap (λ c. is_in_read (Some c)) (wait_blocks s me call b waits)
 
 -- ---- who waits on
 
 -- who has to wait in its call can't act
-wait_rests : (s : State) (me : Process) → chosen me.life me.signals ≡ None → can_go_on s me me.blocked ≡ false → can_act s me ≡ false
+pub wait_rests : (s : State) (me : Process) → chosen me.life me.signals ≡ None → can_go_on s me me.blocked ≡ false → can_act s me ≡ false
 unfolding can_act
 wait_rests s me none waits =
     let other : chosen me.life me.signals ≢ Some KILL = λ k. let no = sym none ∙ k in absurd (cc) in
     let signalled : is_some (chosen me.life me.signals) ≡ false = ap is_some none in
     rw (no_kill_chosen me.life me.signals other, waits, signalled, and-false) (and-false (is_running me.life))
 
--- nor once it has lost its place
-pub waits_rest : (s : State) (p : ℕ) (me : Process) → process s p ≡ Some me → chosen me.life me.signals ≡ None → can_go_on s me me.blocked ≡ false
-    → (r : Process) → process (lose_place s p) p ≡ Some r → wakes (lose_place s p) r ≡ false
-waits_rest s p me here none waits r e =
-    let is : me ≡ r = same_Some _ _ (sym here ∙ e) in
-    still_rests (lose_place s p) r (ap (can_act (lose_place s p)) (sym is) ∙ can_act_order s (without p s.order) me ∙ wait_rests s me none waits)
+-- nor does who waits for a child read
+pub wait_unread : (b : Option Blocked) → is_in_wait b ≡ true → is_in_read b ≡ false
+wait_unread None e = refl
+wait_unread (Some (blocked.Wait call)) e = refl
+wait_unread (Some blocked.Read) e = absurd (cc)
+wait_unread (Some blocked.Pause) e = refl
+wait_unread (Some (blocked.Sigsuspend mask)) e = refl
 
--- who waits for a child waits to read from nothing
-pub waits_unread : (s : State) (p : ℕ) (r : Process) → process s p ≡ Some r → is_in_wait r.blocked ≡ true → None ≡ reads s p
-waits_unread s p r here in_wait = sym (ap (λ o. cond (has_place s p) None o) none ∙ cond_both (has_place s p) None None (λ o. o ≡ None) (λ e. refl) (λ e. refl))
-  where
-    unread : (b : Option Blocked) → is_in_wait b ≡ true → is_in_read b ≡ false
-    unread None e = refl
-    unread (Some (blocked.Wait call)) e = refl
-    unread (Some blocked.Read) e = absurd (cc)
-    unread (Some blocked.Pause) e = refl
-    unread (Some (blocked.Sigsuspend mask)) e = refl
+-- ---- who has a place
 
-    none : reads_in (process s p) ≡ None
-    none = ap reads_in here ∙ ap (λ b. cond (is_running r.life && b) (Some r.session) None) (unread r.blocked in_wait) ∙ ap (λ b. cond b (Some r.session) None) (and-false (is_running r.life))
-
--- nor does who has a place
+-- waits to read from nothing
 pub placed_unread : (s : State) (p : ℕ) → has_place s p ≡ true → None ≡ reads s p
 placed_unread s p place = rw place refl
-
--- so where it has just been blocked
-pub blocked_unread : (s : State) (p : ℕ) (me : Process) (call : WaitCall) (b : Blocked) → process s p ≡ Some me → wait_by call s me ≡ Block b → None ≡ reads (lose_place (change s p (enter b)) p) p
-unfolding enter
-blocked_unread s p me call b here waits =
-    waits_unread (lose_place (change s p (enter b)) p) p (enter b me) (changed_there p (enter b) (unseen_enter b).pid s.processes me here) (ap (λ c. is_in_wait (Some c)) (wait_blocks s me call b waits))
-
--- who alone was to be rechecked, and was, leaves nobody
-pub nobody_left : (p : ℕ) (ns : List ℕ) → ns ≡ [] → without p (with_number p ns) ≡ []
-unfolding without with_number
-nobody_left p ns none = rw (none, eq-eqb p p refl) refl

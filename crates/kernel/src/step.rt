@@ -22,7 +22,6 @@ ghost use Rattle.posix.specs.States.{has_place};
 ghost use Rattle.life.specs.Rechecks.{is_in_wait};
 ghost use Rattle.posix.specs.Tables.{children_in};
 ghost use Rattle.posix.specs.Settle.{can_go_on};
-ghost use Rattle.pidset.specs.Numbers.{with_number};
 ghost use Rattle.calls.specs.Outcomes.{IsActing, IsQuiet, CostsWithRechecks, CostsAtMost, changes_caller_alone, slots_of_brief};
 ghost use Rattle.kernel.specs.Counts.{CountsOne, IsAtRest, ReadsAtMost, after_taken, alarms_due, delivers_nothing, slots_of_acting, slots_of_blocking, slots_of_event, slots_of_own_step, slots_of_trap};
 ghost use Rattle.kernel.specs.Steps.{ActsAs, Begins, Bursts, ComesTo, Happens, IsReadOfCurrent, NoneChosen, RunsInstruction, Steps, next_changes_one, changes_one, next_enters, enters, is_followed_by_step, runner, taken_at_once};
@@ -35,17 +34,16 @@ use life::{Machine, Notes, Unchecked};
 use posix::{Blocked, Call, Entry, Event, Pid, Sig, Status, Trap, WaitCall};
 use proctable::{ProcessTable, Snapshot};
 
-/// A process that is there is blocked in a call, and loses its place.
+/// A process that is there is blocked in a call.
 fn enter_call<K: ProcessTable>(machine: &mut Machine<K>, pid: Pid, blocked: Blocked)
     requires { IsSome (process machine.old.state pid) }
-    ensures state { machine.new.state ≡ losing_place (change machine.old.state pid (entered blocked)) pid }
-    ensures to_recheck { has_place machine.old.state pid ≡ true → machine.new.to_recheck ≡ with_number pid machine.old.to_recheck }
+    ensures state { machine.new.state ≡ change machine.old.state pid (entered blocked) }
+    ensures to_recheck { has_place machine.old.state pid ≡ true → machine.new.to_recheck ≡ machine.old.to_recheck }
     ensures foregrounds_unchecked { machine.new.foregrounds_unchecked ≡ machine.old.foregrounds_unchecked }
     ensures visits { machine.new.visits ≤ machine.old.visits + 1 }
     ensures no_fewer { machine.old.visits ≤ machine.new.visits }
 {
     machine.own(pid).enter(blocked);
-    machine.lose_place(pid);
 }
 
 /// A process for which no signal is chosen has begun a call in which it has to wait: it is blocked in it, and loses
@@ -59,8 +57,9 @@ fn block<K: ProcessTable>(machine: &mut Machine<K>, pid: Pid, call: Call, blocke
     ensures no_fewer { machine.old.visits ≤ machine.new.visits }
 {
     enter_call(machine, pid, blocked);
-    if let Some(_) = WaitCall::named_by(call) {
-        machine.finish_recheck(pid, None);
+    match WaitCall::named_by(call) {
+        Some(_) => machine.sleep(pid),
+        None => machine.lose_place(pid),
     }
 }
 
@@ -82,9 +81,10 @@ fn wait_on<K: ProcessTable>(machine: &mut Machine<K>, pid: Pid, waits: bool)
     ensures brief { waits ≡ true → IsQuiet pid machine.old → CostsWithRechecks 0 machine.old machine.new }
     ensures no_fewer { machine.old.visits ≤ machine.new.visits }
 {
-    machine.lose_place(pid);
     if waits {
-        machine.finish_recheck(pid, None);
+        machine.sleep(pid);
+    } else {
+        machine.lose_place(pid);
     }
 }
 

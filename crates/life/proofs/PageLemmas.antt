@@ -1,20 +1,19 @@
 -- A machine without the memory for a page of numbers that nobody bears.
-use Rattle.std.proofs.Common.{◌≡◌, ℕ, ◌/◌, true, refl, ap, sym, ◌∙◌, arith, subst, List, Some}
+use Rattle.std.proofs.Common.{◌≡◌, ℕ, ◌/◌, true, refl, ap, sym, ◌∙◌, arith, List, Some}
 use Rattle.std.proofs.lemmas.Bool.{both_ways}
 use Rattle.posix.specs.Processes.{Process}
 use Rattle.posix.specs.Tables.{lookup}
 use Rattle.posix.specs.States.{State}
 use Rattle.pidalloc.specs.Rows.{Pids, is_free_in}
 use Rattle.sched.specs.Places.{Places}
-use Rattle.pidset.specs.Indexes.{is_pair_in}
 use Rattle.pidset.specs.Lists.{ListsView, without_page_of}
 use Rattle.pidset.specs.Numbers.{PidSetView}
 use Rattle.pidset.specs.Rows.{IsOnAnotherPage, sizes_without}
 use Rattle.pidset.proofs.RowLemmas.{room_stays}
-use Rattle.life.specs.Machines.{IsKept, IsMachine, IsSound, Terminals}
+use Rattle.life.specs.Machines.{IsMachine, IsSound, Terminals}
 use Rattle.life.proofs.FunnelLemmas.{borne_of}
-use Rattle.life.proofs.RecheckLemmas.{listed_roomier}
-use Rattle.life.proofs.SoundLemmas.{grows_same, kept_roomier, there}
+use Rattle.life.proofs.RoomLemmas.{machine_with_room}
+use Rattle.life.proofs.SoundLemmas.{grows_same, there}
 
 -- nobody bears a number on the page of n
 abbrev pub IsUnborne : ℕ → Pids → Type 0
@@ -33,32 +32,9 @@ same_rows old new sizes e = e ∙ ap (λ (l : List ℕ). record old { sizes = l 
 -- it stays one
 pub machine_left : {s t : State} {pids now : Pids} {places order : Places} {l groups : PidSetView} {terminals : Terminals} {sets : ListsView} (n : ℕ)
     → IsMachine s pids places l groups terminals → IsUnborne n pids → t ≡ s → now ≡ record pids { sizes = now.sizes } → order.sizes ≡ sizes_without places.sizes n → sets ≡ without_page_of n terminals.readers → IsMachine t now order l groups (record terminals { readers = sets })
-machine_left {s = s} {pids = pids} {now = now} {places = places} {order = order} {l = l} {groups = groups} {terminals = terminals} {sets = sets} n i free same rest ordered left =
-    let pairs : sets.pairs ≡ terminals.readers.pairs = ap (λ (v : ListsView). v.pairs) left in
-    let sizes : sets.sizes ≡ sizes_without terminals.readers.sizes n = ap (λ (v : ListsView). v.sizes) left in
-    subst (λ x. IsMachine x now order l groups (record terminals { readers = sets })) (sym same) (record {
-      sound = record {
-        regular = i.sound.regular;
-        parents = i.sound.parents;
-        counted = i.sound.counted;
-        kept = subst (λ x. IsKept s.world.pidmax s.processes x order) (sym rest) (kept_roomier s.world.pidmax s.processes pids now.sizes order (record {
-          greatest = i.sound.kept.greatest;
-          table = i.sound.kept.table;
-          tallied = i.sound.kept.tallied;
-          room = λ q here.
-              let it = there (lookup q s.processes) here in
-              grows_same ordered q (room_stays places.sizes n q (apart n i.sound free q it.what it.found).0 (i.sound.kept.room q here));
-        }));
-      };
-      listed = listed_roomier s l l i.listed refl (omega arith) pairs;
-      noted = i.noted;
-      fresh = i.fresh;
-      indexed = i.indexed;
-      within = record {
-        room = λ q r e.
-            let here = i.within.room q r e in
-            let off = apart n i.sound free q r e in
-            (grows_same sizes q (room_stays terminals.readers.sizes n q off.0 here.0), grows_same sizes r.session (room_stays terminals.readers.sizes n r.session off.2 here.1));
-        own = λ k q on. i.within.own k q (sym (ap (is_pair_in k q) pairs) ∙ on);
-      };
-    })
+machine_left {s = s} {places = places} {terminals = terminals} n i free same rest ordered left =
+    let sizes = ap (λ (v : ListsView). v.sizes) left in
+    machine_with_room i same rest
+    (λ q here. let it = there (lookup q s.processes) here in grows_same ordered q (room_stays places.sizes n q (apart n i.sound free q it.what it.found).0 (i.sound.kept.room q here)))
+    refl (omega arith) refl i.noted.room (ap (λ (v : ListsView). v.pairs) left)
+    (λ q r e. let here = i.within.room q r e in let off = apart n i.sound free q r e in (grows_same sizes q (room_stays terminals.readers.sizes n q off.0 here.0), grows_same sizes r.session (room_stays terminals.readers.sizes n r.session off.2 here.1)))

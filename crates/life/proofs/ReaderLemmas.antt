@@ -1,17 +1,19 @@
 -- Who waits to read, and each console refreshed.
-use Rattle.std.proofs.Common.{◌≡◌, ◌≢◌, ℕ, ◌+◌, ◌<◌, ◌≤◌, zero, suc, true, false, cond, refl, ap, sym, ◌∙◌, arith, subst, List, [], ◌∷◌, ◌++◌, length, take, Option, Some, None, ◌==◌, slice_get, slice_set, ◌&&◌, ◌||◌, Bool, map, drop, get_or, rules}
+use Rattle.std.proofs.Common.{◌≡◌, ◌≢◌, ℕ, ◌+◌, ◌<◌, ◌≤◌, zero, suc, true, false, cond, refl, ap, sym, ◌∙◌, arith, subst, List, [], ◌∷◌, ◌++◌, ◌⊎◌, ⊎_elim, inl, inr, length, take, Option, Some, None, ◌==◌, slice_get, slice_set, ◌&&◌, ◌||◌, Bool, map, drop, get_or, rules}
 use Rattle.std.specs.Option.{IsSome, IfSome}
-use Rattle.std.proofs.lemmas.Bool.{eqb-true, eqb-false, eq-eqb, ne_eqb, or_left, both_ways, true_from_ne_false}
+use Rattle.std.proofs.lemmas.Bool.{and_parts, eqb-true, eqb-false, eq-eqb, ne_eqb, or_left, both_ways, true_from_ne_false}
 use Rattle.std.proofs.lemmas.Option.{slice_get_read, same_Some}
 use Rattle.posix.specs.declared.process.Life.{Life}
 use Rattle.posix.specs.declared.process.Life.TheVariants.{Running}
 use Rattle.posix.specs.Processes.{Process, is_running, is_zombie}
 use Rattle.posix.specs.Consoles.{Console}
-use Rattle.posix.specs.States.{State, process, is_in, has_place, without}
+use Rattle.posix.specs.Settle.{can_act}
+use Rattle.posix.specs.States.{State, process, is_in, has_place, lose_place, without}
 use Rattle.posix.specs.Regular.{IsRegular}
 use Rattle.posix.specs.Tables.{lookup}
 use Rattle.posix.specs.Terminals.{is_reader, is_in_read}
-use Rattle.posix.proofs.MemberLemmas.{others_stay}
+use Rattle.posix.proofs.MemberLemmas.{others_stay, still_out}
+use Rattle.posix.proofs.SeeLemmas.{can_act_order}
 use Rattle.posix.proofs.TableLemmas.{pid_looked}
 use Rattle.pidset.specs.declared.index.Pair.{Pair}
 use Rattle.pidset.specs.Indexes.{IsMoved, IsNextPair, is_key, is_pair_in}
@@ -111,6 +113,28 @@ within_marked {readers = readers} {sets = sets} {rs = rs} p key put same its h =
     | false ↦ λ e. h.own k q (sym (put k q ∙ ap (λ b. cond b (is_key k key) (is_pair_in k q readers.pairs)) e) ∙ on)
   ] refl;
 }
+
+-- who can't act, and doesn't read, needn't be rechecked as it loses its place
+pub listed_asleep : {readers : ListsView} (s : State) (p : ℕ) (l : PidSetView) → IsListed s l readers → ((r : Process) → process s p ≡ Some r → can_act s r ≡ false) → ((r : Process) → process s p ≡ Some r → is_in_read r.blocked ≡ false) → IsListed (lose_place s p) l readers
+listed_asleep s p l h rests unread = record {
+  covers = λ q r found w.
+      let named = pid_looked q s.processes r found in
+      let acts = can_act_order s (without p s.order) r in
+      let other = λ (ne : q ≢ p). h.covers q r found (sym (rw (acts, others_stay p r.pid s.order (λ e. ne (sym named ∙ e))) refl) ∙ w) in
+      ⊎_elim (λ e. absurd (both_ways _ (acts ∙ rests r (subst (λ n. process s n ≡ Some r) e found)) (and_parts _ _ w).1)) other (same_or_other q p);
+  rising = h.rising;
+  there = h.there;
+  room = h.room;
+  watched = record {
+    known = λ session q r found visits out unasked.
+        let other = λ (ne : q ≢ p). h.watched.known session q r found visits (sym (others_stay p q s.order ne) ∙ out) unasked in
+        ⊎_elim (λ e. absurd (both_ways _ (unread r (subst (λ n. process s n ≡ Some r) e found)) (reader_is session r visits).visits)) other (same_or_other q p);
+    waits = λ session q on unasked. let it = h.watched.waits session q on unasked in record { reader = it.reader; found = it.found; reads = it.reads; out = still_out p q s.order it.out };
+  };
+}
+  where
+    same_or_other : (q p : ℕ) → (q ≡ p) ⊎ (q ≢ p)
+    same_or_other q p = elim (q == p) as (λ b. (q == p) ≡ b → (q ≡ p) ⊎ (q ≢ p)) [ true ↦ λ e. inl (eqb-true q p e) | false ↦ λ e. inr (eqb-false q p e) ] refl
 
 -- ---- all are rechecked who may wait to read from a terminal
 

@@ -2,7 +2,7 @@
 use Rattle.std.proofs.Common.{◌≡◌, ◌≢◌, ℕ, ◌+◌, ◌<◌, ◌≤◌, true, false, cond, not, ◌||◌, ◌&&◌, refl, ap, sym, ◌∙◌, arith, subst, List, [], ◌∷◌, ◌++◌, length, Option, Some, None, ◌==◌, slice_get, ◌⊎◌, ⊎_elim, inl, inr, Bool, map, rules}
 use Rattle.std.specs.List.{AllByRecursion}
 use Rattle.std.specs.Option.{IfSome, IsSome}
-use Rattle.std.proofs.lemmas.Bool.{eqb-true, eq-eqb, and_parts, or_left, or_right, or_cases, both_ways, false_from_ne_true}
+use Rattle.std.proofs.lemmas.Bool.{eq-eqb, or_left, or_right, or_cases, both_ways, false_from_ne_true}
 use Rattle.std.proofs.lemmas.Option.{IfSome_then, same_Some}
 use Rattle.std.proofs.lemmas.List.{length-map}
 use Rattle.posix.specs.Processes.{Process, Signals, first_process}
@@ -156,6 +156,14 @@ listed_where s l m p false h there is same = listed_more s l m [] h tt is same
 pub room_after : {readers : ListsView} (s : State) (l m : PidSetView) (ps : List ℕ) → IsRegular s → IsListed s l readers → AllByRecursion (λ q. IsSome (process s q)) ps → m.pids ≡ with_numbers ps l.pids → m.room ≡ l.room → length m.pids < m.room
 room_after s l m ps i h theirs is same = has_room s m i (listed_more s l m ps h theirs is same)
 
+-- who is rechecked where it has no place is on the list then, or has one
+asked_or_placed : (p : ℕ) (order ns : List ℕ) → (is_in p (rechecking p order ns) ≡ true) ⊎ (is_in p order ≡ true)
+asked_or_placed p order ns = elim (is_in p order) as (λ b. is_in p order ≡ b → (is_in p (cond b ns (with_number p ns)) ≡ true) ⊎ (b ≡ true)) [ true ↦ λ e. inr refl | false ↦ λ e. inl (in_with p p ns ∙ or_left _ _ (eq-eqb p p refl)) ] refl
+
+-- and others stay on it
+asked_still : (q p : ℕ) (order ns : List ℕ) → is_in q ns ≡ true → is_in q (rechecking p order ns) ≡ true
+asked_still q p order ns on = elim (is_in p order) as (λ b. is_in q (cond b ns (with_number p ns)) ≡ true) [ true ↦ on | false ↦ in_with q p ns ∙ or_right (p == q) _ on ]
+
 -- ---- the list after a change of the state
 
 -- whoever has to be given a place has none
@@ -264,13 +272,6 @@ second_is (n ∷ ns) p up first =
     let same : n ≡ p = cc in
     ap (λ q. slice_get (numbers_above q (n ∷ ns)) 0) (sym same) ∙ ap (λ l. slice_get l 0) (above_rest [] n ns up)
 
--- without the only one on a list nobody is on it
-pub without_only : (ns : List ℕ) (p : ℕ) → (length ns == 1 && is_in p ns) ≡ true → [] ≡ without p ns
-unfolding is_in without
-without_only [] p only = refl
-without_only (n ∷ []) p only = elim (n == p) as (λ b. (b || false) ≡ true → [] ≡ cond (not b) (n ∷ []) []) [ true ↦ λ e. refl | false ↦ λ e. absurd (cc) ] only
-without_only (n ∷ m ∷ ns) p only = absurd (omega (arith, eqb-true (length (n ∷ m ∷ ns)) 1 (and_parts (length (n ∷ m ∷ ns) == 1) (is_in p (n ∷ m ∷ ns)) only).0))
-
 -- who was rechecked and needn't be given a place is taken off, where those who wait to read stay known
 pub listed_rechecked : {readers : ListsView} (s : State) (p : ℕ) (before after : PidSetView) (sets : ListsView) → IsListed s before readers → ((r : Process) → process s p ≡ Some r → wakes s r ≡ false)
     → after.pids ≡ without p before.pids → after.room ≡ before.room → IsWatched s after.pids sets → IsListed s after sets
@@ -285,31 +286,52 @@ listed_rechecked s p before after sets h asleep is same watched = record {
 -- ---- a record that goes
 
 pub listed_removed : {readers : ListsView} (s : State) (c last dropped : ℕ) (it : Process) (before after : PidSetView) → IsRegular s → IsListed s before readers → lookup c s.processes ≡ Some it → IsSome (process s it.parent)
-    → after.pids ≡ without_gone c it.parent before.pids → after.room ≡ before.room → ((session : ℕ) → is_pair_in session c readers.pairs ≡ false) → IsListed (record s { processes = removed c s.processes; last_pid = last; dropped = dropped }) after readers
+    → after.pids ≡ without_gone c it.parent s.order before.pids → after.room ≡ before.room → ((session : ℕ) → is_pair_in session c readers.pairs ≡ false) → IsListed (record s { processes = removed c s.processes; last_pid = last; dropped = dropped }) after readers
 listed_removed {readers = readers} s c last dropped it before after i h found parent is same unread =
     let t = record s { processes = removed c s.processes; last_pid = last; dropped = dropped } in
     listed_on s t before after (it.parent ∷ []) h (touches_removed s c it.parent last dropped i.rising (rw found refl)) (refl, refl, λ q u e. e)
-    (subst Rises (sym is) (rises_without c (with_number it.parent before.pids) (rises_with it.parent before.pids h.rising))) same (omega (arith, length_removed c it s.processes i.rising found, h.room))
-    (λ q e.
-    let k = is_other c q _ (sym (ap (is_in q) is) ∙ e) in
-    rw (lookup_kept c q s.processes k.apart) (⊎_elim (λ t. subst (λ n. IsSome (process s n)) (eqb-true it.parent q t) parent) (h.there q) (or_cases _ _ (sym (in_with q it.parent before.pids) ∙ k.among))))
-    (λ q theirs e. inl (ap (is_in q) is ∙ others_stay c q _ (apart q theirs) ∙ in_with q it.parent before.pids ∙ or_left _ _ (eq-eqb it.parent q (sym (in_one q it.parent e)))))
-    (λ q theirs e. ap (is_in q) is ∙ others_stay c q _ (apart q theirs) ∙ in_with q it.parent before.pids ∙ or_right (it.parent == q) _ e)
+    (subst Rises (sym is) (rises_without c asked with.rising)) same (omega (arith, length_removed c it s.processes i.rising found, h.room))
+    (λ q e. let k = is_other c q asked (sym (ap (is_in q) is) ∙ e) in rw (lookup_kept c q s.processes k.apart) (with.there q k.among))
+    (λ q theirs e.
+    let named = sym (in_one q it.parent e) in
+    ⊎_elim (λ on. inl (stays q theirs (subst (λ n. is_in n asked ≡ true) named on))) (λ placed. let both = subst (λ n. is_in n s.order ≡ true) named placed in inr (both, both)) (asked_or_placed it.parent s.order before.pids))
+    (λ q theirs e. stays q theirs (asked_still q it.parent s.order before.pids e))
     (λ k q on e. rw (lookup_kept c q s.processes (λ same. both_ways _ (unread k) (subst (λ n. is_pair_in k n readers.pairs ≡ true) same on))) e)
   where
+    asked : List ℕ
+    asked = rechecking it.parent s.order before.pids
+
+    with : IsListed s (record before { pids = asked }) readers
+    with = listed_where s before (record before { pids = asked }) it.parent true h parent refl refl
+
     apart : (q : ℕ) → IsSome (lookup q (removed c s.processes)) → q ≢ c
     apart q theirs e = let no : IsSome (lookup c (removed c s.processes)) = subst (λ n. IsSome (lookup n (removed c s.processes))) e theirs in let none = rw (lookup_removed c s.processes) at no in absurd (cc)
+
+    stays : (q : ℕ) → IsSome (lookup q (removed c s.processes)) → is_in q asked ≡ true → is_in q after.pids ≡ true
+    stays q theirs e = ap (is_in q) is ∙ others_stay c q asked (apart q theirs) ∙ e
 
 -- ---- births
 
 -- a birth touches the child and its parent
 pub listed_born : {readers : ListsView} (s : State) (new : Process) (last births : ℕ) (before after : PidSetView) → IsListed s before readers → length s.processes + 1 < before.room → lookup new.pid s.processes ≡ None → IsSome (process s new.parent)
-    → after.pids ≡ with_number new.pid (with_number new.parent before.pids) → after.room ≡ before.room → IsListed (record s { processes = inserted new s.processes; last_pid = last; births = births }) after readers
-unfolding with_numbers
-listed_born s new last births before after h fits fresh up put room =
-    let t = record s { processes = inserted new s.processes; last_pid = last; births = births } in
-    listed_with s t before after (new.pid ∷ new.parent ∷ []) (new.pid ∷ new.parent ∷ []) h (touches_born s new last births) (refl, refl, λ q u e. e) (omega (arith, length_inserted new s.processes, fits)) (λ q e. some_inserted new q s.processes e)
-    (rw (lookup_new new s.processes fresh) refl, (some_inserted new new.parent s.processes up, tt)) (λ q theirs e. inl e) put room
+    → after.pids ≡ with_number new.pid (rechecking new.parent s.order before.pids) → after.room ≡ before.room → IsListed (record s { processes = inserted new s.processes; last_pid = last; births = births }) after readers
+unfolding with_numbers is_in
+listed_born {readers = readers} s new last births before after h fits fresh up put room =
+    elim (is_in new.parent s.order) as (λ b. is_in new.parent s.order ≡ b → after.pids ≡ with_number new.pid (cond b before.pids (with_number new.parent before.pids)) → IsListed t after readers) [
+      | true ↦ λ placed e. born (new.pid ∷ []) (child, tt)
+          (λ q k. ⊎_elim (λ first. inl (or_left _ _ first)) (λ rest. let both = subst (λ n. is_in n s.order ≡ true) (sym (in_one q new.parent rest)) placed in inr (both, both)) (or_cases (new.pid == q) _ k)) e
+      | false ↦ λ out e. born (new.pid ∷ new.parent ∷ []) (child, (some_inserted new new.parent s.processes up, tt)) (λ q k. inl k) e
+    ] refl put
+  where
+    t : State
+    t = record s { processes = inserted new s.processes; last_pid = last; births = births }
+
+    child : IsSome (process t new.pid)
+    child = rw (lookup_new new s.processes fresh) refl
+
+    born : (ps : List ℕ) → AllByRecursion (λ q. IsSome (process t q)) ps → ((q : ℕ) → is_in q (new.pid ∷ new.parent ∷ []) ≡ true → (is_in q ps ≡ true) ⊎ ((is_in q s.order ≡ true) × (is_in q t.order ≡ true)))
+        → after.pids ≡ with_numbers ps before.pids → IsListed t after readers
+    born ps theirs asked is = listed_with s t before after ps (new.pid ∷ new.parent ∷ []) h (touches_born s new last births) (refl, refl, λ q u e. e) (omega (arith, length_inserted new s.processes, fits)) (λ q e. some_inserted new q s.processes e) theirs (λ q there k. asked q k) is room
 
 nobody_reads : (session : ℕ) (b : Bool) (r : Process) → cond b (Some first_process) None ≡ Some r → is_reader session r ≡ true → ⊥
 nobody_reads session true r found visits = absurd (cc)

@@ -1,7 +1,8 @@
 -- A machine in which there is room for more.
-use Rattle.std.proofs.Common.{◌≡◌, ℕ, ◌<◌, ◌≤◌, Bool, true, false, refl, ap, sym, ◌∙◌, subst, List}
+use Rattle.std.proofs.Common.{◌≡◌, ℕ, ◌<◌, ◌≤◌, Bool, true, false, refl, ap, sym, ◌∙◌, subst, List, Some, IsSome}
 use Rattle.std.proofs.lemmas.Bool.{both_ways}
 use Rattle.posix.specs.Processes.{Process}
+use Rattle.posix.specs.Tables.{lookup}
 use Rattle.posix.specs.Consoles.{Console}
 use Rattle.posix.specs.States.{World, State}
 use Rattle.pidalloc.specs.Rows.{Pids, row, is_free_in}
@@ -15,11 +16,11 @@ use Rattle.life.specs.Machines.{state_of, MachineView, AreSame, AreSameButRoom, 
 use Rattle.life.proofs.RecheckLemmas.{listed_roomier}
 use Rattle.life.proofs.SoundLemmas.{kept_roomier}
 
--- it stays one
-pub machine_roomier : {s t : State} {pids now : Pids} {places order : Places} {l m groups after : PidSetView} {terminals : Terminals} {sets : ListsView}
-    → IsMachine s pids places l groups terminals → t ≡ s → now ≡ record pids { sizes = now.sizes } → Grows places.sizes order.sizes → m.pids ≡ l.pids → l.room ≤ m.room → after.pids ≡ groups.pids → m.room ≤ after.room
-    → sets.pairs ≡ terminals.readers.pairs → Grows terminals.readers.sizes sets.sizes → IsMachine t now order m after (record terminals { readers = sets })
-machine_roomier {s = s} {pids = pids} {now = now} {places = places} {order = order} {l = l} {m = m} {groups = groups} {after = after} {terminals = terminals} {sets = sets} i same rest wider is more groups_same groups_more roomier longer =
+-- it stays one with other room, where there is room for each process in the order, and among those who wait to read
+pub machine_with_room : {s t : State} {pids now : Pids} {places order : Places} {l m groups after : PidSetView} {terminals : Terminals} {sets : ListsView}
+    → IsMachine s pids places l groups terminals → t ≡ s → now ≡ record pids { sizes = now.sizes } → ((q : ℕ) → IsSome (lookup q s.processes) → HasRoom order.sizes q) → m.pids ≡ l.pids → l.room ≤ m.room → after.pids ≡ groups.pids → m.room ≤ after.room
+    → sets.pairs ≡ terminals.readers.pairs → ((q : ℕ) (r : Process) → lookup q s.processes ≡ Some r → HasRoom sets.sizes q × HasRoom sets.sizes r.session) → IsMachine t now order m after (record terminals { readers = sets })
+machine_with_room {s = s} {pids = pids} {now = now} {order = order} {l = l} {m = m} {after = after} {terminals = terminals} {sets = sets} i same rest ordered is more groups_same groups_more alike waiting =
     subst (λ x. IsMachine x now order m after (record terminals { readers = sets })) (sym same) (record {
       sound = record {
         regular = i.sound.regular;
@@ -29,18 +30,22 @@ machine_roomier {s = s} {pids = pids} {now = now} {places = places} {order = ord
           greatest = i.sound.kept.greatest;
           table = i.sound.kept.table;
           tallied = i.sound.kept.tallied;
-          room = λ q here. wider q (i.sound.kept.room q here);
+          room = ordered;
         }));
       };
-      listed = listed_roomier s l m i.listed is more roomier;
+      listed = listed_roomier s l m i.listed is more alike;
       noted = record { rising = subst Rises (sym groups_same) i.noted.rising; room = groups_more };
       fresh = i.fresh;
       indexed = i.indexed;
-      within = record {
-        room = λ q r e. let here = i.within.room q r e in (longer q here.0, longer r.session here.1);
-        own = λ k q on. i.within.own k q (sym (ap (is_pair_in k q) roomier) ∙ on);
-      };
+      within = record { room = waiting; own = λ k q on. i.within.own k q (sym (ap (is_pair_in k q) alike) ∙ on) };
     })
+
+-- so with more room
+pub machine_roomier : {s t : State} {pids now : Pids} {places order : Places} {l m groups after : PidSetView} {terminals : Terminals} {sets : ListsView}
+    → IsMachine s pids places l groups terminals → t ≡ s → now ≡ record pids { sizes = now.sizes } → Grows places.sizes order.sizes → m.pids ≡ l.pids → l.room ≤ m.room → after.pids ≡ groups.pids → m.room ≤ after.room
+    → sets.pairs ≡ terminals.readers.pairs → Grows terminals.readers.sizes sets.sizes → IsMachine t now order m after (record terminals { readers = sets })
+machine_roomier i same rest wider is more groups_same groups_more alike longer =
+    machine_with_room i same rest (λ q here. wider q (i.sound.kept.room q here)) is more groups_same groups_more alike (λ q r e. let here = i.within.room q r e in (longer q here.0, longer r.session here.1))
 
 -- its state is the same
 pub state_roomier : (w : World) (rs ts : List Process) (cs : List Console) (pids now : Pids) (places order : Places) (births ticks dropped : ℕ) (halted : Bool) → ts ≡ rs → now ≡ record pids { sizes = now.sizes } → order.pids ≡ places.pids

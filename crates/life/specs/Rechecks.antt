@@ -159,6 +159,6 @@ is_candidate me (whom.Group p) r = r.group == p
 is_candidate me whom.All r = true
 is_candidate me whom.Nobody r = true
 
--- where the record of p has gone its parent is to be rechecked, and p no more
-abbrev pub without_gone : ℕ → ℕ → List ℕ → List ℕ
-without_gone p parent ns = without p (with_number parent ns)
+-- where the record of p has gone its parent is rechecked where it has no place, and p no more
+abbrev pub without_gone : ℕ → ℕ → List ℕ → List ℕ → List ℕ
+without_gone p parent order ns = without p (rechecking parent order ns)

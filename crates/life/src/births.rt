@@ -6,8 +6,10 @@ ghost use Rattle.posix.specs.Births.{born};
 ghost use Rattle.posix.specs.Regular.{IsPlaced};
 ghost use Rattle.pidset.specs.Numbers.{with_number};
 ghost use Rattle.life.specs.Machines.{Costs, AreSameButRoom, IfThere};
+ghost use Rattle.life.specs.Rechecks.{rechecks};
 
 use crate::machine::Machine;
+use crate::rechecks::recheck_later;
 use pidset::PidSet;
 use posix::Pid;
 use proctable::ProcessTable;
@@ -54,7 +56,7 @@ impl<K: ProcessTable> Machine<K> {
         requires births { self.old.state.births + 1 < 2 ^ 64 }
         ensures ok { OnOk result (IfThere parent self.old (λ me. self.new.state ≡ born self.old.state me child)) }
         ensures err { OnErr result (AreSameButRoom self.old self.new) }
-        ensures to_recheck { OnOk result (self.new.to_recheck ≡ with_number child (with_number parent self.old.to_recheck)) }
+        ensures to_recheck { OnOk result (self.new.to_recheck ≡ with_number child (rechecks parent self.old)) }
         ensures costs { Costs 3 self.old self.new }
     {
         let before = self.pids.last();
@@ -67,7 +69,7 @@ impl<K: ProcessTable> Machine<K> {
         let fields = self.table.newborn(parent, self.births + 1)?;
         self.pids.bear_all(child, fields.group, fields.session);
         self.table.insert(child, parent, fields);
-        self.to_recheck.insert(parent);
+        recheck_later(&mut self.to_recheck, &self.order, parent);
         self.to_recheck.insert(child);
         self.births += 1;
         self.give_up_unborne_page(before);

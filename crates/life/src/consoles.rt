@@ -22,7 +22,6 @@ ghost use Rattle.life.specs.Consoles.{terminal_of, hangs_up as hangs_up_with, re
 ghost use Rattle.tty.specs.Lines.{Takes};
 
 use crate::machine::Machine;
-use crate::rechecks::take_off;
 use jobs::IndexedTable;
 use pidset::Index;
 use posix::{Blocked, Life, Pid, Sig};
@@ -260,7 +259,7 @@ impl<K: ProcessTable> Machine<K> {
         ensures regular { IsRegular self.old.state }
     {
         self.readers.put(pid, session);
-        take_off(&mut self.to_recheck, pid);
+        self.to_recheck.remove(pid);
     }
 
     /// Who is known to wait to read from a session's terminal is to be rechecked, and isn't known any more.

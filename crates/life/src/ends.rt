@@ -115,7 +115,7 @@ impl<K: ProcessTable> Machine<K> {
         requires parent { IsThere parent self.old }
         requires other { child ≢ 1 }
         requires zombie { (it : Process) × (process self.old.state child ≡ Some it) × (is_zombie it.life ≡ true) }
-        ensures { Removes 6 self.old self.new (noticing_end self.old.state parent child status) (if is_dropping parent self.old.state.processes then without_gone child (parent_of child self.old.state.processes) (rechecks_by_signals (option_map (noticed (child_signal_of child status)) (process self.old.state parent)) self.old) else rechecks_by_signals (option_map (noticed (child_signal_of child status)) (process self.old.state parent)) self.old) }
+        ensures { Removes 6 self.old self.new (noticing_end self.old.state parent child status) (if is_dropping parent self.old.state.processes then without_gone child (parent_of child self.old.state.processes) self.old.state.order (rechecks_by_signals (option_map (noticed (child_signal_of child status)) (process self.old.state parent)) self.old) else rechecks_by_signals (option_map (noticed (child_signal_of child status)) (process self.old.state parent)) self.old) }
     {
         let signal = child_signal(child, status);
         let drops = self.change(parent, |fields| {
@@ -132,7 +132,7 @@ impl<K: ProcessTable> Machine<K> {
     fn drop_child(&mut self, child: Pid)
         requires other { child ≢ 1 }
         requires zombie { (it : Process) × (process self.old.state child ≡ Some it) × (is_zombie it.life ≡ true) }
-        ensures { Removes 5 self.old self.new (dropping_child self.old.state child) (without_gone child (parent_of child self.old.state.processes) self.old.to_recheck) }
+        ensures { Removes 5 self.old self.new (dropping_child self.old.state child) (without_gone child (parent_of child self.old.state.processes) self.old.state.order self.old.to_recheck) }
     {
         self.reap(child);
         self.dropped += 1;

@@ -9,7 +9,9 @@ ghost use Rattle.posix.specs.Processes.{first_process};
 ghost use Rattle.posix.specs.States.{boot as boot_of, process, change, current as current_of, lose_place as losing_place, go_last as going_last, has_place as has_place_in, is_in};
 ghost use Rattle.posix.specs.Regular.{IsRegular, IsPlaced};
 ghost use Rattle.posix.specs.Execute.{exec_one as executed, StaysUnlessRun};
+ghost use Rattle.posix.specs.Settle.{can_act};
 ghost use Rattle.posix.specs.Step.{code_of, set_cpu};
+ghost use Rattle.posix.specs.Terminals.{is_in_read};
 ghost use Rattle.proctable.specs.Records.{snapshot_of, own_of, own_row};
 ghost use Rattle.life.specs.contracts.machine.Machine.{the_row as machine_row};
 ghost use Rattle.life.specs.Loans.{lent, looked};
@@ -394,6 +396,16 @@ impl<K: ProcessTable> Machine<K> {
             self.to_recheck.insert(pid);
             self.order.drop_place(pid);
         }
+    }
+
+    /// A process that can't act, and doesn't read, loses its place, if it has one, and isn't to be rechecked for it.
+    pub fn sleep(&mut self, pid: Pid)
+        requires rests { IfThere pid self.old (λ r. can_act self.old.state r ≡ false) }
+        requires unread { IfThere pid self.old (λ r. is_in_read r.blocked ≡ false) }
+        ensures is { self.new ≡ record (self.old) { state = losing_place self.old.state pid } }
+        ensures regular { IsRegular self.old.state }
+    {
+        self.order.drop_place(pid);
     }
 
     /// A process that has a place gets the last one.

@@ -284,13 +284,13 @@ impl<K: ProcessTable> Machine<K> {
     pub fn reap(&mut self, pid: Pid)
         requires other { pid ≢ 1 }
         requires zombie { (child : Process) × (process self.old.state pid ≡ Some child) × (is_zombie child.life ≡ true) }
-        ensures changes { Removes 5 self.old self.new (with_processes self.old.state (removed pid self.old.state.processes)) (without_gone pid (parent_of pid self.old.state.processes) self.old.to_recheck) }
+        ensures changes { Removes 5 self.old self.new (with_processes self.old.state (removed pid self.old.state.processes)) (without_gone pid (parent_of pid self.old.state.processes) self.old.state.order self.old.to_recheck) }
         ensures foregrounds_unchecked { IfThere pid self.old (λ it. self.new.foregrounds_unchecked ≡ also_in_by it.session self.old.foregrounds_unchecked) }
         ensures born { self.new.state.dropped + length self.new.state.processes < self.new.state.births }
     {
         let snapshot = discard(&mut self.table, &mut self.pids, pid);
         self.readers.put(pid, None);
-        forget(&mut self.to_recheck, pid, snapshot.parent);
+        forget(&mut self.to_recheck, &self.order, pid, snapshot.parent);
         self.foregrounds_unchecked = also_in(&self.foregrounds_unchecked, snapshot.session);
         self.give_up_unborne_pages(pid, snapshot.group, snapshot.session);
     }

@@ -11,8 +11,8 @@ use Rattle.inputs.specs.declared.command_line.WordsFault.{WordsFault}
 use Rattle.inputs.specs.declared.command_line.WordsFault.TheVariants.{NotText, Memory}
 use Rattle.inputs.proofs.MeaningLemmas.{means_along as means_of_along}
 use Rattle.inputs.specs.Reads.{AreInFiles, Contents, Text}
-use Rattle.running.specs.Serving.{AskFor, AskForAudit, IsAccepted, IsFaulty, IsRefused, IsTraced, Means, OfTexts, OfTrace, Words}
-use Rattle.running.specs.Words.{Asked, AsksAudit, AsksRun, request_of_words}
+use Rattle.commands.specs.Running.{AskFor, AskForAudit, IsAccepted, IsFaulty, IsRefused, IsTraced, Means, OfTexts, OfTrace, Words}
+use Rattle.commands.specs.Words.{Asked, AsksAudit, AsksRun, request_of_words}
 use Rattle.exploring.specs.Serving.{Means as MeansOfExploring}
 use Rattle.exploring.specs.Words.{Asked as AskedOfExploring}
 use Rattle.explaining.specs.Serving.{IsRefused as IsOtherTrace, Means as MeansOfExplaining}

@@ -8,7 +8,7 @@ use Rattle.kernel.specs.Headline.{RunsTexts}
 use Rattle.sink.specs.Sinks.{Seen}
 use Rattle.audit.specs.Texts.{IsLawful}
 use Rattle.inputs.specs.Reads.{Contents}
-use Rattle.running.specs.Serving.{IsRefused, Words}
+use Rattle.commands.specs.Running.{IsRefused, Words}
 use Rattle.commands.specs.Serving.{Serves}
 use Rattle.page.specs.Files.{files_of}
 use Rattle.page.specs.Words.{AreWordsOf}

@@ -1,106 +1,61 @@
 -- How many numbers of a page are borne.
-use Rattle.std.proofs.Common.{◌≡◌, ◌≢◌, ℕ, zero, suc, ◌+◌, ◌-◌, ◌*◌, ◌/◌, ◌<◌, ◌≤◌, ◌==◌, Bool, true, false, cond, not, ◌&&◌, List, [], length, count_by, refl, ap, sym, ◌∙◌, arith, inl, inr}
+use Rattle.std.proofs.Common.{◌≡◌, ◌≢◌, ℕ, ◌+◌, ◌-◌, ◌*◌, ◌/◌, ◌<◌, ◌≤◌, ◌==◌, Bool, true, false, cond, not, ◌&&◌, List, [], length, map, count_by, length-set, refl, ap, sym, ◌∙◌, arith, inl, inr}
 use Rattle.std.specs.Prelude.{slice_set, slice_index_or}
-use Rattle.std.specs.List.{range_with_len}
-use Rattle.std.proofs.lemmas.Bool.{cases_eq, eq-eqb, ne_eqb}
+use Rattle.std.specs.List.{range_with_len, position_or_len}
+use Rattle.std.proofs.lemmas.Bool.{cases_eq, cases_lt, eq-eqb, ne_eqb, not-true, false_from_ne_true, true_from_ne_false}
 use Rattle.std.proofs.lemmas.List.{get_or-set_same, get_or-set_other, get_or_default}
-use Rattle.std.proofs.lemmas.List.Sums.{sum_by-cons}
-use Rattle.pidalloc.specs.Rows.{Row, is_free_row, row_in, one, borne_on, IsRowChanged}
+use Rattle.std.proofs.lemmas.List.FromFn.{get_or-map-range_with_len, length-map-range_with_len}
+use Rattle.std.proofs.lemmas.List.Sums.{count_by-le-length, sum_by-set, sum_by-le, fails_before_first, passes_at_first}
+use Rattle.pidalloc.specs.Rows.{Row, unborne, is_free_row, is_borne, row_in, one, borne_on, IsRowChanged}
+use Rattle.pidalloc.proofs.RowLemmas.{map_same, map_set}
 
--- ---- numbers that pass
+-- ---- the numbers of a range
 
-one_most : (b : Bool) → one b ≤ 1
-one_most true = omega arith
-one_most false = omega arith
+-- how many of n numbers from a on are borne, by their rows
+abbrev borne_in : (ℕ → Row) → ℕ → ℕ → ℕ
+borne_in f a n = count_by is_borne (map f (range_with_len a n))
 
-one_none : (b : Bool) → one b ≡ 0 → b ≡ false
-one_none true e = absurd (omega (arith, e))
-one_none false e = refl
+place_in : (f : ℕ → Row) (a n q : ℕ) → a ≤ q → q < a + n → q - a < length (map f (range_with_len a n))
+place_in f a n q lo hi = let size = length-map-range_with_len f a n in omega (arith, size, lo, hi)
 
-one_some : (b : Bool) → one b ≡ 1 → b ≡ true
-one_some true e = refl
-one_some false e = absurd (omega (arith, e))
+row_at : (f : ℕ → Row) (a n q : ℕ) → a ≤ q → q < a + n → slice_index_or (map f (range_with_len a n)) (q - a) unborne ≡ f q
+row_at f a n q lo hi = get_or-map-range_with_len f a n (q - a) q unborne (omega (arith, lo, hi)) (omega (arith, lo))
 
-count_step : (f : ℕ → Bool) (a n : ℕ) → count_by f (range_with_len a (suc n)) ≡ one (f a) + count_by f (range_with_len (a + 1) n)
-count_step f a n = sum_by-cons (λ k. one (f k)) a (range_with_len (a + 1) n)
+-- the count follows where a row is set
+set_in : (f : ℕ → Row) (a n q : ℕ) (r : Row) → a ≤ q → q < a + n → count_by is_borne (slice_set (map f (range_with_len a n)) (q - a) r) + one (is_borne (f q)) ≡ borne_in f a n + one (is_borne r)
+set_in f a n q r lo hi = rw (← row_at f a n q lo hi) (sum_by-set (λ x. one (is_borne x)) (map f (range_with_len a n)) (q - a) r unborne (place_in f a n q lo hi))
 
--- as many pass where the same do
-count_same : (f g : ℕ → Bool) (a n : ℕ) → ((k : ℕ) → a ≤ k → k < a + n → g k ≡ f k) → count_by g (range_with_len a n) ≡ count_by f (range_with_len a n)
-count_same f g a zero h = refl
-count_same f g a (suc n) h =
-    let was = count_step f a n in
-    let is = count_step g a n in
-    let here = ap one (h a (omega arith) (omega arith)) in
-    let rest = count_same f g (a + 1) n (λ k lo hi. h k (omega (arith, lo)) (omega (arith, hi))) in
-    omega (arith, was, is, here, rest)
+-- and where one number gets another row
+moved_in : (f g : ℕ → Row) (a n q : ℕ) → a ≤ q → q < a + n → ((k : ℕ) → k ≢ q → g k ≡ f k) → borne_in g a n + one (is_borne (f q)) ≡ borne_in f a n + one (is_borne (g q))
+moved_in f g a n q lo hi h = rw (map_set f g a n (q - a) q (omega (arith, lo, hi)) (omega (arith, lo)) h) (set_in f a n q (g q) lo hi)
 
--- and one more or less where one differs
-count_changed : (f g : ℕ → Bool) (a n i : ℕ) → a ≤ i → i < a + n → ((k : ℕ) → k ≢ i → g k ≡ f k) → count_by g (range_with_len a n) + one (f i) ≡ count_by f (range_with_len a n) + one (g i)
-count_changed f g a zero i lo hi h = absurd (omega (arith, lo, hi))
-count_changed f g a (suc n) i lo hi h =
-    let was = count_step f a n in
-    let is = count_step g a n in
-    elim (cases_eq a i) [
-      | inl e ↦
-          let rest = count_same f g (a + 1) n (λ k low up. h k (λ s. omega (arith, low, e, s))) in
-          let f_here = ap (λ k. one (f k)) e in
-          let g_here = ap (λ k. one (g k)) e in
-          omega (arith, was, is, rest, f_here, g_here)
-      | inr ne ↦
-          let rest = count_changed f g (a + 1) n i (omega (arith, lo, ne)) (omega (arith, hi)) h in
-          let here = ap one (h a ne) in
-          omega (arith, was, is, rest, here)
-    ]
+few_in : (f : ℕ → Row) (a n : ℕ) → borne_in f a n ≤ n
+few_in f a n = let size = length-map-range_with_len f a n in let few = count_by-le-length is_borne (map f (range_with_len a n)) in omega (arith, size, few)
 
-count_most : (f : ℕ → Bool) (a n : ℕ) → count_by f (range_with_len a n) ≤ n
-count_most f a zero = omega arith
-count_most f a (suc n) = let step = count_step f a n in let rest = count_most f (a + 1) n in let here = one_most (f a) in omega (arith, step, rest, here)
+-- where none is counted, each is free
+none_in : (f : ℕ → Row) (a n : ℕ) → borne_in f a n ≡ 0 → (q : ℕ) → a ≤ q → q < a + n → is_free_row (f q) ≡ true
+none_in f a n e q lo hi = true_from_ne_false (is_free_row (f q)) (λ it. let set = rw it at (set_in f a n q unborne lo hi) in omega (arith, set, e))
 
-count_none : (f : ℕ → Bool) (a n : ℕ) → count_by f (range_with_len a n) ≡ 0 → (k : ℕ) → a ≤ k → k < a + n → f k ≡ false
-count_none f a zero e k lo hi = absurd (omega (arith, lo, hi))
-count_none f a (suc n) e k lo hi =
-    let step = count_step f a n in
-    elim (cases_eq a k) [
-      | inl same ↦ ap f (sym same) ∙ one_none (f a) (omega (arith, step, e))
-      | inr ne ↦ count_none f (a + 1) n (omega (arith, step, e)) k (omega (arith, lo, ne)) (omega (arith, hi))
-    ]
+-- where n are counted, each is borne: else a borne row in its place would make more than n
+all_in : (f : ℕ → Row) (a n : ℕ) → borne_in f a n ≡ n → (q : ℕ) → a ≤ q → q < a + n → is_free_row (f q) ≡ false
+all_in f a n e q lo hi =
+    let r : Row = record unborne { process = 1 } in
+    let size = length-set (map f (range_with_len a n)) (q - a) r ∙ length-map-range_with_len f a n in
+    let few = count_by-le-length is_borne (slice_set (map f (range_with_len a n)) (q - a) r) in
+    false_from_ne_true (is_free_row (f q)) (λ free. let set = rw free at (set_in f a n q r lo hi) in omega (arith, set, size, few, e))
 
-count_some : (f : ℕ → Bool) (a n : ℕ) → count_by f (range_with_len a n) ≢ 0 → (k : ℕ) × (a ≤ k) × (k < a + n) × (f k ≡ true)
-count_some f a zero some = absurd (some refl)
-count_some f a (suc n) some = elim (f a) as (λ b. f a ≡ b → (k : ℕ) × (a ≤ k) × (k < a + suc n) × (f k ≡ true)) [
-  | true ↦ λ e. (a, omega arith, omega arith, e)
-  | false ↦ λ e.
-      let step = count_step f a n in
-      let here = ap one e in
-      let it = count_some f (a + 1) n (λ none. some (omega (arith, step, here, none))) in
-      let lo = it.1 in
-      let hi = it.2 in
-      (it.0, omega (arith, lo), omega (arith, hi), it.3)
-] refl
-
-count_all : (f : ℕ → Bool) (a n : ℕ) → count_by f (range_with_len a n) ≡ n → (k : ℕ) → a ≤ k → k < a + n → f k ≡ true
-count_all f a zero e k lo hi = absurd (omega (arith, lo, hi))
-count_all f a (suc n) e k lo hi =
-    let step = count_step f a n in
-    let rest = count_most f (a + 1) n in
-    let here = one_most (f a) in
-    elim (cases_eq a k) [
-      | inl same ↦ ap f (sym same) ∙ one_some (f a) (omega (arith, step, rest, here, e))
-      | inr ne ↦ count_all f (a + 1) n (omega (arith, step, rest, here, e)) k (omega (arith, lo, ne)) (omega (arith, hi))
+-- where some are counted, the first one that is borne
+some_in : (f : ℕ → Row) (a n : ℕ) → borne_in f a n ≢ 0 → (q : ℕ) × (a ≤ q) × (q < a + n) × (is_free_row (f q) ≡ false)
+some_in f a n some =
+    let rows = map f (range_with_len a n) in
+    let i = position_or_len is_borne rows in
+    let size = length-map-range_with_len f a n in
+    elim (cases_lt i (length rows)) [
+      | inl l ↦ (a + i, omega arith, omega (arith, l, size), not-true _ (rw (← get_or-map-range_with_len f a n i (a + i) unborne (omega (arith, l, size)) refl) (passes_at_first is_borne rows unborne l)))
+      | inr none ↦ absurd (some (let all = sum_by-le (λ x. one (is_borne x)) 0 rows (λ k d l. rw (fails_before_first is_borne rows k d (omega (arith, l, none))) (omega arith)) in omega (arith, all)))
     ]
 
 -- ---- the numbers of a page
-
-abbrev pub borne_in : List (List Row) → ℕ → Bool
-borne_in pages n = not (is_free_row (row_in pages n))
-
-free_if : (b : Bool) → not b ≡ false → b ≡ true
-free_if true e = refl
-free_if false e = absurd (cc)
-
-borne_if : (b : Bool) → not b ≡ true → b ≡ false
-borne_if true e = absurd (cc)
-borne_if false e = refl
 
 in_page : (k q : ℕ) → q / 1024 ≡ k → (k * 1024 ≤ q) × (q < k * 1024 + 1024)
 in_page k q same = (omega (arith, same), omega (arith, same))
@@ -110,51 +65,49 @@ on_page k q lo hi = omega (arith, lo, hi)
 
 pub few_on : (pages : List (List Row)) (k : ℕ) → borne_on pages k ≤ 1024
 unfolding borne_on
-few_on pages k = count_most (borne_in pages) (k * 1024) 1024
+few_on pages k = few_in (row_in pages) (k * 1024) 1024
 
 pub none_on : (pages : List (List Row)) (k : ℕ) → borne_on pages k ≡ 0 → (q : ℕ) → q / 1024 ≡ k → is_free_row (row_in pages q) ≡ true
 unfolding borne_on
-none_on pages k e q same = let at = in_page k q same in free_if _ (count_none (borne_in pages) (k * 1024) 1024 e q at.0 at.1)
+none_on pages k e q same = let at = in_page k q same in none_in (row_in pages) (k * 1024) 1024 e q at.0 at.1
 
 pub some_on : (pages : List (List Row)) (k : ℕ) → borne_on pages k ≢ 0 → (q : ℕ) × (q / 1024 ≡ k) × (is_free_row (row_in pages q) ≡ false)
 unfolding borne_on
-some_on pages k some = let it = count_some (borne_in pages) (k * 1024) 1024 some in (it.0, on_page k it.0 it.1 it.2, borne_if _ it.3)
+some_on pages k some = let it = some_in (row_in pages) (k * 1024) 1024 some in (it.0, on_page k it.0 it.1 it.2, it.3)
 
 pub all_on : (pages : List (List Row)) (k : ℕ) → borne_on pages k ≡ 1024 → (q : ℕ) → q / 1024 ≡ k → is_free_row (row_in pages q) ≡ false
 unfolding borne_on
-all_on pages k e q same = let at = in_page k q same in borne_if _ (count_all (borne_in pages) (k * 1024) 1024 e q at.0 at.1)
+all_on pages k e q same = let at = in_page k q same in all_in (row_in pages) (k * 1024) 1024 e q at.0 at.1
 
 -- none is at the start
 pub none_counted : (k : ℕ) → borne_on [] k ≡ 0
-unfolding borne_on row_in
-none_counted k = by (k * 1024) 1024
-  where
-    by : (a n : ℕ) → count_by (borne_in []) (range_with_len a n) ≡ 0
-    by a zero = refl
-    by a (suc n) = let step = count_step (borne_in []) a n in let rest = by (a + 1) n in omega (arith, step, rest)
+none_counted k = elim (cases_eq (borne_on [] k) 0) [ inl e ↦ e | inr some ↦ absurd (let it = some_on [] k some in let f : true ≡ false = unfold row_in in it.2 in cc) ]
 
 -- as many are where all rows are the same
 pub count_kept : (old new : List (List Row)) → ((n : ℕ) → row_in new n ≡ row_in old n) → (k : ℕ) → borne_on new k ≡ borne_on old k
 unfolding borne_on
-count_kept old new same k = count_same (borne_in old) (borne_in new) (k * 1024) 1024 (λ q lo hi. ap (λ r. not (is_free_row r)) (same q))
+count_kept old new same k = ap (count_by is_borne) (map_same (row_in old) (row_in new) (k * 1024) 1024 (λ q lo hi. same q))
 
--- the others stay as they are where one row changed
-others_same : (n : ℕ) (f : Row → Row) (old new : List (List Row)) → IsRowChanged n f old new → (q : ℕ) → q ≢ n → borne_in new q ≡ borne_in old q
-others_same n f old new change q other = ap (λ r. not (is_free_row r)) (change q ∙ ap (λ b. cond b (f (row_in old n)) (row_in old q)) (ne_eqb n q (λ e. other (sym e))))
+-- where one row changed it is the new one, and the others stay as they are
+pub own_changed : (n : ℕ) (f : Row → Row) (old new : List (List Row)) → IsRowChanged n f old new → row_in new n ≡ f (row_in old n)
+own_changed n f old new change = change n ∙ ap (λ b. cond b (f (row_in old n)) (row_in old n)) (eq-eqb n n refl)
+
+pub others_same : (n : ℕ) (f : Row → Row) (old new : List (List Row)) → IsRowChanged n f old new → (q : ℕ) → q ≢ n → row_in new q ≡ row_in old q
+others_same n f old new change q other = change q ∙ ap (λ b. cond b (f (row_in old n)) (row_in old q)) (ne_eqb n q (λ e. other (sym e)))
 
 -- so the count of its page follows, and no other
-moved_on : (n : ℕ) (f : Row → Row) (old new : List (List Row)) → IsRowChanged n f old new → borne_on new (n / 1024) + one (borne_in old n) ≡ borne_on old (n / 1024) + one (borne_in new n)
+moved_on : (n : ℕ) (f : Row → Row) (old new : List (List Row)) → IsRowChanged n f old new → borne_on new (n / 1024) + one (is_borne (row_in old n)) ≡ borne_on old (n / 1024) + one (is_borne (row_in new n))
 unfolding borne_on
-moved_on n f old new change = let at = in_page (n / 1024) n refl in count_changed (borne_in old) (borne_in new) (n / 1024 * 1024) 1024 n at.0 at.1 (others_same n f old new change)
+moved_on n f old new change = let at = in_page (n / 1024) n refl in moved_in (row_in old) (row_in new) (n / 1024 * 1024) 1024 n at.0 at.1 (others_same n f old new change)
 
 stays_on : (n k : ℕ) (f : Row → Row) (old new : List (List Row)) → IsRowChanged n f old new → k ≢ n / 1024 → borne_on new k ≡ borne_on old k
 unfolding borne_on
-stays_on n k f old new change other = count_same (borne_in old) (borne_in new) (k * 1024) 1024 (λ q lo hi. others_same n f old new change q (λ e. other (sym (on_page k q lo hi) ∙ ap (λ m. m / 1024) e)))
+stays_on n k f old new change other = ap (count_by is_borne) (map_same (row_in old) (row_in new) (k * 1024) 1024 (λ q lo hi. others_same n f old new change q (λ e. other (sym (on_page k q lo hi) ∙ ap (λ m. m / 1024) e))))
 
 -- the count of the page of n follows, and the others stay
 pub record Follows (n : ℕ) (old new : List (List Row)) (before after : List ℕ) : Type 0 where
   pub other : (k : ℕ) → k ≢ n / 1024 → slice_index_or after k 0 ≡ slice_index_or before k 0
-  pub own : slice_index_or after (n / 1024) 0 + one (borne_in old n) ≡ slice_index_or before (n / 1024) 0 + one (borne_in new n)
+  pub own : slice_index_or after (n / 1024) 0 + one (is_borne (row_in old n)) ≡ slice_index_or before (n / 1024) 0 + one (is_borne (row_in new n))
 
 -- it stays where n is borne before and after
 pub follows_still : (n : ℕ) (old new : List (List Row)) (counts : List ℕ) → is_free_row (row_in old n) ≡ false → is_free_row (row_in new n) ≡ false → Follows n old new counts counts

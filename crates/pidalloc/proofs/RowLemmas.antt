@@ -1,5 +1,7 @@
 -- Rows of a table of which some are changed.
-use Rattle.std.proofs.Common.{◌≡◌, ℕ, zero, suc, ◌<◌, ◌≤◌, ◌==◌, Bool, false, cond, List, length, refl, ap, ◌∙◌, arith, replicate, length-set}
+use Rattle.std.proofs.Common.{◌≡◌, ◌≢◌, ℕ, zero, suc, ◌+◌, ◌<◌, ◌≤◌, ◌==◌, Bool, false, cond, List, ◌∷◌, length, map, refl, ap, ◌∙◌, arith, replicate, length-set}
+use Rattle.std.specs.Prelude.{slice_set}
+use Rattle.std.specs.List.{range_with_len}
 use Rattle.std.proofs.lemmas.Bool.{eqb-true}
 use Rattle.std.proofs.lemmas.Bool.Decides.{nat_tests}
 use Rattle.std.proofs.lemmas.List.{get_or-set_same, get_or-set_other}
@@ -44,3 +46,16 @@ pub no_row : (k n : ℕ) → row (replicate k unborne) n ≡ unborne
 no_row zero n = refl
 no_row (suc k) zero = refl
 no_row (suc k) (suc n) = no_row k n
+
+-- ---- rows of a range of numbers
+
+-- two functions that agree on the numbers of a range give the same rows
+pub map_same : (f g : ℕ → Row) (a n : ℕ) → ((k : ℕ) → a ≤ k → k < a + n → g k ≡ f k) → map g (range_with_len a n) ≡ map f (range_with_len a n)
+map_same f g a zero h = refl
+map_same f g a (suc n) h = rw (h a (omega arith) (omega arith)) (ap (λ rs. f a ∷ rs) (map_same f g (a + 1) n (λ k lo hi. h k (omega arith) (omega arith))))
+
+-- where they differ at one number, one row is set
+pub map_set : (f g : ℕ → Row) (a n i q : ℕ) → i < n → a + i ≡ q → ((k : ℕ) → k ≢ q → g k ≡ f k) → map g (range_with_len a n) ≡ slice_set (map f (range_with_len a n)) i (g q)
+map_set f g a zero i q l at h = absurd (omega (arith, l))
+map_set f g a (suc n) zero q l at h = let e : q ≡ a = omega (arith, at) in rw e (ap (λ rs. g a ∷ rs) (map_same f g (a + 1) n (λ k lo hi. h k (λ same. omega (arith, lo, same, at)))))
+map_set f g a (suc n) (suc i) q l at h = rw (h a (λ e. omega (arith, e, at))) (ap (λ rs. f a ∷ rs) (map_set f g (a + 1) n i q (omega (arith, l)) (omega (arith, at)) h))

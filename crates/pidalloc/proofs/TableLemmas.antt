@@ -1,16 +1,16 @@
 -- The rows of a table, in pages.
-use Rattle.std.proofs.Common.{◌≡◌, ◌≢◌, ℕ, zero, suc, ◌+◌, ◌/◌, ◌%◌, ◌<◌, ◌≤◌, ◌==◌, Bool, true, false, cond, List, [], ◌∷◌, length, map, replicate, refl, ap, sym, ◌∙◌, arith, inl, inr, ◌⊎◌}
+use Rattle.std.proofs.Common.{◌≡◌, ◌≢◌, ℕ, zero, suc, ◌+◌, ◌/◌, ◌%◌, ◌<◌, ◌≤◌, Bool, true, false, cond, List, [], ◌∷◌, length, map, replicate, refl, ap, sym, ◌∙◌, arith, inl, inr, ◌⊎◌}
 use Rattle.std.specs.Prelude.{slice_set, slice_index_or, nat_lt}
 use Rattle.std.specs.List.{range_with_len}
-use Rattle.std.proofs.lemmas.Bool.{eqb-true, eq-eqb, ne_eqb, cases_eq, cases_lt, lt-ltb, ltb-true}
+use Rattle.std.proofs.lemmas.Bool.{eqb-true, eq-eqb, cases_eq, cases_lt, lt-ltb, ltb-true}
 use Rattle.std.proofs.lemmas.Bool.Decides.{nat_tests}
 use Rattle.std.proofs.lemmas.List.{get_or_past}
 use Rattle.std.proofs.lemmas.List.FromFn.{get_or-map-range_with_len, length-map-range_with_len}
 use Rattle.pidset.specs.Rows.{Grows, HasRoom, HasRow, row_or, sizes_of, sizes_without, with_row, without_page}
 use Rattle.pidset.proofs.RowLemmas.{room_is, row_gone, row_is, row_left, row_or_none, row_set, sizes_left}
 use Rattle.pidalloc.specs.Rows.{Row, Role, Pids, IsPids, IsTable, unborne, unborne_table, row, is_free_row, is_free_in, row_in, rows_in, sizes_in, borne_on, IsRowChanged, AreUnborneAbove, one_more, one_less, borne, given_up, last_given}
-use Rattle.pidalloc.proofs.CountLemmas.{Follows, count_kept, counted_so, few_on, all_on, none_counted, none_on, some_on}
-use Rattle.pidalloc.proofs.RowLemmas.{same_row, counted_borne}
+use Rattle.pidalloc.proofs.CountLemmas.{Follows, count_kept, counted_so, few_on, all_on, none_counted, none_on, some_on, others_same, own_changed}
+use Rattle.pidalloc.proofs.RowLemmas.{same_row, counted_borne, map_same, map_set}
 
 -- a row of a number that nobody bears
 pub free_row_is : (r : Row) → is_free_row r ≡ true → r ≡ unborne
@@ -22,15 +22,6 @@ free_row_is r e = same_row r unborne (grind (arith, eqb-true, e)) (grind (arith,
 abbrev pub AreSame : List (List Row) → List (List Row) → Type 0
 AreSame old new = (n : ℕ) → row_in new n ≡ row_in old n
 
-pub same_pages : (f g : ℕ → Row) (a n : ℕ) → ((k : ℕ) → a ≤ k → g k ≡ f k) → map g (range_with_len a n) ≡ map f (range_with_len a n)
-same_pages f g a zero h = refl
-same_pages f g a (suc n) h = rw (h a (omega arith)) (ap (λ xs. f a ∷ xs) (same_pages f g (a + 1) n (λ k l. h k (omega arith))))
-
-pub set_rows : (f g : ℕ → Row) (a n i : ℕ) (r : Row) → i < n → ((q : ℕ) → g q ≡ cond (a + i == q) r (f q)) → map g (range_with_len a n) ≡ slice_set (map f (range_with_len a n)) i r
-set_rows f g a zero i r l h = absurd (omega arith)
-set_rows f g a (suc n) zero r l h = rw (h a ∙ ap (λ b. cond b r (f a)) (eq-eqb (a + 0) a (omega arith))) (ap (λ xs. r ∷ xs) (same_pages f g (a + 1) n (λ k lo. grind (arith, eqb-true, h k))))
-set_rows f g a (suc n) (suc i) r l h = rw (h a ∙ ap (λ b. cond b r (f a)) (ne_eqb (a + suc i) a (λ e. omega (arith, e)))) (ap (λ xs. f a ∷ xs) (set_rows f g (a + 1) n i r (omega arith) (λ q. grind (arith, nat_tests, h q))))
-
 -- the row of a number up to the greatest
 pub row_of : (pidmax : ℕ) (pages : List (List Row)) (n : ℕ) → n ≤ pidmax → row (rows_in pidmax pages) n ≡ row_in pages n
 unfolding rows_in
@@ -38,10 +29,10 @@ row_of pidmax pages n l = get_or-map-range_with_len (row_in pages) 0 (pidmax + 1
 
 pub rows_same : (pidmax : ℕ) (old new : List (List Row)) → AreSame old new → rows_in pidmax new ≡ rows_in pidmax old
 unfolding rows_in
-rows_same pidmax old new same = same_pages (row_in old) (row_in new) 0 (pidmax + 1) (λ k l. same k)
+rows_same pidmax old new same = map_same (row_in old) (row_in new) 0 (pidmax + 1) (λ k lo hi. same k)
 
 pub rows_changed : (pidmax n : ℕ) (f : Row → Row) (old new : List (List Row)) → n ≤ pidmax → IsRowChanged n f old new → rows_in pidmax new ≡ slice_set (rows_in pidmax old) n (f (row (rows_in pidmax old) n))
-rows_changed pidmax n f old new l change = rw (row_of pidmax old n l) (unfold rows_in in set_rows (row_in old) (row_in new) 0 (pidmax + 1) n (f (row_in old n)) (omega arith) (λ q. change q ∙ ap (λ m. cond (m == q) (f (row_in old n)) (row_in old q)) (let e : n ≡ 0 + n = omega arith in e)))
+rows_changed pidmax n f old new l change = unfold rows_in in map_set (row_in old) (row_in new) 0 (pidmax + 1) n n (omega (arith, l)) (omega arith) (others_same n f old new change) ∙ ap (slice_set (map (row_in old) (range_with_len 0 (pidmax + 1))) n) (own_changed n f old new change ∙ ap f (sym (row_of pidmax old n l)))
 
 -- nobody bears a number at the start
 none_in : (a n : ℕ) → map (row_in []) (range_with_len a n) ≡ replicate n unborne
@@ -146,7 +137,7 @@ unborne_is pidmax q pages beyond free = elim (cases_lt pidmax q) [ inl past ↦ 
 
 -- nobody bears one above the greatest once one up to it has changed
 pub beyond_changed : (pidmax n : ℕ) (f : Row → Row) (old new : List (List Row)) → n ≤ pidmax → IsRowChanged n f old new → AreUnborneAbove pidmax old → AreUnborneAbove pidmax new
-beyond_changed pidmax n f old new top change beyond k past = ap is_free_row (change k ∙ ap (λ b. cond b (f (row_in old n)) (row_in old k)) (ne_eqb n k (λ e. omega (arith, e, past, top)))) ∙ beyond k past
+beyond_changed pidmax n f old new top change beyond k past = ap is_free_row (others_same n f old new change k (λ e. omega (arith, e, past, top))) ∙ beyond k past
 
 pub beyond_none : (pidmax : ℕ) → AreUnborneAbove pidmax []
 unfolding row_in
@@ -158,13 +149,12 @@ given_within role n last pidmax a b = grind (arith, a, b)
 pub never_free : (role : Role) (r : Row) → is_free_row (one_more role r) ≡ false
 never_free role r = counted_borne role (one_more role r) (grind arith)
 
+pub newly_borne : (role : Role) (n : ℕ) (old new : List (List Row)) → IsRowChanged n (one_more role) old new → is_free_row (row_in new n) ≡ false
+newly_borne role n old new change = ap is_free_row (own_changed n (one_more role) old new change) ∙ never_free role (row_in old n)
+
 pub borne_rows : (pidmax n : ℕ) (role : Role) (old new : List (List Row)) → n ≤ pidmax → IsRowChanged n (one_more role) old new → is_free_in (rows_in pidmax new) n ≡ false
 unfolding is_free_in
-borne_rows pidmax n role old new l change =
-    ap is_free_row (row_of pidmax new n l ∙ change n ∙ ap (λ b. cond b (one_more role (row_in old n)) (row_in old n)) (eq-eqb n n refl)) ∙ never_free role (row_in old n)
-
-pub newly_borne : (role : Role) (n : ℕ) (old new : List (List Row)) → IsRowChanged n (one_more role) old new → is_free_row (row_in new n) ≡ false
-newly_borne role n old new change = ap is_free_row (change n ∙ ap (λ b. cond b (one_more role (row_in old n)) (row_in old n)) (eq-eqb n n refl)) ∙ never_free role (row_in old n)
+borne_rows pidmax n role old new l change = ap is_free_row (row_of pidmax new n l) ∙ newly_borne role n old new change
 
 -- who was borne stays so
 pub still_rows : (pidmax n q : ℕ) (role : Role) (old new : List (List Row)) → n ≤ pidmax → IsRowChanged n (one_more role) old new → is_free_in (rows_in pidmax old) q ≡ false → is_free_in (rows_in pidmax new) q ≡ false
@@ -190,7 +180,7 @@ table_changed pidmax last given n f old new before after borne_below borne_from 
     borne_still : (k : ℕ) → ((below ≤ k) × (k < from) → ⊥) → is_free_row (row_in old k) ≡ false → is_free_row (row_in new k) ≡ false
     borne_still k out was = elim (cases_eq n k) [
       | inl e ↦ rw (← e) (elim is [ inl some ↦ some | inr free ↦ absurd (out (rw (← e) free)) ])
-      | inr ne ↦ ap is_free_row (change k ∙ ap (λ b. cond b (f (row_in old n)) (row_in old k)) (ne_eqb n k ne)) ∙ was
+      | inr ne ↦ ap is_free_row (others_same n f old new change k (λ e. ne (sym e))) ∙ was
     ]
 
 -- a page counts no more numbers than it has

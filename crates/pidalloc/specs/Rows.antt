@@ -29,6 +29,10 @@ unborne = record { process = 0; group = 0; session = 0 }
 abbrev pub is_free_row : Row → Bool
 is_free_row r = (r.process == 0) && (r.group == 0) && (r.session == 0)
 
+-- somebody bears the number of the row
+abbrev pub is_borne : Row → Bool
+is_borne r = not (is_free_row r)
+
 abbrev pub count_of : Role → Row → ℕ
 count_of Process r = r.process
 count_of Group r = r.group
@@ -93,12 +97,13 @@ row_in pages n = row_or unborne pages n
 unfoldable pub rows_in : ℕ → List (List Row) → List Row
 rows_in pidmax pages = map (row_in pages) (range_with_len 0 (pidmax + 1))
 
+-- what one number adds to a count: 1 where it is counted, else 0
 abbrev pub one : Bool → ℕ
 one b = if b then 1 else 0
 
--- how many numbers of a page are borne
+-- how many numbers of a page are borne; it isn't opened by itself, so that no proof writes out the 1,024 numbers
 unfoldable pub borne_on : List (List Row) → ℕ → ℕ
-borne_on pages k = count_by (λ n. not (is_free_row (row_in pages n))) (range_with_len (k * 1024) 1024)
+borne_on pages k = count_by is_borne (map (row_in pages) (range_with_len (k * 1024) 1024))
 
 -- there is memory for a number where there is a row for it, and a count for each page
 abbrev pub sizes_in : ℕ → List ℕ → List (List Row) → List ℕ

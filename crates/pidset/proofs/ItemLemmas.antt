@@ -183,6 +183,11 @@ point_at f xs up n (Err i) range parted =
       after = some_at f xs i (λ m. n < m) (λ d h. ranked _ n _ (sym (p.1 i d (omega arith) h)));
     }
 
+-- a number below that of the first item goes before it
+pub point_first : {X : Type 0} (f : X → ℕ) (xs : List X) (n : ℕ) (x : X) → x ≡ get_or xs 0 x → n < f x → IsInsertionPoint (map f xs) n 0
+point_first f [] n x is lt = record { in_range = omega arith; before = λ j low. tt; after = tt }
+point_first f (y ∷ xs) n x is lt = record { in_range = omega arith; before = λ j low. absurd (omega (arith, low)); after = subst (λ y. n < f y) is lt }
+
 -- the last item's number is the last one
 pub last_number : {X : Type 0} (f : X → ℕ) (xs : List X) (x : X) → slice_get xs (length xs - 1) ≡ Some x → IsNumberAt (map f xs) (f x) (length xs - 1)
 last_number f xs x e = slice_get-map f xs (length xs - 1) ∙ ap (option_map f) e

@@ -1,5 +1,5 @@
 -- Facts on numbers in rising order.
-use Rattle.std.proofs.Common.{◌≡◌, ℕ, zero, suc, ◌+◌, ◌-◌, ◌<◌, ◌≤◌, Bool, true, false, cond, ◌||◌, refl, ap, sym, ◌∙◌, arith, subst, List, [], ◌∷◌, length, filter, insert, slice_get, get_or, Some, Result, Ok, Err, is_ok, IfOk, IfErr, ◌==◌, nat_lt}
+use Rattle.std.proofs.Common.{◌≡◌, ℕ, zero, suc, ◌+◌, ◌-◌, ◌<◌, ◌≤◌, Bool, true, false, cond, ◌||◌, refl, ap, sym, ◌∙◌, arith, subst, List, [], ◌∷◌, length, filter, insert, slice_get, get_or, Some, ◌==◌, nat_lt}
 use Rattle.std.specs.List.{AllByRecursion}
 use Rattle.std.specs.Option.{IfSome, IsSome}
 use Rattle.std.proofs.lemmas.Option.{IfSome_then, slice_get_past, get_or_from_slice_get}
@@ -98,11 +98,6 @@ some_at : (ns : List ℕ) (j d : ℕ) (P : ℕ → Type 0) → (j < length ns �
 some_at [] j d P h = tt
 some_at (x ∷ xs) zero d P h = h (omega arith)
 some_at (x ∷ xs) (suc j) d P h = some_at xs j d P (λ lt. h (omega arith))
-
--- a search that ends so decides whether the number is there
-pub decides : (ns : List ℕ) → Rises ns → (n : ℕ) (r : Result ℕ ℕ) → IfOk r (IsNumberAt ns n) → IfErr r (IsInsertionPoint ns n) → is_ok r ≡ is_in n ns
-decides ns up n (Ok i) e g = sym (in_at ns n i e)
-decides ns up n (Err i) e g = sym (out_point ns up n i g)
 
 -- a number above the last goes to the end
 pub point_last : (ns : List ℕ) → Rises ns → (n m : ℕ) → slice_get ns (length ns - 1) ≡ Some m → m < n → IsInsertionPoint ns n (length ns)

@@ -48,6 +48,14 @@ pub fn search<T: Numbered, K: Numbered>(items: &[T], key: &K) -> Result<usize, u
     if greatest < number {
         return Err(items.len());
     }
+    // Others are mostly the first, or go before it.
+    let least = items[0].number();
+    if number < least {
+        return Err(0);
+    }
+    if number == least {
+        return Ok(0);
+    }
     // Where one that is looked for is there, mostly all between it and the last one are.
     let behind = greatest - number;
     if behind < items.len() as u128 {

@@ -56,30 +56,13 @@ impl PidSet {
         self.pids.room()
     }
 
-    /// How many numbers there are.
-    pub fn len(&self) -> usize
-        ensures is { result ≡ length self.now.pids }
-        ensures rising { Rises self.now.pids }
-    {
-        self.pids.as_slice().len()
-    }
-
     /// Where a number stands, or where it would go.
-    pub fn search(&self, pid: Pid) -> Result<usize, usize>
+    fn search(&self, pid: Pid) -> Result<usize, usize>
         ensures found { IfOk result (IsNumberAt self.now.pids pid) }
         ensures absent { IfErr result (IsInsertionPoint self.now.pids pid) }
         ensures rising { Rises self.now.pids }
     {
         search(self.pids.as_slice(), &pid)
-    }
-
-    /// Whether a number is there.
-    #[tactic(auto, using(crate::proofs::NumberLemmas::decides))]
-    pub fn has(&self, pid: Pid) -> bool
-        ensures is { result ≡ is_in pid self.now.pids }
-        ensures rising { Rises self.now.pids }
-    {
-        self.search(pid).is_ok()
     }
 
     /// The least number.

@@ -1,1 +1,2 @@
+mod ComparisonLemmas
 mod PastLemmas

@@ -1,2 +1,4 @@
+pub mod Comparing
+pub mod Comparisons
 pub mod Pasts
 pub mod Statuses

@@ -1,4 +1,4 @@
--- The statuses of the program.
+-- The statuses of `show`.
 use Rattle.std.specs.Prelude.{ℕ}
 use Rattle.inputs.specs.Statuses.{status_of as status_of_input}
 use Rattle.showing.specs.declared.serving.Failure.{Failure}

@@ -1,7 +1,10 @@
-//! What `show` does: a run up to one of its events, the state then in words, and what each event did. The program adds the
-//! host alone.
+//! What `show` does: a run up to one of its events, the state then in words, and what each event did. What
+//! `explain TRACE WORLD EVENTS` does: a trace beside the one that the world writes. The program adds the host alone.
 #![tactic(auto)]
 
+mod comparing;
+mod comparing_sink;
+mod comparison;
 mod hearing;
 mod replay;
 mod serving;
@@ -9,5 +12,6 @@ mod state;
 mod stepping;
 mod words;
 
-pub use serving::{serve, serve_trace};
+pub use comparing::{Named, serve_beside};
+pub use serving::serve;
 pub use stepping::{Ask, AskFault};

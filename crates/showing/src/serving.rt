@@ -1,4 +1,4 @@
-//! What the program does: its texts and its statuses.
+//! What `show` does: its texts and its statuses.
 
 ghost use Rattle.std.specs.Prelude.{◌≡◌, ◌≤◌, ◌⊎◌, IfOk, None, Ok, length};
 ghost use Rattle.text.specs.EventTexts.{most_events};

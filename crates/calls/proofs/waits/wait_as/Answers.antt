@@ -10,7 +10,6 @@ use Rattle.posix.specs.Tables.{removed}
 use Rattle.posix.specs.States.{State, process, change, has_place}
 use Rattle.jobs.proofs.RunLemmas.{parent_is}
 use Rattle.life.specs.Rechecks.{without_gone}
-use Rattle.life.proofs.SoundLemmas.{there}
 use Rattle.calls.proofs.BriefLemmas.{quiet_on, brief_on, brief_behind, brief_look, brief_more, brief_done, brief_reaped}
 use Rattle.calls.proofs.CountLemmas.{wait_slots}
 use Rattle.posix.specs.Outcomes.{Block, refusal}
@@ -201,13 +200,11 @@ returns-else-leaves-clause-brief g c = λ quiet.
     let mid = c.wait_attempt.new.self in
     let child = reported s.processes c.requires.regular.rising me.pid me.group _ _ (found.End c.in-End.child c.in-End.status) c.in-End.child (sym c.wait_attempt.ensures.value ∙ c.in-End.is) refl in
     let there_child = ap (λ (t : State). process t c.in-End.child) looks.same.state ∙ child.found in
-    let gone = c.reap.ensures.changes.state ∙ ap (λ (t : State). record t { processes = removed c.in-End.child t.processes }) looks.same.state in
-    let here = there _ (subst (λ (t : State). IsSome (process t me.pid)) (sym gone) (caller_stays s.processes me.pid c.in-End.child c.requires.placed child)) in
     let parent = parent_is c.in-End.child _ mid.state.processes child.what refl there_child ∙ child.parent in
     let slots = wait_slots c.in-Some.asked.target me.pid s.processes in
-    brief_on 9 _ _ c.args.machine.now mid _ looks.same looks.visits (omega (arith, slots))
-    (brief_reaped me.pid c.in-End.child _ mid c.reap.new.self _ here.what child.what (c.requires.regular.bounded c.in-End.child child.what child.found).session_least (quiet_on _ c.args.machine.now _ looks.same quiet) c.reap.ensures.changes.state (c.reap.ensures.changes.to_recheck ∙ ap (λ p. without_gone c.in-End.child p mid.to_recheck) parent)
-    (c.reap.ensures.foregrounds_unchecked child.what there_child) c.reap.ensures.changes.costs.visits here.found c.take.ensures.state c.take.ensures.costs)
+    brief_on 7 _ _ c.args.machine.now mid _ looks.same looks.visits (omega (arith, slots))
+    (brief_reaped me.pid c.in-End.child _ mid c.reap.new.self _ child.what (c.requires.regular.bounded c.in-End.child child.what child.found).session_least (quiet_on _ c.args.machine.now _ looks.same quiet) c.reap.ensures.changes.state (c.reap.ensures.changes.to_recheck ∙ ap (λ p. without_gone c.in-End.child p mid.state.order mid.to_recheck) parent)
+    (c.reap.ensures.foregrounds_unchecked child.what there_child) c.reap.ensures.changes.costs.visits c.take.ensures.state c.take.ensures.costs)
 
 pub returns-else-leaves-2-clause-brief : goal.returns-else-leaves-2-clause-brief
 returns-else-leaves-2-clause-brief g c = λ quiet.

@@ -5,7 +5,7 @@ use Rattle.posix.specs.Settle.{wakes}
 use Rattle.pidset.specs.Indexes.{is_key}
 use Rattle.pidset.specs.Rows.{HasRoom}
 use Rattle.life.specs.Consoles.{reads}
-use Rattle.life.proofs.RecheckLemmas.{listed_rechecked, pids_of, room_of}
+use Rattle.life.proofs.RecheckLemmas.{listed_rechecked}
 use Rattle.life.proofs.ReaderLemmas.{readable, reads_within, session_readable, watched_rechecked, within_marked}
 use Rattle.life.proofs.SoundLemmas.{here_in}
 use Rattle.life.specs.Machines.{IsNoted, state_of}
@@ -29,9 +29,9 @@ invariant_of-self g c =
     let session = c.requires.session ∙ ap (λ (s : State). reads s c.args.pid) (sym same) in
     record {
       sound = i.sound;
-      listed = listed_rechecked _ c.args.pid _ _ _ i.listed (λ r e. ap (λ (s : State). wakes s r) same ∙ c.requires.waits r (subst (λ (s : State). process s c.args.pid ≡ Some r) same e)) (pids_of c.take_off.ensures) (room_of c.take_off.ensures)
-          (watched_rechecked _ c.args.pid _ _ _ i.listed.watched (pids_of c.take_off.ensures) session c.put.ensures.moved);
-      noted = subst (λ n. IsNoted n c.self.inside.groups_at_risk) (sym (room_of c.take_off.ensures)) i.noted;
+      listed = listed_rechecked _ c.args.pid _ _ _ i.listed (λ r e. ap (λ (s : State). wakes s r) same ∙ c.requires.waits r (subst (λ (s : State). process s c.args.pid ≡ Some r) same e)) c.remove.ensures.pids c.remove.ensures.room
+          (watched_rechecked _ c.args.pid _ _ _ i.listed.watched c.remove.ensures.pids session c.put.ensures.moved);
+      noted = subst (λ n. IsNoted n c.self.inside.groups_at_risk) (sym c.remove.ensures.room) i.noted;
       fresh = i.fresh;
       indexed = i.indexed;
       within = within_marked c.args.pid _ c.put.ensures.moved c.put.ensures.sizes (λ k e. reads_within s c.args.pid k (sym (ap (is_key k) session) ∙ e)) i.within;

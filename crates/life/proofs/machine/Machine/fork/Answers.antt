@@ -1,4 +1,4 @@
-use Rattle.std.proofs.Common.{rules, ap, arith, refl, sym, subst, ◌<◌, ◌+◌, ◌∙◌, List, [], ◌∷◌, length}
+use Rattle.std.proofs.Common.{rules, ap, arith, refl, sym, subst, true, ◌<◌, ◌+◌, ◌∙◌, List, length}
 use Rattle.posix.specs.Processes.{Process}
 use Rattle.posix.specs.Tables.{lookup}
 use Rattle.posix.specs.Outcomes.{finished}
@@ -8,9 +8,9 @@ use Rattle.pidset.specs.Numbers.{with_number}
 use Rattle.pidset.specs.Rows.{HasRoom}
 use Rattle.jobs.proofs.ReadLemmas.{processes_of}
 use Rattle.life.specs.Machines.{MachineView, IsNoted}
-use Rattle.life.specs.Rechecks.{with_numbers}
+use Rattle.life.specs.Rechecks.{rechecking}
 use Rattle.life.proofs.FunnelLemmas.{borne_of}
-use Rattle.life.proofs.RecheckLemmas.{room_after, listed_born}
+use Rattle.life.proofs.RecheckLemmas.{has_room, listed_born, listed_where, pids_of, room_of}
 use Rattle.life.proofs.RoomLemmas.{machine_roomier, state_roomier, can_bear_all}
 use Rattle.life.proofs.SoundLemmas.{is_there, found_in, next_is_new, room_to_bear, sound_born, within_inserted}
 use Rattle.proctable.specs.Records.{process_of}
@@ -93,11 +93,17 @@ insert-requires-clause-inside g c = subst (λ sizes. HasRoom sizes c.args.child)
 pub insert-requires-clause-number : goal.insert-requires-clause-number
 insert-requires-clause-number g c = λ none. absurd (omega (arith, none, (next_is_new _ _ _ _ c.args.child (state_is c.self.view_is) c.self.invariant.sound c.requires.child).least))
 
-pub insert-requires-3 : goal.insert-requires-3
-unfolding with_numbers
-insert-requires-3 g c =
+pub recheck_later-requires : goal.recheck_later-requires
+recheck_later-requires g c =
     let roomy = machine_roomier {now = c.reserve-2.new.self} {order = c.reserve-3.new.self} {m = c.make_room.new.to_recheck} {after = c.make_room.new.groups_at_risk} {sets = c.reserve-4.new.self} c.self.invariant refl c.in_ok-reserve-2.ensures.rest c.in_ok-reserve-3.ensures.grows c.make_room.ensures.to_recheck c.make_room.ensures.grows c.make_room.ensures.groups_at_risk c.make_room.ensures.groups c.in_ok-reserve-4.ensures.pairs c.in_ok-reserve-4.ensures.grows in
-    record { room = λ out. room_after _ _ c.insert-2.new.self (c.args.parent ∷ []) roomy.sound.regular roomy.listed (is_there _ c.requires.parent.what (found_in _ _ (state_is c.self.view_is) c.args.parent c.requires.parent.what c.requires.parent.found), tt) c.insert-2.ensures.pids c.insert-2.ensures.room }
+    has_room _ _ roomy.sound.regular roomy.listed
+
+pub insert-requires-2 : goal.insert-requires-2
+insert-requires-2 g c =
+    let roomy = machine_roomier {now = c.reserve-2.new.self} {order = c.reserve-3.new.self} {m = c.make_room.new.to_recheck} {after = c.make_room.new.groups_at_risk} {sets = c.reserve-4.new.self} c.self.invariant refl c.in_ok-reserve-2.ensures.rest c.in_ok-reserve-3.ensures.grows c.make_room.ensures.to_recheck c.make_room.ensures.grows c.make_room.ensures.groups_at_risk c.make_room.ensures.groups c.in_ok-reserve-4.ensures.pairs c.in_ok-reserve-4.ensures.grows in
+    let here = is_there _ c.requires.parent.what (found_in _ _ (state_is c.self.view_is) c.args.parent c.requires.parent.what c.requires.parent.found) in
+    let listed = listed_where _ _ c.recheck_later.new.to_recheck c.args.parent true roomy.listed here (pids_of c.recheck_later.ensures ∙ ap (λ ns. rechecking c.args.parent ns c.make_room.new.to_recheck.pids) c.in_ok-reserve-3.ensures.pids) (room_of c.recheck_later.ensures) in
+    record { room = λ out. has_room _ _ roomy.sound.regular listed }
 
 pub invariant_of-self-2 : goal.invariant_of-self-2
 unfolding child_of finished
@@ -114,7 +120,7 @@ invariant_of-self-2 g c =
     let sound = sound_born _ _ _ _ _ _ _ _ _ _ _ me.what roomy.sound new found me.living groups.0 groups.1 (ap (λ (r : Process). r.life) child) (ap (λ (r : Process). r.alarm) child) c.bear_all.ensures.value c.bear_all.ensures.pidmax c.bear_all.ensures.kept c.in_ok-reserve-3.ensures.room in
     let count = c.len-count.ensures.value ∙ ap (λ (rs : List Process). length rs) (processes_of c.in_ok-reserve.ensures.rest) in
     let fits : length m.table.processes + 1 < c.make_room.new.to_recheck.room = omega (arith, count, c.in_ok-make_room.ensures.ok) in
-    let listed = listed_born _ _ _ _ _ _ roomy.listed fits new.fresh (is_there _ me.what found) (c.insert-3.ensures.pids ∙ ap (with_number c.args.child) c.insert-2.ensures.pids) (c.insert-3.ensures.room ∙ c.insert-2.ensures.room) in
-    let noted = subst (λ n. IsNoted n c.make_room.new.groups_at_risk) (sym (c.insert-3.ensures.room ∙ c.insert-2.ensures.room)) roomy.noted in
+    let listed = listed_born _ _ _ _ _ _ roomy.listed fits new.fresh (is_there _ me.what found) (c.insert-2.ensures.pids ∙ ap (with_number c.args.child) (pids_of c.recheck_later.ensures)) (c.insert-2.ensures.room ∙ room_of c.recheck_later.ensures) in
+    let noted = subst (λ n. IsNoted n c.make_room.new.groups_at_risk) (sym (c.insert-2.ensures.room ∙ room_of c.recheck_later.ensures)) roomy.noted in
     rw (c.insert.ensures.processes, c.in_ok-fields.ensures.looks.processes, processes_of c.in_ok-reserve.ensures.rest)
     (record { sound = sound; listed = listed; noted = noted; fresh = fresh_still c.self.inside.foregrounds_unchecked _ _ _ (λ ds h. fresh_inserted (process_of c.args.child c.args.parent c.in_ok-fields.fields) _ ds h) roomy.fresh; indexed = roomy.indexed; within = within_inserted (process_of c.args.child c.args.parent c.in_ok-fields.fields) _ new.fresh (c.in_ok-reserve-4.ensures.room, subst (λ n. HasRoom c.reserve-4.new.self.sizes n) (sym groups.1) (roomy.within.room c.args.parent me.what found).1) roomy.within })

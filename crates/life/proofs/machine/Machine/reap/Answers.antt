@@ -40,7 +40,7 @@ invariant_of-self g c =
     rw c.discard-snapshot.ensures.processes (record {
       sound = sound_gone _ _ _ _ c.args.pid _ _ it.0 c.self.invariant.sound found it.2 c.requires.other gone (omega arith);
       listed = listed_removed _ c.args.pid _ _ it.0 _ _ c.self.invariant.sound.regular (listed_zombie _ c.args.pid it.0 _ c.self.invariant.listed found it.2 c.put.ensures.moved) found up
-          (pids_of c.forget.ensures ∙ ap (λ n. without_gone c.args.pid n c.self.inside.to_recheck.pids) parent) (room_of c.forget.ensures) (none_marked c.args.pid _ _ c.put.ensures.moved);
+          (pids_of c.forget.ensures ∙ ap (λ n. without_gone c.args.pid n c.self.inside.order.pids c.self.inside.to_recheck.pids) parent) (room_of c.forget.ensures) (none_marked c.args.pid _ _ c.put.ensures.moved);
       noted = subst (λ n. IsNoted n c.self.inside.groups_at_risk) (sym (room_of c.forget.ensures)) c.self.invariant.noted;
       fresh = subst (λ u. AreFreshBut u (removed c.args.pid c.self.inside.table.processes) c.self.inside.consoles.items) (sym (c.also_in-self-inside.ensures ∙ ap (λ g. also_in g c.self.inside.foregrounds_unchecked) session)) (fresh_removed _ c.args.pid it.0 _ _ c.self.invariant.sound.regular.rising found c.self.invariant.fresh);
       indexed = c.self.invariant.indexed;

@@ -1,0 +1,2 @@
+mod RunningLemmas
+mod WordLemmas

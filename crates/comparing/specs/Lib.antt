@@ -1,2 +1,0 @@
-pub mod Comparisons
-pub mod Serving

@@ -1,2 +1,0 @@
-pub mod ServingLemmas
-pub mod WordLemmas
