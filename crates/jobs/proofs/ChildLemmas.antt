@@ -1,13 +1,14 @@
 -- The children of processes, by their index, and their adoption.
-use Rattle.std.proofs.Common.{Bool, true, false, cond, ◌≡◌, ◌≢◌, ℕ, ◌<◌, ◌≤◌, ◌==◌, ◌&&◌, nat_lt, refl, ap, sym, ◌∙◌, arith, subst, List, [], ◌∷◌, map, filter, Option, Some, None, ◌⊎◌, ⊎_elim, inl, inr}
-use Rattle.std.specs.Prelude.{is_some, not, option_and_then}
-use Rattle.std.specs.Option.{IfSome, IsSome}
+use Rattle.std.proofs.Common.{Bool, true, false, cond, ◌≡◌, ◌≢◌, ℕ, ◌≤◌, ◌==◌, ◌&&◌, nat_lt, refl, ap, sym, ◌∙◌, arith, subst, List, [], ◌∷◌, map, filter, Option, Some, None, ◌⊎◌, ⊎_elim, inl, inr}
+use Rattle.std.specs.Prelude.{is_some, not, option_and_then, option_map}
+use Rattle.std.specs.Option.{IfSome, IsSome, option_map_or, unwrap_or}
 use Rattle.std.proofs.lemmas.Bool.{cases_eq, cond_both, eq-eqb, eqb-true, eqb-false, and_parts}
 use Rattle.std.proofs.lemmas.Bool.Decides.{nat_tests}
 use Rattle.std.proofs.lemmas.List.Elements.{filter_agree}
-use Rattle.posix.specs.Processes.{Process}
+use Rattle.std.proofs.Math.Bool.{and-false}
+use Rattle.posix.specs.Processes.{Process, is_zombie}
 use Rattle.posix.specs.Tables.{IsRising, lookup, at, changed, parent_of, above, first_pid, is_child, children_in, left_of, next_sibling, reparented, adopted, inserted, removed}
-use Rattle.posix.specs.Waits.{reports, wanted_in}
+use Rattle.posix.specs.Waits.{wanted_in}
 use Rattle.posix.proofs.TableLemmas.{changed_id, pid_looked, pid_reparented, remove_above, rising_adopted, rising_filter}
 use Rattle.posix.proofs.MapLemmas.{adopted_changed, lookup_back, lookup_on, at_pid, at_keeps}
 use Rattle.posix.proofs.RegularLemmas.{lookup_inserted, lookup_new, lookup_left}
@@ -20,10 +21,11 @@ use Rattle.proctable.specs.declared.records.Record.{Record}
 use Rattle.proctable.specs.declared.snapshot.Snapshot.{Snapshot}
 use Rattle.proctable.specs.Records.{give_record, snapshot_of, with_parent, with_record}
 use Rattle.jobs.specs.declared.indexes.IndexedFields.{IndexedFields}
-use Rattle.jobs.specs.Indexes.{anchor_in, child_key, list_of_parent, parent_key, seen_of, snapshot_seen}
-use Rattle.jobs.specs.IndexedTables.{AreKin, AreWithin, HaveOneRoot}
+use Rattle.jobs.specs.Indexes.{anchor_in, child_key, is_outside, list_of_parent, parent_key, seen_of, snapshot_seen}
+use Rattle.jobs.specs.IndexedTables.{AreKin, AreWithin, HaveOneRoot, IsParentIn}
 use Rattle.jobs.proofs.AnchorLemmas.{anchor_inside}
 use Rattle.jobs.proofs.NumberLemmas.{least_number, nobody_there}
+use Rattle.jobs.proofs.SnapshotLemmas.{there}
 
 -- ---- reading
 
@@ -95,6 +97,28 @@ in_none n e = grind (arith, nat_tests, e)
 -- there is memory for the list of a parent
 pub list_inside : (sizes : List ℕ) (parent : ℕ) → (parent ≡ 0) ⊎ ((1 ≤ parent) × HasRoom sizes parent) → IfSome (list_of_parent parent) (λ k. (1 ≤ k) × HasRoom sizes k)
 list_inside sizes parent h = cond_both (parent == 0) None (Some parent) (λ o. IfSome o (λ k. (1 ≤ k) × HasRoom sizes k)) (λ e. tt) (λ e. ⊎_elim (λ none. absurd (eqb-false parent 0 e none)) (λ there. there) h)
+
+-- so the list in which it stands tells its parent
+pub parent_listed : (p : ℕ) (rs : List Process) (pairs : List Pair) (list : Option ℕ) → IsIndex parent_key rs pairs → IsAt p list pairs → IsSome (lookup p rs) → unwrap_or list 0 ≡ parent_of p rs
+parent_listed p rs pairs list index stands here =
+    let me = there (lookup p rs) here in
+    ap (λ o. unwrap_or o 0) (by_parent p rs pairs list me.what index stands me.found) ∙ cond_both (me.what.parent == 0) None (Some me.what.parent) (λ o. unwrap_or o 0 ≡ me.what.parent) (λ none. sym (eqb-true me.what.parent 0 none)) (λ some. refl)
+    ∙ sym (ap (λ o. option_map_or (λ (r : Process). r.parent) o 0) me.found)
+
+-- ---- a birth
+
+-- the parent of a child that is born is there
+pub parent_there : (parent group : ℕ) (rs : List Process) → IsParentIn parent group rs → ((parent ≡ 0) × (rs ≡ [])) ⊎ IsSome (lookup parent rs)
+parent_there parent group rs h = ⊎_elim (λ first. inl first) (λ above. inr (rw above.1 refl)) h
+
+-- and the child is no anchor
+pub no_anchor : (parent : ℕ) (w : IndexedFields) (rs : List Process) → IsParentIn parent w.group rs → anchor_in w (option_map seen_of (lookup parent rs)) ≡ None
+unfolding lookup
+no_anchor parent w rs h = ap (λ b. cond (not (is_zombie w.life) && b) (Some w.group) None) (inside h) ∙ ap (λ b. cond b (Some w.group) None) (and-false (not (is_zombie w.life)))
+  where
+    inside : IsParentIn parent w.group rs → option_map_or (is_outside w) (option_map seen_of (lookup parent rs)) false ≡ false
+    inside h = ⊎_elim (λ first. ap (λ l. option_map_or (is_outside w) (option_map seen_of (lookup parent l)) false) first.1)
+        (λ above. ap (λ o. option_map_or (is_outside w) (option_map seen_of o) false) above.1 ∙ ap (λ b. (above.0.session == w.session) && not b) (eq-eqb above.0.group w.group above.2) ∙ and-false (above.0.session == w.session)) h
 
 -- who has no parent has no sibling
 pub no_sibling : (p : ℕ) (rs : List Process) (me : Process) → IsRising rs → HaveOneRoot rs → lookup p rs ≡ Some me → me.parent ≡ 0 → next_sibling p rs ≡ None

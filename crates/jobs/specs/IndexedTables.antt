@@ -1,5 +1,5 @@
 -- What a table of jobs is worth.
-use Rattle.std.specs.Prelude.{◌≡◌, Bool, is_some, true, ℕ, ◌+◌, ◌<◌, ◌≤◌, ◌⊎◌, List, length, Some, None, ◌≢◌}
+use Rattle.std.specs.Prelude.{◌≡◌, Bool, is_some, true, ℕ, ◌+◌, ◌<◌, ◌≤◌, ◌⊎◌, List, [], length, Some, None, ◌≢◌}
 use Rattle.std.specs.List.{list_any}
 use Rattle.std.specs.Borrow.{MutBor}
 use Rattle.std.specs.Fn.{Once, FnOnceReturnsAtMut}
@@ -35,6 +35,10 @@ AreWithin sizes rs = (p : ℕ) (r : Process) → lookup p rs ≡ Some r → HasR
 -- no process has a number on the page of n, or is in a process group that has
 abbrev pub AreOnOtherPages : ℕ → List Process → Type 0
 AreOnOtherPages n rs = (p : ℕ) (r : Process) → lookup p rs ≡ Some r → IsOnAnotherPage r.pid n × IsOnAnotherPage r.group n
+
+-- a parent in whose process group a child is born, or number 0 where nobody is there
+abbrev pub IsParentIn : ℕ → ℕ → List Process → Type 0
+IsParentIn parent group rs = ((parent ≡ 0) × (rs ≡ [])) ⊎ ((up : Process) × (lookup parent rs ≡ Some up) × (up.group ≡ group))
 
 -- it has a parent
 abbrev pub HasParent : ℕ → Process → Type 0

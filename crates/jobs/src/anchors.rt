@@ -34,21 +34,6 @@ pub(crate) fn seen_there<K: ProcessTable>(table: &mut K, pid: Pid) -> IndexedFie
     of_record(table.update(pid))
 }
 
-/// What the indexes see of a parent, which is there, or has number 0 for none.
-#[inline]
-pub(crate) fn seen_above<K: ProcessTable>(table: &mut K, parent: Pid) -> Option<IndexedFields>
-    requires there { (parent ≡ 0) ⊎ IsSome (lookup parent (K.contents table.old)) }
-    requires none { lookup 0 (K.contents table.old) ≡ None }
-    ensures value { result ≡ option_map seen_of (lookup parent (K.contents table.old)) }
-    ensures contents { K.contents table.new ≡ K.contents table.old }
-    ensures costs { Spends 1 K.room K.visits table.old table.new }
-{
-    if parent == Pid::NONE {
-        return None;
-    }
-    Some(seen_there(table, parent))
-}
-
 /// Whether a process stays in its process group and its session, and isn't revived.
 fn keeps_group_and_session(before: &IndexedFields, after: &IndexedFields) -> bool
     ensures { result ≡ keeps_group_and_session_in before.now after.now }

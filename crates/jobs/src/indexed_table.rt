@@ -1,6 +1,6 @@
 //! The table: who is there.
 
-ghost use Rattle.std.specs.Prelude.{◌≡◌, ◌≢◌, ◌+◌, ◌*◌, ◌<◌, ◌≤◌, ◌^◌, ◌⊎◌, [], ⊤, ℕ, Some, IfOk, IfSome, IsSome, OnOk, None, not, is_some, length, filter, option_map};
+ghost use Rattle.std.specs.Prelude.{◌≡◌, ◌≢◌, ◌+◌, ◌*◌, ◌<◌, ◌≤◌, ◌^◌, [], ⊤, ℕ, Some, IfOk, IfSome, IsSome, OnOk, None, not, is_some, length, filter, option_map};
 ghost use mathlib.Core.Option.{none};
 ghost use Rattle.std.specs.Borrow.{sem, Lends, follows_so};
 ghost use Rattle.std.specs.List.{list_any};
@@ -14,9 +14,9 @@ ghost use Rattle.pidset.specs.Rows.{HasRoom, sizes_without};
 ghost use Rattle.proctable.specs.Records.{process_of, snapshot_of, own_of, own_row};
 ghost use Rattle.jobs.specs.contracts.indexed_table.IndexedTable.{the_row as jobs_row};
 ghost use Rattle.jobs.specs.Indexes.{is_living_subreaper, record_seen, seen_of};
-ghost use Rattle.jobs.specs.IndexedTables.{takes_signal, AreOnOtherPages, ChangesSignals, IsRun, StaysGrouped, lent, looked, Looks, Finds, Costs, Spends, StaysPut};
+ghost use Rattle.jobs.specs.IndexedTables.{takes_signal, AreOnOtherPages, IsParentIn, ChangesSignals, IsRun, StaysGrouped, lent, looked, Looks, Finds, Costs, Spends, StaysPut};
 
-use crate::anchors::{seen_above, seen_there, update_anchors};
+use crate::anchors::{seen_there, update_anchors};
 use crate::children::{give_children, next_child};
 use crate::indexes::{
     Change, IndexedFields, Indexes, anchor_key, of_record, of_snapshot, parent_list,
@@ -119,8 +119,8 @@ impl<K: ProcessTable> IndexedTable<K> {
     }
 
     /// Puts in a process that isn't there, where there is room for one with this number. Its number isn't 0, its parent
-    /// is there, or, for the first process, number 0, and there is room for the number of its process group. The others
-    /// are unchanged.
+    /// is there, and in the same process group, or, for the first process, number 0, and there is room for the number of
+    /// the group. The others are unchanged.
     #[tactic(auto, using(crate::proofs::KeptLemmas::size_of))]
     pub fn insert(&mut self, pid: Pid, parent: Pid, fields: Record)
         requires room { 0 < self.old.room }
@@ -128,20 +128,20 @@ impl<K: ProcessTable> IndexedTable<K> {
         requires inside { HasRoom self.old.sizes pid }
         requires group { (1 ≤ fields.group) × HasRoom self.old.sizes fields.group }
         requires fresh { lookup pid self.old.processes ≡ None }
-        requires parent { ((parent ≡ 0) × (self.old.processes ≡ [])) ⊎ IsSome (lookup parent self.old.processes) }
+        requires parent { IsParentIn parent fields.group self.old.processes }
         ensures processes { self.new.processes ≡ inserted (process_of pid parent fields) self.old.processes }
         ensures room { self.old.room ≤ self.new.room + 1 }
-        ensures visits { self.new.visits ≤ self.old.visits + 2 }
+        ensures visits { self.new.visits ≤ self.old.visits + 1 }
         ensures no_fewer { self.old.visits ≤ self.new.visits }
     {
         // Neither number is above the greatest.
         prove!(pid.number() <= Pid::MAX);
         prove!(fields.group.number() <= Pid::MAX);
         let after = of_record(&fields);
-        let above = seen_above(&mut self.table, parent);
         self.table.insert(pid, parent, fields);
         self.indexes.reindex(pid, parent, &None, &Some(after));
-        self.indexes.anchors.put(pid, anchor_key(&after, &above));
+        // In its parent's process group it is no anchor.
+        self.indexes.anchors.put(pid, None);
         self.indexes.children.put(pid, parent_list(parent));
         self.count += 1;
     }
@@ -329,10 +329,11 @@ impl<K: ProcessTable> IndexedTable<K> {
         ensures parent { result.parent ≡ parent_of pid self.old.processes }
         ensures before { option_map seen_of (lookup pid self.old.processes) ≡ Some result.before }
         ensures after { option_map seen_of (lookup pid self.new.processes) ≡ Some result.after }
-        ensures costs { Costs (4 + 2 * length (children_in pid self.old.processes)) self.old self.new }
-        ensures put { StaysPut F.FnOnce change self.old.processes pid → Costs 2 self.old self.new }
+        ensures costs { Costs (3 + 2 * length (children_in pid self.old.processes)) self.old self.new }
+        ensures put { StaysPut F.FnOnce change self.old.processes pid → Costs 1 self.old self.new }
     {
-        let seen = change_in(&mut self.table, pid, change);
+        let parent = self.indexes.children.list(pid).unwrap_or(Pid::NONE);
+        let seen = change_in(&mut self.table, pid, parent, change);
         if seen.before == seen.after {
             // It stands in each index as it did.
             return seen;
@@ -405,16 +406,21 @@ fn run_on<K: ProcessTable, T, F: FnOnce(&mut Record) -> T>(
     }
 }
 
-/// Runs a closure on the record of a process that is there. What the indexes see of this change.
+/// Runs a closure on the record of a process that is there, and has this parent. What the indexes see of this change.
 #[inline(always)]
-fn change_in<K: ProcessTable, F: FnOnce(&mut Record)>(table: &mut K, pid: Pid, change: F) -> Change
+fn change_in<K: ProcessTable, F: FnOnce(&mut Record)>(
+    table: &mut K,
+    pid: Pid,
+    parent: Pid,
+    change: F,
+) -> Change
     requires there { IsSome (lookup pid (K.contents table.old)) }
+    requires parent { parent ≡ parent_of pid (K.contents table.old) }
     requires callable { F.IsAlwaysCallable change }
     ensures run { (k : IsRun F.FnOnce change (K.contents table.old) (K.contents table.new) pid tt) × (result.before ≡ record_seen k.before) × (result.after ≡ record_seen k.after) }
     ensures parent { result.parent ≡ parent_of pid (K.contents table.old) }
-    ensures costs { Spends 2 K.room K.visits table.old table.new }
+    ensures costs { Spends 1 K.room K.visits table.old table.new }
 {
-    let parent = parent_in(table, pid);
     let it = table.update(pid);
     let before = of_record(it);
     change(it);
@@ -423,19 +429,5 @@ fn change_in<K: ProcessTable, F: FnOnce(&mut Record)>(table: &mut K, pid: Pid, c
         parent,
         before,
         after,
-    }
-}
-
-/// The parent of a process that is there.
-#[inline(always)]
-fn parent_in<K: ProcessTable>(table: &mut K, pid: Pid) -> Pid
-    requires { IsSome (lookup pid (K.contents table.old)) }
-    ensures value { result ≡ parent_of pid (K.contents table.old) }
-    ensures contents { K.contents table.new ≡ K.contents table.old }
-    ensures costs { Spends 1 K.room K.visits table.old table.new }
-{
-    match table.get(pid) {
-        Some(snapshot) => snapshot.parent,
-        None => Pid::NONE,
     }
 }

@@ -282,6 +282,22 @@ pub none_stays : (s : State) (me : Process) → console_of me.session s.consoles
 unfolding hang_up
 none_stays s me none = rw none (sym (cond_both (not (me.pid == 1) && me.session == me.pid) s s (λ t. t ≡ s) (λ e. refl) (λ e. refl)))
 
+-- nor does who would lead a session that has none
+pub unled_stays : (s : State) (p : ℕ) (me : Process) → process s p ≡ Some me → is_some (console_of p s.consoles) ≡ false → s ≡ hang_up s me
+unled_stays s p me found none = elim (hangs_up (snapshot_of me)) as (λ b. hangs_up (snapshot_of me) ≡ b → s ≡ hang_up s me) [
+  | true ↦ λ e. none_stays s me (ap (λ n. console_of n s.consoles) (eqb-true me.session me.pid (and_parts (not (me.pid == 1)) _ e).1 ∙ pid_looked p s.processes me found) ∙ nobody (console_of p s.consoles) none)
+  | false ↦ λ e. others_stay s me e
+] refl
+  where
+    nobody : (o : Option Console) → is_some o ≡ false → o ≡ None
+    nobody None e = refl
+    nobody (Some c) e = absurd (cc)
+
+-- a session has a terminal where a console is it
+pub has_index : (session : ℕ) (cs : List Console) (index : Option ℕ) → IsTerminalIndex session cs index → is_some index ≡ is_some (console_of session cs)
+has_index session cs None none = sym (ap is_some none)
+has_index session cs (Some k) it = sym (ap is_some it.2)
+
 -- the leader of a session that has one
 pub leader_hangs_up : (s : State) (k p : ℕ) (me : Process) (c : Console) → IsRegular s → process s p ≡ Some me → hangs_up (snapshot_of me) ≡ true → slice_get s.consoles k ≡ Some c → c.session ≡ me.session
     → put (record s { processes = signalled_group HUP c.foreground s.processes }) k (released c) ≡ hang_up s me

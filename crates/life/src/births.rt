@@ -57,7 +57,7 @@ impl<K: ProcessTable> Machine<K> {
         ensures ok { OnOk result (IfThere parent self.old (λ me. self.new.state ≡ born self.old.state me child)) }
         ensures err { OnErr result (AreSameButRoom self.old self.new) }
         ensures to_recheck { OnOk result (self.new.to_recheck ≡ with_number child (rechecks parent self.old)) }
-        ensures costs { Costs 3 self.old self.new }
+        ensures costs { Costs 2 self.old self.new }
     {
         let before = self.pids.last();
         self.table.reserve(child)?;

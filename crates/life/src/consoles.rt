@@ -1,7 +1,7 @@
 //! Consoles: whose terminal each is, who waits to read from it, and what a key, a hangup and a lost foreground
 //! process group do (XBD 11.1).
 
-ghost use Rattle.std.specs.Prelude.{◌≡◌, ◌≢◌, ◌==◌, ◌+◌, ◌<◌, ◌≤◌, ◌||◌, ℕ, List, IfOk, IfSome, MatchOption, Some, None, [], count_by, length, false, true, if◌then◌else◌, option_map, map, replicate, slice_get, slice_set};
+ghost use Rattle.std.specs.Prelude.{is_some, ◌≡◌, ◌≢◌, ◌==◌, ◌+◌, ◌<◌, ◌≤◌, ◌||◌, ℕ, List, IfOk, IfSome, MatchOption, Some, None, [], count_by, length, false, true, if◌then◌else◌, option_map, map, replicate, slice_get, slice_set};
 ghost use Rattle.std.specs.Option.{option_copied};
 ghost use Rattle.posix.specs.Processes.{Process};
 ghost use Rattle.posix.specs.States.{process, is_in, without};
@@ -202,6 +202,15 @@ impl<K: ProcessTable> Machine<K> {
         ensures { IsTerminalIndex session self.now.state.consoles result }
     {
         index_in(&self.terminals, session)
+    }
+
+    /// Whether a session has a controlling terminal. No console is looked at.
+    fn has_terminal(&self, session: Pid) -> bool
+        ensures value { result ≡ is_some (console_of session self.now.state.consoles) }
+        ensures regular { IsRegular self.now.state }
+    {
+        let _ = &self.table;
+        self.terminal_index(session).is_some()
     }
 
     /// The controlling terminal of a session; none where it has none.
@@ -478,14 +487,18 @@ impl<K: ProcessTable> Machine<K> {
     }
 
     /// Where a process that is there, other than process 1, leads a session with a terminal, each member of the
-    /// foreground process group gets HUP, and the terminal is nobody's any more (XSH _exit). One slot is read for the
-    /// process; where it hangs a terminal up, one for the signal, and three for each member.
+    /// foreground process group gets HUP, and the terminal is nobody's any more (XSH _exit). No slot is read where no
+    /// session with the number of the process has a terminal; where it hangs a terminal up, one is for the process, one
+    /// for the signal, and three for each member.
     pub fn hang_up(&mut self, pid: Pid)
         requires { IsThere pid self.old }
         ensures state { IfThere pid self.old (λ me. self.new.state ≡ hanging_up self.old.state me) }
         ensures costs { IfThere pid self.old (λ me. Costs (1 + slots_of_hangup me self.old) self.old self.new) }
         ensures those { (me : Process) (p : ℕ) (c : ConsoleValue) → process self.old.state pid ≡ Some me → console_of me.session self.old.state.consoles ≡ Some c → is_in p self.new.to_recheck ≡ true → ((is_in p self.old.to_recheck || is_pair_in me.session p self.old.readers.pairs) || is_in p (pids (members_in c.foreground self.old.state.processes))) ≡ true }
     {
+        if !self.has_terminal(pid) {
+            return;
+        }
         let Some(snapshot) = self.snapshot(pid) else {
             return;
         };

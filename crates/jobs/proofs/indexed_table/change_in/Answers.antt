@@ -2,7 +2,7 @@ use Rattle.std.proofs.Common.{refl}
 use Rattle.jobs.proofs.indexed_table.change_in.Goals as goal
 
 pub returns-clause-run : goal.returns-clause-run
-returns-clause-run g c = rw (← c.parent_in-parent.ensures.contents) (
+returns-clause-run g c = (
   record {
     before = c.update-it.result.now;
     after = c.change.new.arg2;

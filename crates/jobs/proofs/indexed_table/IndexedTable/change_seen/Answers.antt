@@ -9,7 +9,7 @@ use Rattle.jobs.specs.Indexes.{keeps_group_and_session}
 use Rattle.jobs.specs.IndexedTables.{StaysPut}
 use Rattle.jobs.proofs.KeptLemmas.{record_found, none_record, elsewhere_record, kept_moved, kept_unseen, ready_run}
 use Rattle.proctable.proofs.RecordLemmas.{record_rises}
-use Rattle.jobs.proofs.ChildLemmas.{kin_record}
+use Rattle.jobs.proofs.ChildLemmas.{kin_record, parent_listed}
 use Rattle.jobs.proofs.ReadLemmas.{processes_of}
 use Rattle.jobs.specs.declared.indexes.IndexedFields.{IndexedFields}
 use Rattle.jobs.specs.contracts.indexes.IndexedFieldsPartialEq.TheImpl.{ghosts}
@@ -33,6 +33,9 @@ same a b e =
     let lives = and_parts (life.eq a.life b.life) _ session.1 in
     let told = and_parts (news.eq a.news b.news) _ lives.1 in
     grind (arith, eqb-true a.group b.group group.0, eqb-true a.session b.session session.0, same_life a.life b.life lives.0, same_news a.news b.news told.0, told.1)
+
+pub change_in-seen-requires-clause-parent : goal.change_in-seen-requires-clause-parent
+change_in-seen-requires-clause-parent g c = c.unwrap_or-parent.ensures ∙ parent_listed c.args.pid _ _ _ c.self.invariant.children.index c.list.ensures (rw (← c.self.view_is) at c.requires.there)
 
 pub reindex-requires-clause-can : goal.reindex-requires-clause-can
 reindex-requires-clause-can g c =

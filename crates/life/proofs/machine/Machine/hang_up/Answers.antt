@@ -12,9 +12,15 @@ use Rattle.pidset.specs.Indexes.{is_pair_in}
 use Rattle.pidset.specs.Lists.{ListsView}
 use Rattle.life.proofs.TakingLemmas.{asked_members}
 use Rattle.life.proofs.SoundLemmas.{snapshot_are}
-use Rattle.life.proofs.ConsoleLemmas.{put, others_stay, none_stays, leader_hangs_up, slots_hung_up}
+use Rattle.life.proofs.ConsoleLemmas.{put, others_stay, none_stays, unled_stays, leader_hangs_up, slots_hung_up}
 use Rattle.life.proofs.ViewLemmas.{state_is, looks_cost, costs_then, cost_more}
 use Rattle.life.proofs.machine.Machine.hang_up.Goals as goal
+
+pub returns-then-not-has_terminal-clause-state : goal.returns-then-not-has_terminal-clause-state
+returns-then-not-has_terminal-clause-state g c = λ me found. unled_stays c.args.self.now.state c.args.pid me found (sym c.has_terminal.ensures.value ∙ c.if-not-has_terminal.true)
+
+pub returns-then-not-has_terminal-clause-costs : goal.returns-then-not-has_terminal-clause-costs
+returns-then-not-has_terminal-clause-costs g c = λ me found. record { visits = omega arith; no_fewer = omega arith; groups_at_risk = refl; regular = c.has_terminal.ensures.regular }
 
 pub returns-then-not-hangs_up-clause-state : goal.returns-then-not-hangs_up-clause-state
 returns-then-not-hangs_up-clause-state g c = λ me found.
