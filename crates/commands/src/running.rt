@@ -262,7 +262,7 @@ pub fn serve_audit_in_words<'a, F: ReadFiles, O: Sink, E: Sink>(
 /// for other words, 3 for a device or memory; an audit needs random bytes of the host, too, its `keys`. Traces and the
 /// answers of audits go to `out` and messages to `err`; a failing `err` changes no status. Without any words the program
 /// runs its own stored world.
-pub fn serve<'a, F: ReadFiles, O: Sink, E: Sink>(
+pub fn serve_run_or_audit<'a, F: ReadFiles, O: Sink, E: Sink>(
     alloc: Global,
     words: Result<&'a [&'a str], WordsFault>,
     files: &F,

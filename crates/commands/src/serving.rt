@@ -7,7 +7,7 @@ ghost use Rattle.commands.specs.Serving.{Serves};
 
 use crate::help::{HELP, VERSION};
 use crate::named::{serve_named, takes_names};
-use crate::running::{put_own, serve as serve_run_or_audit, serve_audit_in_words};
+use crate::running::{put_own, serve_audit_in_words, serve_run_or_audit};
 use explaining::{serve_explain, serve_lanes};
 use exploring::{Progress, serve as serve_explore};
 use inputs::{ReadFiles, WordsFault};

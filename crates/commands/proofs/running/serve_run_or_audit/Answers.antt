@@ -1,8 +1,8 @@
 use Rattle.std.proofs.Common.{◌≡◌, refl, rules, Err}
 use Rattle.inputs.specs.declared.command_line.WordsFault.TheVariants as word
 use Rattle.commands.proofs.RunningLemmas.{means_served}
-use Rattle.commands.proofs.running.serve.Goals as goal
-use Rattle.commands.proofs.running.serve.Goals.{in-Ok, in-Err-NotText, in-Err-Memory}
+use Rattle.commands.proofs.running.serve_run_or_audit.Goals as goal
+use Rattle.commands.proofs.running.serve_run_or_audit.Goals.{in-Ok, in-Err-NotText, in-Err-Memory}
 
 pub returns-clause-meaning : goal.returns-clause-meaning
 returns-clause-meaning g c = elim c.match-words.branch [
