@@ -25,7 +25,7 @@ def run(program, folder, world, events):
 
 
 def outcome_of(trace):
-    """As linux_runs has it."""
+    """What is noted, and how process 1 ends, as `outcome` of c_program has it."""
     end = re.search(r'^\d+ end 1 (\d+)$', trace, re.M)
     notes = '\n'.join(re.findall(r'note \d+ -?\d+$', trace, re.M))
     return outcome(notes, int(end[1]) // 256 if end else None)

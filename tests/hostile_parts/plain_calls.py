@@ -1,4 +1,5 @@
-"""The results of calls by plain rules, from docs/FORMATS.md, for one process that acts while others do nothing.
+"""The results of calls by plain rules, from docs/FORMATS.md, for one process that acts while others do nothing: a second
+opinion beside tools/linux/machine.py.
 
 A rule takes the process and its registers r1 to r4. It answers r0, or the bytes that were moved, or, where r0 is 0,
 what the trace says behind that; and it changes the registers and the process where the call does. ENDS and BLOCKS are

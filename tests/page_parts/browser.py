@@ -1,5 +1,4 @@
 """A browser of the family of Chromium without a window, by its protocol, over two pipes."""
-import base64
 import fcntl
 import json
 import os
@@ -114,13 +113,6 @@ class Page:
 
     def size(self, width, height, scale=1):
         self.send('Emulation.setDeviceMetricsOverride', width=width, height=height, deviceScaleFactor=scale, mobile=False)
-
-    def media(self, **features):
-        self.send('Emulation.setEmulatedMedia', features=[{'name': name.replace('_', '-'), 'value': value} for name, value in features.items()])
-
-    def picture(self, path):
-        with open(path, 'wb') as file:
-            file.write(base64.b64decode(self.send('Page.captureScreenshot', format='png')['data']))
 
     def ask(self, expression, seconds=60):
         """The value of an expression, which may be a promise."""

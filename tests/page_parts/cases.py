@@ -1,11 +1,13 @@
 """Cases of programs in a page: those of the tests and random worlds, with what the native program says."""
 import base64
 import glob
-import importlib.machinery
-import importlib.util
 import os
 import subprocess
+import sys
 import tempfile
+
+sys.path.insert(0, os.path.abspath('tools'))
+from scripts import load                                                    # noqa: E402
 
 RANDOM = 100
 FILES = 'world', 'events', 'trace'
@@ -64,10 +66,7 @@ def kept():
 
 def random_worlds():
     """The small worlds of tests/compare_explore."""
-    path = os.path.abspath('tests/compare_explore')
-    loader = importlib.machinery.SourceFileLoader('compare_explore', path)
-    module = importlib.util.module_from_spec(importlib.util.spec_from_loader('compare_explore', loader))
-    loader.exec_module(module)
+    module = load('compare_explore', os.path.abspath('tests/compare_explore'))
     for number in range(RANDOM):
         small = module.Small(number)
         yield number, small.world().encode(), small.events().encode(), small.words()

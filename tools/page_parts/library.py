@@ -4,26 +4,17 @@
 The crates below it are taken as tools/prove left them in crates/*/out. The folder TOOLCHAIN has the compiler that is given
 the library's module. The status is 0 where the library is proved and built.
 """
-import importlib.machinery
-import importlib.util
 import os
-import shutil
 import subprocess
 import sys
 
 TOP = os.path.dirname(os.path.dirname(os.path.dirname(os.path.abspath(__file__))))
-
-
-def rt_itself():
-    loader = importlib.machinery.SourceFileLoader("rt", os.path.realpath(shutil.which("rt")))
-    made = importlib.util.module_from_spec(importlib.util.spec_from_loader("rt", loader))
-    loader.exec_module(made)
-    return made
-
+sys.path.insert(0, f"{TOP}/tools")
+from scripts import load_rt                                                 # noqa: E402
 
 name, toolchain, file = sys.argv[1:]
 os.chdir(TOP)
-rt = rt_itself()
+rt = load_rt()
 crate = next(it for it in rt.crates_of(TOP) if it.name == name)
 words = [rt.rtlib.RATTLE, "build", *crate.words([], keeps=False), "--toolchain", toolchain, "-o", file]
 sys.exit(subprocess.run([*rt.rtlib.guarded(), *words], cwd=crate.folder).returncode)
