@@ -7,7 +7,7 @@ use Rattle.posix.specs.declared.target.Target.TheVariants as whom
 use Rattle.posix.specs.declared.errno.Errno.{Errno}
 use Rattle.posix.specs.Processes.{Process, argument}
 use Rattle.posix.specs.Tables.{IsRising, has_pid, lookup, at, changed, pids, removed}
-use Rattle.posix.specs.States.{State, process, is_in, without, has_place}
+use Rattle.posix.specs.States.{State, is_in, without, has_place}
 use Rattle.posix.specs.Credentials.{may}
 use Rattle.posix.specs.Outcomes.{finish, finished}
 use Rattle.posix.specs.declared.process.PendingSignal.{PendingSignal}
@@ -29,7 +29,7 @@ use Rattle.life.specs.Rechecks.{AreTaking, is_one, rechecking_signalled, slots_o
 use Rattle.life.specs.Foregrounds.{also_in}
 use Rattle.posix.proofs.OrderLemmas.{distinct_pids}
 use Rattle.life.proofs.TakingLemmas.{taking_all}
-use Rattle.calls.specs.Outcomes.{CostsAtMost, IsQuiet, CostsWithRechecks, AreFew, is_cont, slots_of_kill, slots_of_continued, slots_before, meant_in}
+use Rattle.calls.specs.Outcomes.{CostsAtMost, IsQuiet, CostsWithRechecks, AreFew, is_cont, slots_of_kill, slots_before}
 use Rattle.calls.proofs.KillLemmas.{number_is}
 use Rattle.life.specs.declared.consoles.Unchecked.TheVariants.{Nothing, In}
 use Rattle.calls.specs.Counts.{slots_of_rechecks, slots_of_checking}
@@ -90,7 +90,7 @@ gone_alone child p order place = rw place refl
 
 -- a zombie was collected, and then reported
 pub brief_reaped : (p child : ℕ) (results : List (ℕ × ℤ)) (old mid new : MachineView) (it : Process) → 1 ≤ it.session → IsQuiet p old → mid.state ≡ record (old.state) { processes = removed child old.state.processes } → mid.to_recheck ≡ without_gone child p old.state.order old.to_recheck
-    → mid.foregrounds_unchecked ≡ also_in it.session old.foregrounds_unchecked → mid.visits ≤ old.visits + 5 → new.state ≡ finish mid.state p results → (has_place mid.state p ≡ true → CostsAtMost 1 mid new) → CostsWithRechecks 7 old new
+    → mid.foregrounds_unchecked ≡ also_in it.session old.foregrounds_unchecked → mid.visits ≤ old.visits + 2 → new.state ≡ finish mid.state p results → (has_place mid.state p ≡ true → CostsAtMost 1 mid new) → CostsWithRechecks 4 old new
 brief_reaped p child results old mid new it least h gone list lost read is costs =
     let c = costs (ap (λ (s : State). has_place s p) gone ∙ h.place) in
     let none : new.to_recheck ≡ [] = c.to_recheck ∙ list ∙ ap (without_gone child p old.state.order) h.none ∙ gone_alone child p old.state.order h.place in
@@ -131,24 +131,24 @@ taking_sent me p (Some m) rs order plain up =
     (all.0, omega (arith, few, many, most))
 
 -- one slot at least
-pub kill_least : (rs : List Process) (to : Target) (sig : Result (Option ℕ) Errno) → 1 ≤ slots_of_kill rs to sig
-kill_least rs to sig = elim (is_cont sig) as (λ b. 1 ≤ cond b (13 + slots_of_continued rs (meant_in rs to)) (4 + slots_before sig)) [ true ↦ omega arith | false ↦ omega arith ]
+pub kill_least : (sig : Result (Option ℕ) Errno) → 1 ≤ slots_of_kill sig
+kill_least sig = elim (is_cont sig) as (λ b. 1 ≤ cond b 12 (4 + slots_before sig)) [ true ↦ omega arith | false ↦ omega arith ]
 
 -- and those of the send itself
-sending_least : (rs : List Process) (to : Target) (s : Option ℕ) → 2 + slots_of_send s + slots_of_survey_of_one s ≤ slots_of_kill rs to (Ok s)
-sending_least rs to None = omega arith
-sending_least rs to (Some n) = elim (n == CONT) as (λ b. (n == CONT) ≡ b → 2 + cond b 4 1 + cond (is_realtime n) 2 0 ≤ cond b (13 + slots_of_continued rs (meant_in rs to)) (4 + cond (is_realtime n) 2 0)) [
+sending_least : (s : Option ℕ) → 2 + slots_of_send s + slots_of_survey_of_one s ≤ slots_of_kill (Ok s)
+sending_least None = omega arith
+sending_least (Some n) = elim (n == CONT) as (λ b. (n == CONT) ≡ b → 2 + cond b 3 1 + cond (is_realtime n) 2 0 ≤ cond b 12 (4 + cond (is_realtime n) 2 0)) [
   | true ↦ λ e. let plain = ap is_realtime (eqb-true n CONT e) in rw plain (omega arith)
   | false ↦ λ e. omega arith
 ] refl
 
 -- it reads so many slots with those of rechecking
 kill_slots : (me : Process) (p : ℕ) (k : Option PendingSignal) (results : List (ℕ × ℤ)) (rs : List Process) (order : List ℕ) → IsRising rs
-    → 2 + slots_of_send (number_of k) + slots_of_survey_of_one (number_of k) + slots_of_rechecks (changed me.pid (finished results) (sent me (whom.Process p) k rs)) None (rechecking_signalled me k (targets me (whom.Process p) rs) rs order []) ≤ slots_of_kill rs (whom.Process p) (Ok (number_of k))
+    → 2 + slots_of_send (number_of k) + slots_of_survey_of_one (number_of k) + slots_of_rechecks (changed me.pid (finished results) (sent me (whom.Process p) k rs)) None (rechecking_signalled me k (targets me (whom.Process p) rs) rs order []) ≤ slots_of_kill (Ok (number_of k))
 unfolding rechecking_signalled slots_of_rechecks
 kill_slots me p None results rs order up = omega arith
-kill_slots me p (Some m) results rs order up = elim (m.sig == CONT) as (λ b. (m.sig == CONT) ≡ b → 2 + cond b 4 1 + cond (is_realtime m.sig) 2 0 + slots_of_rechecks (changed me.pid (finished results) (sent me (whom.Process p) (Some m) rs)) None (rechecking_signalled me (Some m) (targets me (whom.Process p) rs) rs order [])
-    ≤ cond b (13 + slots_of_continued rs (lookup p rs)) (4 + cond (is_realtime m.sig) 2 0)) [
+kill_slots me p (Some m) results rs order up = elim (m.sig == CONT) as (λ b. (m.sig == CONT) ≡ b → 2 + cond b 3 1 + cond (is_realtime m.sig) 2 0 + slots_of_rechecks (changed me.pid (finished results) (sent me (whom.Process p) (Some m) rs)) None (rechecking_signalled me (Some m) (targets me (whom.Process p) rs) rs order [])
+    ≤ cond b 12 (4 + cond (is_realtime m.sig) 2 0)) [
       | true ↦ λ e.
           let most = sent_slots results me p m rs order up in
           let plain : is_realtime m.sig ≡ false = ap is_realtime (eqb-true m.sig CONT e) in
@@ -162,18 +162,18 @@ kill_slots me p (Some m) results rs order up = elim (m.sig == CONT) as (λ b. (m
 
 -- so it does where at most one process is meant
 one_slots : (me : Process) (to : Target) (k : Option PendingSignal) (results : List (ℕ × ℤ)) (rs : List Process) (order : List ℕ) → is_one to ≡ true → IsRising rs
-    → 2 + slots_of_send (number_of k) + slots_of_survey_of_one (number_of k) + slots_of_rechecks (changed me.pid (finished results) (sent me to k rs)) None (rechecking_signalled me k (targets me to rs) rs order []) ≤ slots_of_kill rs to (Ok (number_of k))
+    → 2 + slots_of_send (number_of k) + slots_of_survey_of_one (number_of k) + slots_of_rechecks (changed me.pid (finished results) (sent me to k rs)) None (rechecking_signalled me k (targets me to rs) rs order []) ≤ slots_of_kill (Ok (number_of k))
 unfolding slots_of_rechecks
 one_slots me (whom.Process p) k results rs order one up = kill_slots me p k results rs order up
 one_slots me whom.OwnGroup k results rs order one up = absurd (cc)
 one_slots me (whom.Group p) k results rs order one up = absurd (cc)
 one_slots me whom.All k results rs order one up = absurd (cc)
-one_slots me whom.Nobody k results rs order one up = let least = sending_least rs whom.Nobody (number_of k) in rw (targets_nobody me rs, rechecked_nobody me k rs order []) (omega (arith, least))
+one_slots me whom.Nobody k results rs order one up = let least = sending_least (number_of k) in rw (targets_nobody me rs, rechecked_nobody me k rs order []) (omega (arith, least))
 
 -- what a send to this target reads, with this signal
 brief_killed : (me : Process) (to : Target) (k : Option PendingSignal) (results : List (ℕ × ℤ)) (old mid new : MachineView) → is_one to ≡ true → IsQuiet me.pid old → IsRegular old.state
     → mid.state ≡ with_processes old.state (sent me to k old.state.processes) → mid.to_recheck ≡ rechecking_signalled me k (targets me to old.state.processes) old.state.processes old.state.order old.to_recheck → mid.foregrounds_unchecked ≡ old.foregrounds_unchecked
-    → mid.visits ≤ old.visits + 1 + slots_of_send (number_of k) + slots_of_survey_of_one (number_of k) → new.state ≡ finish mid.state me.pid results → (has_place mid.state me.pid ≡ true → CostsAtMost 1 mid new) → CostsWithRechecks (slots_of_kill old.state.processes to (Ok (number_of k))) old new
+    → mid.visits ≤ old.visits + 1 + slots_of_send (number_of k) + slots_of_survey_of_one (number_of k) → new.state ≡ finish mid.state me.pid results → (has_place mid.state me.pid ≡ true → CostsAtMost 1 mid new) → CostsWithRechecks (slots_of_kill (Ok (number_of k))) old new
 brief_killed me to k results old mid new one h i is list still most done costs =
     let c = costs (ap (λ (s : State). has_place s me.pid) is ∙ h.place) in
     let rs = old.state.processes in
@@ -191,22 +191,22 @@ brief_killed me to k results old mid new one h i is list still most done costs =
 
 -- one that isn't sent
 brief_unsent : (me : Process) (to : Target) (k : Option PendingSignal) (results : List (ℕ × ℤ)) (old mid new : MachineView) → IsQuiet me.pid old → mid.state ≡ old.state → mid.to_recheck ≡ old.to_recheck → mid.foregrounds_unchecked ≡ old.foregrounds_unchecked
-    → mid.visits ≤ old.visits + 1 + slots_of_send (number_of k) + slots_of_survey_of_one (number_of k) → new.state ≡ finish mid.state me.pid results → (has_place mid.state me.pid ≡ true → CostsAtMost 1 mid new) → CostsWithRechecks (slots_of_kill old.state.processes to (Ok (number_of k))) old new
+    → mid.visits ≤ old.visits + 1 + slots_of_send (number_of k) + slots_of_survey_of_one (number_of k) → new.state ≡ finish mid.state me.pid results → (has_place mid.state me.pid ≡ true → CostsAtMost 1 mid new) → CostsWithRechecks (slots_of_kill (Ok (number_of k))) old new
 brief_unsent me to k results old mid new h is list still most done costs =
     let c = costs (ap (λ (s : State). has_place s me.pid) is ∙ h.place) in
     let last = c.visits in
-    let least = sending_least old.state.processes to (number_of k) in
-    brief_alone (slots_of_kill old.state.processes to (Ok (number_of k))) old new (c.to_recheck ∙ list ∙ h.none) (c.foregrounds_unchecked ∙ still ∙ h.checked) (ap (λ (s : State). s.consoles) (done ∙ ap (λ (s : State). finish s me.pid results) is)) (omega (arith, last, most, least))
+    let least = sending_least (number_of k) in
+    brief_alone (slots_of_kill (Ok (number_of k))) old new (c.to_recheck ∙ list ∙ h.none) (c.foregrounds_unchecked ∙ still ∙ h.checked) (ap (λ (s : State). s.consoles) (done ∙ ap (λ (s : State). finish s me.pid results) is)) (omega (arith, last, most, least))
 
 -- so it is whatever comes of it, where it means at most one process
 pub brief_send : (me : Process) (to : Target) (named : Result (Option ℕ) Errno) (word : ℤ) (sig : Option ℕ) (value : ℤ) (k : Option PendingSignal) (answer : Sending) (results : List (ℕ × ℤ)) (old mid new : MachineView) → is_one to ≡ true → IsQuiet me.pid old → named ≡ signal_or_none word → named ≡ Ok sig → k ≡ message me.pid value sig
     → IsRegular old.state → mid.state ≡ with_processes old.state (sent_as answer me to k old.state.processes) → mid.to_recheck ≡ rechecking_as answer me k to old.state.processes old.state.order old.to_recheck → mid.foregrounds_unchecked ≡ old.foregrounds_unchecked
     → mid.visits ≤ old.visits + 1 + slots_of_send (number_of k) + slots_of_survey_of_one (number_of k) → new.state ≡ finish mid.state me.pid results → (has_place mid.state me.pid ≡ true → CostsAtMost 1 mid new)
-    → CostsWithRechecks (slots_of_kill old.state.processes to (signal_or_none word)) old new
+    → CostsWithRechecks (slots_of_kill (signal_or_none word)) old new
 brief_send me to named word sig value k answer results old mid new one quiet known ok is regular state list still read done costs =
-    subst (λ w. CostsWithRechecks (slots_of_kill old.state.processes to w) old new) (ap Ok (number_is me.pid value sig k is) ∙ sym ok ∙ known) (by (is_sent answer) refl)
+    subst (λ w. CostsWithRechecks (slots_of_kill w) old new) (ap Ok (number_is me.pid value sig k is) ∙ sym ok ∙ known) (by (is_sent answer) refl)
   where
-    by : (b : Bool) → is_sent answer ≡ b → CostsWithRechecks (slots_of_kill old.state.processes to (Ok (number_of k))) old new
+    by : (b : Bool) → is_sent answer ≡ b → CostsWithRechecks (slots_of_kill (Ok (number_of k))) old new
     by true e = brief_killed me to k results old mid new one quiet regular (state ∙ ap (λ b. with_processes old.state (cond b (sent me to k old.state.processes) old.state.processes)) e)
         (list ∙ ap (λ b. cond b (rechecking_signalled me k (targets me to old.state.processes) old.state.processes old.state.order old.to_recheck) old.to_recheck) e) still read done costs
     by false e = brief_unsent me to k results old mid new quiet (state ∙ ap (λ b. with_processes old.state (cond b (sent me to k old.state.processes) old.state.processes)) e)
@@ -214,11 +214,8 @@ brief_send me to named word sig value k answer results old mid new one quiet kno
 
 -- so it is by a caller that was looked at, who tells the target
 pub brief_sent_as : (p : ℕ) (old mid new : MachineView) (me : Process) (d : Caller) (f : Caller → Target) (to : Target) → Looks 1 old mid → d.pid ≡ p → d ≡ caller_of me → to ≡ f d → is_one (f (caller_of me)) ≡ true → IsQuiet p old
-    → (is_one to ≡ true → IsQuiet d.pid mid → CostsWithRechecks (slots_of_kill mid.state.processes to (signal_or_none d.r2)) mid new) → CostsWithRechecks (slots_of_kill old.state.processes (f (caller_of me)) (signal_or_none (argument me 2)) + 1) old new
+    → (is_one to ≡ true → IsQuiet d.pid mid → CostsWithRechecks (slots_of_kill (signal_or_none d.r2)) mid new) → CostsWithRechecks (slots_of_kill (signal_or_none (argument me 2)) + 1) old new
 brief_sent_as p old mid new me d f to looks named is target one quiet brief =
     let same : to ≡ f (caller_of me) = target ∙ ap f is in
     let sent = brief (ap is_one same ∙ one) (subst (λ q. IsQuiet q mid) (sym named) (quiet_on p old mid looks.same quiet)) in
-    brief_on _ 1 _ old mid _ looks.same looks.visits (omega arith)
-    (subst (λ (t : State). CostsWithRechecks (slots_of_kill t.processes (f (caller_of me)) (signal_or_none (argument me 2))) mid new) looks.same.state
-    (subst (λ (k : Caller). CostsWithRechecks (slots_of_kill mid.state.processes (f (caller_of me)) (signal_or_none k.r2)) mid new) is
-    (subst (λ (x : Target). CostsWithRechecks (slots_of_kill mid.state.processes x (signal_or_none d.r2)) mid new) same sent)))
+    brief_on _ 1 _ old mid _ looks.same looks.visits (omega arith) (subst (λ (k : Caller). CostsWithRechecks (slots_of_kill (signal_or_none k.r2)) mid new) is sent)

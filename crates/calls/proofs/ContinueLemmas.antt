@@ -1,6 +1,6 @@
 -- Waits that are judged by one child, and who is to be rechecked after CONT was sent to one process: it, and its parent where
 -- that waits for just this child.
-use Rattle.std.proofs.Common.{◌≡◌, ℕ, ℤ, ◌+◌, ◌*◌, ◌≤◌, Bool, true, false, cond, not, ◌||◌, ◌==◌, refl, ap, sym, ◌∙◌, inl, inr, arith, List, [], ◌∷◌, length, filter, find, Option, Some, None}
+use Rattle.std.proofs.Common.{◌≡◌, ℕ, ℤ, ◌≤◌, Bool, true, false, cond, not, ◌||◌, ◌==◌, refl, ap, sym, ◌∙◌, inl, inr, arith, List, [], ◌∷◌, filter, find, Option, Some, None}
 use Rattle.std.proofs.lemmas.Bool.{eq-eqb, both_ways, or_left, or_right, or_cases, and_parts}
 use Rattle.posix.specs.declared.process.Effect.{Effect}
 use Rattle.posix.specs.declared.process.Effect.TheVariants as effect
@@ -9,7 +9,7 @@ use Rattle.posix.specs.declared.process.Report.{Report}
 use Rattle.posix.specs.declared.process.Report.TheVariants as found
 use Rattle.posix.specs.declared.target.Target.{Target}
 use Rattle.posix.specs.declared.target.Target.TheVariants as whom
-use Rattle.posix.specs.Processes.{Process, is_stopped}
+use Rattle.posix.specs.Processes.{Process}
 use Rattle.posix.specs.declared.waits.WaitCall.{WaitCall}
 use Rattle.posix.specs.declared.waits.Asked.{Asked}
 use Rattle.posix.specs.Tables.{IsRising, has_pid, is_child, lookup, at, changed, children_in}
@@ -22,8 +22,7 @@ use Rattle.posix.specs.Notices.{acted_upon, child_signal, generated_for, noticed
 use Rattle.posix.specs.Sends.{targets, permitted, sent, sent_among}
 use Rattle.posix.specs.Settle.{is_block}
 use Rattle.posix.specs.Waits.{report, report_among, wait_for, wait_with, has_option, WNOWAIT, is_named, is_something, report_life, report_of, reports}
-use Rattle.posix.proofs.ChangeLemmas.{continued_stopped}
-use Rattle.posix.proofs.MapLemmas.{at_keeps, at_pid, length_children, lookup_on}
+use Rattle.posix.proofs.MapLemmas.{at_keeps, at_pid, lookup_on}
 use Rattle.posix.proofs.SeeLemmas.{seen}
 use Rattle.posix.proofs.TableLemmas.{pid_looked}
 use Rattle.posix.proofs.WalkLemmas.{numbered_one, numbered_none}
@@ -35,9 +34,8 @@ use Rattle.life.proofs.FunnelLemmas.{with_twice}
 use Rattle.life.proofs.NewsLemmas.{quiet}
 use Rattle.life.proofs.SignalLemmas.{only_noticed_of_change}
 use Rattle.calls.specs.Counts.{reports_first, slots_of_rechecks}
-use Rattle.calls.specs.Outcomes.{slots_of_continued}
 use Rattle.calls.proofs.ChosenLemmas.{changed_there}
-use Rattle.calls.proofs.CountLemmas.{judged_brief, reports_at_once, rechecks_one, rechecks_pair, slots_of_waiter}
+use Rattle.calls.proofs.CountLemmas.{judged_brief, reports_at_once, rechecks_one, rechecks_pair}
 
 -- ---- what a parent sees of a child
 
@@ -114,15 +112,6 @@ finished_as results c r = record {
   signal = at_keeps takes_signal c (finished results) (λ r. refl) r;
 }
 
--- who finished a call waits for nothing, and all others as before
-waits_less : (results : List (ℕ × ℤ)) (c : ℕ) (r : Process) → is_in_wait (at c (finished results) r).blocked ≡ true → is_in_wait r.blocked ≡ true
-unfolding finished
-waits_less results c r = by (r.pid == c)
-  where
-    by : (b : Bool) → is_in_wait (cond b (finished results r) r).blocked ≡ true → is_in_wait r.blocked ≡ true
-    by true e = absurd (cc)
-    by false e = e
-
 seen_noticed : (signal : PendingSignal) (r : Process) → seen (noticed_of_change signal r) ≡ seen r
 seen_noticed signal r = ap seen (only_noticed_of_change signal r)
 
@@ -142,10 +131,10 @@ parent_told results c p ts up child now found its same acts = by (up.pid == c)
     ]
 
 -- a process was continued, and its parent told, before the caller c finished its call
-told_slots : (results : List (ℕ × ℤ)) (c : ℕ) (signal : PendingSignal) (r : Process) (rs : List Process) (order ns : List ℕ) → lookup r.pid rs ≡ Some r → is_stopped r.life ≡ true → with_number r.pid ns ≡ r.pid ∷ []
-    → let mid = told_of_change continued r (changed r.pid resumed (changed r.pid (signalled signal) rs)) in slots_of_rechecks (changed c (finished results) mid) None (rechecking_told (resumed (signalled signal r)) (lookup r.parent mid) order ns) ≤ 7 + slots_of_continued rs (Some r)
+told_slots : (results : List (ℕ × ℤ)) (c : ℕ) (signal : PendingSignal) (r : Process) (rs : List Process) (order ns : List ℕ) → lookup r.pid rs ≡ Some r → with_number r.pid ns ≡ r.pid ∷ []
+    → let mid = told_of_change continued r (changed r.pid resumed (changed r.pid (signalled signal) rs)) in slots_of_rechecks (changed c (finished results) mid) None (rechecking_told (resumed (signalled signal r)) (lookup r.parent mid) order ns) ≤ 7
 unfolding told_of_change signalled resumed changed finished
-told_slots results c signal r rs order ns found stopped alone = by (lookup q mid) refl
+told_slots results c signal r rs order ns found alone = by (lookup q mid) refl
   where
     p : ℕ
     p = r.pid
@@ -195,34 +184,20 @@ told_slots results c signal r rs order ns found stopped alone = by (lookup q mid
     its : now.parent ≡ q
     its = like.parent ∙ at_keeps (λ r. r.parent) q g same_parent child
 
-    kids : length (children_in p ts) ≡ length (children_in p rs)
-    kids = length_children c (finished results) (λ r. refl) p mid ∙ length_children q g same_parent p before ∙ length_children p resumed (λ r. refl) p (changed p f rs) ∙ length_children p f (λ r. refl) p rs
+    one : (l : List ℕ) → l ≡ p ∷ [] → slots_of_rechecks ts None l ≤ 7
+    one l e = rw e (let most = rechecks_one ts p now here in omega (arith, most))
 
-    in_call : told.blocked ≡ r.blocked
-    in_call = at_keeps (λ r. r.blocked) q g (λ r. ap (λ (q : Process). q.blocked) (only_noticed_of_change (child_signal p continued) r)) child
-
-    waits : slots_of_waiter ts now ≤ slots_of_continued rs (Some r)
-    waits = elim (is_in_wait now.blocked) as (λ b. is_in_wait now.blocked ≡ b → cond b (2 * length (children_in now.pid ts)) 0 ≤ slots_of_continued rs (Some r)) [
-      | true ↦ λ e.
-          let was : is_in_wait r.blocked ≡ true = ap is_in_wait (sym in_call) ∙ waits_less results c told e in
-          rw (stopped, was, ap (λ s. s.pid) same) (omega (arith, kids))
-      | false ↦ λ e. omega arith
-    ] refl
-
-    one : (l : List ℕ) → l ≡ p ∷ [] → slots_of_rechecks ts None l ≤ 7 + slots_of_continued rs (Some r)
-    one l e = rw e (let most = rechecks_one ts p now here in omega (arith, most, waits))
-
-    by : (o : Option Process) → lookup q mid ≡ o → slots_of_rechecks ts None (rechecking_told child o order ns) ≤ 7 + slots_of_continued rs (Some r)
+    by : (o : Option Process) → lookup q mid ≡ o → slots_of_rechecks ts None (rechecking_told child o order ns) ≤ 7
     by None none = one (with_number p ns) alone
-    by (Some up) there = elim (awaits up child || takes_signal up) as (λ b. (awaits up child || takes_signal up) ≡ b → slots_of_rechecks ts None (cond b (rechecking up.pid order (with_number p ns)) (with_number p ns)) ≤ 7 + slots_of_continued rs (Some r)) [
+    by (Some up) there = elim (awaits up child || takes_signal up) as (λ b. (awaits up child || takes_signal up) ≡ b → slots_of_rechecks ts None (cond b (rechecking up.pid order (with_number p ns)) (with_number p ns)) ≤ 7) [
       | false ↦ λ e. one (with_number p ns) alone
-      | true ↦ λ e. elim (is_in up.pid order) as (λ b. slots_of_rechecks ts None (cond b (with_number p ns) (with_number up.pid (with_number p ns))) ≤ 7 + slots_of_continued rs (Some r)) [
+      | true ↦ λ e. elim (is_in up.pid order) as (λ b. slots_of_rechecks ts None (cond b (with_number p ns) (with_number up.pid (with_number p ns))) ≤ 7) [
         | true ↦ one (with_number p ns) alone
         | false ↦
             let named = pid_looked q mid up there in
             let found_up = lookup_on (at c (finished results)) (at_pid c (finished results) (λ r. refl)) up.pid mid up (ap (λ n. lookup n mid) named ∙ there) in
             let most = rechecks_pair ts p up.pid now (at c (finished results) up) here found_up (parent_told results c p ts up child now here (its ∙ sym named) same e) in
-            rw alone (omega (arith, most, waits))
+            rw alone (omega (arith, most))
       ]
     ] refl
 
@@ -243,7 +218,7 @@ plain_slots results c signal r rs order found =
 
 -- any signal
 generated_slots : (results : List (ℕ × ℤ)) (c : ℕ) (signal : PendingSignal) (r : Process) (rs : List Process) (order : List ℕ) → lookup r.pid rs ≡ Some r
-    → slots_of_rechecks (changed c (finished results) (generated_for signal (Some r) rs)) None (rechecking_generated signal (Some r) rs order []) ≤ 7 + slots_of_continued rs (Some r)
+    → slots_of_rechecks (changed c (finished results) (generated_for signal (Some r) rs)) None (rechecking_generated signal (Some r) rs order []) ≤ 7
 unfolding with_number signalled
 generated_slots results c signal r rs order found = by (effect_of r.pid r.life signal r.signals) refl
   where
@@ -254,22 +229,22 @@ generated_slots results c signal r rs order found = by (effect_of r.pid r.life s
     listed false = refl
     listed true = elim (is_in r.pid order) as (λ b. with_number r.pid (cond b [] (with_number r.pid [])) ≡ r.pid ∷ []) [ true ↦ refl | false ↦ with_twice r.pid [] ]
 
-    by : (w : Effect) → effect_of r.pid r.life signal r.signals ≡ w → slots_of_rechecks (changed c (finished results) (after w)) None (rechecking_effect w (signalled signal r) (after w) order (rechecking_by_signals (Some (signalled signal r)) order [])) ≤ 7 + slots_of_continued rs (Some r)
+    by : (w : Effect) → effect_of r.pid r.life signal r.signals ≡ w → slots_of_rechecks (changed c (finished results) (after w)) None (rechecking_effect w (signalled signal r) (after w) order (rechecking_by_signals (Some (signalled signal r)) order [])) ≤ 7
     by effect.Nothing e = let most = plain_slots results c signal r rs order found in omega (arith, most)
-    by effect.Continued e = told_slots results c signal r rs order (rechecking_by_signals (Some (signalled signal r)) order []) found (continued_stopped r.pid signal r e) (listed (takes_signal (signalled signal r)))
+    by effect.Continued e = told_slots results c signal r rs order (rechecking_by_signals (Some (signalled signal r)) order []) found (listed (takes_signal (signalled signal r)))
 
 -- and where it was sent to one process by its number
 pub sent_slots : (results : List (ℕ × ℤ)) (me : Process) (p : ℕ) (signal : PendingSignal) (rs : List Process) (order : List ℕ) → IsRising rs
-    → slots_of_rechecks (changed me.pid (finished results) (sent me (whom.Process p) (Some signal) rs)) None (rechecking_signalled me (Some signal) (targets me (whom.Process p) rs) rs order []) ≤ 7 + slots_of_continued rs (lookup p rs)
+    → slots_of_rechecks (changed me.pid (finished results) (sent me (whom.Process p) (Some signal) rs)) None (rechecking_signalled me (Some signal) (targets me (whom.Process p) rs) rs order []) ≤ 7
 unfolding sent sent_among targets permitted rechecking_signalled rechecking_all signalled_all slots_of_rechecks
 sent_slots results me p signal rs order up = by (lookup p rs) refl
   where
     all : List Process → ℕ
     all qs = slots_of_rechecks (changed me.pid (finished results) (sent_among me (Some signal) qs rs)) None (rechecking_signalled me (Some signal) qs rs order [])
 
-    by : (o : Option Process) → lookup p rs ≡ o → all (filter (has_pid p) rs) ≤ 7 + slots_of_continued rs o
+    by : (o : Option Process) → lookup p rs ≡ o → all (filter (has_pid p) rs) ≤ 7
     by None none = rw (numbered_none p rs none) (omega arith)
-    by (Some r) found = rw (numbered_one p rs up r found) (elim (may me (Some signal.sig) r) as (λ b. may me (Some signal.sig) r ≡ b → all (r ∷ []) ≤ 7 + slots_of_continued rs (Some r)) [
+    by (Some r) found = rw (numbered_one p rs up r found) (elim (may me (Some signal.sig) r) as (λ b. may me (Some signal.sig) r ≡ b → all (r ∷ []) ≤ 7) [
       | false ↦ λ e. rw e (omega arith)
       | true ↦ λ e. let here = ap (λ q. lookup q rs) (pid_looked p rs r found) ∙ found in rw (e, here) (generated_slots results me.pid signal r rs order here)
     ] refl)

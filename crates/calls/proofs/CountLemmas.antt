@@ -5,7 +5,7 @@ use Rattle.posix.specs.declared.process.Blocked.{Blocked}
 use Rattle.posix.specs.declared.process.Blocked.TheVariants as blocked
 use Rattle.posix.specs.declared.waits.Asked.{Asked}
 use Rattle.posix.specs.Processes.{Process}
-use Rattle.posix.specs.Tables.{lookup, children_in}
+use Rattle.posix.specs.Tables.{lookup}
 use Rattle.posix.specs.States.{is_in, without}
 use Rattle.posix.specs.Choice.{chosen}
 use Rattle.posix.proofs.OrderLemmas.{without_absent}
@@ -13,10 +13,7 @@ use Rattle.pidset.specs.Numbers.{Rises, with_number}
 use Rattle.pidset.proofs.NumberLemmas.{not_in_above}
 use Rattle.life.specs.Rechecks.{AreTaking, NeedNoChild, is_in_wait, asked_in}
 use Rattle.calls.specs.Counts.{neighbour, slots_of_call, slots_of_rechecking, slots_of_rechecks, slots_of_asking, reports_first, slots_of_first}
-use Rattle.posix.specs.declared.target.Target.{Target}
-use Rattle.posix.specs.declared.target.Target.TheVariants as whom
 use Rattle.posix.specs.Waits.{asked_by}
-use Rattle.life.specs.Waits.{slots_of_wait}
 use Rattle.jobs.specs.IndexedTables.{takes_signal}
 
 -- ---- those to recheck
@@ -73,18 +70,6 @@ rechecks_none rs last ns none = rw none refl
 
 -- ---- a wait
 
--- it reads two slots for each child at most
-pub wait_slots : (target : Target) (p : ℕ) (rs : List Process) → slots_of_wait target p rs ≤ 2 * length (children_in p rs)
-wait_slots (whom.Process q) p rs = omega arith
-wait_slots whom.OwnGroup p rs = omega arith
-wait_slots (whom.Group g) p rs = omega arith
-wait_slots whom.All p rs = omega arith
-wait_slots whom.Nobody p rs = omega arith
-
--- what it can be for who waits for a child
-abbrev pub slots_of_waiter : List Process → Process → ℕ
-slots_of_waiter rs r = cond (is_in_wait r.blocked) (2 * length (children_in r.pid rs)) 0
-
 -- its wait reports the child that is looked at first
 abbrev pub reports_at_once : List Process → ℕ → Process → Option Asked → Bool
 reports_at_once rs q r None = true
@@ -107,21 +92,21 @@ judged_told rs q r e = by (takes_signal r) r.blocked e
     by false (Some (blocked.Sigsuspend mask)) e = omega arith
 
 -- any process
-judged_any : (rs : List Process) (first : Option ℕ) (r : Process) → slots_of_rechecking rs first (Some r) ≤ 4 + slots_of_waiter rs r
+judged_any : (rs : List Process) (first : Option ℕ) (r : Process) → slots_of_rechecking rs first (Some r) ≤ 4
 judged_any rs first r = by (takes_signal r) r.blocked
   where
     most : (first : Option ℕ) → slots_of_first first ≤ 1
     most None = omega arith
     most (Some q) = omega arith
 
-    asking : (o : Option Asked) → slots_of_asking rs first r.pid r.group o ≤ 3 + 2 * length (children_in r.pid rs)
+    asking : (o : Option Asked) → slots_of_asking rs first r.pid r.group o ≤ 3
     asking None = omega arith
-    asking (Some a) = elim (reports_first rs first r.pid r.group a) as (λ k. cond k 2 (2 + slots_of_first first + slots_of_wait a.target r.pid rs) ≤ 3 + 2 * length (children_in r.pid rs)) [
+    asking (Some a) = elim (reports_first rs first r.pid r.group a) as (λ k. cond k 2 (2 + slots_of_first first) ≤ 3) [
       | true ↦ omega arith
-      | false ↦ let one = most first in let all = wait_slots a.target r.pid rs in omega (arith, one, all)
+      | false ↦ let one = most first in omega (arith, one)
     ]
 
-    by : (t : Bool) (b : Option Blocked) → 1 + cond t 0 (slots_of_call rs first r b) ≤ 4 + cond (is_in_wait b) (2 * length (children_in r.pid rs)) 0
+    by : (t : Bool) (b : Option Blocked) → 1 + cond t 0 (slots_of_call rs first r b) ≤ 4
     by true b = omega arith
     by false None = omega arith
     by false (Some (blocked.Wait call)) = let all = asking (asked_by call r) in omega (arith, all)
@@ -130,19 +115,19 @@ judged_any rs first r = by (takes_signal r) r.blocked
     by false (Some (blocked.Sigsuspend mask)) = omega arith
 
 -- one process alone
-pub rechecks_one : (rs : List Process) (p : ℕ) (r : Process) → lookup p rs ≡ Some r → slots_of_rechecks rs None (p ∷ []) ≤ 4 + slots_of_waiter rs r
+pub rechecks_one : (rs : List Process) (p : ℕ) (r : Process) → lookup p rs ≡ Some r → slots_of_rechecks rs None (p ∷ []) ≤ 4
 unfolding slots_of_rechecks
 rechecks_one rs p r found = rw found (let one = judged_any rs None r in omega (arith, one))
 
 -- a child and its parent, which waits for just it, or looks at no child
 pub rechecks_pair : (rs : List Process) (p q : ℕ) (child parent : Process) → lookup p rs ≡ Some child → lookup q rs ≡ Some parent → (takes_signal parent || (not (is_in_wait parent.blocked) || reports_at_once rs p parent (asked_in parent parent.blocked))) ≡ true
-    → slots_of_rechecks rs None (with_number q (p ∷ [])) ≤ 7 + slots_of_waiter rs child
+    → slots_of_rechecks rs None (with_number q (p ∷ [])) ≤ 7
 unfolding slots_of_rechecks with_number
 rechecks_pair rs p q child parent here up told =
     let three = judged_told rs p parent told in
-    elim (nat_lt q p) as (λ b. slots_of_rechecks rs None (cond b (q ∷ p ∷ []) (cond (q == p) (p ∷ []) (p ∷ q ∷ []))) ≤ 7 + slots_of_waiter rs child) [
+    elim (nat_lt q p) as (λ b. slots_of_rechecks rs None (cond b (q ∷ p ∷ []) (cond (q == p) (p ∷ []) (p ∷ q ∷ []))) ≤ 7) [
       | true ↦ rw (here, up) (let four = judged_any rs (Some q) child in omega (arith, three, four))
-      | false ↦ elim (q == p) as (λ b. slots_of_rechecks rs None (cond b (p ∷ []) (p ∷ q ∷ [])) ≤ 7 + slots_of_waiter rs child) [
+      | false ↦ elim (q == p) as (λ b. slots_of_rechecks rs None (cond b (p ∷ []) (p ∷ q ∷ [])) ≤ 7) [
         | true ↦ rw here (let four = judged_any rs None child in omega (arith, four))
         | false ↦ rw (here, up) (let four = judged_any rs (Some q) child in omega (arith, three, four))
       ]

@@ -10,7 +10,7 @@ use Rattle.posix.specs.Choice.{chosen}
 use Rattle.posix.specs.Waits.{asked_by}
 use Rattle.life.specs.declared.consoles.Unchecked.{Unchecked}
 use Rattle.life.specs.declared.consoles.Unchecked.TheVariants.{Nothing, In, All}
-use Rattle.life.specs.Waits.{is_reported, slots_of_wait}
+use Rattle.life.specs.Waits.{is_reported}
 
 -- whether a wait of p, in this process group, that asks this reports this other process, if it gets to that
 abbrev pub reports_first : List Process → Option ℕ → ℕ → ℕ → Asked → Bool
@@ -25,7 +25,7 @@ slots_of_first (Some q) = 1
 -- it the wait is attempted. One that is refused looks at nobody.
 abbrev pub slots_of_asking : List Process → Option ℕ → ℕ → ℕ → Option Asked → ℕ
 slots_of_asking rs first p group None = 1
-slots_of_asking rs first p group (Some asks) = if reports_first rs first p group asks then 2 else 2 + slots_of_first first + slots_of_wait asks.target p rs
+slots_of_asking rs first p group (Some asks) = if reports_first rs first p group asks then 2 else 2 + slots_of_first first
 
 abbrev pub slots_of_waiting : List Process → Option ℕ → WaitCall → Process → ℕ
 slots_of_waiting rs first call me = slots_of_asking rs first me.pid me.group (asked_by call me)

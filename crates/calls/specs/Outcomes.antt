@@ -1,5 +1,5 @@
 -- What the functions of calls come to.
-use Rattle.std.specs.Prelude.{◌≡◌, ◌≢◌, ◌==◌, ◌&&◌, not, ⊤, ℕ, ◌+◌, ◌*◌, ◌≤◌, if◌then◌else◌, length, Option, None, Bool, true, false, List, [], ◌∷◌, ◌++◌, Some, ℤ, pos, Result, Ok, Err}
+use Rattle.std.specs.Prelude.{◌≡◌, ◌≢◌, ◌==◌, ◌&&◌, not, ⊤, ℕ, ◌+◌, ◌≤◌, if◌then◌else◌, Option, None, Bool, true, false, List, [], ◌∷◌, ◌++◌, Some, ℤ, pos, Result, Ok, Err}
 use Rattle.posix.specs.declared.call.Call.{Call}
 use Rattle.posix.specs.declared.call.Call.TheVariants.{Exit, Fork, Waitpid, Waitid, Pause, SchedYield, Getppid, Kill, Sigqueue, Sigsuspend, Sigreturn, Alarm, Exec, Getpgid, Getsid, Setpgid, Setsid, Setctty, Tcgetpgrp, Tcsetpgrp, Settostop, Read, Write, Subreaper}
 use Rattle.posix.specs.declared.entry.Entry.{Entry}
@@ -9,21 +9,19 @@ use Rattle.posix.specs.declared.errno.Errno.TheVariants.{EPERM, ESRCH, EAGAIN}
 use Rattle.posix.specs.declared.process.Sending.{Sending}
 use Rattle.posix.specs.declared.process.Sending.TheVariants as found
 use Rattle.posix.specs.declared.target.Target.{Target}
-use Rattle.posix.specs.declared.target.Target.TheVariants as whom
 use Rattle.posix.specs.SignalNumbers.{CONT}
 use Rattle.posix.specs.Targets.{process_in, target_in}
-use Rattle.posix.specs.Tables.{children_in, lookup}
 use Rattle.posix.specs.Sends.{signal_or_none}
 use Rattle.life.specs.declared.consoles.Unchecked.{Unchecked}
 use Rattle.life.specs.declared.consoles.Unchecked.TheVariants.{Nothing, In, All}
-use Rattle.life.specs.Rechecks.{is_in_wait, is_one, slots_of_survey_of_one}
+use Rattle.life.specs.Rechecks.{is_one, slots_of_survey_of_one}
 use Rattle.calls.specs.Counts.{slots_of_rechecks, slots_of_checking}
 use Rattle.posix.specs.declared.process.Handler.{Handler}
 use Rattle.posix.specs.declared.process.Handler.TheVariants as handler
 use Rattle.posix.specs.SignalSets.{has}
 use Rattle.posix.specs.Generation.{action}
 use Rattle.posix.specs.Handlers.{is_full}
-use Rattle.posix.specs.Processes.{Process, argument, is_stopped}
+use Rattle.posix.specs.Processes.{Process, argument}
 use Rattle.posix.specs.States.{State, process, has_place}
 use Rattle.posix.specs.Regular.{IsPlaced}
 use Rattle.posix.specs.Outcomes as outcome
@@ -67,40 +65,27 @@ is_cont (Ok None) = false
 is_cont (Ok (Some n)) = n == CONT
 is_cont (Err why) = false
 
--- the process that a target means by its number
-abbrev pub meant_in : List Process → Target → Option Process
-meant_in rs (whom.Process p) = lookup p rs
-meant_in rs whom.OwnGroup = None
-meant_in rs (whom.Group p) = None
-meant_in rs whom.All = None
-meant_in rs whom.Nobody = None
-
--- where CONT continues a process that is blocked in a wait, two slots for each of its children
-abbrev pub slots_of_continued : List Process → Option Process → ℕ
-slots_of_continued rs None = 0
-slots_of_continued rs (Some it) = if is_stopped it.life && is_in_wait it.blocked then 2 * length (children_in it.pid rs) else 0
-
 -- before a real-time signal is queued for one process two slots are read
 abbrev pub slots_before : Result (Option ℕ) Errno → ℕ
 slots_before (Ok sig) = slots_of_survey_of_one sig
 slots_before (Err why) = 0
 
 -- a signal that is sent to one process by its number, or to nobody, but for the look at its caller
-abbrev pub slots_of_kill : List Process → Target → Result (Option ℕ) Errno → ℕ
-slots_of_kill rs target sig = if is_cont sig then 13 + slots_of_continued rs (meant_in rs target) else 4 + slots_before sig
+abbrev pub slots_of_kill : Result (Option ℕ) Errno → ℕ
+slots_of_kill sig = if is_cont sig then 12 else 4 + slots_before sig
 
 -- the same with its caller, where at most one process is meant
-abbrev pub slots_of_sending : List Process → Process → Target → Option ℕ
-slots_of_sending rs me target = if is_one target then Some (slots_of_kill rs target (signal_or_none (argument me 2)) + 1) else None
+abbrev pub slots_of_sending : Process → Target → Option ℕ
+slots_of_sending me target = if is_one target then Some (slots_of_kill (signal_or_none (argument me 2)) + 1) else None
 
 -- How many slots a wait reads at most, by its caller, and a signal that is sent to one process by its number, or to nobody, with those
 -- that settling reads. No count is given of other calls that aren't their caller's alone.
-abbrev pub slots_of_brief : Call → List Process → Process → Option ℕ
-slots_of_brief Waitpid rs me = Some (11 + 2 * length (children_in me.pid rs))
-slots_of_brief Waitid rs me = Some (11 + 2 * length (children_in me.pid rs))
-slots_of_brief Kill rs me = slots_of_sending rs me (target_in (argument me 1))
-slots_of_brief Sigqueue rs me = slots_of_sending rs me (process_in (argument me 1))
-slots_of_brief call rs me = None
+abbrev pub slots_of_brief : Call → Process → Option ℕ
+slots_of_brief Waitpid me = Some 6
+slots_of_brief Waitid me = Some 6
+slots_of_brief Kill me = slots_of_sending me (target_in (argument me 1))
+slots_of_brief Sigqueue me = slots_of_sending me (process_in (argument me 1))
+slots_of_brief call me = None
 
 abbrev pub is_address : Handler → Bool
 is_address (handler.At address) = true

@@ -1,13 +1,12 @@
 //! Attempts of system calls: each is done, and adds what it shows, or the process has to wait.
 
-ghost use Rattle.std.specs.Prelude.{◌≡◌, ◌⊎◌, ◌≢◌, ◌+◌, ◌<◌, ◌≤◌, ◌^◌, ◌++◌, ◌∷◌, [], ◌*◌, length, IsSome, IfSome, Some, is_some, true};
+ghost use Rattle.std.specs.Prelude.{◌≡◌, ◌⊎◌, ◌≢◌, ◌+◌, ◌<◌, ◌≤◌, ◌^◌, ◌++◌, ◌∷◌, [], length, IsSome, IfSome, Some, is_some, true};
 ghost use Rattle.posix.specs.declared.entry.Entry.TheVariants.{Called, NoMemory};
 ghost use Rattle.posix.specs.Processes.{Process};
 ghost use Rattle.posix.specs.Calls.{wait_in};
 ghost use Rattle.life.specs.Rechecks.{is_in_wait};
 ghost use Rattle.posix.specs.declared.process.Blocked.{Blocked as BlockedValue};
 ghost use Rattle.posix.specs.States.{process, has_place};
-ghost use Rattle.posix.specs.Tables.{children_in};
 ghost use Rattle.life.specs.Machines.{AreSame};
 ghost use Rattle.posix.specs.Regular.{IsPlaced};
 ghost use Rattle.posix.specs.Outcomes.{finish, refusal as refusal_of};
@@ -144,7 +143,7 @@ fn sched_yield<K: ProcessTable>(
     finish_with(machine, pid, Call::SchedYield, 0, entries)
 }
 
-/// A child like the caller is born (XSH fork).
+/// A child like the caller is born. EAGAIN where no number is free, or the host has no memory for the child (XSH fork).
 fn fork<K: ProcessTable>(machine: &mut Machine<K>, pid: Pid, entries: &mut Entries) -> Attempt
     requires acting { IsActing machine.old.state pid }
     requires births { machine.old.state.births + 1 < 2 ^ 64 }
@@ -210,7 +209,8 @@ fn ticks_in(word: i64) -> Option<u64>
     }
 }
 
-/// The caller's alarm is set to r1 ticks from now, 0 to 1,000,000,000, where 0 clears it (XSH alarm).
+/// The caller's alarm is set to r1 ticks from now, where 0 clears it, and the ticks are given that were left of the one
+/// before. EINVAL outside 0 to 1,000,000,000 (XSH alarm; the range is own).
 #[tactic(auto, unfolding(posix::specs::Attempts::attempt))]
 fn alarm<K: ProcessTable>(machine: &mut Machine<K>, pid: Pid, entries: &mut Entries) -> Attempt
     requires acting { IsActing machine.old.state pid }
@@ -228,9 +228,8 @@ fn alarm<K: ProcessTable>(machine: &mut Machine<K>, pid: Pid, entries: &mut Entr
 }
 
 /// A process that has a place attempts a call. Where it has to wait nothing has changed, and the call that
-/// it is to be blocked in is answered. Where nothing is left to settle a wait reads 9 slots at most, and two for each
-/// child, and a signal that is sent to one process by its number five, or seven if it is a real-time signal, and if it isn't
-/// CONT.
+/// it is to be blocked in is answered. Where nothing is left to settle a wait reads six slots at most, and a signal that is
+/// sent to one process by its number five, a real-time signal seven, and CONT 13.
 #[tactic(auto, unfolding(posix::specs::Attempts::attempt))]
 #[inline(always)]
 pub fn attempt<K: ProcessTable>(
@@ -245,7 +244,7 @@ pub fn attempt<K: ProcessTable>(
     requires none { entries.old.items ≡ [] }
     ensures attempts { Attempts machine.old.state pid call result entries.old.items entries.new.items machine.new.state }
     ensures own { changes_caller_alone call ≡ true → (result ≡ Attempt.Done) × CostsAtMost 1 machine.old machine.new }
-    ensures brief { (me : Process) → process machine.old.state pid ≡ Some me → IsQuiet pid machine.old → IfSome (slots_of_brief call machine.old.state.processes me) (λ n. CostsWithRechecks n machine.old machine.new) }
+    ensures brief { (me : Process) → process machine.old.state pid ≡ Some me → IsQuiet pid machine.old → IfSome (slots_of_brief call me) (λ n. CostsWithRechecks n machine.old machine.new) }
     ensures done { call ≡ Call.Kill ⊎ call ≡ Call.Sigqueue → result ≡ Attempt.Done }
     ensures waits { (b : BlockedValue) → is_some (wait_in call) ≡ true → result ≡ Attempt.Block b → AreSame machine.old machine.new }
     ensures no_fewer { machine.old.visits ≤ machine.new.visits }
@@ -292,7 +291,7 @@ pub fn attempt_again<K: ProcessTable>(
     requires placed { IsPlaced machine.old.state.processes pid }
     requires none { entries.old.items ≡ [] }
     ensures comes { (me : Process) → process machine.old.state pid ≡ Some me → Comes machine.old.state (attempting_again machine.old.state me blocked) result entries.old.items entries.new.items machine.new.state }
-    ensures brief { is_in_wait (Some blocked) ≡ true → IsQuiet pid machine.old → CostsWithRechecks (11 + 2 * length (children_in pid machine.old.state.processes)) machine.old machine.new }
+    ensures brief { is_in_wait (Some blocked) ≡ true → IsQuiet pid machine.old → CostsWithRechecks 6 machine.old machine.new }
     ensures once { is_in_wait (Some blocked) ≡ true → result ≢ Attempt.Again }
     ensures waits { (b : BlockedValue) → is_in_wait (Some blocked) ≡ true → result ≡ Attempt.Block b → AreSame machine.old machine.new }
     ensures no_fewer { machine.old.visits ≤ machine.new.visits }

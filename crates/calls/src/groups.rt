@@ -57,7 +57,8 @@ fn tell<K: ProcessTable>(
     finish_with(machine, pid, call, i64::from(id.number()), entries)
 }
 
-/// The process group of the process that r1 names, 0 being the caller (XSH getpgid).
+/// The process group of the process that r1 names, 0 being the caller. ESRCH where no process has that number (XSH
+/// getpgid).
 #[tactic(auto, unfolding(posix::specs::Attempts::attempt, posix::specs::GroupCalls::getpgid))]
 pub fn getpgid<K: ProcessTable>(
     machine: &mut Machine<K>,
@@ -72,7 +73,7 @@ pub fn getpgid<K: ProcessTable>(
     tell(machine, pid, Call::Getpgid, entries)
 }
 
-/// The session of the process that r1 names, 0 being the caller (XSH getsid).
+/// The session of the process that r1 names, 0 being the caller. ESRCH where no process has that number (XSH getsid).
 #[tactic(auto, unfolding(posix::specs::Attempts::attempt, posix::specs::GroupCalls::getsid))]
 pub fn getsid<K: ProcessTable>(machine: &mut Machine<K>, pid: Pid, entries: &mut Entries) -> Attempt
     requires there { IsSome (process machine.old.state pid) }
@@ -83,7 +84,8 @@ pub fn getsid<K: ProcessTable>(machine: &mut Machine<K>, pid: Pid, entries: &mut
     tell(machine, pid, Call::Getsid, entries)
 }
 
-/// Moves the process that r1 names, the caller or a child, to the process group in r2 (XSH setpgid).
+/// Moves the process that r1 names, the caller or a child, to the process group in r2. The errors are those of
+/// [`Machine::move_group`] (XSH setpgid).
 #[tactic(auto, unfolding(posix::specs::Attempts::attempt, posix::specs::GroupCalls::setpgid))]
 pub fn setpgid<K: ProcessTable>(
     machine: &mut Machine<K>,
@@ -102,7 +104,8 @@ pub fn setpgid<K: ProcessTable>(
     }
 }
 
-/// The caller leads a session and a process group of its own (XSH setsid).
+/// The caller leads a session and a process group of its own. EPERM where it leads a process group, or another process is
+/// in one with its number (XSH setsid).
 #[tactic(auto, unfolding(posix::specs::Attempts::attempt, posix::specs::GroupCalls::setsid))]
 pub fn setsid<K: ProcessTable>(machine: &mut Machine<K>, pid: Pid, entries: &mut Entries) -> Attempt
     requires placed { IsPlaced machine.old.state.processes pid }

@@ -24,10 +24,8 @@ fn signal_or_none(me: &Caller) -> Result<Option<Sig>, Errno>
     if me.r2 == 0 {
         return Ok(None);
     }
-    match signal_in(me.r2) {
-        Some(sig) => Ok(Some(sig)),
-        None => Err(Errno::EINVAL),
-    }
+    let sig = signal_in(me.r2).ok_or(Errno::EINVAL)?;
+    Ok(Some(sig))
 }
 
 /// The signal as a process sends it, with a value and its number.
@@ -81,7 +79,7 @@ fn send<K: ProcessTable>(
     requires room { length entries.old.items ≤ 1 }
     ensures done { result ≡ Attempt.Done }
     ensures comes { (granted : Bool) × Comes machine.old.state (sending granted machine.old.state (process_like me.now) call target value (signal_number_or_none me.now.r2)) result entries.old.items entries.new.items machine.new.state }
-    ensures brief { is_one target ≡ true → IsQuiet me.now.pid machine.old → CostsWithRechecks (slots_of_kill machine.old.state.processes target (signal_number_or_none me.now.r2)) machine.old machine.new }
+    ensures brief { is_one target ≡ true → IsQuiet me.now.pid machine.old → CostsWithRechecks (slots_of_kill (signal_number_or_none me.now.r2)) machine.old machine.new }
     ensures no_fewer { machine.old.visits ≤ machine.new.visits }
 {
     let sig = match signal_or_none(me) {
@@ -93,20 +91,23 @@ fn send<K: ProcessTable>(
     finish_shown(machine, me.pid, value_of(sending), entry, entries)
 }
 
-/// Sends a signal, with value 0, to the processes that the first argument means.
+/// Sends the signal in r2, with value 0, to the processes that r1 means; 0 only checks. EINVAL where r2 is neither 0 nor a
+/// signal; ESRCH where r1 means nobody; EPERM where no process that is meant may be signalled; EAGAIN where the queue of a
+/// real-time signal is full at one of them, or the host has no memory for the queues (XSH kill).
 pub fn kill<K: ProcessTable>(machine: &mut Machine<K>, pid: Pid, entries: &mut Entries) -> Attempt
     requires there { IsSome (process machine.old.state pid) }
     requires room { length entries.old.items ≤ 1 }
     ensures done { result ≡ Attempt.Done }
     ensures attempts { Attempts machine.old.state pid Call.Kill result entries.old.items entries.new.items machine.new.state }
-    ensures brief { (me : Process) → process machine.old.state pid ≡ Some me → is_one (target_in (argument me 1)) ≡ true → IsQuiet pid machine.old → CostsWithRechecks (slots_of_kill machine.old.state.processes (target_in (argument me 1)) (signal_number_or_none (argument me 2)) + 1) machine.old machine.new }
+    ensures brief { (me : Process) → process machine.old.state pid ≡ Some me → is_one (target_in (argument me 1)) ≡ true → IsQuiet pid machine.old → CostsWithRechecks (slots_of_kill (signal_number_or_none (argument me 2)) + 1) machine.old machine.new }
     ensures no_fewer { machine.old.visits ≤ machine.new.visits }
 {
     let me = machine.caller(pid);
     send(machine, &me, Call::Kill, me.target(), 0, entries)
 }
 
-/// Sends a signal, with the value in the third argument, to the process that the first argument means.
+/// Sends the signal in r2, with the value in r3, to the process with the number in r1; 0 only checks. The errors are those
+/// of [`kill`] (XSH sigqueue).
 pub fn sigqueue<K: ProcessTable>(
     machine: &mut Machine<K>,
     pid: Pid,
@@ -116,7 +117,7 @@ pub fn sigqueue<K: ProcessTable>(
     requires room { length entries.old.items ≤ 1 }
     ensures done { result ≡ Attempt.Done }
     ensures attempts { Attempts machine.old.state pid Call.Sigqueue result entries.old.items entries.new.items machine.new.state }
-    ensures brief { (me : Process) → process machine.old.state pid ≡ Some me → is_one (process_in (argument me 1)) ≡ true → IsQuiet pid machine.old → CostsWithRechecks (slots_of_kill machine.old.state.processes (process_in (argument me 1)) (signal_number_or_none (argument me 2)) + 1) machine.old machine.new }
+    ensures brief { (me : Process) → process machine.old.state pid ≡ Some me → is_one (process_in (argument me 1)) ≡ true → IsQuiet pid machine.old → CostsWithRechecks (slots_of_kill (signal_number_or_none (argument me 2)) + 1) machine.old machine.new }
     ensures no_fewer { machine.old.visits ≤ machine.new.visits }
 {
     let me = machine.caller(pid);

@@ -11,8 +11,8 @@ use life::Machine;
 use posix::{Call, Entry, Errno, Pid, Register};
 use proctable::ProcessTable;
 
-/// Runs the program in r1 in place of the caller's own. The pc doesn't move on: it is where the program
-/// begins (XSH exec).
+/// Runs the program in r1 in place of the caller's own. The pc doesn't move on: it is where the program begins. ENOENT
+/// where the world has no program with that number (XSH exec).
 #[tactic(auto, unfolding(posix::specs::Attempts::attempt, posix::specs::Programs::exec))]
 pub fn exec<K: ProcessTable>(machine: &mut Machine<K>, pid: Pid, entries: &mut Entries) -> Attempt
     requires there { IsSome (process machine.old.state pid) }

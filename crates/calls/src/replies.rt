@@ -114,7 +114,8 @@ fn show_action_in_registers(own: &mut OwnPart, action: &Action)
     cpu.set_register(Register::FOURTH_ARGUMENT, i64::from(action.flags.bits()));
 }
 
-/// Asks for the action for a signal, or sets it (XSH sigaction).
+/// Asks for the action for the signal in r1, or sets it. EINVAL where r1 is no signal; of an action that is set, where r4
+/// has a bit that is no flag's, or the signal is KILL or STOP (XSH sigaction).
 #[tactic(auto, unfolding(posix::specs::SignalCalls::sigaction, posix::specs::SignalCalls::give_signals))]
 fn sigaction(own: &mut OwnPart) -> Result<(), Errno>
     ensures { (r : Process) → Replies (sigaction_of (give_own own.old r)) (value_of result) own.old own.new }
@@ -139,14 +140,12 @@ fn sigaction(own: &mut OwnPart) -> Result<(), Errno>
     }
 }
 
-/// Changes the signal mask (XSH sigprocmask).
+/// Changes the signal mask by the set in r2. EINVAL where r1 is none of 0 to 2 (XSH sigprocmask).
 #[tactic(auto, unfolding(posix::specs::SignalCalls::sigprocmask, posix::specs::SignalCalls::give_signals, posix::specs::Outcomes::written))]
 fn sigprocmask(own: &mut OwnPart) -> Result<(), Errno>
     ensures { (r : Process) → Replies (sigprocmask_of (give_own own.old r)) (value_of result) own.old own.new }
 {
-    let Some(how) = How::from_word(own.cpu.register(Register::FIRST_ARGUMENT)) else {
-        return Err(Errno::EINVAL);
-    };
+    let how = How::from_word(own.cpu.register(Register::FIRST_ARGUMENT)).ok_or(Errno::EINVAL)?;
     let set = SigSet::from_word(own.cpu.register(Register::SECOND_ARGUMENT));
     let old = own.signals.mask();
     own.signals.set_mask(how, set);

@@ -127,10 +127,10 @@ fn read_span<K: ProcessTable>(
 }
 
 /// Takes at most r2 bytes of the first finished line of the caller's terminal into the words from address r1 on, and
-/// gives their number: 0 at the end of file. What it leaves of the line stays. ENOTTY where the caller's session has no
-/// terminal; EINVAL for a count outside 0 to 16; EFAULT where a word is none of the process; EIO, or TTIN for the
-/// caller's process group and the call again, in the background (XBD 11.1.4, 11.1.6, XSH read). Where no line is
-/// finished the caller has to wait.
+/// gives their number: 0 at the end of file, and from a terminal that is hung up, in the background, too (XBD 11.1.10).
+/// What it leaves of the line stays. ENOTTY where the caller's session has no terminal; EINVAL for a count outside 0 to
+/// 16; EFAULT where a word is none of the process; EIO, or TTIN for the caller's process group and the call again, in the
+/// background (XBD 11.1.4, 11.1.6, XSH read). Where no line is finished the caller has to wait.
 pub fn read<K: ProcessTable>(machine: &mut Machine<K>, pid: Pid, entries: &mut Entries) -> Attempt
     requires there { IsSome (process machine.old.state pid) }
     requires room { length entries.old.items ≤ 1 }
@@ -148,8 +148,8 @@ pub fn read<K: ProcessTable>(machine: &mut Machine<K>, pid: Pid, entries: &mut E
 }
 
 /// Whether a read of a process that is there, with this snapshot, would have to wait: its process group is the
-/// foreground one of its controlling terminal, it asks for bytes, and no line is finished (XBD 11.1.4,
-/// 11.1.6).
+/// foreground one of its controlling terminal, which isn't hung up, it asks for bytes, and no line is finished (XBD
+/// 11.1.4, 11.1.6, 11.1.10).
 pub fn has_to_read<K: ProcessTable>(machine: &mut Machine<K>, pid: Pid, snapshot: Snapshot) -> bool
     requires there { IsSome (process machine.old.state pid) }
     requires snapshot { Some snapshot ≡ option_map snapshot_of (process machine.old.state pid) }
@@ -205,8 +205,8 @@ fn write_span<K: ProcessTable>(
 
 /// Writes the r2 words from address r1 on to the caller's terminal, each as its low 8 bits, and gives their number.
 /// ENOTTY where the caller's session has no terminal; EINVAL for a count outside 0 to 16; EFAULT where a word is none of
-/// the process; EIO, or TTOU for the caller's process group and the call again, in the background where TOSTOP is set
-/// (XBD 11.1.4, XSH write).
+/// the process; EIO where the terminal is hung up (XBD 11.1.10); EIO, or TTOU for the caller's process group and the call
+/// again, in the background where TOSTOP is set (XBD 11.1.4, XSH write).
 pub fn write<K: ProcessTable>(machine: &mut Machine<K>, pid: Pid, entries: &mut Entries) -> Attempt
     requires there { IsSome (process machine.old.state pid) }
     requires room { length entries.old.items ≤ 1 }

@@ -1,6 +1,6 @@
 //! Waits for children (XSH waitpid, XSH waitid).
 
-ghost use Rattle.std.specs.Prelude.{◌≡◌, ◌≢◌, ◌+◌, ◌*◌, ◌≤◌, ◌++◌, true, ◌∷◌, [], length, pos, IsSome, Some};
+ghost use Rattle.std.specs.Prelude.{◌≡◌, ◌≢◌, ◌+◌, ◌≤◌, ◌++◌, true, if◌then◌else◌, ◌∷◌, [], length, pos, IsSome, Some};
 ghost use Rattle.posix.specs.declared.entry.Entry.TheVariants.{Called, Looked, Reported};
 ghost use Rattle.posix.specs.Processes.{Process};
 ghost use Rattle.posix.specs.Calls.{call_of_wait};
@@ -13,7 +13,6 @@ ghost use Rattle.life.specs.Callers.{process_like};
 ghost use Rattle.life.specs.Machines.{AreSame};
 ghost use Rattle.posix.specs.declared.process.Blocked.{Blocked as BlockedValue};
 ghost use Rattle.posix.specs.States.{has_place};
-ghost use Rattle.posix.specs.Tables.{children_in};
 ghost use Rattle.calls.specs.Counts.{reports_first as reporting_first, slots_of_first, slots_of_waiting};
 ghost use Rattle.calls.specs.Outcomes.{Comes, CostsAtMost, IsQuiet, CostsWithRechecks};
 
@@ -25,26 +24,35 @@ use life::{Caller, Machine};
 use posix::{Asked, Blocked, Entry, Errno, Pid, Report, Status, WaitCall, WaitidOptions};
 use proctable::ProcessTable;
 
-/// The wait of a process that is there gives a child, which this shows.
+/// The wait of a process that is there gives a child, which it leaves as it is (WNOWAIT), or has collected.
 fn report<K: ProcessTable>(
     machine: &mut Machine<K>,
     pid: Pid,
     call: WaitCall,
     child: Pid,
     status: Status,
-    shown: Entry,
+    leaves: bool,
     entries: &mut Entries,
 ) -> Attempt
     requires there { IsSome (process machine.old.state pid) }
     requires room { length entries.old.items ≤ 3 }
     ensures done { result ≡ Attempt.Done }
     ensures state { machine.new.state ≡ finish machine.old.state pid (results_of call child status) }
-    ensures shown { entries.new.items ≡ entries.old.items ++ shown ∷ [] }
+    ensures shown { entries.new.items ≡ entries.old.items ++ (if leaves then Looked pid child status else Reported pid call child status) ∷ [] }
     ensures costs { has_place machine.old.state pid ≡ true → CostsAtMost 1 machine.old machine.new }
     ensures no_fewer { machine.old.visits ≤ machine.new.visits }
 {
     machine.own(pid).finish_wait(call, child, status);
-    entries.push(shown);
+    entries.push(if leaves {
+        Entry::Looked { pid, child, status }
+    } else {
+        Entry::Reported {
+            pid,
+            call,
+            child,
+            status,
+        }
+    });
     Attempt::Done
 }
 
@@ -72,67 +80,6 @@ fn find_nothing<K: ProcessTable>(
     Attempt::Done
 }
 
-/// A wait of a caller that is there looks at a child, which stays as it is.
-fn look<K: ProcessTable>(
-    machine: &mut Machine<K>,
-    pid: Pid,
-    call: WaitCall,
-    child: Pid,
-    status: Status,
-    entries: &mut Entries,
-) -> Attempt
-    requires there { IsSome (process machine.old.state pid) }
-    requires room { length entries.old.items ≤ 3 }
-    ensures done { result ≡ Attempt.Done }
-    ensures state { machine.new.state ≡ finish machine.old.state pid (results_of call child status) }
-    ensures shown { entries.new.items ≡ entries.old.items ++ Looked pid child status ∷ [] }
-    ensures costs { has_place machine.old.state pid ≡ true → CostsAtMost 1 machine.old machine.new }
-    ensures no_fewer { machine.old.visits ≤ machine.new.visits }
-{
-    report(
-        machine,
-        pid,
-        call,
-        child,
-        status,
-        Entry::Looked { pid, child, status },
-        entries,
-    )
-}
-
-/// A wait of a caller that is there takes what a child has to report.
-fn take<K: ProcessTable>(
-    machine: &mut Machine<K>,
-    pid: Pid,
-    call: WaitCall,
-    child: Pid,
-    status: Status,
-    entries: &mut Entries,
-) -> Attempt
-    requires there { IsSome (process machine.old.state pid) }
-    requires room { length entries.old.items ≤ 3 }
-    ensures done { result ≡ Attempt.Done }
-    ensures state { machine.new.state ≡ finish machine.old.state pid (results_of call child status) }
-    ensures shown { entries.new.items ≡ entries.old.items ++ Reported pid call child status ∷ [] }
-    ensures costs { has_place machine.old.state pid ≡ true → CostsAtMost 1 machine.old machine.new }
-    ensures no_fewer { machine.old.visits ≤ machine.new.visits }
-{
-    report(
-        machine,
-        pid,
-        call,
-        child,
-        status,
-        Entry::Reported {
-            pid,
-            call,
-            child,
-            status,
-        },
-        entries,
-    )
-}
-
 /// Waits for a child, as a caller that is there and no zombie.
 #[tactic(auto, unfolding(posix::specs::Waits::wait_by))]
 fn wait_as<K: ProcessTable>(
@@ -145,7 +92,7 @@ fn wait_as<K: ProcessTable>(
     requires placed { IsPlaced machine.old.state.processes me.now.pid }
     requires room { length entries.old.items ≤ 1 }
     ensures comes { Comes machine.old.state (waiting call machine.old.state (process_like me.now)) result entries.old.items entries.new.items machine.new.state }
-    ensures brief { IsQuiet me.now.pid machine.old → CostsWithRechecks (10 + 2 * length (children_in me.now.pid machine.old.state.processes)) machine.old machine.new }
+    ensures brief { IsQuiet me.now.pid machine.old → CostsWithRechecks 5 machine.old machine.new }
     ensures once { result ≢ Attempt.Again }
     ensures waits { (b : BlockedValue) → result ≡ Attempt.Block b → AreSame machine.old machine.new }
     ensures no_fewer { machine.old.visits ≤ machine.new.visits }
@@ -164,23 +111,23 @@ fn wait_as<K: ProcessTable>(
             }
         }
         Report::End(child, status) => {
-            if leaves {
-                return look(machine, me.pid, call, child, status, entries);
+            if !leaves {
+                machine.reap(child);
             }
-            machine.reap(child);
-            take(machine, me.pid, call, child, status, entries)
+            report(machine, me.pid, call, child, status, leaves, entries)
         }
         Report::Change(child, status) => {
-            if leaves {
-                return look(machine, me.pid, call, child, status, entries);
+            if !leaves {
+                machine.clear_news(child);
             }
-            machine.clear_news(child);
-            take(machine, me.pid, call, child, status, entries)
+            report(machine, me.pid, call, child, status, leaves, entries)
         }
     }
 }
 
-/// Waits for a child.
+/// Waits for a child, and gives it and its status; 0 where WNOHANG is set and no child has anything to report. EINVAL
+/// where the options, or of waitid the kind or the number, are none; ECHILD where no child is meant. Where no child has
+/// anything to report the caller has to wait (XSH waitpid, waitid).
 #[tactic(auto, unfolding(posix::specs::Waits::wait_by))]
 pub fn wait<K: ProcessTable>(
     machine: &mut Machine<K>,
@@ -191,7 +138,7 @@ pub fn wait<K: ProcessTable>(
     requires placed { IsPlaced machine.old.state.processes pid }
     requires room { length entries.old.items ≤ 1 }
     ensures comes { (me : Process) → process machine.old.state pid ≡ Some me → Comes machine.old.state (waiting call machine.old.state me) result entries.old.items entries.new.items machine.new.state }
-    ensures brief { IsQuiet pid machine.old → CostsWithRechecks (11 + 2 * length (children_in pid machine.old.state.processes)) machine.old machine.new }
+    ensures brief { IsQuiet pid machine.old → CostsWithRechecks 6 machine.old machine.new }
     ensures once { result ≢ Attempt.Again }
     ensures waits { (b : BlockedValue) → result ≡ Attempt.Block b → AreSame machine.old machine.new }
     ensures no_fewer { machine.old.visits ≤ machine.new.visits }

@@ -1,2 +1,1 @@
 mod RunningLemmas
-mod WordLemmas

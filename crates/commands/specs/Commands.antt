@@ -1,5 +1,5 @@
 -- The program's commands: what the words are for, and what a status means.
-use Rattle.std.specs.Prelude.{◌≤◌, ◌||◌, ℕ, Bool, List, [], ◌∷◌, codes, if◌then◌else◌, map}
+use Rattle.std.specs.Prelude.{◌≡◌, ◌≤◌, ◌||◌, ℕ, Bool, List, [], ◌∷◌, Some, codes, if◌then◌else◌, map}
 use Rattle.std.specs.Str.{bytes_eq}
 use Rattle.explaining.specs.Drawings.{MeansOfDrawing, drawing_asked}
 use Rattle.explaining.specs.Serving.{Means as MeansOfExplaining}
@@ -9,8 +9,10 @@ use Rattle.exploring.specs.Words.{request_of_words as exploring_asked}
 use Rattle.inputs.specs.Reads.{Contents}
 use Rattle.naming.specs.Serving.{Means as MeansOfNaming, text_in_words}
 use Rattle.sink.specs.Sinks.{Seen}
-use Rattle.commands.specs.Running.{IsToldAs, Means, MeansOfAuditInWords, Words}
+use Rattle.commands.specs.Running.{AreStored, AskFor, AskForAudit, IsToldAs, MeansOfAudit, MeansOfRun}
+use Rattle.commands.specs.Words.{audit_asked, run_asked}
 use Rattle.commands.specs.declared.help.TheConstants.{HELP, VERSION}
+use Rattle.commands.specs.declared.running.TheConstants.{STORED_WORLD}
 use Rattle.commands.specs.declared.serving.Command.{Command}
 use Rattle.commands.specs.declared.serving.Command.TheVariants as command
 
@@ -18,13 +20,16 @@ use Rattle.commands.specs.declared.serving.Command.TheVariants as command
 pub data Purpose : Type 0 where
   Helps : Purpose
   TellsVersion : Purpose
-  Explores : List (List ℕ) → Purpose  -- by the words behind `explore`
+  RunsStored : Purpose  -- no words
+  Runs : List (List ℕ) → Purpose  -- by the words behind `run`
+  Audits : List (List ℕ) → Purpose
+  Explores : List (List ℕ) → Purpose
   Shows : List (List ℕ) → Purpose
   Explains : List (List ℕ) → Purpose
   AuditsInWords : List (List ℕ) → Purpose  -- by those behind `explain --audit`
   Draws : List (List ℕ) → Purpose  -- by those behind `lanes`
   Names : List (List ℕ) → Purpose
-  RunsOrAudits : Purpose
+  IsNone : Purpose  -- any other words
 
 abbrev pub is_help : List ℕ → Bool
 is_help word = bytes_eq word (codes "--help") || bytes_eq word (codes "-h")
@@ -41,41 +46,49 @@ explained (option ∷ more) = if bytes_eq option (codes "--audit") then AuditsIn
 abbrev pub purpose : List ℕ → List ℕ → List (List ℕ) → Purpose
 purpose first second more = if is_help first || is_help second then Helps
     else if is_version first || is_version second then TellsVersion
+    else if bytes_eq first (codes "run") then Runs more
+    else if bytes_eq first (codes "audit") then Audits more
     else if bytes_eq first (codes "explore") then Explores more
     else if bytes_eq first (codes "show") then Shows more
     else if bytes_eq first (codes "explain") then explained more
     else if bytes_eq first (codes "lanes") then Draws more
     else if bytes_eq first (codes "names") then Names more
-    else RunsOrAudits
+    else IsNone
 
 abbrev pub first_or_empty : List (List ℕ) → List ℕ
 first_or_empty [] = []
 first_or_empty (word ∷ more) = word
 
 abbrev pub purpose_of : List (List ℕ) → Purpose
-purpose_of [] = RunsOrAudits
+purpose_of [] = RunsStored
 purpose_of (first ∷ more) = purpose first (first_or_empty more) more
 
 abbrev pub said : Command → Purpose
 said command.Help = Helps
 said command.Version = TellsVersion
+said command.Stored = RunsStored
+said (command.Run more) = Runs (map (λ w. w.now) more.now)
+said (command.Audit more) = Audits (map (λ w. w.now) more.now)
 said (command.Explore more) = Explores (map (λ w. w.now) more.now)
 said (command.Show more) = Shows (map (λ w. w.now) more.now)
 said (command.Explain more) = Explains (map (λ w. w.now) more.now)
 said (command.AuditInWords more) = AuditsInWords (map (λ w. w.now) more.now)
 said (command.Lanes more) = Draws (map (λ w. w.now) more.now)
 said (command.Names more) = Names (map (λ w. w.now) more.now)
-said command.RunOrAudit = RunsOrAudits
+said command.Other = IsNone
 
 -- What a status means of words that are for this, with the files and the output from the call to the return. Of `show` it is
 -- only said how great it may be.
-abbrev pub ServesAs : {S : Type 0} → Contents → Words → S → S → Seen → Seen → ℕ → Purpose → Type 0
-ServesAs contents words old new before after status Helps = IsToldAs HELP.now before after status
-ServesAs contents words old new before after status TellsVersion = IsToldAs VERSION.now before after status
-ServesAs contents words old new before after status (Explores more) = MeansOfExploring contents (exploring_asked more) old new before after status × (status ≤ 4)
-ServesAs contents words old new before after status (Shows more) = status ≤ 3
-ServesAs contents words old new before after status (Explains more) = MeansOfExplaining contents (explaining_asked more) old new before after status × (status ≤ 3)
-ServesAs contents words old new before after status (AuditsInWords more) = MeansOfAuditInWords contents more old new before after status × (status ≤ 3)
-ServesAs contents words old new before after status (Draws more) = MeansOfDrawing contents (drawing_asked more) old new status × (status ≤ 3)
-ServesAs contents words old new before after status (Names more) = MeansOfNaming contents (text_in_words more) old new before after status × (status ≤ 3)
-ServesAs contents words old new before after status RunsOrAudits = Means contents words old new before after status × (status ≤ 3)
+abbrev pub ServesAs : {S : Type 0} → Contents → S → S → Seen → Seen → ℕ → Purpose → Type 0
+ServesAs contents old new before after status Helps = IsToldAs HELP.now before after status
+ServesAs contents old new before after status TellsVersion = IsToldAs VERSION.now before after status
+ServesAs contents old new before after status RunsStored = MeansOfRun AreStored (Some STORED_WORLD.now) old new before after status × (status ≤ 3)
+ServesAs contents old new before after status (Runs more) = MeansOfRun (AskFor contents (run_asked more)) (run_asked more) old new before after status × (status ≤ 3)
+ServesAs contents old new before after status (Audits more) = MeansOfAudit (AskForAudit contents (audit_asked more)) (audit_asked more) old new before after status × (status ≤ 3)
+ServesAs contents old new before after status (Explores more) = MeansOfExploring contents (exploring_asked more) old new before after status × (status ≤ 4)
+ServesAs contents old new before after status (Shows more) = status ≤ 3
+ServesAs contents old new before after status (Explains more) = MeansOfExplaining contents (explaining_asked more) old new before after status × (status ≤ 3)
+ServesAs contents old new before after status (AuditsInWords more) = MeansOfAudit (AskForAudit contents (audit_asked more)) (audit_asked more) old new before after status × (status ≤ 3)
+ServesAs contents old new before after status (Draws more) = MeansOfDrawing contents (drawing_asked more) old new status × (status ≤ 3)
+ServesAs contents old new before after status (Names more) = MeansOfNaming contents (text_in_words more) old new before after status × (status ≤ 3)
+ServesAs contents old new before after status IsNone = (status ≡ 2) × (new ≡ old)

@@ -1,7 +1,6 @@
 -- A command over a world and its events that may have names, and may stand in a folder.
-use Rattle.std.specs.Prelude.{◌≡◌, ◌⊎◌, ◌||◌, ◌&&◌, ◌==◌, ◌-◌, ℕ, Bool, false, List, [], ◌∷◌, ◌++◌, Option, None, Some, Ok, codes, get_or, if◌then◌else◌, length, map, option_map}
+use Rattle.std.specs.Prelude.{◌≡◌, ◌⊎◌, ◌||◌, ◌&&◌, ◌==◌, ◌-◌, ℕ, Bool, false, List, [], ◌∷◌, ◌++◌, Option, None, Some, codes, get_or, if◌then◌else◌, length, map, option_map}
 use Rattle.std.specs.Option.{option_map_or}
-use Rattle.std.specs.Borrow.{Bor}
 use Rattle.std.specs.Str.{bytes_eq}
 use Rattle.inputs.specs.Reads.{Contents, Text}
 use Rattle.sink.specs.Sinks.{Seen}
@@ -56,9 +55,7 @@ over_texts command options = command ∷ codes "world" ∷ codes "events" ∷ op
 pub record ServesTexts {S : Type 0} (contents : Contents) (command : Text) (options : List Text) (old new : S) (before after : Seen) (status : ℕ) : Type 0 where
   pub plain : List Text
   pub are_plain : ArePlain (first_option command) options plain
-  pub words : Bor (List (Bor Text))
-  pub are : map (λ w. w.now) words.now ≡ over_texts command plain
-  pub serves : ServesAs contents (Ok words) old new before after status (purpose_of (over_texts command plain))
+  pub serves : ServesAs contents old new before after status (purpose_of (over_texts command plain))
 
 -- The texts of this place were read, the world from one of the two files that its name can mean, and the command was
 -- served over them with numbers for their names.

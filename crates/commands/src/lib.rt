@@ -7,6 +7,5 @@ mod named;
 mod options;
 mod running;
 mod serving;
-mod words;
 
 pub use serving::serve;

@@ -1,16 +1,16 @@
 //! The program's commands: what the words are for, and what each serves.
 
-ghost use Rattle.std.specs.Prelude.{◌≡◌, Ok, map, option_map};
+ghost use Rattle.std.specs.Prelude.{◌≡◌, map, option_map};
 ghost use Rattle.commands.specs.Commands.{ServesAs, explained, first_or_empty as first_or_empty_of, is_help as is_help_of, is_version as is_version_of, purpose_of, said};
 ghost use Rattle.commands.specs.Named.{named_in as named_in_words};
 ghost use Rattle.commands.specs.Serving.{Serves};
 
 use crate::help::{HELP, VERSION};
 use crate::named::{serve_named, takes_names};
-use crate::running::{put_own, serve_audit_in_words, serve_run_or_audit};
+use crate::running::{USAGE, put_own, serve_audit, serve_run, serve_stored};
 use explaining::{serve_explain, serve_lanes};
 use exploring::{Progress, serve as serve_explore};
-use inputs::{ReadFiles, WordsFault};
+use inputs::{FileFailure, ReadFiles, WordsFault};
 use kernel::Sink;
 use naming::serve as serve_names;
 use showing::{Ask, serve as serve_show};
@@ -22,6 +22,12 @@ use std::hash::RandomState;
 enum Command<'a> {
     Help,
     Version,
+    /// No words.
+    Stored,
+    /// `run`, and the words behind it.
+    Run(&'a [&'a str]),
+    /// `audit`, and the words behind it.
+    Audit(&'a [&'a str]),
     /// `explore`, and the words behind it.
     Explore(&'a [&'a str]),
     /// `show`, and the words behind it.
@@ -34,8 +40,8 @@ enum Command<'a> {
     Lanes(&'a [&'a str]),
     /// `names`, and the words behind it.
     Names(&'a [&'a str]),
-    /// `run`, `audit`, no words, or any others.
-    RunOrAudit,
+    /// Any other words.
+    Other,
 }
 
 /// Whether a word asks for help.
@@ -77,13 +83,17 @@ fn command_in<'a>(words: &'a [&'a str]) -> Command<'a>
     ensures { said result ≡ purpose_of (map (λ w. w.now) words.entry.now) }
 {
     let Some((first, more)) = words.split_first() else {
-        return Command::RunOrAudit;
+        return Command::Stored;
     };
     let second = first_or_empty(more);
     if is_help(first) || is_help(second) {
         Command::Help
     } else if is_version(first) || is_version(second) {
         Command::Version
+    } else if *first == "run" {
+        Command::Run(more)
+    } else if *first == "audit" {
+        Command::Audit(more)
     } else if *first == "explore" {
         Command::Explore(more)
     } else if *first == "show" {
@@ -95,13 +105,13 @@ fn command_in<'a>(words: &'a [&'a str]) -> Command<'a>
     } else if *first == "names" {
         Command::Names(more)
     } else {
-        Command::RunOrAudit
+        Command::Other
     }
 }
 
 /// Does what words ask for that don't have names. Where the first or the second word asks for help or for the version,
-/// that is told; `explore`, `show`, `explain`, `explain --audit`, `lanes` and `names` are served by the words behind
-/// them; all other words as [`serve_run_or_audit`] says.
+/// that is told. Without words the stored world is run. A command is served by the words behind it; other words are
+/// none, and have the status 2.
 pub fn serve_command<'a, F: ReadFiles, O: Sink, E: Sink, P: Progress + Ask>(
     alloc: Global,
     words: &'a [&'a str],
@@ -111,18 +121,21 @@ pub fn serve_command<'a, F: ReadFiles, O: Sink, E: Sink, P: Progress + Ask>(
     err: &mut E,
     person: &mut P,
 ) -> u8
-    ensures { ServesAs (F.contents files.now) (Ok words.entry) out.old out.new (O.seen out.old) (O.seen out.new) result (purpose_of (map (λ w. w.now) words.entry.now)) }
+    ensures { ServesAs (F.contents files.now) out.old out.new (O.seen out.old) (O.seen out.new) result (purpose_of (map (λ w. w.now) words.entry.now)) }
 {
     match command_in(words) {
         Command::Help => put_own(HELP, out, err),
         Command::Version => put_own(VERSION, out, err),
-        Command::Explore(more) => serve_explore(alloc, Ok(more), files, out, err, person),
-        Command::Show(more) => serve_show(alloc, Ok(more), files, out, err, person),
-        Command::Explain(more) => serve_explain(alloc, Ok(more), files, out, err),
-        Command::AuditInWords(more) => serve_audit_in_words(alloc, more, files, keys, out, err),
+        Command::Stored => serve_stored(alloc, out, err),
+        Command::Run(more) => serve_run(alloc, more, files, out, err),
+        Command::Audit(more) => serve_audit(alloc, more, files, keys, false, out, err),
+        Command::Explore(more) => serve_explore(alloc, more, files, out, err, person),
+        Command::Show(more) => serve_show(alloc, more, files, out, err, person),
+        Command::Explain(more) => serve_explain(alloc, more, files, out, err),
+        Command::AuditInWords(more) => serve_audit(alloc, more, files, keys, true, out, err),
         Command::Lanes(more) => serve_lanes(alloc, more, files, out, err),
-        Command::Names(more) => serve_names(alloc, Ok(more), files, out, err),
-        Command::RunOrAudit => serve_run_or_audit(alloc, Ok(words), files, keys, out, err),
+        Command::Names(more) => serve_names(alloc, more, files, out, err),
+        Command::Other => FileFailure::Usage.end(USAGE, err),
     }
 }
 
@@ -140,7 +153,7 @@ fn named_in<'a>(words: &'a [&'a str]) -> Option<(&'a str, &'a [&'a str])>
 
 /// Does what the words of the command line ask for, without the program's name, and gives the status of the program.
 /// `run`, `explore` and `show` with `--names` behind them are served as [`serve_named`] says, all other words as
-/// [`serve_command`] does.
+/// [`serve_command`] does. Words that are no text in UTF-8 have the status 2; where there was no memory for them it is 3.
 pub fn serve<'a, F: ReadFiles, O: Sink, E: Sink, P: Progress + Ask>(
     alloc: Global,
     words: Result<&'a [&'a str], WordsFault>,
@@ -152,8 +165,10 @@ pub fn serve<'a, F: ReadFiles, O: Sink, E: Sink, P: Progress + Ask>(
 ) -> u8
     ensures { Serves (F.contents files.now) words.entry out.old out.new (O.seen out.old) (O.seen out.new) result }
 {
-    let Ok(words) = words else {
-        return serve_run_or_audit(alloc, words, files, keys, out, err);
+    let words = match words {
+        Ok(words) => words,
+        Err(WordsFault::NotText) => return FileFailure::Usage.end(USAGE, err),
+        Err(WordsFault::Memory) => return FileFailure::Memory.end(USAGE, err),
     };
     match named_in(words) {
         Some((command, more)) => serve_named(alloc, command, more, files, out, err, person),

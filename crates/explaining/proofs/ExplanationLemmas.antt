@@ -10,7 +10,7 @@ use Rattle.sink.proofs.SinkLemmas.{break_on, gathers_break, gathers_then}
 use Rattle.trace.specs.Lines.{IsCut, is_one_line}
 use Rattle.explaining.specs.Explanations.{AreOneLine, Explains, IsBegun, IsExplained, OfExplained, Stops, Told, told_line}
 use Rattle.inputs.specs.declared.failure.FileFailure.{FileFailure}
-use Rattle.inputs.specs.declared.failure.FileFailure.TheVariants.{Usage, CannotRead, Memory, Write}
+use Rattle.inputs.specs.declared.failure.FileFailure.TheVariants.{Usage, Unread, Memory, Write}
 
 -- ---- texts
 
@@ -129,7 +129,7 @@ pub told_no_more : {S : Type 0} (seen : S → Seen) (before : Seen) (old new : S
     → HasTold before trace rest (seen old) waiting → IsCut rest line after → is_one_line said ≡ true
     → Stops why old new (seen old) (seen new) (waiting ++ told_line line said) → Explains before (seen new) trace (Err why)
 told_no_more seen before old new trace rest line after waiting said Usage h cut clean stops = absurd stops
-told_no_more seen before old new trace rest line after waiting said (CannotRead name) h cut clean stops = absurd stops
+told_no_more seen before old new trace rest line after waiting said (Unread other) h cut clean stops = absurd stops
 told_no_more seen before old new trace rest line after waiting said Memory h cut clean stops =
     subst (λ s. OfExplained trace (IsBegun before (seen s))) (sym stops) (begun before (seen old) trace rest waiting h)
 told_no_more seen before old new trace rest line after waiting said Write h cut clean stops = (

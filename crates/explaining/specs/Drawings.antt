@@ -6,7 +6,7 @@ use Rattle.inputs.specs.Failures.{MeansOf, status_of}
 use Rattle.inputs.specs.Reads.{Contents, Text}
 use Rattle.inputs.specs.Words.{command_with_flag, is_used, unless_refused}
 use Rattle.inputs.specs.declared.failure.FileFailure.{FileFailure}
-use Rattle.inputs.specs.declared.failure.FileFailure.TheVariants.{Usage, CannotRead, Memory, Write}
+use Rattle.inputs.specs.declared.failure.FileFailure.TheVariants.{Usage, Unread, Memory, Write}
 use Rattle.laws.specs.TraceLines.{Says, is_line}
 use Rattle.posix.specs.Entries.{Line}
 use Rattle.posix.specs.Printing.{print}
@@ -59,7 +59,7 @@ FileIsTraceUpTo contents other asked = (trace : List ℕ) × IfSome (contents as
 -- A drawing ends without one: not for its words.
 abbrev pub IsCutOff : FileFailure → Type 0
 IsCutOff Usage = ⊥
-IsCutOff (CannotRead name) = Unit {0}
+IsCutOff (Unread why) = Unit {0}
 IsCutOff Memory = Unit {0}
 IsCutOff Write = Unit {0}
 
@@ -78,6 +78,6 @@ MeansOfDrawing contents asked old new status =
 abbrev pub Draws : {S : Type 0} → Contents → Option (Text × Bool) → S → S → Result (Option ℕ) FileFailure → Type 0
 Draws contents asked old new (Ok other) = IsSomeAnd asked (FileIsTraceUpTo contents other)
 Draws contents asked old new (Err Usage) = (asked ≡ None) × (new ≡ old)
-Draws contents asked old new (Err (CannotRead name)) = Unit {0}
+Draws contents asked old new (Err (Unread why)) = Unit {0}
 Draws contents asked old new (Err Memory) = Unit {0}
 Draws contents asked old new (Err Write) = Unit {0}

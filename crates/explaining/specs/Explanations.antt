@@ -5,7 +5,7 @@ use Rattle.std.specs.Io.KnownBytes.{Appends}
 use Rattle.sink.specs.Sinks.{BreaksOff, Seen, TakesAll}
 use Rattle.trace.specs.Lines.{is_one_line}
 use Rattle.inputs.specs.declared.failure.FileFailure.{FileFailure}
-use Rattle.inputs.specs.declared.failure.FileFailure.TheVariants.{Usage, CannotRead, Memory, Write}
+use Rattle.inputs.specs.declared.failure.FileFailure.TheVariants.{Usage, Unread, Memory, Write}
 
 -- ---- the text
 
@@ -53,13 +53,13 @@ OfExplained trace P = (text : List ℕ) × IsExplained trace text × P text
 abbrev pub Explains : Seen → Seen → List ℕ → Result (Unit {0}) FileFailure → Type 0
 Explains before after trace (Ok done) = OfExplained trace (TakesAll before after)
 Explains before after trace (Err Usage) = ⊥
-Explains before after trace (Err (CannotRead name)) = ⊥
+Explains before after trace (Err (Unread why)) = ⊥
 Explains before after trace (Err Memory) = OfExplained trace (IsBegun before after)
 Explains before after trace (Err Write) = OfExplained trace (BreaksOff before after)
 
 -- Why no line is added to bytes that wait: a put of all failed, or there was no memory before any.
 abbrev pub Stops : {S : Type 0} → FileFailure → S → S → Seen → Seen → List ℕ → Type 0
 Stops Usage old new before after bytes = ⊥
-Stops (CannotRead name) old new before after bytes = ⊥
+Stops (Unread why) old new before after bytes = ⊥
 Stops Memory old new before after bytes = new ≡ old
 Stops Write old new before after bytes = BreaksOff before after bytes

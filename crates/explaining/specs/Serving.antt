@@ -1,14 +1,12 @@
 -- What the program does with its words, and what its status means.
-use Rattle.std.specs.Prelude.{◌≡◌, ◌⊎◌, ℕ, List, Option, None, Result, Ok, Err, IfSome, IsSomeAnd, map}
-use Rattle.std.specs.Borrow.{Bor}
-use Rattle.inputs.specs.declared.command_line.WordsFault.{WordsFault}
+use Rattle.std.specs.Prelude.{◌≡◌, ◌⊎◌, ℕ, List, Option, None, Result, Ok, Err, IfSome, IsSomeAnd}
 use Rattle.inputs.specs.Failures.{MeansOf, status_of}
 use Rattle.inputs.specs.Reads.{Contents, Text}
 use Rattle.inputs.specs.declared.failure.FileFailure.{FileFailure}
 use Rattle.sink.specs.Sinks.{BreaksOff, Seen, TakesAll}
 use Rattle.showing.specs.Comparing.{IsCompared, IsOther}
 use Rattle.explaining.specs.Explanations.{IsBegun, OfExplained}
-use Rattle.explaining.specs.Words.{Asked, OfTrace, OfRun, asked_in_words}
+use Rattle.explaining.specs.Words.{Asked, OfTrace, OfRun}
 
 -- the status of any end
 abbrev pub answer_of : Result (Unit {0}) FileFailure → ℕ
@@ -16,15 +14,6 @@ answer_of (Ok done) = 0
 answer_of (Err why) = status_of why
 
 -- ---- what a status means
-
--- the words of the command line, where they could be read
-abbrev pub Words : Type 0
-Words = Result (Bor (List (Bor Text))) WordsFault
-
--- what they ask for
-abbrev pub asked_by : Words → Option Asked
-asked_by (Ok words) = asked_in_words (map (λ w. w.now) words.now)
-asked_by (Err fault) = None
 
 -- P holds of a text that is the trace in a file with what its lines say.
 abbrev pub OfFile : Contents → (List ℕ → Type 0) → Text → Type 0

@@ -4,11 +4,10 @@ use crate::known::Known;
 use crate::meaning::{put_meaning, put_notice_of};
 use posix::{Call, Entry, Pid, Sig, Status, WaitCall};
 use std::alloc::AllocError;
-use std::fmt::Display;
 use wording::{Prose, put_signal};
 
 /// Writes a call and the value that it gives, and what that means, if it means more than it shows.
-fn put_called<N: Display + Drop>(text: &mut Prose, call: Call, value: N, meaning: &[u8]) {
+fn put_called(text: &mut Prose, call: Call, value: i64, meaning: &[u8]) {
     text.push_bytes(call.name());
     text.push_with(" = ", value);
     put_behind(text, ": ", meaning);
@@ -52,7 +51,7 @@ fn put_with_meaning(text: &mut Prose, entry: &Entry, meaning: &[u8]) {
         Entry::Noted { value, .. } => text.push_with("note ", value),
         Entry::Called { call, result, .. } => put_called(text, call, result, meaning),
         Entry::Moved { call, bytes, .. } => {
-            put_called(text, call, bytes.as_slice().len(), meaning);
+            put_called(text, call, bytes.as_slice().len() as i64, meaning);
         }
         Entry::Reported {
             call,

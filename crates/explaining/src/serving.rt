@@ -1,20 +1,17 @@
 //! What the program does: its text and its statuses.
 
-ghost use Rattle.std.specs.Prelude.{◌≡◌, ◌≤◌, Err, IfOk, IfErr, Some, map};
-ghost use Rattle.inputs.specs.declared.command_line.WordsFault.{WordsFault};
+ghost use Rattle.std.specs.Prelude.{◌≡◌, ◌≤◌, IfOk, IfErr, Some, map};
 ghost use Rattle.explaining.specs.Drawings.{Draws, FileIsTraceUpTo, IsCutOff, MeansOfDrawing, drawing_asked, status_of_drawing};
-ghost use Rattle.explaining.specs.Serving.{Means, answer_of, asked_by};
+ghost use Rattle.explaining.specs.Serving.{Means, answer_of};
 ghost use Rattle.explaining.specs.Words.{OfTrace, asked_in_words, said};
 
 use crate::drawing::draw_trace;
 use crate::texts::explain_text;
 use crate::words::{Asked, request, requested};
-use arrayvec::ArrayString;
-use inputs::{FileFailure, ReadFiles, WordsFault, read_file};
+use inputs::{FileFailure, ReadFiles, tell};
 use showing::serve_beside;
-use sink::{Sink, SinkFault, put_all};
+use sink::Sink;
 use std::alloc::Global;
-use std::fmt::Write;
 
 /// Explains a file.
 fn explain_file<'a, F: ReadFiles, O: Sink>(
@@ -25,7 +22,7 @@ fn explain_file<'a, F: ReadFiles, O: Sink>(
 ) -> Result<(), FileFailure<'a>>
     ensures { Means (F.contents files.now) (Some (OfTrace name.entry.now)) out.old out.new (O.seen out.old) (O.seen out.new) (answer_of result) }
 {
-    let trace = read_file(files, name)?;
+    let trace = files.read_file(name).map_err(FileFailure::Unread)?;
     explain_text(alloc, trace.as_slice(), out)
 }
 
@@ -57,8 +54,10 @@ fn serve_asked<'a, F: ReadFiles, O: Sink, E: Sink>(
     }
 }
 
-/// Does what the words ask for, and gives the status of the program.
-fn serve_words<'a, F: ReadFiles, O: Sink, E: Sink>(
+/// Explains the trace that the words of the command line name, without the program's name, or compares it with what a
+/// world writes as [`serve_beside`] does, and gives the status of the program: 0 when it is done, 1 where the world writes
+/// another trace or is refused, 2 for other words, 3 for a device or memory. A failing `err` changes no status.
+pub fn serve_explain<'a, F: ReadFiles, O: Sink, E: Sink>(
     alloc: Global,
     words: &'a [&'a str],
     files: &F,
@@ -74,27 +73,6 @@ fn serve_words<'a, F: ReadFiles, O: Sink, E: Sink>(
     }
 }
 
-/// Explains the trace that the words of the command line name, without the program's name, or compares it with what a
-/// world writes as [`serve_beside`] does, and gives the status of the program: 0 when it is done, 1 where the world writes
-/// another trace or is refused, 2 for other words, 3 for a device or memory. A failing `err` changes no status.
-pub fn serve_explain<'a, F: ReadFiles, O: Sink, E: Sink>(
-    alloc: Global,
-    words: Result<&'a [&'a str], WordsFault>,
-    files: &F,
-    out: &mut O,
-    err: &mut E,
-) -> u8
-    ensures most { result ≤ 3 }
-    ensures meaning { Means (F.contents files.now) (asked_by words.entry) out.old out.new (O.seen out.old) (O.seen out.new) result }
-    ensures not_text { words.entry ≡ Err WordsFault.NotText → result ≡ 2 }
-{
-    match words {
-        Ok(words) => serve_words(alloc, words, files, out, err),
-        Err(WordsFault::NotText) => told(Err(FileFailure::Usage), err),
-        Err(WordsFault::Memory) => told(Err(FileFailure::Memory), err),
-    }
-}
-
 /// Draws a file.
 fn draw_file<'a, F: ReadFiles, O: Sink>(
     alloc: Global,
@@ -106,7 +84,7 @@ fn draw_file<'a, F: ReadFiles, O: Sink>(
     ensures ok { IfOk result (λ other. FileIsTraceUpTo (F.contents files.now) other (name.entry.now, is_svg)) }
     ensures err { IfErr result IsCutOff }
 {
-    let text = read_file(files, name)?;
+    let text = files.read_file(name).map_err(FileFailure::Unread)?;
     draw_trace(alloc, text.as_slice(), is_svg, out)
 }
 
@@ -123,13 +101,6 @@ fn draw_words<'a, F: ReadFiles, O: Sink>(
     draw_file(alloc, files, name, is_svg, out)
 }
 
-/// Tells which line is none of a trace. The longest of these texts has less than 60 bytes.
-fn tell_other<E: Sink>(number: u64, err: &mut E) -> Result<(), SinkFault> {
-    let mut text = ArrayString::<64>::new();
-    let _ = writeln!(text, "jobk: line {number}: no line of a trace");
-    put_all(err, text.as_str().as_bytes())
-}
-
 /// The status of the program. A failure is told, and a line that is none of a trace.
 fn drawn<E: Sink>(done: Result<Option<u64>, FileFailure<'_>>, err: &mut E) -> u8
     ensures most { result ≤ 3 }
@@ -138,7 +109,7 @@ fn drawn<E: Sink>(done: Result<Option<u64>, FileFailure<'_>>, err: &mut E) -> u8
     match done {
         Ok(None) => 0,
         Ok(Some(number)) => {
-            let _ = tell_other(number, err);
+            tell(format_args!("jobk: line {number}: no line of a trace"), err);
             1
         }
         Err(failure) => failure.end(b"usage: jobk lanes TRACE [--svg]\n", err),

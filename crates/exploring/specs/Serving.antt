@@ -1,11 +1,9 @@
 -- What the program answers.
-use Rattle.std.specs.Prelude.{◌≡◌, ◌⊎◌, ℕ, ◌==◌, ◌||◌, ◌&&◌, not, Bool, true, false, List, length, map, Option, None, Some, Result, Ok, Err, IfSome, IsSomeAnd}
-use Rattle.std.specs.Borrow.{Bor}
+use Rattle.std.specs.Prelude.{◌≡◌, ◌⊎◌, ℕ, ◌==◌, ◌||◌, ◌&&◌, not, Bool, true, false, List, length, Option, None, Some, Result, Ok, Err, IfSome, IsSomeAnd}
 use Rattle.std.specs.List.{list_any}
 use Rattle.posix.specs.declared.event.Event.{Event}
 use Rattle.posix.specs.States.{World}
 use Rattle.schedules.specs.Families.{Spots, family}
-use Rattle.inputs.specs.declared.command_line.WordsFault.{WordsFault}
 use Rattle.sink.specs.Sinks.{BreaksOff, Seen, TakesAll}
 use Rattle.inputs.specs.Reads.{AreRead, AreRefused, Contents, Text}
 use Rattle.inputs.specs.Statuses.{status_of as status_of_input}
@@ -19,7 +17,7 @@ use Rattle.counting.specs.Books.{BookView}
 use Rattle.counting.specs.Counts.{book_over}
 use Rattle.exploring.specs.declared.words.Written.{Written}
 use Rattle.exploring.specs.Reports.{IsAsFor}
-use Rattle.exploring.specs.Words.{Asked, Put, family_asked, request_of_words, ticks_asked, written_asked}
+use Rattle.exploring.specs.Words.{Asked, Put, family_asked, ticks_asked, written_asked}
 
 -- ---- statuses
 
@@ -99,15 +97,6 @@ IsOutOfRange contents a = (ticks_asked a.ticks ≡ None) ⊎ ((written_asked a.w
     ⊎ ((world : World) × (events : List Event) × AreRead contents (a.world, a.events) world events × (family_asked a world.consoles (length events) ≡ None)))
 
 -- ---- what a status means
-
--- the words of the command line, where they could be read
-abbrev pub Words : Type 0
-Words = Result (Bor (List (Bor Text))) WordsFault
-
--- what they ask for
-abbrev pub asked_by : Words → Option Asked
-asked_by (Ok words) = request_of_words (map (λ w. w.now) words.now)
-asked_by (Err fault) = None
 
 -- What a status means, with what is asked for, if something is, the files, and the output from the call to the return.
 pub record Means {S : Type 0} (contents : Contents) (asked : Option Asked) (old new : S) (before after : Seen) (status : ℕ) : Type 0 where

@@ -7,7 +7,7 @@ use Rattle.clap.specs.declared.builder.action.ArgAction.TheVariants.{Set, SetTru
 use Rattle.posix.specs.declared.event.Event.{Event}
 use Rattle.text.specs.declared.fault.TextFault.{TextFault}
 use Rattle.text.specs.EventTexts.{event_text}
-use Rattle.inputs.specs.Numbers.{number_of}
+use Rattle.inputs.specs.Numbers.{number_asked, number_of}
 use Rattle.inputs.specs.Words.{command_of, files_in, is_used, unless_refused}
 use Rattle.schedules.specs.Families.{family}
 use Rattle.exploring.specs.declared.words.Next.{Next}
@@ -160,24 +160,17 @@ parted_as p = record { finds = map (λ t. t.now) p.finds.items; anywhere = map (
 
 -- ---- the numbers in it
 
--- a number of at most so much
-abbrev pub up_to : ℕ → Option ℕ → Option ℕ
-up_to most number = option_and_then (λ n. if nat_le n most then Some n else None) number
-
 -- at most so many ticks: 2, if not named
 abbrev pub ticks_asked : Option Text → Option ℕ
-ticks_asked None = Some 2
-ticks_asked (Some word) = up_to 1000000 (number_of word)
+ticks_asked word = number_asked 2 1000000 word
 
 -- before the first so many events: all, if not named
 abbrev pub upto_asked : ℕ → Option Text → Option ℕ
-upto_asked events None = Some events
-upto_asked events (Some word) = up_to events (number_of word)
+upto_asked events word = number_asked events events word
 
 -- so many states are kept before one event: 50,000, if not named
 abbrev pub states_asked : Option Text → Option ℕ
-states_asked None = Some 50000
-states_asked (Some word) = up_to 10000000 (number_of word)
+states_asked word = number_asked 50000 10000000 word
 
 -- So many schedules, the longest of so many events, are run one after another, unless loose events are put in: all that can be counted so, or those
 -- that take little time.

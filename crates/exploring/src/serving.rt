@@ -1,9 +1,8 @@
 //! What the program does: its texts and its statuses.
 
-ghost use Rattle.std.specs.Prelude.{◌≡◌, ◌⊎◌, ◌+◌, ◌≤◌, ◌||◌, false, true, Bool, ℕ, List, [], length, Result, Err, MatchResult, IfOk, IfSome, IsNone, None, OnErr, OnOk, Some, map, option_map};
+ghost use Rattle.std.specs.Prelude.{◌≡◌, ◌⊎◌, ◌+◌, ◌≤◌, ◌||◌, false, true, Bool, ℕ, List, [], length, Result, MatchResult, IfOk, IfSome, IsNone, None, OnErr, OnOk, Some, map, option_map};
 ghost use Rattle.std.specs.String.{string_bytes};
 ghost use Rattle.sink.specs.Sinks.{BreaksOff, TakesAll};
-ghost use Rattle.inputs.specs.declared.command_line.WordsFault.{WordsFault};
 ghost use Rattle.posix.specs.declared.event.Event.{Event as EventValue};
 ghost use Rattle.text.specs.declared.fault.TextFault.{TextFault as TextFaultValue};
 ghost use Rattle.text.specs.EventTexts.{event_text, most_events};
@@ -11,21 +10,19 @@ ghost use Rattle.text.specs.Reading.{IsFaultOf};
 ghost use Rattle.schedules.specs.Families.{family as family_of};
 ghost use Rattle.counting.specs.Counts.{book_over};
 ghost use Rattle.exploring.specs.Reports.{bytes_put};
-ghost use Rattle.exploring.specs.Serving.{Means, answer_of, asked_by, is_found as has_found, all_halt as have_halted, is_told as told_by, status_of};
+ghost use Rattle.exploring.specs.Serving.{Means, answer_of, is_found as has_found, all_halt as have_halted, is_told as told_by, status_of};
 ghost use Rattle.exploring.specs.Words.{are_run, are_run_each as each_is_run, asked_by_parts, can_be_put, loose_asked, only, parted_as, request_of_words, run_each, said, states_asked, ticks_asked, upto_asked, written_asked};
 
 use crate::words::{Parts, Request, Written, parts_of, requested};
 use crate::written::text_of;
-use arrayvec::ArrayString;
 use counting::{Book, Family, Progress, event_at, explore};
-use inputs::{InputFault, NoRequest, ReadFiles, WordsFault, number, read_inputs, tell_unread};
+use inputs::{InputFault, NoRequest, NumberFault, ReadFiles, number_up_to, read_inputs, tell};
 use kernel::{Sink, SinkFault, put_all};
 use merging::{Stop, merge};
 use posix::Event;
 use schedules::{MOST_LOOSE, MOST_TICKS, family_size};
 use std::alloc::{AllocError, Global};
-use std::fmt::Write;
-use text::{Reason, TextFault, read_events};
+use text::{TextFault, read_events};
 use thiserror::Error;
 
 /// Why the program doesn't end with status 0.
@@ -174,12 +171,9 @@ fn ticks_of<'a>(word: Option<&str>) -> Result<usize, Failure<'a>>
         (λ ticks. (ticks ≤ MOST_TICKS) × (ticks_asked (option_map (λ w. w.now) word.entry) ≡ Some ticks))
         (λ why. (status_of why ≡ 2) × (ticks_asked (option_map (λ w. w.now) word.entry) ≡ None)) }
 {
-    let Some(word) = word else {
-        return Ok(2);
-    };
-    match number(word) {
-        Some(ticks) if ticks <= MOST_TICKS as u64 => Ok(ticks as usize),
-        _ => Err(Failure::Ticks(MOST_TICKS)),
+    match number_up_to(word, 2, MOST_TICKS as u64) {
+        Ok(ticks) => Ok(ticks as usize),
+        Err(_) => Err(Failure::Ticks(MOST_TICKS)),
     }
 }
 
@@ -189,14 +183,11 @@ fn upto_of<'a>(word: Option<&str>, events: u64) -> Result<u64, Failure<'a>>
         (λ upto. (upto ≤ events) × (upto_asked events (option_map (λ w. w.now) word.entry) ≡ Some upto))
         (λ why. (status_of why ≡ 2) × (upto_asked events (option_map (λ w. w.now) word.entry) ≡ None)) }
 {
-    let Some(word) = word else {
-        return Ok(events);
-    };
-    let upto = number(word).ok_or(Failure::Upto)?;
-    if upto > events {
-        return Err(Failure::UptoAbove(upto, events));
+    match number_up_to(word, events, events) {
+        Ok(upto) => Ok(upto),
+        Err(NumberFault::NoNumber) => Err(Failure::Upto),
+        Err(NumberFault::Above(upto)) => Err(Failure::UptoAbove(upto, events)),
     }
-    Ok(upto)
 }
 
 /// How many states are kept before one event: 50,000, if not named.
@@ -205,12 +196,9 @@ fn states_of<'a>(word: Option<&str>) -> Result<usize, Failure<'a>>
         (λ states. states_asked (option_map (λ w. w.now) word.entry) ≡ Some states)
         (λ why. (status_of why ≡ 2) × (states_asked (option_map (λ w. w.now) word.entry) ≡ None)) }
 {
-    let Some(word) = word else {
-        return Ok(50_000);
-    };
-    match number(word) {
-        Some(states) if states <= MOST_STATES => Ok(states as usize),
-        _ => Err(Failure::States(MOST_STATES)),
+    match number_up_to(word, 50_000, MOST_STATES) {
+        Ok(states) => Ok(states as usize),
+        Err(_) => Err(Failure::States(MOST_STATES)),
     }
 }
 
@@ -231,10 +219,7 @@ fn failure_of_word<'a>(fault: TextFault) -> Failure<'a>
     ensures { (meaning : Result (List EventValue) TextFaultValue) → IsFaultOf meaning fault
         → (status_of result ≡ 3) ⊎ ((status_of result ≡ 2) × (only meaning ≡ None)) }
 {
-    match fault.reason {
-        Reason::Memory => Failure::Memory,
-        _ => Failure::NotOneEvent,
-    }
+    fault.unless_memory(Failure::NotOneEvent, Failure::Memory)
 }
 
 /// The one event of a text, in a world of so many consoles.
@@ -410,16 +395,14 @@ fn is_told(must_halt: bool, book: &Book<'_>) -> bool
 }
 
 /// Tells that there is no schedule to be written, as far as the error output takes it. It takes no memory.
-fn tell_missing<E: Sink>(written: Written, err: &mut E) -> Result<(), SinkFault> {
-    let mut text = ArrayString::<64>::new();
-    let _ = match written {
-        Written::Report => Ok(()),
-        Written::Rest => writeln!(text, "jobk: no schedule comes to rest"),
-        Written::Going => writeln!(text, "jobk: no schedule is still going"),
-        Written::Find => writeln!(text, "jobk: no schedule has a text that is looked for"),
-        Written::Outcome(number) => writeln!(text, "jobk: there is no outcome {number}"),
-    };
-    put_all(err, text.as_str().as_bytes())
+fn tell_missing<E: Sink>(written: Written, err: &mut E) {
+    match written {
+        Written::Report => {}
+        Written::Rest => tell("jobk: no schedule comes to rest", err),
+        Written::Going => tell("jobk: no schedule is still going", err),
+        Written::Find => tell("jobk: no schedule has a text that is looked for", err),
+        Written::Outcome(number) => tell(format_args!("jobk: there is no outcome {number}"), err),
+    }
 }
 
 /// Puts a text. Where there is none, the error output is told so; if that fails, nothing changes.
@@ -433,7 +416,7 @@ fn put_text<O: Sink, E: Sink>(
     ensures err { OnErr result (BreaksOff (O.seen out.old) (O.seen out.new) (bytes_put (option_map string_bytes text.now))) }
 {
     let Some(text) = text else {
-        let _ = tell_missing(written, err);
+        tell_missing(written, err);
         return put_all(out, &[]);
     };
     put_all(out, text.as_str().as_bytes())
@@ -480,13 +463,11 @@ fn serve_request<'a, 'w, F: ReadFiles, O: Sink, E: Sink, P: Progress>(
 }
 
 /// Tells a failure, as far as the error output takes it. It takes no memory.
-fn tell<E: Sink>(failure: Failure<'_>, err: &mut E) -> Result<(), SinkFault> {
-    if let Failure::Input(InputFault::CannotRead(name)) = failure {
-        return tell_unread(name, err);
+fn tell_failure<E: Sink>(failure: Failure<'_>, err: &mut E) {
+    match failure {
+        Failure::Input(why) => why.tell(err),
+        _ => tell(failure, err),
     }
-    let mut text = ArrayString::<256>::new();
-    let _ = writeln!(text, "{failure}");
-    put_all(err, text.as_str().as_bytes())
 }
 
 /// Does what the words ask for, whose texts are told apart.
@@ -513,14 +494,16 @@ fn told<E: Sink>(done: Result<bool, Failure<'_>>, err: &mut E) -> u8
         Ok(false) => 0,
         Ok(true) => 4,
         Err(failure) => {
-            let _ = tell(failure, err);
+            tell_failure(failure, err);
             failure.status()
         }
     }
 }
 
-/// Does what the words ask for.
-fn serve_words<'a, F: ReadFiles, O: Sink, E: Sink, P: Progress>(
+/// Does what the words of the command line ask for, without the program's name, and gives the status of the program: 0
+/// when it is done, 1 for a refused text, 2 for other words, 3 for a device or memory, and 4 where a text was found, or
+/// a schedule doesn't halt that must. A failing `err` changes no status.
+pub fn serve<'a, F: ReadFiles, O: Sink, E: Sink, P: Progress>(
     alloc: Global,
     words: &[&'a str],
     files: &F,
@@ -534,27 +517,5 @@ fn serve_words<'a, F: ReadFiles, O: Sink, E: Sink, P: Progress>(
     match parts_of(alloc, words) {
         Ok(parts) => told(serve_parts(alloc, &parts, files, out, err, progress), err),
         Err(_) => told(Err(Failure::Memory), err),
-    }
-}
-
-/// Does what the words of the command line ask for, without the program's name, and gives the status of the program: 0
-/// when it is done, 1 for a refused text, 2 for other words, 3 for a device or memory, and 4 where a text was found, or
-/// a schedule doesn't halt that must. A failing `err` changes no status.
-pub fn serve<'a, F: ReadFiles, O: Sink, E: Sink, P: Progress>(
-    alloc: Global,
-    words: Result<&'a [&'a str], WordsFault>,
-    files: &F,
-    out: &mut O,
-    err: &mut E,
-    progress: &mut P,
-) -> u8
-    ensures most { result ≤ 4 }
-    ensures meaning { Means (F.contents files.now) (asked_by words.entry) out.old out.new (O.seen out.old) (O.seen out.new) result }
-    ensures not_text { words.entry ≡ Err WordsFault.NotText → result ≡ 2 }
-{
-    match words {
-        Ok(words) => serve_words(alloc, words, files, out, err, progress),
-        Err(WordsFault::NotText) => told(Err(Failure::Usage), err),
-        Err(WordsFault::Memory) => told(Err(Failure::Memory), err),
     }
 }

@@ -13,11 +13,11 @@ means_done Done Refused IsBegun asked old new h =
     record { done = λ e. h; refused = λ e. absurd (omega (arith, e)); other_words = λ e. absurd (omega (arith, e)); cut_short = λ e. absurd (omega (arith, e)) }
 
 -- A sink is known by what is read of it.
-pub means_along : {A S T : Type 0} (f : S → T) (Done Then Refused IsBegun : Type 0) (asked : Option A) (old new : S) (status : ℕ) → (Done → Then)
-    → MeansOf Done Refused IsBegun asked old new status → MeansOf Then Refused IsBegun asked (f old) (f new) status
-means_along f Done Then Refused IsBegun asked old new status done h = record {
-  done = λ e. done (h.done e);
-  refused = h.refused;
+pub means_along : {A S T : Type 0} (f : S → T) (Done Refused Then IsBegun : Type 0) (asked : Option A) (old new : S) (status : ℕ) → (Refused → Then)
+    → MeansOf Done Refused IsBegun asked old new status → MeansOf Done Then IsBegun asked (f old) (f new) status
+means_along f Done Refused Then IsBegun asked old new status refused h = record {
+  done = h.done;
+  refused = λ e. refused (h.refused e);
   other_words = λ e. let r = h.other_words e in (r.0, ap f r.1);
   cut_short = λ e. elim (h.cut_short e) [ inl same ↦ inl (ap f same) | inr r ↦ inr r ];
 }

@@ -14,7 +14,7 @@ pub world_unread : (contents : Contents) (names : Text × Text) (world events : 
     → RefusesWorld (world_text world) why → Reads contents names (Err why)
 world_unread contents names world events (fault.World why) files h = record { world_bytes = world; event_bytes = events; in_files = files; why = why; no_want = h.0; refused = inl h.1 }
 world_unread contents names world events (fault.Events why) files h = absurd h
-world_unread contents names world events (fault.CannotRead name) files h = absurd h
+world_unread contents names world events (fault.Unread other) files h = absurd h
 world_unread contents names world events fault.Memory files h = tt
 
 -- the events aren't
@@ -22,7 +22,7 @@ pub events_unread : (contents : Contents) (names : Text × Text) (world_bytes ev
     → world_text world_bytes ≡ Ok world → RefusesEvents (event_text world.consoles event_bytes) why → Reads contents names (Err why)
 events_unread contents names world_bytes event_bytes world (fault.World why) files is h = absurd h
 events_unread contents names world_bytes event_bytes world (fault.Events why) files is h = record { world_bytes = world_bytes; event_bytes = event_bytes; in_files = files; why = why; no_want = h.0; refused = inr (world, is, h.1) }
-events_unread contents names world_bytes event_bytes world (fault.CannotRead name) files is h = absurd h
+events_unread contents names world_bytes event_bytes world (fault.Unread other) files is h = absurd h
 events_unread contents names world_bytes event_bytes world fault.Memory files is h = tt
 
 -- what `?` hands on

@@ -1,31 +1,31 @@
 -- What the words of a command line ask for.
-use Rattle.std.proofs.Common.{◌≡◌, ◌≢◌, ◌⊎◌, ◌∙◌, List, [], ◌∷◌, Option, Some, None, true, ap, ap₂, sym, refl, subst, inl, inr, Result, Ok, Err, MatchResult, option_map}
+use Rattle.std.proofs.Common.{◌≡◌, ◌≢◌, ◌⊎◌, ◌∙◌, List, [], ◌∷◌, Option, Some, None, true, ap, sym, refl, subst, inl, inr, Result, Ok, Err, MatchResult, option_map}
 use Rattle.std.specs.Prelude.{IsErrAnd, ok_or}
 use Rattle.std.proofs.lemmas.Bool.{and_parts}
 use Rattle.clap.specs.Kinds.{FailsBy, HasKind, IsAmong, Kinds}
-use Rattle.clap.specs.Words.{App, HasMatchesOf, Row, Text, fault_of, found_of, is_simple, is_simple_and_free, kind_of, matches_of, rows_of, subcommand_of, subcommand_rows_of}
+use Rattle.clap.specs.Words.{App, HasMatchesOf, Row, Text, fault_of, found_of, is_simple, is_simple_and_free, kind_of, matches_of, rows_of}
 use Rattle.clap.specs.declared.error.Error.{Error}
 use Rattle.clap.specs.declared.error.kind.ErrorKind.{ErrorKind}
 use Rattle.clap.specs.declared.error.kind.ErrorKind.TheVariants as kind
 use Rattle.clap.specs.declared.parser.matches.ArgMatches.{ArgMatches}
 use Rattle.inputs.specs.declared.words.NoRequest.{NoRequest}
 use Rattle.inputs.specs.declared.words.NoRequest.TheVariants.{Usage}
-use Rattle.inputs.specs.Words.{command_with_file, unless_refused}
+use Rattle.inputs.specs.Words.{command_with_file, unless_refused, with_files}
 
 where_refused : {A : Type 0} (kinds : Kinds) (k : ErrorKind) (asked : Option A) → IsAmong k kinds → unless_refused kinds asked ≡ None
 where_refused [] k asked h = absurd h
 where_refused (x ∷ xs) k asked h = refl
 
--- Words that are taken ask for what their matches do, those of the subcommand included.
-pub taken_words : {A : Type 0} (a command : App) (words : List Text) (m : ArgMatches) (asked : List Row → Option (Text × List Row) → Option A)
+-- Words that are taken ask for what their matches do.
+pub taken_words : {A : Type 0} (a command : App) (words : List Text) (m : ArgMatches) (asked : List Row → Option A)
     → is_simple_and_free command ≡ true → a ≡ command → (is_simple_and_free a ≡ true → FailsBy (fault_of a words) (Ok m)) → HasMatchesOf a words m
-    → unless_refused (fault_of command words) (asked (matches_of command words) (subcommand_of command words)) ≡ asked (rows_of (found_of m)) (subcommand_rows_of m)
+    → unless_refused (fault_of command words) (asked (matches_of command words)) ≡ asked (rows_of (found_of m))
 taken_words a command words m asked free is_command fails matches =
     let P : App → Type 0 = λ b. is_simple_and_free b ≡ true → FailsBy (fault_of b words) (Ok m) in
     let Q : App → Type 0 = λ b. HasMatchesOf b words m in
     let none : fault_of command words ≡ [] = subst P is_command fails free in
     let read = subst Q is_command matches (and_parts (is_simple command) _ free).0 in
-    ap (λ kinds. unless_refused kinds (asked (matches_of command words) (subcommand_of command words))) none ∙ ap₂ asked (sym read.0) (sym read.1)
+    ap (λ kinds. unless_refused kinds (asked (matches_of command words))) none ∙ ap asked (sym read.0)
 
 -- Words that are refused for their own sake ask for nothing.
 pub refused_words : {A : Type 0} (a command : App) (words : List Text) (e : Error) (asked : Option A) → is_simple_and_free command ≡ true → a ≡ command
@@ -44,7 +44,17 @@ told_refused (Ok r) P asked e h none = absurd h
 told_refused (Err why) P asked e h (inl memory) = λ usage. absurd (h usage memory)
 told_refused (Err why) P asked e h (inr none) = λ usage. none
 
--- ---- one file
+-- What the matches ask for the words do, too.
+pub asked_alike : {A R : Type 0} (f : R → A) (result : Result R NoRequest) (by_matches by_words : Option A) → by_words ≡ by_matches
+    → MatchResult result (λ r. by_matches ≡ Some (f r)) (λ why. by_matches ≡ None)
+    → MatchResult result (λ r. by_words ≡ Some (f r)) (λ why. why ≡ Usage → by_words ≡ None)
+asked_alike f (Ok r) by_matches by_words same h = same ∙ h
+asked_alike f (Err why) by_matches by_words same h = λ usage. same ∙ h
+
+-- ---- one file, and two
+
+pub files_are_simple : (program : Text) → is_simple_and_free (with_files program) ≡ true
+files_are_simple program = refl
 
 pub file_is_simple : (program file : Text) → is_simple_and_free (command_with_file program file) ≡ true
 file_is_simple program file = refl

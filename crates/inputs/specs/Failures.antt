@@ -1,18 +1,19 @@
 -- The failures of programs that are given one file, what is told of them, and their statuses.
 use Rattle.std.specs.Prelude.{◌≡◌, ◌⊎◌, ℕ, List, [], ◌∷◌, ◌++◌, codes, None, Option}
 use Rattle.std.specs.Borrow.{Bor}
-use Rattle.inputs.specs.declared.files.FileFault.{FileFault}
-use Rattle.inputs.specs.declared.files.FileFault.TheVariants as file
+use Rattle.inputs.specs.declared.files.Unread.{Unread as WhyUnread}
+use Rattle.inputs.specs.declared.files.Unread.TheVariants as unread
 use Rattle.sink.specs.Sinks.{BreaksOff, Seen, TakesAll}
 use Rattle.inputs.specs.Reads.{Text}
 use Rattle.inputs.specs.declared.failure.FileFailure.{FileFailure}
-use Rattle.inputs.specs.declared.failure.FileFailure.TheVariants.{Usage, CannotRead, Memory, Write}
+use Rattle.inputs.specs.declared.failure.FileFailure.TheVariants.{Usage, Unread, Memory, Write}
 use Rattle.inputs.specs.declared.words.NoRequest.{NoRequest}
 use Rattle.inputs.specs.declared.words.NoRequest.TheVariants as no_request
 
-abbrev pub failure_of_file : FileFault → Bor Text → FileFailure
-failure_of_file file.Device name = CannotRead name
-failure_of_file file.Memory name = Memory
+-- why the file with this name isn't read
+abbrev pub IsUnread : Bor Text → WhyUnread → Type 0
+IsUnread name (unread.CannotRead other) = other ≡ name
+IsUnread name unread.Memory = Unit {0}
 
 abbrev pub failure_of_words : NoRequest → FileFailure
 failure_of_words no_request.Usage = Usage
@@ -21,18 +22,19 @@ failure_of_words no_request.Memory = Memory
 -- 2 for other words, 3 for a device or memory
 abbrev pub status_of : FileFailure → ℕ
 status_of Usage = 2
-status_of (CannotRead name) = 3
+status_of (Unread why) = 3
 status_of Memory = 3
 status_of Write = 3
 
 -- what is told of a file that isn't read
-abbrev pub message_unread : Text → List ℕ
-message_unread name = codes "jobk: cannot read " ++ (name ++ 10 ∷ [])
+abbrev pub message_unread : WhyUnread → List ℕ
+message_unread (unread.CannotRead name) = codes "jobk: cannot read " ++ (name.now ++ 10 ∷ [])
+message_unread unread.Memory = codes "jobk: out of memory\n"
 
 -- and of a failure, by a program that is used so
 abbrev pub message_of : List ℕ → FileFailure → List ℕ
 message_of usage Usage = usage
-message_of usage (CannotRead name) = message_unread name.now
+message_of usage (Unread why) = message_unread why
 message_of usage Memory = codes "jobk: out of memory\n"
 message_of usage Write = codes "jobk: cannot write\n"
 

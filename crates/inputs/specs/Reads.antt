@@ -1,15 +1,11 @@
 -- What is read from two files: a world, and events for it.
 use Rattle.std.specs.Prelude.{◌≡◌, ◌≢◌, ◌⊎◌, ℕ, List, Option, Result, Ok, Err, IfSome}
-use Rattle.std.specs.Borrow.{Bor}
 use Rattle.posix.specs.declared.event.Event.{Event}
 use Rattle.posix.specs.States.{World}
-use Rattle.text.specs.declared.fault.Reason.{Reason}
-use Rattle.text.specs.declared.fault.Reason.TheVariants.{UnknownWord, BadNumber, OutOfRange, NameUnknown, NameTwice, LineTooLong, EndMissing, NoProgram, Memory}
+use Rattle.text.specs.declared.fault.Reason.TheVariants.{Memory}
 use Rattle.text.specs.declared.fault.TextFault.{TextFault}
 use Rattle.text.specs.EventTexts.{event_text}
 use Rattle.text.specs.WorldTexts.{world_text}
-use Rattle.inputs.specs.declared.files.FileFault.{FileFault}
-use Rattle.inputs.specs.declared.files.FileFault.TheVariants as file
 use Rattle.inputs.specs.declared.Inputs.{Inputs}
 use Rattle.inputs.specs.declared.InputFault.{InputFault}
 use Rattle.inputs.specs.declared.InputFault.TheVariants as fault
@@ -44,34 +40,17 @@ pub record AreRefused (contents : Contents) (names : Text × Text) : Type 0 wher
   pub refused : (world_text world_bytes ≡ Err why)
       ⊎ ((world : World) × (world_text world_bytes ≡ Ok world) × (event_text world.consoles event_bytes ≡ Err why))
 
--- why a file isn't read
-abbrev pub fault_of_file : FileFault → Bor Text → InputFault
-fault_of_file file.Device name = fault.CannotRead name
-fault_of_file file.Memory name = fault.Memory
-
--- this fault, unless the reason is want of memory, which is no fault of a text
-abbrev pub unless_memory : Reason → InputFault → InputFault
-unless_memory UnknownWord why = why
-unless_memory BadNumber why = why
-unless_memory OutOfRange why = why
-unless_memory NameUnknown why = why
-unless_memory NameTwice why = why
-unless_memory LineTooLong why = why
-unless_memory EndMissing why = why
-unless_memory NoProgram why = why
-unless_memory Memory why = fault.Memory
-
 -- why a text isn't read whose meaning is this: the world's, and the events'
 abbrev pub RefusesWorld : Result World TextFault → InputFault → Type 0
 RefusesWorld meaning (fault.World why) = (why.reason ≢ Memory) × (meaning ≡ Err why)
 RefusesWorld meaning (fault.Events why) = ⊥
-RefusesWorld meaning (fault.CannotRead name) = ⊥
+RefusesWorld meaning (fault.Unread other) = ⊥
 RefusesWorld meaning fault.Memory = Unit {0}
 
 abbrev pub RefusesEvents : Result (List Event) TextFault → InputFault → Type 0
 RefusesEvents meaning (fault.World why) = ⊥
 RefusesEvents meaning (fault.Events why) = (why.reason ≢ Memory) × (meaning ≡ Err why)
-RefusesEvents meaning (fault.CannotRead name) = ⊥
+RefusesEvents meaning (fault.Unread other) = ⊥
 RefusesEvents meaning fault.Memory = Unit {0}
 
 -- How it ends where the two files are read.
@@ -79,5 +58,5 @@ abbrev pub Reads : Contents → Text × Text → Result Inputs InputFault → Ty
 Reads contents names (Ok inputs) = AreRead contents names inputs.world inputs.events
 Reads contents names (Err (fault.World why)) = AreRefused contents names
 Reads contents names (Err (fault.Events why)) = AreRefused contents names
-Reads contents names (Err (fault.CannotRead name)) = Unit {0}
+Reads contents names (Err (fault.Unread other)) = Unit {0}
 Reads contents names (Err fault.Memory) = Unit {0}

@@ -1,11 +1,11 @@
 -- The statuses of programs whose world and events aren't read.
 use Rattle.std.specs.Prelude.{ℕ}
 use Rattle.inputs.specs.declared.InputFault.{InputFault}
-use Rattle.inputs.specs.declared.InputFault.TheVariants.{CannotRead, World, Events, Memory}
+use Rattle.inputs.specs.declared.InputFault.TheVariants.{Unread, World, Events, Memory}
 
 -- 1 for a refused text, 3 for a device or memory
 abbrev pub status_of : InputFault → ℕ
 status_of (World fault) = 1
 status_of (Events fault) = 1
-status_of (CannotRead name) = 3
+status_of (Unread why) = 3
 status_of Memory = 3

@@ -55,6 +55,10 @@ command_of program options = fold with_option (with_files program) options
 abbrev pub files_in : List Row → Option (Text × Text)
 files_in rows = option_and_then (λ world. option_map (λ events. (world, events)) (first_of (codes "events") rows)) (first_of (codes "world") rows)
 
+-- What words ask for, if they aren't refused, without options: these two names.
+abbrev pub files_in_words : Text → List Text → Option (Text × Text)
+files_in_words program words = unless_refused (fault_of (with_files program) words) (files_in (matches_of (with_files program) words))
+
 -- a flag is used
 abbrev pub is_used : Text → List Row → Bool
 is_used flag rows = option_map_or (λ value. bytes_eq value (codes "true")) (first_of flag rows) false

@@ -1,22 +1,23 @@
-//! Why a program that is given one file fails.
+//! Why a program that is given one file fails, and how failures are told.
 
-ghost use Rattle.std.specs.Prelude.{◌≡◌, ◌++◌, IfErr, IfOk, IfSome, OnErr, OnOk};
-ghost use Rattle.inputs.specs.declared.files.FileFault.{FileFault};
+ghost use Rattle.std.specs.Prelude.{◌≡◌, ◌++◌, OnErr, OnOk};
 ghost use Rattle.sink.specs.Sinks.{BreaksOff, TakesAll};
-ghost use Rattle.inputs.specs.Failures.{Tells, failure_of_file, message_of, message_unread, status_of};
+ghost use Rattle.inputs.specs.Failures.{Tells, message_of, status_of};
 
+use crate::Unread;
 use crate::words::NoRequest;
-use crate::{FileFault, ReadFiles};
+use arrayvec::ArrayString;
 use sink::{Sink, SinkFault, put_all};
 use std::alloc::AllocError;
+use std::fmt::{Display, Write};
 
 /// Why a program that is given one file fails.
 #[derive(Clone, Copy)]
 pub enum FileFailure<'a> {
     /// The words ask for no file.
     Usage,
-    /// There is no file with this name, or the device failed.
-    CannotRead(&'a str),
+    /// The file isn't read.
+    Unread(Unread<'a>),
     /// There was no memory.
     Memory,
     /// The output took no more.
@@ -56,17 +57,7 @@ impl From<NoRequest> for FileFailure<'_> {
     }
 }
 
-impl<'a> FileFailure<'a> {
-    /// Why a file of this name isn't read.
-    fn of_file(fault: FileFault, name: &'a str) -> Self
-        ensures { result ≡ failure_of_file fault name.entry }
-    {
-        match fault {
-            FileFault::Device => FileFailure::CannotRead(name),
-            FileFault::Memory => FileFailure::Memory,
-        }
-    }
-
+impl FileFailure<'_> {
     /// Tells it, and how the program is used where the words ask for no file. At an `Err` a beginning was taken, and a put
     /// failed. It takes no memory.
     pub fn tell<E: Sink>(self, usage: &[u8], err: &mut E) -> Result<(), SinkFault>
@@ -75,7 +66,7 @@ impl<'a> FileFailure<'a> {
     {
         match self {
             FileFailure::Usage => put_all(err, usage),
-            FileFailure::CannotRead(name) => tell_unread(name, err),
+            FileFailure::Unread(why) => why.tell(err),
             FileFailure::Memory => put_all(err, b"jobk: out of memory\n"),
             FileFailure::Write => put_all(err, b"jobk: cannot write\n"),
         }
@@ -90,7 +81,7 @@ impl<'a> FileFailure<'a> {
         let _ = self.tell(usage, err);
         match self {
             FileFailure::Usage => 2,
-            FileFailure::CannotRead(_) | FileFailure::Memory | FileFailure::Write => 3,
+            FileFailure::Unread(_) | FileFailure::Memory | FileFailure::Write => 3,
         }
     }
 }
@@ -104,22 +95,10 @@ pub fn put_both<O: Sink>(out: &mut O, first: &[u8], second: &[u8]) -> Result<(),
     put_all(out, second)
 }
 
-/// Tells that the file with a name can't be read. At an `Err` a beginning was taken, and a put failed. It takes no memory.
-pub fn tell_unread<E: Sink>(name: &str, err: &mut E) -> Result<(), SinkFault>
-    ensures ok { OnOk result (TakesAll (E.seen err.old) (E.seen err.new) (message_unread name.now)) }
-    ensures err { OnErr result (BreaksOff (E.seen err.old) (E.seen err.new) (message_unread name.now)) }
-{
-    put_all(err, b"jobk: cannot read ")?;
-    put_both(err, name.as_bytes(), b"\n")
-}
-
-/// The bytes of a file.
-pub fn read_file<'a, F: ReadFiles>(files: &F, name: &'a str) -> Result<Vec<u8>, FileFailure<'a>>
-    ensures ok { IfOk result (λ read. IfSome (F.contents files.now name.entry.now) (λ known. read.items ≡ known)) }
-    ensures err { IfErr result (λ why. (fault : FileFault) × (why ≡ failure_of_file fault name.entry)) }
-{
-    match files.read_file(name) {
-        Ok(bytes) => Ok(bytes),
-        Err(fault) => Err(FileFailure::of_file(fault, name)),
-    }
+/// Tells a value in a line, as far as the error output takes it. A line of more than 256 bytes isn't told to its end; the
+/// longest that is told has less than 200. It takes no memory.
+pub fn tell<D: Display + Drop, E: Sink>(what: D, err: &mut E) {
+    let mut line = ArrayString::<256>::new();
+    let _ = writeln!(line, "{what}");
+    let _ = put_all(err, line.as_str().as_bytes());
 }

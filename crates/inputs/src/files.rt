@@ -1,17 +1,51 @@
 //! Files of the host.
 
-ghost use Rattle.std.specs.Prelude.{◌≡◌, ℕ, List, Option, IfOk, IfSome};
+ghost use Rattle.std.specs.Prelude.{◌≡◌, ℕ, List, Option, IfErr, IfOk, IfSome, OnErr, OnOk};
+ghost use Rattle.sink.specs.Sinks.{BreaksOff, TakesAll};
+ghost use Rattle.inputs.specs.Failures.{IsUnread, message_unread};
 
+use crate::failure::put_both;
+use sink::{Sink, SinkFault, put_all};
 use std::rt::Files;
 use std::{fs, io};
+use thiserror::Error;
 
 /// Why a file isn't read.
-#[derive(Clone, Copy)]
-pub enum FileFault {
-    /// There is no such file, or the device failed.
-    Device,
+#[derive(Clone, Copy, Debug, Error)]
+pub enum Unread<'a> {
+    /// There is no file with this name, or the device failed.
+    #[error("cannot read {0}")]
+    CannotRead(&'a str),
     /// There was no memory for its bytes.
+    #[error("out of memory")]
     Memory,
+}
+
+impl<'a> Unread<'a> {
+    /// Why the host doesn't read what has this name.
+    pub fn of(error: &io::Error, name: &'a str) -> Self
+        ensures { IsUnread name.entry result }
+    {
+        if error.kind() == io::ErrorKind::OutOfMemory {
+            Unread::Memory
+        } else {
+            Unread::CannotRead(name)
+        }
+    }
+
+    /// Tells it. At an `Err` a beginning was taken, and a put failed. It takes no memory.
+    pub fn tell<E: Sink>(self, err: &mut E) -> Result<(), SinkFault>
+        ensures ok { OnOk result (TakesAll (E.seen err.old) (E.seen err.new) (message_unread self.entry)) }
+        ensures err { OnErr result (BreaksOff (E.seen err.old) (E.seen err.new) (message_unread self.entry)) }
+    {
+        match self {
+            Unread::CannotRead(name) => {
+                put_all(err, b"jobk: cannot read ")?;
+                put_both(err, name.as_bytes(), b"\n")
+            }
+            Unread::Memory => put_all(err, b"jobk: out of memory\n"),
+        }
+    }
 }
 
 /// Reads named files.
@@ -20,9 +54,9 @@ pub trait ReadFiles {
     ghost contents: { Self → List ℕ → Option (List ℕ) };
 
     /// The bytes of a file.
-    fn read_file(&self, name: &str) -> Result<Vec<u8>, FileFault>
-        ensures { IfOk result (λ read.
-            IfSome (contents self.now name.now) (λ known. read.items ≡ known)) };
+    fn read_file<'a>(&self, name: &'a str) -> Result<Vec<u8>, Unread<'a>>
+        ensures ok { IfOk result (λ read. IfSome (contents self.now name.entry.now) (λ known. read.items ≡ known)) }
+        ensures err { IfErr result (IsUnread name.entry) };
 }
 
 /// The files of the host.
@@ -36,13 +70,7 @@ impl<R: Files + AllocGlobal> ReadFiles for HostFiles<'_, R> {
 
     ghost contents = { λ files name. None };
 
-    fn read_file(&self, name: &str) -> Result<Vec<u8>, FileFault> {
-        fs::read(self.rt, name).map_err(|e| {
-            if e.kind() == io::ErrorKind::OutOfMemory {
-                FileFault::Memory
-            } else {
-                FileFault::Device
-            }
-        })
+    fn read_file<'a>(&self, name: &'a str) -> Result<Vec<u8>, Unread<'a>> {
+        fs::read(self.rt, name).map_err(|e| Unread::of(&e, name))
     }
 }

@@ -7,23 +7,23 @@ mod failure;
 pub mod files;
 mod words;
 
-ghost use Rattle.std.specs.Prelude.{◌≡◌, ◌≤◌, Ok, IfOk, IfErr, IfSome, MatchResult, length};
-ghost use Rattle.inputs.specs.declared.files.FileFault.{FileFault};
+ghost use Rattle.std.specs.Prelude.{◌≡◌, ◌≤◌, Ok, IfOk, MatchResult, length, option_map};
 ghost use Rattle.text.specs.WorldTexts.{world_text as world_of_text};
 ghost use Rattle.text.specs.EventTexts.{event_text, most_events};
 ghost use Rattle.inputs.specs.Statuses.{status_of};
-ghost use Rattle.inputs.specs.Reads.{Reads, RefusesEvents, RefusesWorld, fault_of_file, unless_memory};
-ghost use Rattle.inputs.specs.Numbers.{number_of};
+ghost use Rattle.inputs.specs.Reads.{Reads, RefusesEvents, RefusesWorld};
+ghost use Rattle.inputs.specs.Numbers.{number_of, number_up_to as number_up_to_of};
 
 pub use command_line::{WordsFault, as_texts, read_words};
-pub use failure::{FileFailure, put_both, read_file, tell_unread};
-pub use files::{FileFault, HostFiles, ReadFiles};
+pub use failure::{FileFailure, put_both, tell};
+pub use files::{HostFiles, ReadFiles, Unread};
+use sink::Sink;
 use std::alloc::Global;
-use text::{EventList, Reason, TextFault, World, read_events, read_world};
+use text::{EventList, TextFault, World, read_events, read_world};
 use thiserror::Error;
 pub use words::{
     NoRequest, command, command_with_file, command_with_flag, is_used, named_file, named_files,
-    value_of, words_behind,
+    named_world_and_events, value_of, words_behind,
 };
 
 /// A world and its events.
@@ -38,9 +38,9 @@ pub struct Inputs {
 /// Why a world and its events aren't read.
 #[derive(Clone, Copy, Debug, Error)]
 pub enum InputFault<'a> {
-    /// There is no file with this name, or the device failed.
-    #[error("cannot read {0}")]
-    CannotRead(&'a str),
+    /// One of the files isn't read.
+    #[error("{0}")]
+    Unread(Unread<'a>),
     /// The world is refused.
     #[error("world: {0}")]
     World(TextFault),
@@ -52,44 +52,24 @@ pub enum InputFault<'a> {
     Memory,
 }
 
-impl<'a> InputFault<'a> {
-    /// Why a file of this name isn't read.
-    fn of_file(fault: FileFault, name: &'a str) -> Self
-        ensures { result ≡ fault_of_file fault name.entry }
-    {
-        match fault {
-            FileFault::Device => InputFault::CannotRead(name),
-            FileFault::Memory => InputFault::Memory,
-        }
-    }
-
-    /// Why a world isn't read. Want of memory is no fault of its text.
-    fn of_world(fault: TextFault) -> Self
-        ensures { result ≡ unless_memory fault.reason (InputFault.World fault) }
-    {
-        match fault.reason {
-            Reason::Memory => InputFault::Memory,
-            _ => InputFault::World(fault),
-        }
-    }
-
-    /// Why events aren't read.
-    fn of_events(fault: TextFault) -> Self
-        ensures { result ≡ unless_memory fault.reason (InputFault.Events fault) }
-    {
-        match fault.reason {
-            Reason::Memory => InputFault::Memory,
-            _ => InputFault::Events(fault),
-        }
-    }
-
+impl InputFault<'_> {
     /// The status of a program: 1 for a refused text, 3 for a device or memory.
     pub fn status(self) -> u8
         ensures { result ≡ status_of self.entry }
     {
         match self {
             InputFault::World(_) | InputFault::Events(_) => 1,
-            InputFault::CannotRead(_) | InputFault::Memory => 3,
+            InputFault::Unread(_) | InputFault::Memory => 3,
+        }
+    }
+
+    /// Tells it, as far as the error output takes it. It takes no memory.
+    pub fn tell<E: Sink>(self, err: &mut E) {
+        match self {
+            InputFault::Unread(why) => {
+                let _ = why.tell(err);
+            }
+            _ => tell(format_args!("jobk: {self}"), err),
         }
     }
 }
@@ -100,7 +80,7 @@ fn world_of<'a>(alloc: Global, text: &[u8]) -> Result<World, InputFault<'a>>
 {
     match read_world(alloc, text) {
         Ok(world) => Ok(world),
-        Err(fault) => Err(InputFault::of_world(fault)),
+        Err(fault) => Err(fault.unless_memory(InputFault::World(fault), InputFault::Memory)),
     }
 }
 
@@ -111,18 +91,7 @@ fn events_of<'a>(alloc: Global, world: &World, text: &[u8]) -> Result<EventList,
 {
     match read_events(alloc, world.consoles(), text) {
         Ok(events) => Ok(events),
-        Err(fault) => Err(InputFault::of_events(fault)),
-    }
-}
-
-/// The bytes of a file.
-pub fn read_text<'a, F: ReadFiles>(files: &F, name: &'a str) -> Result<Vec<u8>, InputFault<'a>>
-    ensures ok { IfOk result (λ read. IfSome (F.contents files.now name.entry.now) (λ known. read.items ≡ known)) }
-    ensures err { IfErr result (λ why. (fault : FileFault) × (why ≡ fault_of_file fault name.entry)) }
-{
-    match files.read_file(name) {
-        Ok(bytes) => Ok(bytes),
-        Err(fault) => Err(InputFault::of_file(fault, name)),
+        Err(fault) => Err(fault.unless_memory(InputFault::Events(fault), InputFault::Memory)),
     }
 }
 
@@ -138,8 +107,8 @@ pub fn read_inputs<'a, F: ReadFiles>(
     ensures text { IfOk result (λ inputs. world_of_text inputs.world_text.items ≡ Ok inputs.world) }
     ensures within { IfOk result (λ inputs. length inputs.events ≤ most_events) }
 {
-    let world_text = read_text(files, world)?;
-    let event_text = read_text(files, events)?;
+    let world_text = files.read_file(world).map_err(InputFault::Unread)?;
+    let event_text = files.read_file(events).map_err(InputFault::Unread)?;
     let world = world_of(alloc, world_text.as_slice())?;
     let events = events_of(alloc, &world, event_text.as_slice())?;
     Ok(Inputs {
@@ -157,4 +126,28 @@ pub fn number(word: &str) -> Option<u64>
         return None;
     }
     word.parse::<u64>().ok()
+}
+
+/// Why a word isn't a number of at most so much.
+#[derive(Clone, Copy)]
+pub enum NumberFault {
+    /// It is no number below 2^64 in digits.
+    NoNumber,
+    /// It is this number, which is more.
+    Above(u64),
+}
+
+/// The number of at most `most` that a word stands for; `unnamed`, where there is no word.
+pub fn number_up_to(word: Option<&str>, unnamed: u64, most: u64) -> Result<u64, NumberFault>
+    ensures is { result ≡ number_up_to_of unnamed most (option_map (λ w. w.now) word.entry) }
+    ensures within { unnamed ≤ most → IfOk result (λ n. n ≤ most) }
+{
+    let Some(word) = word else {
+        return Ok(unnamed);
+    };
+    match number(word) {
+        Some(number) if number <= most => Ok(number),
+        Some(number) => Err(NumberFault::Above(number)),
+        None => Err(NumberFault::NoNumber),
+    }
 }

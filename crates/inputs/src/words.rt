@@ -2,9 +2,8 @@
 
 ghost use Rattle.std.specs.Prelude.{◌≡◌, ◌≢◌, IfOk, MatchResult, None, Some, false, map, option_map};
 ghost use Rattle.clap.specs.Words.{app_of, first_of, found_of, kind_of, rows_of, rule_of};
-ghost use Rattle.inputs.specs.Words.{command_of, command_with_file, command_with_flag, file_in_words, file_rule, files_in, is_used as is_used_in, option_rule};
+ghost use Rattle.inputs.specs.Words.{command_of, command_with_file, command_with_flag, file_in_words, file_rule, files_in, files_in_words, is_used as is_used_in, option_rule};
 
-use crate::WordsFault;
 use clap::error::ErrorKind;
 use clap::{Arg, ArgAction, ArgMatches, Command, Error};
 use std::alloc::{AllocError, Global};
@@ -25,15 +24,6 @@ impl From<AllocError> for NoRequest {
 
     fn from(_: AllocError) -> NoRequest {
         NoRequest::Memory
-    }
-}
-
-impl From<WordsFault> for NoRequest {
-    fn from(fault: WordsFault) -> NoRequest {
-        match fault {
-            WordsFault::NotText => NoRequest::Usage,
-            WordsFault::Memory => NoRequest::Memory,
-        }
     }
 }
 
@@ -111,6 +101,21 @@ pub fn named_files<'a>(matches: &ArgMatches<'a>) -> Result<(&'a str, &'a str), N
         (Some(world), Some(events)) => Ok((world, events)),
         _ => Err(NoRequest::Usage),
     }
+}
+
+/// The names of the world and of the events that the words ask for, on a command line without options; the program's
+/// name isn't one of the words.
+pub fn named_world_and_events<'a>(
+    alloc: Global,
+    program: &'a str,
+    words: &'a [&'a str],
+) -> Result<(&'a str, &'a str), NoRequest>
+    ensures { MatchResult result
+        (λ names. files_in_words program.entry.now (map (λ w. w.now) words.entry.now) ≡ Some (names.0.now, names.1.now))
+        (λ why. why ≡ NoRequest.Usage → files_in_words program.entry.now (map (λ w. w.now) words.entry.now) ≡ None) }
+{
+    let matches = command(alloc, program, &[])?.try_get_matches_from(words)?;
+    named_files(&matches)
 }
 
 /// The command line of a program that is given one file.

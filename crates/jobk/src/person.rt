@@ -1,8 +1,8 @@
 //! The person at the terminal, if there is one.
 
 use exploring::Progress;
-use showing::{Ask, AskFault};
-use std::io;
+use inputs::Unread;
+use showing::Ask;
 use std::io::{Input, IsTerminal};
 use std::rt::Clock;
 use std::time::{Duration, Instant};
@@ -80,11 +80,10 @@ impl Ask for Person<'_> {
         self.rt.stdin().is_terminal()
     }
 
-    fn ask(&mut self, line: &mut String) -> Result<bool, AskFault> {
+    fn ask(&mut self, line: &mut String) -> Result<bool, Unread<'static>> {
         match self.rt.stdin().read_line(line) {
             Ok(count) => Ok(count != 0),
-            Err(e) if e.kind() == io::ErrorKind::OutOfMemory => Err(AskFault::Memory),
-            Err(_) => Err(AskFault::Device),
+            Err(e) => Err(Unread::of(&e, "the terminal")),
         }
     }
 }

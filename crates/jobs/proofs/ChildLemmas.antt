@@ -1,18 +1,17 @@
 -- The children of processes, by their index, and their adoption.
-use Rattle.std.proofs.Common.{Bool, true, false, cond, ◌≡◌, ◌≢◌, ℕ, ◌≤◌, ◌==◌, ◌&&◌, nat_lt, refl, ap, sym, ◌∙◌, arith, subst, List, [], ◌∷◌, map, filter, Option, Some, None, ◌⊎◌, ⊎_elim, inl, inr}
+use Rattle.std.proofs.Common.{Bool, true, false, cond, ◌≡◌, ◌≢◌, ℕ, ◌≤◌, ◌==◌, ◌&&◌, refl, ap, sym, ◌∙◌, arith, subst, List, [], ◌∷◌, filter, Option, Some, None, ◌⊎◌, ⊎_elim, inl, inr}
 use Rattle.std.specs.Prelude.{is_some, not, option_and_then, option_map}
 use Rattle.std.specs.Option.{IfSome, IsSome, option_map_or, unwrap_or}
-use Rattle.std.proofs.lemmas.Bool.{cases_eq, cond_both, eq-eqb, eqb-true, eqb-false, and_parts}
+use Rattle.std.proofs.lemmas.Bool.{cond_both, eq-eqb, eqb-true, eqb-false}
 use Rattle.std.proofs.lemmas.Bool.Decides.{nat_tests}
 use Rattle.std.proofs.lemmas.List.Elements.{filter_agree}
 use Rattle.std.proofs.Math.Bool.{and-false}
 use Rattle.posix.specs.Processes.{Process, is_zombie}
-use Rattle.posix.specs.Tables.{IsRising, lookup, at, changed, parent_of, above, first_pid, is_child, children_in, left_of, next_sibling, reparented, adopted, inserted, removed}
+use Rattle.posix.specs.Tables.{IsRising, lookup, at, changed, parent_of, above, first_pid, is_child, children_in, left_of, next_sibling, reparented, adopted, removed}
 use Rattle.posix.specs.Waits.{wanted_in}
-use Rattle.posix.proofs.TableLemmas.{changed_id, pid_looked, pid_reparented, remove_above, rising_adopted, rising_filter}
-use Rattle.posix.proofs.MapLemmas.{adopted_changed, lookup_back, lookup_on, at_pid, at_keeps}
-use Rattle.posix.proofs.RegularLemmas.{lookup_inserted, lookup_new, lookup_left}
-use Rattle.posix.proofs.WalkLemmas.{AtChild, Passes, at_first, both_pass, first_passes, in_filter, passing_above}
+use Rattle.posix.proofs.TableLemmas.{changed_id, pid_reparented, remove_above, rising_adopted, rising_filter}
+use Rattle.posix.proofs.MapLemmas.{adopted_changed, lookup_on, at_pid, at_keeps}
+use Rattle.posix.proofs.WalkLemmas.{AtChild, at_first, in_filter, passing_above}
 use Rattle.pidset.specs.declared.index.Pair.{Pair}
 use Rattle.pidset.specs.Rows.{HasRoom}
 use Rattle.pidset.specs.Indexes.{ArePairsRekeyed, IsAt, IsIndex, IsNextPair, is_key}
@@ -22,9 +21,9 @@ use Rattle.proctable.specs.declared.snapshot.Snapshot.{Snapshot}
 use Rattle.proctable.specs.Records.{give_record, snapshot_of, with_parent, with_record}
 use Rattle.jobs.specs.declared.indexes.IndexedFields.{IndexedFields}
 use Rattle.jobs.specs.Indexes.{anchor_in, child_key, is_outside, list_of_parent, parent_key, seen_of, snapshot_seen}
-use Rattle.jobs.specs.IndexedTables.{AreKin, AreWithin, HaveOneRoot, IsParentIn}
+use Rattle.jobs.specs.IndexedTables.{AreKin, AreWithin, IsParentIn}
 use Rattle.jobs.proofs.AnchorLemmas.{anchor_inside}
-use Rattle.jobs.proofs.NumberLemmas.{least_number, nobody_there}
+use Rattle.jobs.proofs.NumberLemmas.{least_number}
 use Rattle.jobs.proofs.SnapshotLemmas.{there}
 
 -- ---- reading
@@ -86,14 +85,6 @@ sibling_is p c rs i = let parent : parent_of c rs ≡ p = rw i.found i.parent in
 pub by_parent : (p : ℕ) (rs : List Process) (pairs : List Pair) (list : Option ℕ) (me : Process) → IsIndex parent_key rs pairs → IsAt p list pairs → lookup p rs ≡ Some me → list ≡ list_of_parent me.parent
 by_parent p rs pairs list me index stands found = at_once p list (list_of_parent me.parent) pairs stands (λ k. index p k ∙ ap (λ o. is_key k (option_and_then parent_key o)) found)
 
--- so it has the parent in whose list it stands
-pub in_list : (parent n : ℕ) → Some parent ≡ list_of_parent n → (parent ≢ 0) × (n ≡ parent)
-in_list parent n e = grind (arith, nat_tests, e)
-
--- or none
-pub in_none : (n : ℕ) → None ≡ list_of_parent n → n ≡ 0
-in_none n e = grind (arith, nat_tests, e)
-
 -- there is memory for the list of a parent
 pub list_inside : (sizes : List ℕ) (parent : ℕ) → (parent ≡ 0) ⊎ ((1 ≤ parent) × HasRoom sizes parent) → IfSome (list_of_parent parent) (λ k. (1 ≤ k) × HasRoom sizes k)
 list_inside sizes parent h = cond_both (parent == 0) None (Some parent) (λ o. IfSome o (λ k. (1 ≤ k) × HasRoom sizes k)) (λ e. tt) (λ e. ⊎_elim (λ none. absurd (eqb-false parent 0 e none)) (λ there. there) h)
@@ -119,22 +110,6 @@ no_anchor parent w rs h = ap (λ b. cond (not (is_zombie w.life) && b) (Some w.g
     inside : IsParentIn parent w.group rs → option_map_or (is_outside w) (option_map seen_of (lookup parent rs)) false ≡ false
     inside h = ⊎_elim (λ first. ap (λ l. option_map_or (is_outside w) (option_map seen_of (lookup parent l)) false) first.1)
         (λ above. ap (λ o. option_map_or (is_outside w) (option_map seen_of o) false) above.1 ∙ ap (λ b. (above.0.session == w.session) && not b) (eq-eqb above.0.group w.group above.2) ∙ and-false (above.0.session == w.session)) h
-
--- who has no parent has no sibling
-pub no_sibling : (p : ℕ) (rs : List Process) (me : Process) → IsRising rs → HaveOneRoot rs → lookup p rs ≡ Some me → me.parent ≡ 0 → next_sibling p rs ≡ None
-unfolding next_sibling children_in
-no_sibling p rs me up root found none =
-    let parent : parent_of p rs ≡ 0 = rw found none in
-    rw parent (ap first_pid (both_pass (is_child 0) (λ r. nat_lt p r.pid) rs) ∙ by (first_pid (filter (λ r. is_child 0 r && nat_lt p r.pid) rs)) (first_passes _ rs up))
-  where
-    by : (o : Option ℕ) → IfSome o (Passes (λ r. is_child 0 r && nat_lt p r.pid) rs) → o ≡ None
-    by None t = refl
-    by (Some q) t =
-        let both = and_parts (t.0.parent == 0) (nat_lt p t.0.pid) t.2 in
-        let same = root p q me t.0 found t.1 none (eqb-true _ _ both.0) in
-        let named = pid_looked q rs t.0 t.1 in
-        let above = both.1 in
-        absurd (grind (arith, nat_tests, same, named, above))
 
 -- ---- adoption
 
@@ -193,40 +168,3 @@ kin_adopted from to ne some heir rs old new h is = index_map parent_key (λ r. r
 pub kin_record : (rs : List Process) (p : ℕ) (b : Record) (pairs : List Pair) → IsIndex parent_key rs pairs → IsIndex parent_key (with_record rs p b) pairs
 unfolding changed give_record
 kin_record rs p b pairs h = index_map parent_key parent_key (at p (give_record b)) (at_pid p (give_record b) (λ r. refl)) (at_keeps parent_key p (give_record b) (λ r. refl)) rs pairs h
-
-pub root_map : (g : Process → Process) → ((r : Process) → (g r).pid ≡ r.pid) → ((r : Process) → (g r).parent ≡ 0 → r.parent ≡ 0) → (rs : List Process) → HaveOneRoot rs → HaveOneRoot (map g rs)
-root_map g named keeps rs h p q r s e f none also =
-    let a = lookup_back g named p rs r e in
-    let b = lookup_back g named q rs s f in
-    h p q a.what b.what a.found b.found (keeps a.what (ap (λ (x : Process). x.parent) (sym a.is) ∙ none)) (keeps b.what (ap (λ (x : Process). x.parent) (sym b.is) ∙ also))
-
-pub root_record : (rs : List Process) (p : ℕ) (b : Record) → HaveOneRoot rs → HaveOneRoot (with_record rs p b)
-unfolding changed give_record
-root_record rs p b h = root_map (at p (give_record b)) (at_pid p (give_record b) (λ r. refl)) (λ r none. sym (at_keeps (λ r. r.parent) p (give_record b) (λ r. refl) r) ∙ none) rs h
-
-pub root_adopted : (from to : ℕ) → to ≢ 0 → (rs : List Process) → HaveOneRoot rs → HaveOneRoot (adopted from to rs)
-unfolding adopted
-root_adopted from to heir rs h = root_map (reparented from to) (pid_reparented from to) (λ r none. grind (arith, heir, none)) rs h
-
-pub root_removed : (c : ℕ) (rs : List Process) → HaveOneRoot rs → HaveOneRoot (removed c rs)
-root_removed c rs h p q r s e f none also = h p q r s (lookup_left c p rs r e) (lookup_left c q rs s f) none also
-
--- one goes in that has a parent, or is the first
-pub root_inserted : (new : Process) (rs : List Process) → lookup new.pid rs ≡ None → ((new.parent ≡ 0) × (rs ≡ [])) ⊎ (new.parent ≢ 0) → HaveOneRoot rs → HaveOneRoot (inserted new rs)
-root_inserted new rs fresh first h p q r s e f none also = elim (cases_eq p new.pid) [
-  | inl here ↦ elim (cases_eq q new.pid) [
-    | inl there ↦ there ∙ sym here
-    | inr other ↦ absurd (alone p q r s e f none here other)
-  ]
-  | inr ne ↦ elim (cases_eq q new.pid) [
-    | inl there ↦ absurd (alone q p s r f e also there ne)
-    | inr other ↦ h p q r s (sym (lookup_inserted new p rs ne) ∙ e) (sym (lookup_inserted new q rs other) ∙ f) none also
-  ]
-]
-  where
-    -- beside the new one, where it has no parent, nobody is there
-    alone : (p q : ℕ) (r s : Process) → lookup p (inserted new rs) ≡ Some r → lookup q (inserted new rs) ≡ Some s → r.parent ≡ 0 → p ≡ new.pid → q ≢ new.pid → ⊥
-    alone p q r s e f none here other = elim first [
-      | inl k ↦ let no = ap (λ l. lookup q l) (sym k.1) ∙ sym (lookup_inserted new q rs other) ∙ f in let nobody = nobody_there q in let bad : None ≡ Some s = sym nobody ∙ no in absurd (cc)
-      | inr some ↦ let one : r ≡ new = let both = sym (lookup_new new rs fresh) ∙ ap (λ n. lookup n (inserted new rs)) (sym here) ∙ e in cc in some (ap (λ (x : Process). x.parent) (sym one) ∙ none)
-    ]

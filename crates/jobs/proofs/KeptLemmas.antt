@@ -23,12 +23,12 @@ use Rattle.proctable.proofs.RecordLemmas.{record_rises}
 use Rattle.jobs.specs.declared.indexes.Indexes.{Indexes}
 use Rattle.jobs.specs.declared.indexes.IndexedFields.{IndexedFields}
 use Rattle.jobs.specs.Indexes.{sizes_in, AreIndexes, IsNumber, AreMoved, CanMove, list_of_parent, parent_key, snapshot_seen, IsInside, anchor_in, child_key, member_in, member_key, record_seen, seen_of}
-use Rattle.jobs.specs.IndexedTables.{AreKin, AreNumbers, AreWithin, HasParent, HaveOneRoot, IsGroupFor, IsKept, IsRun, StaysGrouped}
+use Rattle.jobs.specs.IndexedTables.{AreKin, AreNumbers, AreWithin, HasParent, IsGroupFor, IsKept, IsRun, StaysGrouped}
 use Rattle.proctable.specs.declared.snapshot.Snapshot.{Snapshot}
 use Rattle.jobs.proofs.SnapshotLemmas.{is_there, some_read, none_read, snapshot_are}
 use Rattle.jobs.proofs.IndexLemmas.{Fits, Sees, can_move, sees, sees_none, fits, indexes_moved, indexes_unmoved}
 use Rattle.pidset.proofs.AnchorLemmas.{anchors_inserted, anchors_removed, anchors_adopted}
-use Rattle.jobs.proofs.ChildLemmas.{kin_adopted, kin_record, root_adopted, root_inserted, root_record, root_removed}
+use Rattle.jobs.proofs.ChildLemmas.{kin_adopted, kin_record}
 use Rattle.jobs.proofs.AnchorLemmas.{seen_at, seen_found, key_at, child_is, stance_in, anchors_same, number_within}
 use Rattle.pidset.proofs.ParentLemmas.{no_child, parents_map, parents_inserted, parents_removed, parents_adopted}
 use Rattle.jobs.proofs.NumberLemmas.{absent_changed, least_number, no_more, above_none}
@@ -61,15 +61,15 @@ within_at sizes p it rs ts same inside s h q r e = elim (cases_eq q p) [
 
 -- where p moves in the indexes, and all others stay, all is kept
 kept_at : (n m p parent : ℕ) (it : Option IndexedFields) (rs ts : List Process) (old now : Indexes) (set kin : ListsView) → IsElsewhere p rs ts → ((p ≡ 0) ⊎ (greatest_pid < p) → lookup p ts ≡ None) → IsInside p it old → IsRising ts → m ≡ length ts → Fits m old → Sees p parent it ts → AreMoved p parent it old now
-    → IsAnchorIndex ts set.pairs → set.sizes ≡ old.anchors.sizes → HaveParents HasParent ts → IsIndex parent_key ts kin.pairs → kin.sizes ≡ old.children.sizes → HaveOneRoot ts → IsKept n old rs → IsKept m (record now { anchors = set; children = kin }) ts
-kept_at n m p parent it rs ts old now set kin same named inside up count free s moved index set_sizes parents children kin_sizes root k = record {
+    → IsAnchorIndex ts set.pairs → set.sizes ≡ old.anchors.sizes → HaveParents HasParent ts → IsIndex parent_key ts kin.pairs → kin.sizes ≡ old.children.sizes → IsKept n old rs → IsKept m (record now { anchors = set; children = kin }) ts
+kept_at n m p parent it rs ts old now set kin same named inside up count free s moved index set_sizes parents children kin_sizes k = record {
   rising = up;
   numbers = λ q out. elim (cases_eq q p) [ inl here ↦ rw here (named (rw here at out)) | inr ne ↦ same q ne ∙ k.numbers q out ];
   within = rw (moved.sizes, set_sizes, kin_sizes) (within_at (sizes_in old) p it rs ts same inside s.members k.within);
   count = count;
   indexes = indexes_moved p parent it rs ts old now set kin same (rw (← count) free) k.indexes s moved;
   anchors = record { index = index; parents = parents };
-  children = record { index = children; root = root };
+  children = children;
 }
 
 -- who is there has a number, and there is memory for it
@@ -86,7 +86,7 @@ some_number k there none = let least = (number_kept k there).0 in omega (arith, 
 
 -- its children stand under it
 pub kin_kept : {n : ℕ} {rs : List Process} {indexes : Indexes} → IsKept n indexes rs → AreKin rs indexes.children.pairs
-kin_kept k = record { rising = k.rising; none = k.numbers 0 (inl refl); index = k.children.index }
+kin_kept k = record { rising = k.rising; none = k.numbers 0 (inl refl); index = k.children }
 
 -- ---- another record
 
@@ -146,7 +146,7 @@ kept_moved n rs new p b c old now set found is moved inside index sizes same k =
     rw is (kept_at n n p (parent_of p rs) (Some (record_seen c)) rs (with_record rs p c) old now set now.children (elsewhere_record rs p c) (λ out. let no = sym (k.numbers p out) ∙ found in absurd (cc)) inside (record_rises rs k.rising p c)
     (k.count ∙ sym (length_record rs p c)) (fits rs n old k.indexes (rw k.count (omega arith))) (sees p (process_of p (parent_of p rs) c) (with_record rs p c) (record_found rs p b c found)) moved index sizes
     (parents_map HasParent (at p (give_record c)) (at_pid p (give_record c) (λ r. refl)) (at_keeps (λ r. r.parent) p (give_record c) (λ r. refl)) (λ q r some none. some (at_keeps (λ r. r.parent) p (give_record c) (λ r. refl) r ∙ none)) rs k.anchors.parents)
-    (rw same (kin_record rs p c old.children.pairs k.children.index)) (ap (λ (l : ListsView). l.sizes) same) (root_record rs p c k.children.root) k)
+    (rw same (kin_record rs p c old.children.pairs k.children)) (ap (λ (l : ListsView). l.sizes) same) k)
 
 -- the indexes see at most an alarm of a change of signals
 pub seen_same : (b c : Record) → c ≡ record b { alarm = c.alarm; own = record (b.own) { signals = c.own.signals } } → record (record_seen c) { alarm = b.alarm } ≡ record_seen b
@@ -183,8 +183,7 @@ kept_inserted n rs new r old now set kin named inside fresh parent is free moved
     absurd (cc) in
     rw is (kept_at n (n + 1) r.pid r.parent (Some (seen_of r)) rs (inserted r rs) old now set kin (elsewhere_inserted r rs) (⊎_elim (λ none. absurd (omega (arith, none, least))) (λ above. absurd (omega (arith, above, most)))) inside (rising_inserted r rs k.rising fresh) (rw (length_inserted r rs, k.count) refl) free (sees r.pid r (inserted r rs) here) moved
     (anchors_inserted r rs old.anchors.pairs set.pairs apart (rw (key_at r.pid (inserted r rs) (seen_of r) (ap (option_map seen_of) here), here, up) anchor) k.anchors.index) sizes (parents_inserted HasParent r rs fresh (λ some. ⊎_elim (λ first. absurd (some first.0)) (λ there. there) parent) k.anchors.parents)
-    (index_moved parent_key r.pid rs (inserted r rs) old.children.pairs kin.pairs (elsewhere_inserted r rs) k.children.index (rw here child)) wide
-    (root_inserted r rs fresh (⊎_elim (λ first. inl first) (λ there. inr (λ none. let no : false ≡ true = sym (ap is_some (ap (λ m. lookup m rs) none ∙ k.numbers 0 (inl refl))) ∙ there in absurd (cc))) parent) k.children.root) k)
+    (index_moved parent_key r.pid rs (inserted r rs) old.children.pairs kin.pairs (elsewhere_inserted r rs) k.children (rw here child)) wide k)
 
 -- where p was read as nobody nothing goes, and else one process less is there
 pub ruleset leave_rules = (none_read, remove_none, length_removed)
@@ -203,7 +202,7 @@ kept_removed n rs new p f old now set kin read none is moved anchor sizes child 
     let count = goes.2 in
     rw is (kept_at n (n - 1) p f.parent None rs (removed p rs) old now set kin (elsewhere_removed p rs) (λ out. lookup_removed p rs) (goes.1.1, tt) (rising_removed p rs k.rising) (omega (arith, count)) (fits rs (n - 1) old k.indexes (omega (arith, k.count))) (sees_none p f.parent (removed p rs) (lookup_removed p rs)) moved
     (anchors_removed p rs old.anchors.pairs set.pairs (no_child p rs none) anchor k.anchors.index) sizes (parents_removed HasParent p rs (no_child p rs none) k.anchors.parents)
-    (index_moved parent_key p rs (removed p rs) old.children.pairs kin.pairs (elsewhere_removed p rs) k.children.index (rw (key_removed parent_key p rs) child)) wide (root_removed p rs k.children.root) k)
+    (index_moved parent_key p rs (removed p rs) old.children.pairs kin.pairs (elsewhere_removed p rs) k.children (rw (key_removed parent_key p rs) child)) wide k)
 
 pub kept_adopted : (n : ℕ) (rs new : List Process) (from to : ℕ) (old now : Indexes) → from ≢ to → new ≡ adopted from to rs → (AreIndexes rs old → AreIndexes (adopted from to rs) now) → now.members ≡ old.members
     → (heir : IndexedFields) → seen_at to rs ≡ Some heir → AreTurned from (child_key heir) rs old.anchors.pairs now.anchors.pairs → now.anchors.sizes ≡ old.anchors.sizes
@@ -221,8 +220,5 @@ kept_adopted n rs new from to old now ne is indexes members heir there turned se
     index = anchors_adopted from to (child_key heir) rs old.anchors.pairs now.anchors.pairs turned (λ r. child_is to rs heir there (record r { parent = to }) refl) k.anchors.index;
     parents = parents_adopted HasParent from to rs (rw (seen_found to rs heir there).1 refl) k.anchors.parents;
   };
-  children = record {
-    index = kin_adopted from to ne (some_number k giver) (some_number k (is_there _ _ (seen_found to rs heir there).1)) rs old.children.pairs now.children.pairs k.children.index rekeyed;
-    root = root_adopted from to (some_number k (is_there _ _ (seen_found to rs heir there).1)) rs k.children.root;
-  };
+  children = kin_adopted from to ne (some_number k giver) (some_number k (is_there _ _ (seen_found to rs heir there).1)) rs old.children.pairs now.children.pairs k.children rekeyed;
 })

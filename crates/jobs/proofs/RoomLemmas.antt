@@ -1,8 +1,8 @@
 -- For which numbers the lists of a table have memory, and what goes with a page.
-use Rattle.std.proofs.Common.{◌≡◌, ℕ, ◌<◌, ◌/◌, refl, ap, sym, ◌∙◌, arith, true, List, [], ◌∷◌, Option, Some, None, slice_index_or, slice_set, ◌≤◌, ◌%◌, ◌==◌, zero, suc, inl, inr}
+use Rattle.std.proofs.Common.{◌≡◌, ℕ, ◌<◌, ◌/◌, refl, ap, sym, ◌∙◌, arith, true, List, [], ◌∷◌, Option, Some, None, slice_index_or, slice_set, ◌≤◌, ◌%◌, ◌==◌, zero, suc}
 use Rattle.std.specs.Prelude.{option_and_then}
 use Rattle.std.specs.Option.{IfSome}
-use Rattle.std.proofs.lemmas.Bool.{cases_eq, cond_both, eqb-false, eqb-true}
+use Rattle.std.proofs.lemmas.Bool.{cond_both, eqb-false, eqb-true}
 use Rattle.std.proofs.lemmas.Bool.Decides.{nat_tests}
 use Rattle.posix.specs.Processes.{Process}
 use Rattle.posix.specs.Groups.{is_anchor}
@@ -86,7 +86,7 @@ anchors_apart n rs b apart k = stays_apart (anchor_key rs) n rs b.anchors.pairs 
 pub children_apart : {m : ℕ} (n : ℕ) (rs : List Process) (b : Indexes) → AreOnOtherPages n rs → IsKept m b rs → IsPageUnused n b.children.pairs
 children_apart n rs b apart k = stays_apart parent_key n rs b.children.pairs apart (λ p r f. cond_both (r.parent == 0) None (Some r.parent) (λ o. IfSome o (λ k. IsOnAnotherPage k n)) (λ _. tt) (λ some.
     let up = there _ (k.anchors.parents p r (eqb-false r.parent 0 some) f) in
-    rw (pid_looked r.parent rs up.what up.found) at (apart r.parent up.what up.found).0)) k.children.index
+    rw (pid_looked r.parent rs up.what up.found) at (apart r.parent up.what up.found).0)) k.children
 
 -- ---- the room that is left
 
@@ -114,5 +114,5 @@ kept_left m n rs b apart k = record {
   count = k.count;
   indexes = record { members = k.indexes.members; reporting = k.indexes.reporting; stopped = k.indexes.stopped; alarmed = k.indexes.alarmed; subreapers = k.indexes.subreapers };
   anchors = record { index = k.anchors.index; parents = k.anchors.parents };
-  children = record { index = k.children.index; root = k.children.root };
+  children = k.children;
 }

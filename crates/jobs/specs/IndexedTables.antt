@@ -55,15 +55,6 @@ pub record AreKin (rs : List Process) (pairs : List Pair) : Type 0 where
   pub none : lookup 0 rs ≡ None
   pub index : IsIndex parent_key rs pairs
 
--- at most one has no parent
-abbrev pub HaveOneRoot : List Process → Type 0
-HaveOneRoot rs = (p q : ℕ) (r s : Process) → lookup p rs ≡ Some r → lookup q rs ≡ Some s → r.parent ≡ 0 → s.parent ≡ 0 → q ≡ p
-
--- the children are in their index
-pub record AreChildren (rs : List Process) (b : Indexes) : Type 0 where
-  pub index : IsIndex parent_key rs b.children.pairs
-  pub root : HaveOneRoot rs
-
 -- their numbers rise, it is known how many there are, and their indexes are right
 pub record IsKept (n : ℕ) (b : Indexes) (rs : List Process) : Type 0 where
   pub rising : IsRising rs
@@ -72,13 +63,14 @@ pub record IsKept (n : ℕ) (b : Indexes) (rs : List Process) : Type 0 where
   pub count : n ≡ length rs
   pub indexes : AreIndexes rs b
   pub anchors : AreAnchors rs b
-  pub children : AreChildren rs b
+  pub children : IsIndex parent_key rs b.children.pairs
 
--- A look leaves the processes and the room as they are, and reads at most n slots, so no fewer were read after it. From each look it is known
--- that the numbers rise, and which there are.
+-- A look leaves the processes and the room as they are, also that for each number, and reads at most n slots, so no fewer
+-- were read after it. From each look it is known that the numbers rise, and which there are.
 pub record Looks (n : ℕ) (old new : JobsView) : Type 0 where
   pub processes : new.processes ≡ old.processes
   pub room : new.room ≡ old.room
+  pub sizes : new.sizes ≡ old.sizes
   pub visits : new.visits ≤ old.visits + n
   pub no_fewer : old.visits ≤ new.visits
   pub rising : IsRising old.processes
@@ -92,6 +84,7 @@ pub record Finds (n : ℕ) (old new : JobsView) (what : Type 0) : Type 0 where
 -- a change that takes no room, and reads at most n slots
 pub record Costs (n : ℕ) (old new : JobsView) : Type 0 where
   pub room : new.room ≡ old.room
+  pub sizes : new.sizes ≡ old.sizes
   pub visits : new.visits ≤ old.visits + n
   pub no_fewer : old.visits ≤ new.visits
 

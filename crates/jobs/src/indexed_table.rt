@@ -5,7 +5,7 @@ ghost use mathlib.Core.Option.{none};
 ghost use Rattle.std.specs.Borrow.{sem, Lends, follows_so};
 ghost use Rattle.std.specs.List.{list_any};
 ghost use Rattle.posix.specs.Processes.{Process, is_stopped as is_stopped_by};
-ghost use Rattle.posix.specs.Tables.{lookup, inserted, removed, children_in, first_pid, next_above, next_sibling as next_sibling_of, adopted, above, parent_of};
+ghost use Rattle.posix.specs.Tables.{lookup, inserted, removed, children_in, first_pid, next_above, adopted, above, parent_of};
 ghost use Rattle.posix.specs.Alarms.{is_due};
 ghost use Rattle.posix.specs.Choice.{chosen};
 ghost use Rattle.posix.specs.Births.{child_of};
@@ -131,6 +131,7 @@ impl<K: ProcessTable> IndexedTable<K> {
         requires parent { IsParentIn parent fields.group self.old.processes }
         ensures processes { self.new.processes ≡ inserted (process_of pid parent fields) self.old.processes }
         ensures room { self.old.room ≤ self.new.room + 1 }
+        ensures sizes { self.new.sizes ≡ self.old.sizes }
         ensures visits { self.new.visits ≤ self.old.visits + 1 }
         ensures no_fewer { self.old.visits ≤ self.new.visits }
     {
@@ -163,6 +164,7 @@ impl<K: ProcessTable> IndexedTable<K> {
         ensures value { result ≡ option_map snapshot_of (lookup pid self.old.processes) }
         ensures processes { self.new.processes ≡ removed pid self.old.processes }
         ensures room { self.old.room ≤ self.new.room }
+        ensures sizes { self.new.sizes ≡ self.old.sizes }
         ensures visits { self.new.visits ≤ self.old.visits + 2 }
         ensures no_fewer { self.old.visits ≤ self.new.visits }
     {
@@ -187,25 +189,20 @@ impl<K: ProcessTable> IndexedTable<K> {
         self.indexes.children.next(pid, Pid::NONE).is_none()
     }
 
-    /// The child with the least number of a process that is there, zombies included; none where it has no
-    /// child.
-    pub fn first_child(&mut self, pid: Pid) -> Option<Pid>
-        requires { IsSome (lookup pid self.old.processes) }
-        ensures { Finds 1 self.old self.new (result ≡ first_pid (children_in pid self.old.processes)) }
+    /// The child of a process that is there with the least number above `after`, zombies included. No slot is read.
+    pub fn next_child(&self, parent: Pid, after: Pid) -> Option<Pid>
+        requires { IsSome (lookup parent self.now.processes) }
+        ensures { result ≡ first_pid (above after (children_in parent self.now.processes)) }
     {
-        next_child(&self.indexes.children, pid, Pid::NONE)
+        next_child(&self.indexes.children, parent, after)
     }
 
-    /// Of the children of the same parent, the one with the least number above that of a process that is
-    /// there; none where there is no such child.
-    pub fn next_sibling(&mut self, pid: Pid) -> Option<Pid>
-        requires { IsSome (lookup pid self.old.processes) }
-        ensures { Finds 1 self.old self.new (result ≡ next_sibling_of pid self.old.processes) }
+    /// The parent of a process that is there; number 0 for none. No slot is read.
+    pub fn parent(&self, pid: Pid) -> Pid
+        requires { IsSome (lookup pid self.now.processes) }
+        ensures { result ≡ parent_of pid self.now.processes }
     {
-        let Some(parent) = self.indexes.children.list(pid) else {
-            return None;
-        };
-        next_child(&self.indexes.children, parent, pid)
+        self.indexes.children.list(pid).unwrap_or(Pid::NONE)
     }
 
     /// The process with the least number above `pid`, which need not be there; none where there is none.
@@ -291,7 +288,6 @@ impl<K: ProcessTable> IndexedTable<K> {
         ensures child { IfOk result (λ b. (me : Process) → lookup pid self.old.processes ≡ Some me → (n : ℕ) → process_of n pid b ≡ child_of birth me n) }
         ensures groups { IfOk result (λ b. (me : Process) → lookup pid self.old.processes ≡ Some me → (b.group ≡ me.group) × (b.session ≡ me.session)) }
         ensures within { IfOk result (λ b. (1 ≤ b.group) × HasRoom self.new.sizes b.group) }
-        ensures sizes { self.new.sizes ≡ self.old.sizes }
         ensures looks { Looks 1 self.old self.new }
     {
         let spare = self.table.spare();

@@ -96,8 +96,10 @@ impl<K: ProcessTable> IndexedTable<K> {
     }
 
     /// Which process group the process that a caller of this session names would move to, or none where nobody has
-    /// that number; 0 as the group stands for the number of the process itself. At an error the caller may not move
-    /// it, or it or the group isn't there (XSH setpgid).
+    /// that number; 0 as the group stands for the number of the process itself. EINVAL where the group is negative; ESRCH
+    /// where the process isn't there, or is neither the caller nor its child; EPERM where the child is in another session,
+    /// the process leads its session, or the group is neither its own nor one of that session; EACCES where the child has
+    /// run exec (XSH setpgid).
     pub fn group_to_join(
         &mut self,
         me: Pid,

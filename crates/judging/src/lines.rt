@@ -1,55 +1,34 @@
 //! Lines of a text, and their words.
 
-ghost use Rattle.std.specs.Prelude.{◌≡◌, option_map};
-ghost use Rattle.judging.specs.Lines.{behind_lines as behind_lines_of, line_of};
+ghost use Rattle.std.specs.Prelude.{◌≡◌, ◌==◌, [], bytes_eq, length, nat_lt, option_map, unwrap_or};
+ghost use Rattle.std.specs.List.{list_any, slice_get};
+ghost use Rattle.judging.specs.Lines.{line_of};
+ghost use Rattle.text.specs.Lines.{all_lines};
+ghost use Rattle.text.specs.Words.{line_words, words};
 
-use text::{next_line, next_word, split_comment};
-
-/// What follows so many lines of a text.
-fn behind_lines(text: &[u8], count: u64) -> &[u8]
-    ensures { result.now ≡ behind_lines_of count text.now }
-{
-    let mut rest = text;
-    let mut left = count;
-    while left > 0 {
-        let Some((_, more)) = next_line(rest) else {
-            return rest;
-        };
-        rest = more;
-        left -= 1;
-    }
-    rest
-}
+use text::{Lines, Words, next_word, split_comment};
 
 /// The line with a number, from 1; none where the text has none of this number.
 pub fn line_at(text: &[u8], number: u64) -> Option<&[u8]>
     ensures { option_map (λ line. line.now) result ≡ line_of number text.now }
 {
-    let (line, _) = next_line(behind_lines(text, number.saturating_sub(1)))?;
-    Some(line)
+    Lines(text).nth(number.saturating_sub(1) as usize)
 }
 
 /// The number of the last line before another one that has words; none where none has.
 pub fn last_with_words(text: &[u8], before: u64) -> Option<u64> {
-    let mut rest = text;
-    let mut here: u64 = 1;
-    let mut last = None;
-    while let Some((line, more)) = next_line(rest) {
-        if here < before && Line::new(line).has_words() {
-            last = Some(here);
-        }
-        here = here.saturating_add(1);
-        rest = more;
-    }
-    last
+    let lines = (1..before).zip(Lines(text));
+    let (number, _) = lines
+        .filter(|(_, line)| Line::new(line).has_words())
+        .last()?;
+    Some(number)
 }
 
 /// Whether a text has one line.
-pub fn has_one_line(text: &[u8]) -> bool {
-    match next_line(text) {
-        Some((_, more)) => more.is_empty(),
-        None => false,
-    }
+pub fn has_one_line(text: &[u8]) -> bool
+    ensures { result ≡ (length (all_lines text.now) == 1) }
+{
+    Lines(text).count() == 1
 }
 
 /// A line without its comment.
@@ -60,55 +39,45 @@ pub struct Line<'a> {
 
 impl<'a> Line<'a> {
     /// The line of these bytes.
-    pub fn new(line: &'a [u8]) -> Line<'a> {
+    pub fn new(line: &'a [u8]) -> Line<'a>
+        ensures { words result.code.now ≡ line_words line.now }
+    {
         let (code, _) = split_comment(line);
         Line { code }
     }
 
     /// The word at a place, from 0; empty where there is none.
-    pub fn word(self, place: usize) -> &'a [u8] {
-        let mut rest = self.code;
-        let mut here = 0usize;
-        while let Some((_, word, more)) = next_word(rest) {
-            if here == place {
-                return word;
-            }
-            here = here.saturating_add(1);
-            rest = more;
-        }
-        &[]
+    pub fn word(self, place: usize) -> &'a [u8]
+        ensures { result.now ≡ unwrap_or (slice_get (words self.entry.code.now) place) [] }
+    {
+        Words(self.code).nth(place).unwrap_or(&[])
     }
 
     /// The first word.
-    pub fn first(self) -> &'a [u8] {
+    pub fn first(self) -> &'a [u8]
+        ensures { result.now ≡ unwrap_or (slice_get (words self.entry.code.now) 0) [] }
+    {
         self.word(0)
     }
 
     /// How many words it has.
-    pub fn count(self) -> usize {
-        let mut rest = self.code;
-        let mut count = 0usize;
-        while let Some((_, _, more)) = next_word(rest) {
-            count = count.saturating_add(1);
-            rest = more;
-        }
-        count
+    pub fn count(self) -> usize
+        ensures { result ≡ length (words self.entry.code.now) }
+    {
+        Words(self.code).count()
     }
 
     /// Whether it has words.
-    pub fn has_words(self) -> bool {
+    pub fn has_words(self) -> bool
+        ensures { result ≡ nat_lt 0 (length (words self.entry.code.now)) }
+    {
         next_word(self.code).is_some()
     }
 }
 
 /// Whether a word is one of a list of words with blanks between them.
-pub fn is_listed(list: &str, word: &[u8]) -> bool {
-    let mut rest = list.as_bytes();
-    while let Some((_, listed, more)) = next_word(rest) {
-        if listed == word {
-            return true;
-        }
-        rest = more;
-    }
-    false
+pub fn is_listed(list: &str, word: &[u8]) -> bool
+    ensures { result ≡ list_any (λ listed. bytes_eq listed word.now) (words list.now) }
+{
+    Words(list.as_bytes()).any(|listed| listed == word)
 }

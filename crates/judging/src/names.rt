@@ -3,7 +3,7 @@
 use crate::instructions::INSTRUCTIONS;
 use posix::Call;
 use std::alloc::{AllocError, Global};
-use text::next_word;
+use text::Words;
 use wording::{Nearest, distance};
 
 /// Whether a name is near to a word.
@@ -17,10 +17,8 @@ fn offer_all(
     alloc: Global,
     list: &'static str,
 ) -> Result<(), AllocError> {
-    let mut rest = list.as_bytes();
-    while let Some((_, name, more)) = next_word(rest) {
+    for name in Words(list.as_bytes()) {
         nearest.offer(alloc, name)?;
-        rest = more;
     }
     Ok(())
 }

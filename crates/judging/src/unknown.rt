@@ -6,7 +6,7 @@ use crate::lines::{Line, line_at};
 use crate::names::is_near;
 use crate::world::World;
 use std::alloc::{AllocError, Global};
-use text::{Reason, is_name_byte, next_line};
+use text::{Lines, Reason, is_name_byte};
 use wording::distance;
 
 /// What is told of another line than the one that is shown.
@@ -32,20 +32,14 @@ pub struct Mistake<'a> {
 
 /// The first line behind another one with the label, within the program that begins there.
 pub fn label_line(text: &[u8], name: &[u8], from: u64) -> Option<u64> {
-    let mut rest = text;
-    let mut here: u64 = 1;
-    while let Some((line, more)) = next_line(rest) {
-        if here > from {
-            let line = Line::new(line);
-            if is_label(line.first(), name) {
-                return Some(here);
-            }
-            if ends_program(line) {
-                return None;
-            }
+    for (number, line) in (1u64..).zip(Lines(text)).skip(from as usize) {
+        let line = Line::new(line);
+        if is_label(line.first(), name) {
+            return Some(number);
         }
-        here = here.saturating_add(1);
-        rest = more;
+        if ends_program(line) {
+            return None;
+        }
     }
     None
 }
@@ -67,17 +61,11 @@ fn ends_program(line: Line<'_>) -> bool {
 
 /// The line that begins a program of this name.
 pub fn program_line(text: &[u8], name: &[u8]) -> Option<u64> {
-    let mut rest = text;
-    let mut here: u64 = 1;
-    while let Some((line, more)) = next_line(rest) {
+    let (number, _) = (1u64..).zip(Lines(text)).find(|(_, line)| {
         let line = Line::new(line);
-        if line.first() == b"program".as_slice() && line.word(1) == name {
-            return Some(here);
-        }
-        here = here.saturating_add(1);
-        rest = more;
-    }
-    None
+        line.first() == b"program".as_slice() && line.word(1) == name
+    })?;
+    Some(number)
 }
 
 /// A word up to its first colon, if it has one.
@@ -122,23 +110,9 @@ fn may_define(
 
 /// How many times a name stands in a text as a word, in comments, too.
 fn mentions(text: &[u8], name: &[u8]) -> usize {
-    let mut rest = text;
-    let mut count = 0usize;
-    while !rest.is_empty() {
-        let end = rest
-            .iter()
-            .position(|b| !is_name_byte(*b))
-            .unwrap_or(rest.len());
-        if &rest[..end] == name {
-            count = count.saturating_add(1);
-        }
-        rest = if end < rest.len() {
-            &rest[end + 1..]
-        } else {
-            &[]
-        };
-    }
-    count
+    text.split(|b| !is_name_byte(*b))
+        .filter(|word| *word == name)
+        .count()
 }
 
 /// Whether a word is another one with a letter doubled.

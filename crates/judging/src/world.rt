@@ -6,7 +6,7 @@ use crate::lines::Line;
 use crate::numbers::{judge_end, judge_number};
 use crate::words::{is_number, is_register};
 use std::alloc::{AllocError, Global};
-use text::{MAX_LINE_LEN, Reason, integer, is_name, next_line};
+use text::{Lines, MAX_LINE_LEN, Reason, integer, is_name};
 use umach::Program;
 
 /// The most programs of a world.
@@ -54,9 +54,7 @@ impl<'a> World<'a> {
             end: 0,
             refused: None,
         };
-        let mut rest = text;
-        let mut number: u64 = 1;
-        while let Some((line, more)) = next_line(rest) {
+        for (number, line) in (1u64..).zip(Lines(text)) {
             match world.take_line(number, line) {
                 Ok(()) => {}
                 Err(Stop::Refused(refusal)) => {
@@ -65,8 +63,6 @@ impl<'a> World<'a> {
                 }
                 Err(Stop::Memory) => return Err(AllocError),
             }
-            number = number.saturating_add(1);
-            rest = more;
         }
         Ok(world)
     }

@@ -110,7 +110,7 @@ step_reads old new (Some me) rest costs brief = by (slots_of_own_step old.state 
 
 -- so where the step begins this call
 pub call_reads : (call : Call) (old new : MachineView) (me : Process) → IsAtRest old → chosen me.life me.signals ≡ None → me.blocked ≡ None → (exec_one (code_of old.state me) me.cpu).trap ≡ trap.Call call
-    → (changes_caller_alone call ≡ true → CostsAtMost 1 old new) → IfSome (slots_of_brief call old.state.processes me) (λ n. CostsWithRechecks (n + slots_of_blocking call) old new) → IfSome (slots_of_step old.state (Some me)) (λ n. ReadsAtMost n old new)
+    → (changes_caller_alone call ≡ true → CostsAtMost 1 old new) → IfSome (slots_of_brief call me) (λ n. CostsWithRechecks (n + slots_of_blocking call) old new) → IfSome (slots_of_step old.state (Some me)) (λ n. ReadsAtMost n old new)
 call_reads call old new me rest none free is own brief = step_reads old new (Some me) rest costs (λ m e. subst (λ m. IfSome (slots_of_acting old.state m m.blocked) (λ n. CostsWithRechecks (n + 1) old new)) (same_Some _ _ e) acts)
   where
     held : is_held me ≡ false
@@ -133,12 +133,12 @@ call_reads call old new me rest none free is own brief = step_reads old new (Som
     acts : IfSome (slots_of_acting old.state me me.blocked) (λ n. CostsWithRechecks (n + 1) old new)
     acts =
         subst (λ o. IfSome (slots_of_acting old.state me o) (λ n. CostsWithRechecks (n + 1) old new)) (sym free)
-        (subst (λ o. IfSome (cond (is_some o) None (slots_of_trap old.state.processes me (exec_one (code_of old.state me) me.cpu).trap)) (λ n. CostsWithRechecks (n + 1) old new)) (sym none)
-        (subst (λ t. IfSome (slots_of_trap old.state.processes me t) (λ n. CostsWithRechecks (n + 1) old new)) (sym is) (more (slots_of_brief call old.state.processes me) brief)))
+        (subst (λ o. IfSome (cond (is_some o) None (slots_of_trap me (exec_one (code_of old.state me) me.cpu).trap)) (λ n. CostsWithRechecks (n + 1) old new)) (sym none)
+        (subst (λ t. IfSome (slots_of_trap me t) (λ n. CostsWithRechecks (n + 1) old new)) (sym is) (more (slots_of_brief call me) brief)))
 
 -- and a key
 pub key_reads : (console byte : ℕ) (old new : MachineView) → IsAtRest old → new.visits ≤ old.visits + slots_of_key console byte old → new.foregrounds_unchecked ≡ old.foregrounds_unchecked
-    → NeedNoChild new.state.processes new.to_recheck × (length new.to_recheck ≤ length (foreground_members console old.state)) → ReadsAtMost (1 + 5 * length (foreground_members console old.state)) old new
+    → NeedNoChild new.state.processes new.to_recheck × (length new.to_recheck ≤ length (foreground_members console old.state)) → ReadsAtMost (3 * length (foreground_members console old.state)) old new
 key_reads console byte old new rest read still h =
     let slots = key_slots console byte old in
     let brief = rechecks_brief new.state.processes None new.to_recheck h.0 in

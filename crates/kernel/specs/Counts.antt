@@ -1,5 +1,5 @@
 -- How many slots of the table of processes are read in an event, at most.
-use Rattle.std.specs.Prelude.{◌&&◌, ◌||◌, ◌==◌, not, Bool, false, option_map, count_by, ◌≡◌, ℕ, ◌+◌, ◌*◌, ◌≤◌, if◌then◌else◌, List, [], length, filter, Option, Some, None, is_some, IfSome}
+use Rattle.std.specs.Prelude.{◌&&◌, ◌||◌, ◌==◌, not, Bool, false, option_map, count_by, ◌≡◌, ℕ, ◌+◌, ◌*◌, ◌≤◌, if◌then◌else◌, [], length, filter, Option, Some, None, is_some, IfSome}
 use Rattle.posix.specs.declared.event.Event.{Event}
 use Rattle.posix.specs.declared.event.Event.TheVariants.{Step, Tick, Key, Hangup}
 use Rattle.posix.specs.declared.process.Blocked.{Blocked}
@@ -14,7 +14,6 @@ use Rattle.posix.specs.declared.call.Call.TheVariants.{Waitpid, Waitid}
 use Rattle.posix.specs.declared.instr.Trap.{Trap}
 use Rattle.posix.specs.declared.instr.Trap.TheVariants as trap
 use Rattle.posix.specs.SignalNumbers.{KILL}
-use Rattle.posix.specs.Tables.{children_in}
 use Rattle.posix.specs.Waits.{wait_by}
 use Rattle.posix.specs.Execute.{exec_one}
 use Rattle.posix.specs.Regular.{IsRegular}
@@ -59,11 +58,11 @@ slots_of_blocking Waitid = 1
 slots_of_blocking call = 0
 
 -- an instruction that comes out so: a wait, or a signal that is sent to one process or to nobody
-abbrev pub slots_of_trap : List Process → Process → Trap → Option ℕ
-slots_of_trap rs me trap.Next = None
-slots_of_trap rs me (trap.Note z) = None
-slots_of_trap rs me (trap.Call call) = option_map (λ n. n + slots_of_blocking call + 1) (slots_of_brief call rs me)
-slots_of_trap rs me (trap.Fault sig) = None
+abbrev pub slots_of_trap : Process → Trap → Option ℕ
+slots_of_trap me trap.Next = None
+slots_of_trap me (trap.Note z) = None
+slots_of_trap me (trap.Call call) = option_map (λ n. n + slots_of_blocking call + 1) (slots_of_brief call me)
+slots_of_trap me (trap.Fault sig) = None
 
 -- KILL is chosen
 abbrev pub is_kill : Option ℕ → Bool
@@ -76,8 +75,8 @@ delivers_nothing s call me = not (is_kill (chosen me.life me.signals)) && (not (
 
 -- what a process in this call reads as it acts, beside its own snapshot, with what settling reads
 abbrev pub slots_of_acting : State → Process → Option Blocked → Option ℕ
-slots_of_acting s me None = if is_some (chosen me.life me.signals) then None else slots_of_trap s.processes me (exec_one (code_of s me) me.cpu).trap
-slots_of_acting s me (Some (blocked.Wait call)) = if delivers_nothing s call me then Some (11 + 2 * length (children_in me.pid s.processes)) else None
+slots_of_acting s me None = if is_some (chosen me.life me.signals) then None else slots_of_trap me (exec_one (code_of s me) me.cpu).trap
+slots_of_acting s me (Some (blocked.Wait call)) = if delivers_nothing s call me then Some 6 else None
 slots_of_acting s me (Some blocked.Read) = None
 slots_of_acting s me (Some blocked.Pause) = None
 slots_of_acting s me (Some (blocked.Sigsuspend mask)) = None
@@ -99,14 +98,13 @@ alarms_due s = length (filter (λ r. is_due (s.ticks + 1) r.alarm) s.processes)
 
 -- At most so many slots are read in an event, where this is Some; no count is promised of the others. A step reads three
 -- where its instruction changes the process alone that runs it; four where a machine fault enters a handler; where it
--- sends a signal to one process by its number, or to nobody, seven, a real-time signal nine, and CONT 16, and two for each
--- child of a process that CONT continues in a wait; and 14, and two for each child, where it attempts a wait and delivers no
--- signal. A tick reads two for each alarm that is due, a key one, and five for each member of the console's foreground
--- process group, a hangup four, and two for each such member.
+-- sends a signal to one process by its number, or to nobody, seven, a real-time signal nine, and CONT 15; and nine where it
+-- attempts a wait and delivers no signal. A tick reads two for each alarm that is due, a key three for each member of the
+-- console's foreground process group, a hangup four, and two for each such member.
 abbrev pub slots_of_event : Event → State → Option ℕ
 slots_of_event Step s = slots_of_step s (current_process s)
 slots_of_event Tick s = Some (2 * alarms_due s)
-slots_of_event (Key console byte) s = Some (1 + 5 * length (foreground_members console s))
+slots_of_event (Key console byte) s = Some (3 * length (foreground_members console s))
 slots_of_event (Hangup console) s = Some (4 + 2 * length (foreground_members console s))
 
 -- ---- steps that are given at once

@@ -5,8 +5,7 @@ use Rattle.posix.specs.Entries.{Line}
 use Rattle.posix.specs.States.{World, State}
 use Rattle.posix.specs.Runs.{Runs}
 use Rattle.posix.specs.Printing.{print}
-use Rattle.text.specs.declared.fault.Reason.{Reason}
-use Rattle.text.specs.declared.fault.Reason.TheVariants.{UnknownWord, BadNumber, OutOfRange, NameUnknown, NameTwice, LineTooLong, EndMissing, NoProgram, Memory}
+use Rattle.text.specs.declared.fault.Reason.TheVariants.{Memory}
 use Rattle.text.specs.EventTexts.{event_text}
 use Rattle.text.specs.WorldTexts.{world_text}
 use Rattle.kernel.specs.declared.summary.Summary.{Summary}
@@ -39,18 +38,6 @@ pub record CutsShort (world_bytes event_bytes : List ℕ) (before after : Seen) 
   pub last : State
   pub run : RunsTexts world_bytes event_bytes events lines last
   pub broken : BreaksOff before after (print lines)
-
--- what is answered where a text is refused for a reason: this error, unless the reason is want of memory
-abbrev pub refused : Reason → RunError → RunError
-refused UnknownWord why = why
-refused BadNumber why = why
-refused OutOfRange why = why
-refused NameUnknown why = why
-refused NameTwice why = why
-refused LineTooLong why = why
-refused EndMissing why = why
-refused NoProgram why = why
-refused Memory why = error.Memory
 
 -- When each error comes. In the first three cases nothing was put: the sink is as it was.
 abbrev pub Fails : {S : Type 0} → List ℕ → List ℕ → S → S → Seen → Seen → RunError → Type 0

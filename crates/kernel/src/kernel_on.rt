@@ -70,7 +70,7 @@ impl<K: ProcessTable> KernelOn<K> {
     pub fn boot(alloc: Global, world: &World) -> Result<Self, AllocError>
         ensures state { IfOk result (λ k. k.state ≡ boot_of world.now) }
         ensures events { IfOk result (λ k. k.events ≡ 0) }
-        ensures visits { IfOk result (λ k. k.visits ≤ 6) }
+        ensures visits { IfOk result (λ k. k.visits ≤ 1) }
         ensures regular { IfOk result (λ k. IsRegular k.state) }
         ensures settled { IfOk result (λ k. IsSettled k.state) }
         ensures orderly { IfOk result (λ k. IsOrderly k.state) }

@@ -9,7 +9,7 @@ mod step;
 pub mod summary;
 pub mod texts;
 
-pub use calls::{Entries, entries};
+pub use calls::Entries;
 pub use driver::{Observer, drive, drive_to};
 pub use kernel_on::{Kernel, KernelOn};
 pub use sink::{Sink, SinkFault, WriteSink, put_all};

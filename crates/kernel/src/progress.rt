@@ -33,7 +33,7 @@ fn reports_end(entry: &Entry) -> bool
     }
 }
 
-/// Prints the entries of an event. At `Ok`, here and below, the number of ends that the lines report.
+/// Prints the entries of an event. At `Ok` the number of ends that the lines report.
 fn write_entries<S: Sink>(
     event: u64,
     entries: &[Entry],

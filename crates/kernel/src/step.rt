@@ -1,7 +1,7 @@
 //! One event of the machine. What it shows is added to a list of entries that is empty before, so that
 //! an instruction that shows nothing moves none.
 
-ghost use Rattle.std.specs.Prelude.{◌≡◌, ◌≢◌, ◌+◌, ◌*◌, ℕ, [], length, None, IfSome, is_some, ◌<◌, ◌≤◌, ◌^◌, IsSome, Some, option_map, false, true};
+ghost use Rattle.std.specs.Prelude.{◌≡◌, ◌≢◌, ◌+◌, ◌*◌, ℕ, [], None, IfSome, is_some, ◌<◌, ◌≤◌, ◌^◌, IsSome, Some, option_map, false, true};
 ghost use Rattle.posix.specs.declared.call.Call.{Call as CallValue};
 ghost use Rattle.posix.specs.NextPid.{is_free};
 ghost use Rattle.posix.specs.Processes.{Process};
@@ -20,7 +20,6 @@ ghost use Rattle.posix.specs.Settle.{IsSettled};
 ghost use Rattle.proctable.specs.Records.{snapshot_of};
 ghost use Rattle.posix.specs.States.{has_place};
 ghost use Rattle.life.specs.Rechecks.{is_in_wait};
-ghost use Rattle.posix.specs.Tables.{children_in};
 ghost use Rattle.posix.specs.Settle.{can_go_on};
 ghost use Rattle.calls.specs.Outcomes.{IsActing, IsQuiet, CostsWithRechecks, CostsAtMost, changes_caller_alone, slots_of_brief};
 ghost use Rattle.kernel.specs.Counts.{CountsOne, IsAtRest, ReadsAtMost, after_taken, alarms_due, delivers_nothing, slots_of_acting, slots_of_blocking, slots_of_event, slots_of_own_step, slots_of_trap};
@@ -104,7 +103,7 @@ fn begin_call<K: ProcessTable>(
     requires none { entries.old.items ≡ [] }
     ensures begins { Begins machine.old.state pid call entries.new.items machine.new.state }
     ensures own { changes_caller_alone call ≡ true → CostsAtMost 1 machine.old machine.new }
-    ensures brief { (me : Process) → process machine.old.state pid ≡ Some me → IsQuiet pid machine.old → IfSome (slots_of_brief call machine.old.state.processes me) (λ n. CostsWithRechecks (n + slots_of_blocking call) machine.old machine.new) }
+    ensures brief { (me : Process) → process machine.old.state pid ≡ Some me → IsQuiet pid machine.old → IfSome (slots_of_brief call me) (λ n. CostsWithRechecks (n + slots_of_blocking call) machine.old machine.new) }
     ensures no_fewer { machine.old.visits ≤ machine.new.visits }
 {
     match attempt(machine, pid, call, entries) {
@@ -130,7 +129,7 @@ fn go_on<K: ProcessTable>(
     requires blocked { (me : Process) → process machine.old.state pid ≡ Some me → me.blocked ≡ Some blocked }
     requires none { entries.old.items ≡ [] }
     ensures goes_on { (me : Process) → process machine.old.state pid ≡ Some me → going_on machine.old.state me (attempt_again machine.old.state me blocked) ≡ record { state = machine.new.state; entries = entries.new.items } }
-    ensures brief { (me : Process) → process machine.old.state pid ≡ Some me → IsQuiet pid machine.old → (how : WaitCallValue) → blocked ≡ Blocked.Wait how → delivers_nothing machine.old.state how me ≡ true → CostsWithRechecks (11 + 2 * length (children_in pid machine.old.state.processes)) machine.old machine.new }
+    ensures brief { (me : Process) → process machine.old.state pid ≡ Some me → IsQuiet pid machine.old → (how : WaitCallValue) → blocked ≡ Blocked.Wait how → delivers_nothing machine.old.state how me ≡ true → CostsWithRechecks 6 machine.old machine.new }
     ensures no_fewer { machine.old.visits ≤ machine.new.visits }
 {
     let waits = is_wait(&blocked);
@@ -162,7 +161,7 @@ fn run_instruction<K: ProcessTable>(
     ensures runs { RunsInstruction machine.old.state pid entries.new.items machine.new.state }
     ensures cost { (me : Process) → process machine.old.state pid ≡ Some me → changes_one (exec_one (code_of machine.old.state me) me.cpu).trap ≡ true → CostsAtMost 2 machine.old machine.new }
     ensures enters { (me : Process) → process machine.old.state pid ≡ Some me → enters me (exec_one (code_of machine.old.state me) me.cpu).trap ≡ true → CostsAtMost 3 machine.old machine.new }
-    ensures brief { (me : Process) → process machine.old.state pid ≡ Some me → IsQuiet pid machine.old → IfSome (slots_of_trap machine.old.state.processes me (exec_one (code_of machine.old.state me) me.cpu).trap) (λ n. CostsWithRechecks n machine.old machine.new) }
+    ensures brief { (me : Process) → process machine.old.state pid ≡ Some me → IsQuiet pid machine.old → IfSome (slots_of_trap me (exec_one (code_of machine.old.state me) me.cpu).trap) (λ n. CostsWithRechecks n machine.old machine.new) }
     ensures no_fewer { machine.old.visits ≤ machine.new.visits }
 {
     match machine.exec_one(pid, program) {

@@ -20,7 +20,7 @@ pub struct Summary {
     pub zombies: u64,
     /// The ends that a wait reported.
     pub reported: u64,
-    /// The ended processes that were dropped, since their parent ignores its children.
+    /// The ended processes that were dropped, since their parent drops its children (XSH _exit).
     pub dropped: u64,
     /// Whether the machine halted.
     pub halted: bool,

@@ -3,8 +3,9 @@
 ghost use Rattle.std.specs.Prelude.{◌≡◌, ◌+◌, ◌≤◌, ℕ, List, Ok, IfOk, length};
 ghost use Rattle.posix.specs.States.{World as WorldValue, boot as boot_of};
 ghost use Rattle.text.specs.EventTexts.{event_text, most_events};
+ghost use Rattle.text.specs.Reading.{unless_memory};
 ghost use Rattle.text.specs.WorldTexts.{world_text};
-ghost use Rattle.kernel.specs.Headline.{Headline, refused};
+ghost use Rattle.kernel.specs.Headline.{Headline};
 ghost use Rattle.kernel.specs.Accounts.{Accounts};
 
 use crate::kernel_on::KernelOn;
@@ -13,7 +14,7 @@ use crate::summary::Summary;
 use proctable::{ProcessTable, SlabTable};
 use sink::Sink;
 use std::alloc::Global;
-use text::{EventList, Reason, TextFault, read_events, read_world};
+use text::{EventList, TextFault, read_events, read_world};
 use thiserror::Error;
 use umach::World;
 
@@ -36,22 +37,16 @@ pub enum RunError {
 
 /// What a run answers where its world text is refused. Want of memory is no fault of the text.
 fn world_error(fault: TextFault) -> RunError
-    ensures { result ≡ refused fault.reason (RunError.World fault) }
+    ensures { result ≡ unless_memory fault.reason (RunError.World fault) RunError.Memory }
 {
-    match fault.reason {
-        Reason::Memory => RunError::Memory,
-        _ => RunError::World(fault),
-    }
+    fault.unless_memory(RunError::World(fault), RunError::Memory)
 }
 
 /// What it answers where its event text is refused.
 fn events_error(fault: TextFault) -> RunError
-    ensures { result ≡ refused fault.reason (RunError.Events fault) }
+    ensures { result ≡ unless_memory fault.reason (RunError.Events fault) RunError.Memory }
 {
-    match fault.reason {
-        Reason::Memory => RunError::Memory,
-        _ => RunError::Events(fault),
-    }
+    fault.unless_memory(RunError::Events(fault), RunError::Memory)
 }
 
 /// Gives all events to a kernel that was given none before, and puts the printed trace into a sink. For texts that

@@ -3,7 +3,7 @@ use Rattle.std.proofs.Common.{◌≡◌, ℕ, ◌+◌, ◌≤◌, Bool, true, fa
 use Rattle.std.specs.List.{list_any}
 use Rattle.posix.specs.Processes.{Process}
 use Rattle.posix.specs.Numbers.{with_number}
-use Rattle.posix.specs.Tables.{IsRising, lookup, has_pid, is_child, is_member, members_in, children_in, left_of, next_sibling}
+use Rattle.posix.specs.Tables.{IsRising, lookup, above, first_pid, has_pid, is_child, is_member, members_in, children_in, left_of}
 use Rattle.posix.proofs.HupAndContLemmas.{Lasts, lasting, lasts_hup_and_cont, lasts_then}
 use Rattle.posix.proofs.MapLemmas.{filter_map}
 use Rattle.std.proofs.lemmas.List.{length-map}
@@ -18,6 +18,7 @@ use Rattle.pidalloc.specs.Rows.{Pids}
 use Rattle.sched.specs.Places.{Places}
 use Rattle.life.specs.Ends.{slots_of_hup_and_cont, slots_of_hups}
 use Rattle.life.specs.Machines.{IsMachine, IsNoted, Terminals}
+use Rattle.jobs.proofs.ChildLemmas.{sibling_is}
 use Rattle.life.proofs.RingLemmas.{one_more}
 
 -- ---- the list of those that are noted
@@ -81,9 +82,9 @@ unfolding is_in
 begin_noted rs up p me e none ns empty is n = grind (arith, up, e, empty, is, loses_split, noted_one, numbered_one)
 
 -- and goes on from child to child
-pub step_noted : (rs : List Process) (p c : ℕ) (next after : Option ℕ) (at : AtChild rs p c) → next ≡ Some c → after ≡ next_sibling c rs → (ns noted : List ℕ) → noted ≡ cond (is_anchor rs at.what) (with_number at.what.group ns) ns
+pub step_noted : (rs : List Process) (p c : ℕ) (next after : Option ℕ) (at : AtChild rs p c) → next ≡ Some c → after ≡ first_pid (above c (children_in p rs)) → (ns noted : List ℕ) → noted ≡ cond (is_anchor rs at.what) (with_number at.what.group ns) ns
     → (n : ℕ) → (is_in n noted || list_any (keeps rs n) (left_of after (children_in p rs))) ≡ (is_in n ns || list_any (keeps rs n) (left_of next (children_in p rs)))
-step_noted rs p c next after at comes e ns noted is n = grind (arith, comes, e, is, noted_one)
+step_noted rs p c next after at comes e ns noted is n = let then = e ∙ sibling_is p c rs at in grind (arith, comes, then, is, noted_one)
 
 -- ---- all get HUP and CONT
 

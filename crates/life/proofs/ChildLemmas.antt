@@ -4,17 +4,18 @@ use Rattle.posix.specs.declared.process.Report.TheVariants as found
 use Rattle.posix.specs.declared.target.Target.{Target}
 use Rattle.posix.specs.declared.target.Target.TheVariants as whom
 use Rattle.posix.specs.Processes.{Process}
-use Rattle.posix.specs.Tables.{IsRising, lookup, children_in, first_pid, left_of, next_sibling}
+use Rattle.posix.specs.Tables.{IsRising, above, is_child, lookup, children_in, first_pid, left_of}
 use Rattle.std.specs.List.{list_any}
 use Rattle.std.specs.Option.{IsSome, option_map_or}
 use Rattle.posix.specs.States.{State}
 use Rattle.posix.specs.Regular.{IsRegular}
 use Rattle.posix.specs.Waits.{report, report_life, report_of, wanted_in, report_of_meant, is_named, reports}
-use Rattle.posix.proofs.WalkLemmas.{AtChild, at_child, at_first}
+use Rattle.posix.proofs.WalkLemmas.{AtChild, at_child, at_first, passing_above}
 use Rattle.posix.proofs.TableLemmas.{pid_looked}
 use Rattle.posix.proofs.ReportingLemmas.{wanted_some, report_one, report_nobody}
 use Rattle.proctable.specs.declared.snapshot.Snapshot.{Snapshot}
 use Rattle.proctable.specs.Records.{snapshot_of}
+use Rattle.jobs.proofs.ChildLemmas.{sibling_is}
 use Rattle.life.proofs.SoundLemmas.{is_there, snapshot_are}
 use Rattle.std.proofs.lemmas.Option.{same_Some}
 use Rattle.life.specs.Waits.{is_reported, is_meant}
@@ -24,13 +25,18 @@ pub record IsAtChild (rs : List Process) (p : ℕ) (next : Option ℕ) : Type 0 
   pub rising : IsRising rs
   pub here : first_pid (left_of next (children_in p rs)) ≡ next
 
--- it begins at the first child, and all are left
-pub first_todo : (rs : List Process) → IsRising rs → (p : ℕ) (next : Option ℕ) → next ≡ first_pid (children_in p rs) → left_of next (children_in p rs) ≡ children_in p rs
-first_todo rs up p next e = rw e (at_first rs up p)
+-- no child has number 0
+first_child : (s : State) → IsRegular s → (p : ℕ) → first_pid (above 0 (children_in p s.processes)) ≡ first_pid (children_in p s.processes)
+unfolding children_in
+first_child s i p = ap first_pid (passing_above (is_child p) s.processes i.rising (λ q r e. (i.bounded q r e).least))
+
+-- it begins at the first child above 0, and all are left
+pub first_todo : (s : State) → IsRegular s → (p : ℕ) (next : Option ℕ) → next ≡ first_pid (above 0 (children_in p s.processes)) → left_of next (children_in p s.processes) ≡ children_in p s.processes
+first_todo s i p next e = rw (e ∙ first_child s i p) (at_first s.processes i.rising p)
 
 -- so it knows where it is
-pub first_here : (rs : List Process) → IsRising rs → (p : ℕ) (next : Option ℕ) → next ≡ first_pid (children_in p rs) → IsAtChild rs p next
-first_here rs up p next e = record { rising = up; here = ap first_pid (first_todo rs up p next e) ∙ sym e }
+pub first_here : (s : State) → IsRegular s → (p : ℕ) (next : Option ℕ) → next ≡ first_pid (above 0 (children_in p s.processes)) → IsAtChild s.processes p next
+first_here s i p next e = record { rising = i.rising; here = ap first_pid (first_todo s i p next e) ∙ sym (e ∙ first_child s i p) }
 
 -- what it knows of the child c
 pub child_here : {rs : List Process} {p c : ℕ} {next : Option ℕ} → IsAtChild rs p next → next ≡ Some c → AtChild rs p c
@@ -40,13 +46,13 @@ child_here {rs = rs} {p = p} {c = c} w comes = at_child rs w.rising p c (ap (λ 
 pub child_there : {rs : List Process} {p c : ℕ} {next : Option ℕ} → IsAtChild rs p next → next ≡ Some c → IsSome (lookup c rs)
 child_there w comes = let r = child_here w comes in is_there _ r.what r.found
 
--- it goes on to the next sibling
-pub next_here : {rs : List Process} {p c : ℕ} {next after : Option ℕ} → IsAtChild rs p next → next ≡ Some c → after ≡ next_sibling c rs → IsAtChild rs p after
-next_here w comes e = record { rising = w.rising; here = rw e (child_here w comes).next }
+-- it goes on to the next child
+pub next_here : {rs : List Process} {p c : ℕ} {next after : Option ℕ} → IsAtChild rs p next → next ≡ Some c → after ≡ first_pid (above c (children_in p rs)) → IsAtChild rs p after
+next_here {rs = rs} {p = p} {c = c} w comes e = let at = child_here w comes in record { rising = w.rising; here = rw (e ∙ sibling_is p c rs at) at.next }
 
 -- and one child less is left
-pub child_less : {rs : List Process} {p c : ℕ} {next after : Option ℕ} → IsAtChild rs p next → next ≡ Some c → after ≡ next_sibling c rs → length (left_of after (children_in p rs)) < length (left_of next (children_in p rs))
-child_less w comes e = rw (comes, e) (omega (arith, ap length (child_here w comes).left))
+pub child_less : {rs : List Process} {p c : ℕ} {next after : Option ℕ} → IsAtChild rs p next → next ≡ Some c → after ≡ first_pid (above c (children_in p rs)) → length (left_of after (children_in p rs)) < length (left_of next (children_in p rs))
+child_less {rs = rs} {p = p} {c = c} w comes e = let at = child_here w comes in rw (comes, e ∙ sibling_is p c rs at) (omega (arith, ap length at.left))
 
 -- ---- a wait
 
@@ -55,9 +61,12 @@ pub wanted_there : (rs : List Process) → IsRising rs → (p : ℕ) (means : Pr
 wanted_there rs up p means options c e = let w = wanted_some rs up p means options c (sym e) in is_there _ w.what w.found
 
 -- any child is meant where any will do
-pub any_child : (rs : List Process) → is_some (first_pid rs) ≡ list_any (is_meant None) rs
-any_child [] = refl
-any_child (r ∷ rs) = refl
+pub any_child : (s : State) → IsRegular s → (p : ℕ) → is_some (first_pid (above 0 (children_in p s.processes))) ≡ list_any (is_meant None) (children_in p s.processes)
+any_child s i p = ap is_some (first_child s i p) ∙ any (children_in p s.processes)
+  where
+    any : (rs : List Process) → is_some (first_pid rs) ≡ list_any (is_meant None) rs
+    any [] = refl
+    any (r ∷ rs) = refl
 
 -- a wait for any child, and for those in a process group
 pub report_any : (rs : List Process) (p own options : ℕ) → report rs p own whom.All options ≡ report_of_meant (is_meant None) options (children_in p rs)

@@ -177,10 +177,6 @@ lent_at cs k c within is = slice_get_read cs (length cs) k c refl (ltb-true _ _ 
 pub found_there : {cs ds : List Console} {c d : Console} (k : ℕ) (other : Console) → cs ≡ ds → slice_get cs k ≡ Some c → d ≡ slice_index_or ds k other → (slice_get ds k ≡ Some c) × (d ≡ c)
 found_there {ds = ds} {c = c} k other all at read = let here = ap (λ cs. slice_get cs k) (sym all) ∙ at in (here, read ∙ get_or_from_slice_get ds k c other here)
 
--- there is one or there isn't
-pub not_both : (o : Option Console) (c : Console) → o ≡ Some c → o ≡ None → ⊥
-not_both o c some none = absurd (cc)
-
 -- ---- the console of a session
 
 -- it is changed in its place
@@ -313,12 +309,12 @@ key_is_no_end byte some = false_from_ne_true _ (λ e. ⊎_elim (λ k. some (rw (
 
 -- where a key gives a signal
 pub slots_of_signalled : (m : MachineView) (console k byte sig group : ℕ) (c : Console) (rs : List Process) → console ≡ suc k → slice_get m.state.consoles k ≡ Some c → Some sig ≡ signal_typed byte c → group ≡ c.foreground → rs ≡ m.state.processes
-    → 1 + (2 + slots_of_signal sig) * length (members_in group rs) ≤ slots_of_key console byte m
+    → slots_of_signal sig * length (members_in group rs) ≤ slots_of_key console byte m
 slots_of_signalled m console k byte sig group c rs number found typed foreground same =
     let signal = typed_key byte sig c typed in
     rw (number, found, ← signal, foreground, same, (key_standard byte sig (sym signal)).1) (omega arith)
 
 -- where a session's terminal hangs up
 pub slots_hung_up : (m : MachineView) (me : Process) (k group : ℕ) (c : Console) (rs : List Process) → hangs_up (snapshot_of me) ≡ true → rs ≡ m.state.processes → slice_get m.state.consoles k ≡ Some c
-    → console_of me.session m.state.consoles ≡ Some c → group ≡ c.foreground → 1 + (1 + (2 + slots_of_signal HUP) * length (members_in group rs)) ≤ 1 + slots_of_hangup me m
+    → console_of me.session m.state.consoles ≡ Some c → group ≡ c.foreground → 1 + slots_of_signal HUP * length (members_in group rs) ≤ 1 + slots_of_hangup me m
 slots_hung_up m me k group c rs leads same at is foreground = rw (leads, same, is, foreground) (omega arith)

@@ -465,10 +465,10 @@ machine_told {groups_at_risk = groups_at_risk} {terminals = terminals} {s = s} {
     })
 
 pub told_changes : {was old new : MachineView} {p parent w : ℕ} {l : Life} {n : News} {me : Process} {mid ts : List Process} {after : List ℕ} → was ≡ old → HasLived was.state p parent l n me mid → IsTold was.state p w (lives l n) me ts was.to_recheck after → new.state ≡ with_processes was.state ts → new.to_recheck ≡ after
-    → new.foregrounds_unchecked ≡ was.foregrounds_unchecked → Costs 3 was new → IfThere p old (λ r. Changes 3 old new (with_processes old.state (told_of_change w r (changed p (lives l n) old.state.processes))) (rechecking_told (lives l n r) (process new.state r.parent) old.state.order old.to_recheck))
+    → new.foregrounds_unchecked ≡ was.foregrounds_unchecked → Costs 2 was new → IfThere p old (λ r. Changes 2 old new (with_processes old.state (told_of_change w r (changed p (lives l n) old.state.processes))) (rechecking_told (lives l n r) (process new.state r.parent) old.state.order old.to_recheck))
 told_changes {was = was} {new = new} {p = p} {w = w} {l = l} {n = n} {me = me} same k told state list still costs =
-    subst (λ old. IfThere p old (λ r. Changes 3 old new (with_processes old.state (told_of_change w r (changed p (lives l n) old.state.processes))) (rechecking_told (lives l n r) (process new.state r.parent) old.state.order old.to_recheck))) same (λ r there.
-    subst (λ r. Changes 3 was new (with_processes was.state (told_of_change w r (changed p (lives l n) was.state.processes))) (rechecking_told (lives l n r) (process new.state r.parent) was.state.order was.to_recheck)) (same_Some _ _ (sym k.found ∙ there)) (record {
+    subst (λ old. IfThere p old (λ r. Changes 2 old new (with_processes old.state (told_of_change w r (changed p (lives l n) old.state.processes))) (rechecking_told (lives l n r) (process new.state r.parent) old.state.order old.to_recheck))) same (λ r there.
+    subst (λ r. Changes 2 was new (with_processes was.state (told_of_change w r (changed p (lives l n) was.state.processes))) (rechecking_told (lives l n r) (process new.state r.parent) was.state.order was.to_recheck)) (same_Some _ _ (sym k.found ∙ there)) (record {
       state = state ∙ ap (with_processes was.state) told.processes;
       to_recheck = list ∙ told.list ∙ ap (λ (t : State). rechecking_told (lives l n me) (process t me.parent) was.state.order was.to_recheck) (sym state);
       foregrounds_unchecked = still;
@@ -539,7 +539,7 @@ signal_ends signal p old new r found does state list still costs = record {
 -- or continues it
 pub signal_continues : (signal : PendingSignal) (p : ℕ) (old mid new : MachineView) (r : Process) → process old.state p ≡ Some (record r { pid = p }) → effect.Continued ≡ effect_of p r.life signal r.signals → mid.state ≡ change old.state p (signalled signal)
     → mid.to_recheck ≡ rechecking_by_signals (process mid.state p) old.state.order old.to_recheck → mid.foregrounds_unchecked ≡ old.foregrounds_unchecked → Costs 1 old mid
-    → IfThere p mid (λ me. Changes 3 mid new (record (mid.state) { processes = told_of_change continued me (changed p resumed mid.state.processes) }) (rechecking_told (resumed me) (process new.state me.parent) mid.state.order mid.to_recheck))
+    → IfThere p mid (λ me. Changes 2 mid new (record (mid.state) { processes = told_of_change continued me (changed p resumed mid.state.processes) }) (rechecking_told (resumed me) (process new.state me.parent) mid.state.order mid.to_recheck))
     → Changes (slots_of_signal signal.sig) old new (record (old.state) { processes = generated_for signal (process old.state p) old.state.processes }) (rechecking_generated signal (process old.state p) old.state.processes old.state.order old.to_recheck)
 signal_continues signal p old mid new r found does state list still costs continues =
     let s = old.state in

@@ -94,7 +94,7 @@ reaching_goes_on {m = m} {group = group} {p = p} {first = first} {now = now} {ne
 
 -- at the end all got it
 pub reaching_ends : {m : PendingSignal} {group : ℕ} {first now : MachineView} {next : Option ℕ} → IsReaching m group first now next → IsRegular first.state → next ≡ None
-    → Changes (1 + (2 + slots_of_signal m.sig) * length (members_in group first.state.processes)) first now (with_processes first.state (signalled_members m group first.state.processes)) (rechecking_all m (pids (members_in group first.state.processes)) first.state.processes first.state.order first.to_recheck)
+    → Changes (slots_of_signal m.sig * length (members_in group first.state.processes)) first now (with_processes first.state (signalled_members m group first.state.processes)) (rechecking_all m (pids (members_in group first.state.processes)) first.state.processes first.state.order first.to_recheck)
 unfolding signalled_all rechecking_all
 reaching_ends {m = m} {group = group} {first = first} {now = now} {next = next} k regular comes =
     let ms = members_in group first.state.processes in

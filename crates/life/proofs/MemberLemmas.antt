@@ -3,9 +3,12 @@ use Rattle.std.proofs.Common.{◌≡◌, ℕ, ◌≤◌, ◌||◌, Bool, true, f
 use Rattle.std.specs.List.{list_any}
 use Rattle.std.specs.Option.{IsSome}
 use Rattle.posix.specs.Processes.{Process}
-use Rattle.posix.specs.Tables.{IsRising, lookup, is_child, children_in, is_member, members_in, first_pid, above, left_of, next_sibling}
+use Rattle.posix.specs.Tables.{lookup, is_child, children_in, is_member, members_in, first_pid, above, left_of}
+use Rattle.posix.specs.States.{State}
+use Rattle.posix.specs.Regular.{IsRegular}
 use Rattle.posix.proofs.TableLemmas.{rising_filter}
 use Rattle.posix.proofs.WalkLemmas.{AtOne, one_here, next_begins, passing_above, all_left}
+use Rattle.jobs.proofs.ChildLemmas.{sibling_is}
 use Rattle.life.proofs.ChildLemmas.{IsAtChild, child_here, first_here, first_todo, next_here}
 use Rattle.life.proofs.SoundLemmas.{is_there}
 
@@ -23,15 +26,16 @@ pub record IsSeeking (rs : List Process) (p group : ℕ) (child member : Option 
   pub of_members : list_any (is_child p) (left_of member (members_in group rs)) ≡ list_any (is_member group) (children_in p rs)
 
 -- it begins with all of them
-pub seek_begins : (rs : List Process) (p group : ℕ) (child member : Option ℕ) → IsRising rs → ((q : ℕ) (r : Process) → lookup q rs ≡ Some r → 1 ≤ r.pid) → child ≡ first_pid (children_in p rs) → member ≡ first_pid (above 0 (members_in group rs)) → IsSeeking rs p group child member
+pub seek_begins : (s : State) → IsRegular s → (p group : ℕ) (child member : Option ℕ) → child ≡ first_pid (above 0 (children_in p s.processes)) → member ≡ first_pid (above 0 (members_in group s.processes)) → IsSeeking s.processes p group child member
 unfolding members_in
-seek_begins rs p group child member up least first e =
+seek_begins s i p group child member first e =
+    let rs = s.processes in
     let ms = filter (is_member group) rs in
     record {
-      at_child = first_here rs up p child first;
+      at_child = first_here s i p child first;
       at_member = next_begins 0 ms member e;
-      of_children = ap (list_any (is_member group)) (first_todo rs up p child first);
-      of_members = ap (list_any (is_child p)) (all_left ms member (rising_filter (is_member group) rs up) (passing_above (is_member group) rs up least) e) ∙ both_ways p group rs;
+      of_children = ap (list_any (is_member group)) (first_todo s i p child first);
+      of_members = ap (list_any (is_child p)) (all_left ms member (rising_filter (is_member group) rs i.rising) (passing_above (is_member group) rs i.rising (λ q r e. (i.bounded q r e).least)) e) ∙ both_ways p group rs;
     }
 
 -- what it knows of the member that comes next
@@ -59,14 +63,14 @@ member_is {p = p} w comes is = let h = member_here w comes in sym w.of_members �
 -- neither is
 pub seek_on : {rs : List Process} {p group c m : ℕ} {child member next_child next_member : Option ℕ} (w : IsSeeking rs p group child member) (child_comes : child ≡ Some c) (member_comes : member ≡ Some m)
     → is_member group (child_here w.at_child child_comes).what ≡ false → is_child p (member_here w member_comes).what ≡ false
-    → next_child ≡ next_sibling c rs → next_member ≡ first_pid (above m (members_in group rs)) → IsSeeking rs p group next_child next_member
+    → next_child ≡ first_pid (above c (children_in p rs)) → next_member ≡ first_pid (above m (members_in group rs)) → IsSeeking rs p group next_child next_member
 unfolding members_in
-seek_on {rs = rs} {p = p} {group = group} {m = m} w child_comes member_comes no_member no_child e f =
+seek_on {rs = rs} {p = p} {group = group} {c = c} {m = m} w child_comes member_comes no_member no_child e f =
     let h = child_here w.at_child child_comes in
     let k = member_here w member_comes in
     record {
       at_child = next_here w.at_child child_comes e;
       at_member = next_begins m (filter (is_member group) rs) _ f;
-      of_children = rw e (rw no_member at (sym (asked (is_member group) _ _ _ _ h.what child_comes h.left)) ∙ w.of_children);
+      of_children = rw (e ∙ sibling_is p c rs h) (rw no_member at (sym (asked (is_member group) _ _ _ _ h.what child_comes h.left)) ∙ w.of_children);
       of_members = rw f (rw no_child at (sym (asked (is_child p) _ _ _ _ k.what member_comes k.left)) ∙ w.of_members);
     }

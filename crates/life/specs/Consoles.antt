@@ -1,5 +1,5 @@
 -- Consoles as a machine shows them, and who waits to read from one.
-use Rattle.std.specs.Prelude.{◌≡◌, ◌+◌, ◌*◌, ◌==◌, ◌&&◌, ◌||◌, ◌⊎◌, ℕ, zero, suc, Bool, not, true, false, if◌then◌else◌, List, [], length, Option, Some, None, slice_get, slice_set, MatchOption}
+use Rattle.std.specs.Prelude.{◌≡◌, ◌==◌, ◌&&◌, ◌||◌, ◌⊎◌, ℕ, zero, suc, Bool, not, true, false, if◌then◌else◌, List, [], length, Option, Some, None, slice_get, slice_set, MatchOption}
 use Rattle.posix.specs.Processes.{Process, is_running}
 use Rattle.std.specs.Option.{option_map_or}
 use Rattle.posix.specs.Consoles.{Console, console_of, console_at, key_signal}
@@ -59,10 +59,10 @@ reads s p = if has_place s p then None else reads_in (process s p)
 
 -- ---- how many slots are read
 
--- where the foreground process group of a console gets a signal of a key or a hangup, one, and three for each member
+-- where the foreground process group of a console gets a signal of a key or a hangup, one for each member
 abbrev pub slots_of_foreground : Option Console → List Process → ℕ
 slots_of_foreground None rs = 0
-slots_of_foreground (Some c) rs = 1 + 3 * length (members_in c.foreground rs)
+slots_of_foreground (Some c) rs = length (members_in c.foreground rs)
 
 -- how many slots are read where a byte gives this signal, or none
 abbrev pub slots_of_signal_key : Option ℕ → Option Console → List Process → ℕ

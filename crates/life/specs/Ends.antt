@@ -14,7 +14,7 @@ use Rattle.life.specs.Machines.{MachineView}
 
 -- where each member of a group gets HUP, and then CONT, by which it may continue
 abbrev pub slots_of_hup_and_cont : ℕ → List Process → ℕ
-slots_of_hup_and_cont group rs = 2 + 9 * length (members_in group rs)
+slots_of_hup_and_cont group rs = 4 * length (members_in group rs)
 
 -- so for several groups
 unfoldable pub slots_of_hups : List ℕ → List Process → ℕ
@@ -38,10 +38,10 @@ slots_of_heir rs p = if list_any is_living_subreaper rs then slots_of_walk (fore
 
 -- ---- an end
 
--- After its terminal is hung up: 13, 12 for each child, and those of the groups that become orphaned.
+-- After its terminal is hung up: 6, 5 for each child, and those of the groups that become orphaned.
 abbrev pub slots_of_ending : State → ℕ → ℕ → ℕ → ℕ
 slots_of_ending s p heir status =
-    13 + 12 * length (children_in p s.processes) + slots_of_orphans s (tell_of_all (leave_children_and_die s p heir status) heir (zombies_of p s.processes))
+    6 + 5 * length (children_in p s.processes) + slots_of_orphans s (tell_of_all (leave_children_and_die s p heir status) heir (zombies_of p s.processes))
 
 -- all: with one for the process, those of its terminal, and those up to its heir
 abbrev pub slots_of_end : MachineView → Process → ℕ → ℕ

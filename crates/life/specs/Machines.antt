@@ -75,14 +75,13 @@ pub record FindsAndCounts {T : Type 0} (more : ℕ → ℕ) (old new : MachineVi
   pub looks : Looks 1 old new
   pub counts : IfSome found (λ it. more old.visits ≤ new.visits)
 
--- Process groups are noted that an end may orphan. Nothing else changes, and at most n slots are read.
-pub record Notes (n : ℕ) (old new : MachineView) : Type 0 where
+-- Process groups are noted that an end may orphan. Nothing else changes, and no slot is read.
+pub record Notes (old new : MachineView) : Type 0 where
   pub state : new.state ≡ old.state
   pub to_recheck : new.to_recheck ≡ old.to_recheck
   pub foregrounds_unchecked : new.foregrounds_unchecked ≡ old.foregrounds_unchecked
   pub readers : new.readers ≡ old.readers
-  pub visits : new.visits ≤ old.visits + n
-  pub no_fewer : old.visits ≤ new.visits
+  pub visits : new.visits ≡ old.visits
   pub regular : IsRegular old.state
 
 -- a change after which the state is this, these are to be rechecked, and no other foreground is unchecked

@@ -127,7 +127,7 @@ WaitForNoChild rs ns = (p : ℕ) → is_in p ns ≡ true → (r : Process) × (l
 
 -- how many slots are read where a signal is generated: CONT may continue its process, whose parent gets notice
 abbrev pub slots_of_signal : ℕ → ℕ
-slots_of_signal n = if n == CONT then 4 else 1
+slots_of_signal n = if n == CONT then 3 else 1
 
 -- for signal 0 none
 abbrev pub slots_of_send : Option ℕ → ℕ

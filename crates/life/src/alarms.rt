@@ -15,7 +15,7 @@ use proctable::ProcessTable;
 
 impl<K: ProcessTable> Machine<K> {
     /// Sets the alarm of a process that is there to so many ticks from now, at most 1,000,000,000; 0 clears
-    /// it. The ticks that were left of the one before, 0 where none was set.
+    /// it. The ticks that were left of the one before, 0 where none was set (XSH alarm).
     pub fn set_alarm(&mut self, pid: Pid, ticks: u64) -> u64
         requires there { IsPlaced self.old.state.processes pid }
         requires few { ticks ≤ most_ticks }

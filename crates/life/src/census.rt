@@ -18,7 +18,7 @@ pub struct Census {
     pub living: u64,
     /// The ended processes that no wait has reported.
     pub zombies: u64,
-    /// The ended processes that were dropped, since their parent ignores its children.
+    /// The ended processes that were dropped, since their parent drops its children (XSH _exit).
     pub dropped: u64,
     /// Whether the machine halted.
     pub halted: bool,

@@ -48,7 +48,7 @@ impl<K: ProcessTable> Machine<K> {
 
     /// Changes a process that is there in what its parent sees too: both are to be rechecked, the parent where it has
     /// no place. The numbers that the process bears move with it. Where it stays put no slot of its children is read.
-    /// Each such change goes by this. The parent; number 0 for none.
+    /// The parent; number 0 for none.
     pub(crate) fn change_seen<F: FnOnce(&mut Record)>(&mut self, pid: Pid, change: F) -> Pid
         requires there { IsThere pid self.old }
         requires callable { F.IsAlwaysCallable change }
@@ -60,8 +60,8 @@ impl<K: ProcessTable> Machine<K> {
         ensures parent { result ≡ parent_of pid self.old.state.processes }
         ensures there { result ≢ 0 → IsThere result self.new }
         ensures to_recheck { IfThere pid self.old (λ me. self.new.to_recheck ≡ rechecks_changed me self.old) }
-        ensures costs { Costs (4 + 2 * length (children_in pid self.old.state.processes)) self.old self.new }
-        ensures put { StaysPut F.FnOnce change self.old.state.processes pid → Costs 2 self.old self.new × (self.new.foregrounds_unchecked ≡ self.old.foregrounds_unchecked) }
+        ensures costs { Costs (3 + 2 * length (children_in pid self.old.state.processes)) self.old self.new }
+        ensures put { StaysPut F.FnOnce change self.old.state.processes pid → Costs 1 self.old self.new × (self.new.foregrounds_unchecked ≡ self.old.foregrounds_unchecked) }
     {
         let Change {
             parent,
@@ -85,7 +85,7 @@ impl<K: ProcessTable> Machine<K> {
     pub(crate) fn change_life(&mut self, pid: Pid, life: Life, news: News, status: Status)
         requires there { IsPlaced self.old.state.processes pid }
         requires living { is_zombie life ≡ false }
-        ensures { IfThere pid self.old (λ me. Changes 3 self.old self.new (with_processes self.old.state (told_of_change status me (changed pid (lives life news) self.old.state.processes))) (rechecking_told (lives life news me) (process self.new.state me.parent) self.old.state.order self.old.to_recheck)) }
+        ensures { IfThere pid self.old (λ me. Changes 2 self.old self.new (with_processes self.old.state (told_of_change status me (changed pid (lives life news) self.old.state.processes))) (rechecking_told (lives life news me) (process self.new.state me.parent) self.old.state.order self.old.to_recheck)) }
     {
         let Change { parent, after, .. } = self.table.change_seen(pid, |fields| {
             fields.life = life;

@@ -1,7 +1,7 @@
 //! Consoles: whose terminal each is, who waits to read from it, and what a key, a hangup and a lost foreground
 //! process group do (XBD 11.1).
 
-ghost use Rattle.std.specs.Prelude.{is_some, ◌≡◌, ◌≢◌, ◌==◌, ◌+◌, ◌<◌, ◌≤◌, ◌||◌, ℕ, List, IfOk, IfSome, MatchOption, Some, None, [], count_by, length, false, true, if◌then◌else◌, option_map, map, replicate, slice_get, slice_set};
+ghost use Rattle.std.specs.Prelude.{is_some, ◌≡◌, ◌≢◌, ◌==◌, ◌+◌, ◌<◌, ◌≤◌, ◌||◌, ℕ, List, IfOk, IfSome, Some, None, [], count_by, length, false, true, if◌then◌else◌, option_map, map, replicate, slice_get, slice_set};
 ghost use Rattle.std.specs.Option.{option_copied};
 ghost use Rattle.posix.specs.Processes.{Process};
 ghost use Rattle.posix.specs.States.{process, is_in, without};
@@ -27,7 +27,7 @@ use pidset::Index;
 use posix::{Blocked, Life, Pid, Sig};
 use proctable::{ProcessTable, Snapshot};
 use std::alloc::{AllocError, Global};
-use tty::{Console, KeyEffect, ends_line};
+use tty::{Console, ends_line};
 
 /// The controlling terminal of a session, as its processes see it (XBD 11.1.3).
 #[derive(Clone, Copy)]
@@ -307,7 +307,8 @@ impl<K: ProcessTable> Machine<K> {
     }
 
     /// Changes the console with this index by a closure, and gives the closure's result; none, and nothing changes,
-    /// where there is no such console. All changes of one console but [`Machine::take_line`] go by this function.
+    /// where there is no such console. All changes of one console but [`Machine::take_line`], and the one that clears a
+    /// foreground process group without members, go by this function.
     fn change_console<T, F: FnOnce(&mut Console) -> T>(
         &mut self,
         console_index: usize,
@@ -331,7 +332,7 @@ impl<K: ProcessTable> Machine<K> {
     // ---- whose terminal it is
 
     /// The console with this index, nobody's terminal, becomes that of a session that has none, with a foreground
-    /// process group; what was typed before stays.
+    /// process group; what was typed before stays (XBD 11.1.3).
     pub fn acquire_console(&mut self, console_index: usize, session: Pid, group: Pid)
         requires free { IfSome (slice_get self.old.state.consoles console_index) (λ c. c.session ≡ 0) }
         requires none { console_of session self.old.state.consoles ≡ None }
@@ -344,7 +345,7 @@ impl<K: ProcessTable> Machine<K> {
         self.change_console(console_index, |console| console.acquire(session, group));
     }
 
-    /// A process group becomes the foreground one of a session's terminal.
+    /// A process group becomes the foreground one of a session's terminal (XSH tcsetpgrp).
     pub fn set_foreground(&mut self, session: Pid, group: Pid)
         requires { session ≢ 0 }
         ensures state { self.new.state ≡ with_consoles self.old.state (changed_console session (with_foreground group) self.old.state.consoles) }
@@ -359,7 +360,7 @@ impl<K: ProcessTable> Machine<K> {
         }
     }
 
-    /// TOSTOP of a session's terminal is set or cleared.
+    /// TOSTOP of a session's terminal is set or cleared (XBD 11.2.5).
     pub fn set_tostop(&mut self, session: Pid, tostop: bool)
         requires { session ≢ 0 }
         ensures rest { self.new ≡ record (self.old) { state = self.new.state } }
@@ -372,7 +373,7 @@ impl<K: ProcessTable> Machine<K> {
 
     /// Moves bytes of the first finished line of a session's terminal into a slice, as many as it holds, and returns
     /// their number; what it leaves of the line stays. None, and nothing changes, where no line is finished, or the
-    /// session has no terminal.
+    /// session has no terminal (XBD 11.1.6).
     pub fn take_line(&mut self, session: Pid, out: &mut [u8]) -> Option<usize>
         requires { session ≢ 0 }
         ensures taken { (c : ConsoleValue) → console_of session self.old.state.consoles ≡ Some c → Takes c.lines out.old out.new result }
@@ -401,11 +402,11 @@ impl<K: ProcessTable> Machine<K> {
         }
     }
 
-    /// A byte comes on the console with this index.
-    fn type_byte(&mut self, console_index: usize, byte: u8) -> Option<KeyEffect>
+    /// A byte comes on the console with this index. The signal that the byte gives, if it gives one.
+    fn type_byte(&mut self, console_index: usize, byte: u8) -> Option<Sig>
         ensures none { slice_get self.old.state.consoles console_index ≡ None → (result ≡ None) × (self.new.state ≡ self.old.state) }
         ensures state { IfConsole console_index self.old (λ c. self.new.state ≡ with_consoles self.old.state (slice_set self.old.state.consoles console_index (keyed byte c))) }
-        ensures signal { MatchOption result (slice_get self.old.state.consoles console_index ≡ None) (λ e. IfConsole console_index self.old (λ c. e.signal ≡ signal_typed byte c)) }
+        ensures signal { IfConsole console_index self.old (λ c. result ≡ signal_typed byte c) }
         ensures foregrounds_unchecked { self.new.foregrounds_unchecked ≡ self.old.foregrounds_unchecked }
         ensures quiet { key_signal byte ≢ None → self.new.to_recheck ≡ self.old.to_recheck }
         ensures readers { self.old.to_recheck ≡ [] → NoWakeIsLost self.old.state → IfConsole console_index self.old (λ c. NeedNoChild self.new.state.processes self.new.to_recheck × (length self.new.to_recheck ≤ length (members_in c.foreground self.old.state.processes))) }
@@ -416,11 +417,12 @@ impl<K: ProcessTable> Machine<K> {
         self.recheck_at_line_end(session, byte);
         let _ = &self.table;
         self.change_console(console_index, |console| console.key(byte))
+            .flatten()
     }
 
     /// A byte comes on a console, which counts from 1. INTR, QUIT and SUSP discard all input, and each member of the
     /// foreground process group gets INT, QUIT or TSTP; any other byte is for the line that is edited. On a console
-    /// that isn't there, or is hung up, nothing happens (XBD 11.1.9). Where the byte gives a signal, one slot is read, and three for
+    /// that isn't there, or is hung up, nothing happens (XBD 11.1.9). Where the byte gives a signal, one slot is read for
     /// each member. Where nobody was to be rechecked, and no wake-up lost, each process that then is to be rechecked is a
     /// member of the foreground process group, and has a chosen signal or reads.
     pub fn key(&mut self, console: u8, byte: u8)
@@ -433,14 +435,11 @@ impl<K: ProcessTable> Machine<K> {
         let Some(console_index) = usize::from(console).checked_sub(1) else {
             return;
         };
-        let foreground = match self.consoles.get(console_index) {
-            Some(console) => console.foreground(),
-            None => return,
-        };
-        let Some(effect) = self.type_byte(console_index, byte) else {
+        let Some(console) = self.consoles.get(console_index) else {
             return;
         };
-        if let Some(sig) = effect.signal {
+        let foreground = console.foreground();
+        if let Some(sig) = self.type_byte(console_index, byte) {
             self.signal_group(foreground, sig);
         }
     }
@@ -488,8 +487,8 @@ impl<K: ProcessTable> Machine<K> {
 
     /// Where a process that is there, other than process 1, leads a session with a terminal, each member of the
     /// foreground process group gets HUP, and the terminal is nobody's any more (XSH _exit). No slot is read where no
-    /// session with the number of the process has a terminal; where it hangs a terminal up, one is for the process, one
-    /// for the signal, and three for each member.
+    /// session with the number of the process has a terminal; where it hangs a terminal up, one is for the process,
+    /// and one for each member.
     pub fn hang_up(&mut self, pid: Pid)
         requires { IsThere pid self.old }
         ensures state { IfThere pid self.old (λ me. self.new.state ≡ hanging_up self.old.state me) }

@@ -31,7 +31,7 @@ impl<K: ProcessTable> Machine<K> {
         ensures mine { process self.new.state pid ≡ process self.old.state pid }
         ensures heir { CanInherit self.new.state.processes pid heir }
         ensures fewer { (q : ℕ) → length (children_in q self.new.state.processes) ≤ length (children_in q self.old.state.processes) }
-        ensures costs { Costs (7 * length (zombies_of pid self.old.state.processes)) self.old self.new }
+        ensures costs { Costs (4 * length (zombies_of pid self.old.state.processes)) self.old self.new }
     {
         let mut next = self.next_wanted(pid, WaitidOptions::WEXITED, Pid::NONE);
         while let Some(child) = next {
@@ -52,7 +52,7 @@ impl<K: ProcessTable> Machine<K> {
         ensures is { IfThere pid self.old (λ me. result ≡ me.parent) }
         ensures parent { IfThere pid self.old (λ me. IsThere me.parent self.new) }
         ensures zombie { (it : Process) × (process self.new.state pid ≡ Some it) × (is_zombie it.life ≡ true) }
-        ensures costs { Costs (4 + length (children_in pid self.old.state.processes)) self.old self.new }
+        ensures costs { Costs (3 + length (children_in pid self.old.state.processes)) self.old self.new }
     {
         self.to_recheck.insert(pid);
         let Change { parent, after, .. } = self
@@ -79,7 +79,7 @@ impl<K: ProcessTable> Machine<K> {
         ensures is { IfThere pid self.old (λ me. result ≡ me.parent) }
         ensures parent { IfThere pid self.old (λ me. IsThere me.parent self.new) }
         ensures zombie { (it : Process) × (process self.new.state pid ≡ Some it) × (is_zombie it.life ≡ true) }
-        ensures costs { Costs (4 + 8 * length (children_in pid self.old.state.processes)) self.old self.new }
+        ensures costs { Costs (3 + 5 * length (children_in pid self.old.state.processes)) self.old self.new }
     {
         self.tell_heir(pid, heir);
         self.become_zombie(pid, heir, status)
@@ -102,7 +102,7 @@ impl<K: ProcessTable> Machine<K> {
 
     /// Process 1 is a zombie and loses its place, and the machine halts.
     fn halt(&mut self, status: Status)
-        ensures { Changes 2 self.old self.new (halting self.old.state status) (with_number 1 self.old.to_recheck) }
+        ensures { Changes 1 self.old self.new (halting self.old.state status) (with_number 1 self.old.to_recheck) }
     {
         self.lose_place(Pid::INIT);
         self.change_seen(Pid::INIT, |fields| fields.end(status));
@@ -115,7 +115,7 @@ impl<K: ProcessTable> Machine<K> {
         requires parent { IsThere parent self.old }
         requires other { child ≢ 1 }
         requires zombie { (it : Process) × (process self.old.state child ≡ Some it) × (is_zombie it.life ≡ true) }
-        ensures { Removes 6 self.old self.new (noticing_end self.old.state parent child status) (if is_dropping parent self.old.state.processes then without_gone child (parent_of child self.old.state.processes) self.old.state.order (rechecks_by_signals (option_map (noticed (child_signal_of child status)) (process self.old.state parent)) self.old) else rechecks_by_signals (option_map (noticed (child_signal_of child status)) (process self.old.state parent)) self.old) }
+        ensures { Removes 3 self.old self.new (noticing_end self.old.state parent child status) (if is_dropping parent self.old.state.processes then without_gone child (parent_of child self.old.state.processes) self.old.state.order (rechecks_by_signals (option_map (noticed (child_signal_of child status)) (process self.old.state parent)) self.old) else rechecks_by_signals (option_map (noticed (child_signal_of child status)) (process self.old.state parent)) self.old) }
     {
         let signal = child_signal(child, status);
         let drops = self.change(parent, |fields| {
@@ -132,7 +132,7 @@ impl<K: ProcessTable> Machine<K> {
     fn drop_child(&mut self, child: Pid)
         requires other { child ≢ 1 }
         requires zombie { (it : Process) × (process self.old.state child ≡ Some it) × (is_zombie it.life ≡ true) }
-        ensures { Removes 5 self.old self.new (dropping_child self.old.state child) (without_gone child (parent_of child self.old.state.processes) self.old.state.order self.old.to_recheck) }
+        ensures { Removes 2 self.old self.new (dropping_child self.old.state child) (without_gone child (parent_of child self.old.state.processes) self.old.state.order self.old.to_recheck) }
     {
         self.reap(child);
         self.dropped += 1;
@@ -149,7 +149,7 @@ impl<K: ProcessTable> Machine<K> {
         requires heir { pid ≢ 1 → CanInherit self.old.state.processes pid heir }
         ensures state { IfThere pid self.old (λ me. self.new.state ≡ (end_with_heir self.old.state me heir status).state) }
         ensures to_recheck { pid ≡ 1 → self.new.to_recheck ≡ with_number 1 self.old.to_recheck }
-        ensures visits { self.new.visits ≤ self.old.visits + 13 + 12 * length (children_in pid self.old.state.processes) + slots_of_orphans self.old.state (tell_of_all (departing self.old.state pid heir status) heir (zombies_of pid self.old.state.processes)) }
+        ensures visits { self.new.visits ≤ self.old.visits + 6 + 5 * length (children_in pid self.old.state.processes) + slots_of_orphans self.old.state (tell_of_all (departing self.old.state pid heir status) heir (zombies_of pid self.old.state.processes)) }
         ensures no_fewer { self.old.visits ≤ self.new.visits }
     {
         if pid == Pid::INIT {

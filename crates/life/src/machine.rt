@@ -15,7 +15,7 @@ ghost use Rattle.posix.specs.Terminals.{is_in_read};
 ghost use Rattle.proctable.specs.Records.{snapshot_of, own_of, own_row};
 ghost use Rattle.life.specs.contracts.machine.Machine.{the_row as machine_row};
 ghost use Rattle.life.specs.Loans.{lent, looked};
-ghost use Rattle.life.specs.Machines.{AreTerminals, Finds, FindsAndCounts, Runs, IsThere, IfThere};
+ghost use Rattle.life.specs.Machines.{AreTerminals, FindsAndCounts, Runs, IsThere, IfThere};
 ghost use Rattle.life.specs.NotedBursts.{most_notes, exec_with_notes};
 ghost use Rattle.pidset.specs.Numbers.{with_number};
 ghost use Rattle.pidset.specs.Rows.{HasRoom};
@@ -161,7 +161,7 @@ fn room_for(alloc: Global, capacity: usize) -> Result<PidSet, AllocError>
 fn put_first<K: ProcessTable>(table: &mut IndexedTable<K>, alloc: Global) -> Result<(), AllocError>
     requires { table.old.processes ≡ [] }
     ensures processes { OnOk result (table.new.processes ≡ first_process ∷ []) }
-    ensures visits { OnOk result (table.new.visits ≤ table.old.visits + 6) }
+    ensures visits { OnOk result (table.new.visits ≤ table.old.visits + 1) }
 {
     table.reserve(Pid::INIT)?;
     table.insert(Pid::INIT, Pid::NONE, Record::first(alloc)?);
@@ -171,7 +171,7 @@ fn put_first<K: ProcessTable>(table: &mut IndexedTable<K>, alloc: Global) -> Res
 /// A table of process 1 alone; an error where the host has no memory for it.
 fn first_table<K: ProcessTable>(alloc: Global) -> Result<IndexedTable<K>, AllocError>
     ensures processes { IfOk result (λ t. t.processes ≡ first_process ∷ []) }
-    ensures visits { IfOk result (λ t. t.visits ≤ 6) }
+    ensures visits { IfOk result (λ t. t.visits ≤ 1) }
 {
     let mut table = IndexedTable::empty(alloc);
     put_first(&mut table, alloc)?;
@@ -183,7 +183,7 @@ impl<K: ProcessTable> Machine<K> {
     #[tactic(auto, using(jobs::proofs::NumberLemmas::nobody_there), unfolding(posix::specs::States::is_in, posix::specs::Tables::children_in))]
     pub fn boot(alloc: Global, world: &World) -> Result<Self, AllocError>
         ensures state { IfOk result (λ m. m.state ≡ boot_of world.now) }
-        ensures visits { IfOk result (λ m. m.visits ≤ 6) }
+        ensures visits { IfOk result (λ m. m.visits ≤ 1) }
         ensures to_recheck { IfOk result (λ m. m.to_recheck ≡ []) }
         ensures foregrounds_unchecked { IfOk result (λ m. m.foregrounds_unchecked ≡ Unchecked.Nothing) }
         ensures regular { IfOk result (λ m. IsRegular m.state) }
@@ -287,16 +287,13 @@ impl<K: ProcessTable> Machine<K> {
         self.table.get(pid)
     }
 
-    /// The parent of a process that is there; number 0 for process 1.
-    pub fn parent(&mut self, pid: Pid) -> Pid
-        requires { IsThere pid self.old }
-        ensures finds { Finds 1 self.old self.new (IfThere pid self.old (λ me. result ≡ me.parent)) }
-        ensures there { pid ≢ 1 → IsThere result self.old }
+    /// The parent of a process that is there; number 0 for process 1. No slot is read.
+    pub fn parent(&self, pid: Pid) -> Pid
+        requires { IsThere pid self.now }
+        ensures value { IfThere pid self.now (λ me. result ≡ me.parent) }
+        ensures there { pid ≢ 1 → IsThere result self.now }
     {
-        match self.table.get(pid) {
-            Some(snapshot) => snapshot.parent,
-            None => Pid::NONE,
-        }
+        self.table.parent(pid)
     }
 
     // ---- one process

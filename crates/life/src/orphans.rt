@@ -22,7 +22,7 @@ impl<K: ProcessTable> Machine<K> {
     /// The group of a process that is there is noted where the process keeps it from being orphaned. No slot is read.
     fn note_anchor(&mut self, pid: Pid)
         requires { length self.old.groups_at_risk ≤ length self.old.state.processes }
-        ensures notes { Notes 0 self.old self.new }
+        ensures notes { Notes self.old self.new }
         ensures groups_at_risk { IfThere pid self.old (λ it. self.new.groups_at_risk ≡ (if is_anchor_of self.old.state.processes it then with_number it.group self.old.groups_at_risk else self.old.groups_at_risk)) }
     {
         if let Some(group) = self.table.group_kept(pid) {
@@ -31,19 +31,19 @@ impl<K: ProcessTable> Machine<K> {
     }
 
     /// The groups are noted that a process that is there and its children keep from being orphaned: no
-    /// others can be orphaned by its end.
+    /// others can be orphaned by its end. No slot is read.
     #[tactic(auto, using(crate::proofs::ChildLemmas::child_there, crate::proofs::ChildLemmas::child_less))]
     fn note_groups_at_risk(&mut self, pid: Pid)
         requires { IsThere pid self.old }
         ensures groups_at_risk { (g : ℕ) → is_in g self.new.groups_at_risk ≡ loses_anchor pid self.old.state.processes g }
-        ensures notes { Notes (1 + length (children_in pid self.old.state.processes)) self.old self.new }
+        ensures notes { Notes self.old self.new }
     {
         self.groups_at_risk.clear();
         self.note_anchor(pid);
-        let mut next = self.first_child(pid);
+        let mut next = self.next_child(pid, Pid::NONE);
         while let Some(child) = next {
             self.note_anchor(child);
-            next = self.next_sibling(child);
+            next = self.next_child(pid, child);
         }
     }
 
@@ -113,7 +113,7 @@ impl<K: ProcessTable> Machine<K> {
         ensures is { IfThere pid self.old (λ me. result ≡ me.parent) }
         ensures parent { IfThere pid self.old (λ me. IsThere me.parent self.new) }
         ensures zombie { (it : Process) × (process self.new.state pid ≡ Some it) × (is_zombie it.life ≡ true) }
-        ensures visits { self.new.visits ≤ self.old.visits + 5 + 9 * length (children_in pid self.old.state.processes) + slots_of_orphans self.old.state (tell_of_all (departing self.old.state pid heir status) heir (zombies_of pid self.old.state.processes)) }
+        ensures visits { self.new.visits ≤ self.old.visits + 3 + 5 * length (children_in pid self.old.state.processes) + slots_of_orphans self.old.state (tell_of_all (departing self.old.state pid heir status) heir (zombies_of pid self.old.state.processes)) }
         ensures no_fewer { self.old.visits ≤ self.new.visits }
     {
         if self.nobody_stopped() {

@@ -16,8 +16,8 @@ impl<K: ProcessTable> Machine<K> {
     pub fn is_same(&mut self, other: &mut Machine<K>) -> bool
         requires world { self.old.state.world ≡ other.old.state.world }
         ensures same { result ≡ true → self.old.state ≡ other.old.state }
-        ensures mine { Looks (1 + 3 * length self.old.state.processes) self.old self.new }
-        ensures others { Looks (1 + 3 * length other.old.state.processes) other.old other.new }
+        ensures mine { Looks (1 + 2 * length self.old.state.processes) self.old self.new }
+        ensures others { Looks (1 + 2 * length other.old.state.processes) other.old other.new }
     {
         if !self.has_same_counts(other) || !are_same(&self.consoles, &other.consoles) {
             return false;
@@ -41,8 +41,8 @@ impl<K: ProcessTable> Machine<K> {
     /// Whether both machines have the same processes: these are compared one by one, from the least number on.
     fn has_same_processes(&mut self, other: &mut Machine<K>) -> bool
         ensures same { result ≡ true → self.old.state.processes ≡ other.old.state.processes }
-        ensures mine { Looks (1 + 3 * length self.old.state.processes) self.old self.new }
-        ensures others { Looks (1 + 3 * length other.old.state.processes) other.old other.new }
+        ensures mine { Looks (1 + 2 * length self.old.state.processes) self.old self.new }
+        ensures others { Looks (1 + 2 * length other.old.state.processes) other.old other.new }
     {
         let mut next = self.next_after(Pid::NONE);
         let mut their_next = other.next_after(Pid::NONE);
@@ -64,8 +64,8 @@ impl<K: ProcessTable> Machine<K> {
         requires here { IsThere pid self.old }
         requires there { IsThere pid other.old }
         ensures same { result ≡ true → process self.old.state pid ≡ process other.old.state pid }
-        ensures mine { Looks 2 self.old self.new }
-        ensures others { Looks 2 other.old other.new }
+        ensures mine { Looks 1 self.old self.new }
+        ensures others { Looks 1 other.old other.new }
     {
         if self.parent(pid) != other.parent(pid) {
             return false;

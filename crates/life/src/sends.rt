@@ -47,10 +47,7 @@ pub(crate) fn may_signal(me: &Caller, sig: Option<Sig>, it: &Snapshot) -> bool
 fn number_of(signal: &Option<PendingSignal>) -> Option<Sig>
     ensures { result ≡ number_in signal.now }
 {
-    match signal {
-        Some(signal) => Some(signal.sig),
-        None => None,
-    }
+    Some(signal.as_ref()?.sig)
 }
 
 /// A signal that is sent, if it is a real-time signal.

@@ -79,7 +79,7 @@ impl<K: ProcessTable> Machine<K> {
     /// order.
     pub(crate) fn signal_members(&mut self, group: Pid, sig: Sig)
         requires { is_realtime sig ≡ false }
-        ensures { Changes (1 + (2 + slots_of_signal sig) * length (members_in group self.old.state.processes)) self.old self.new (with_processes self.old.state (signalled_members (record { sig = sig; carried = from_kernel }) group self.old.state.processes)) (rechecking_members sig group self.old.state.processes self.old.state.order self.old.to_recheck) }
+        ensures { Changes (slots_of_signal sig * length (members_in group self.old.state.processes)) self.old self.new (with_processes self.old.state (signalled_members (record { sig = sig; carried = from_kernel }) group self.old.state.processes)) (rechecking_members sig group self.old.state.processes self.old.state.order self.old.to_recheck) }
     {
         let mut next = self.next_member(group, Pid::NONE);
         while let Some(pid) = next {
@@ -96,7 +96,7 @@ impl<K: ProcessTable> Machine<K> {
     /// group's.
     pub fn signal_group(&mut self, group: Pid, sig: Sig)
         requires { is_realtime sig ≡ false }
-        ensures { Changes (1 + (2 + slots_of_signal sig) * length (members_in group self.old.state.processes)) self.old self.new (with_processes self.old.state (signalled_group sig group self.old.state.processes)) (if group == 0 then self.old.to_recheck else rechecking_members sig group self.old.state.processes self.old.state.order self.old.to_recheck) }
+        ensures { Changes (slots_of_signal sig * length (members_in group self.old.state.processes)) self.old self.new (with_processes self.old.state (signalled_group sig group self.old.state.processes)) (if group == 0 then self.old.to_recheck else rechecking_members sig group self.old.state.processes self.old.state.order self.old.to_recheck) }
     {
         let _ = &self.table;
         if group != Pid::NONE {

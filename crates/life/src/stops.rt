@@ -17,7 +17,7 @@ impl<K: ProcessTable> Machine<K> {
     /// reported, and its parent gets notice of it. A call that it is blocked in stays (XSH 2.4.3).
     pub fn stop_process(&mut self, pid: Pid, sig: Sig)
         requires { IsPlaced self.old.state.processes pid }
-        ensures { IfThere pid self.old (λ me. Changes 3 self.old self.new (stopping self.old.state me sig).state (rechecking_told (stopped_by sig me) (process self.new.state me.parent) (without pid self.old.state.order) self.old.to_recheck)) }
+        ensures { IfThere pid self.old (λ me. Changes 2 self.old self.new (stopping self.old.state me sig).state (rechecking_told (stopped_by sig me) (process self.new.state me.parent) (without pid self.old.state.order) self.old.to_recheck)) }
     {
         self.lose_place(pid);
         self.change_life(
@@ -32,7 +32,7 @@ impl<K: ProcessTable> Machine<K> {
     /// parent gets notice of it (XSH 2.4.3).
     pub(crate) fn continue_process(&mut self, pid: Pid)
         requires { IsPlaced self.old.state.processes pid }
-        ensures { IfThere pid self.old (λ me. Changes 3 self.old self.new (with_processes self.old.state (told_of_change continued me (changed pid resumed self.old.state.processes))) (rechecking_told (resumed me) (process self.new.state me.parent) self.old.state.order self.old.to_recheck)) }
+        ensures { IfThere pid self.old (λ me. Changes 2 self.old self.new (with_processes self.old.state (told_of_change continued me (changed pid resumed self.old.state.processes))) (rechecking_told (resumed me) (process self.new.state me.parent) self.old.state.order self.old.to_recheck)) }
     {
         self.change_life(pid, Life::Running, News::Continued, Status::continued());
     }

@@ -20,7 +20,7 @@ impl<K: ProcessTable> Machine<K> {
     /// where it has no place, and nobody else is: who takes in children shows to nobody before an end.
     pub fn mark(&mut self, pid: Pid, mark: bool)
         requires { IsThere pid self.old }
-        ensures { Changes 2 self.old self.new (change self.old.state pid (marked_as mark)) (rechecks pid self.old) }
+        ensures { Changes 1 self.old self.new (change self.old.state pid (marked_as mark)) (rechecks pid self.old) }
     {
         recheck_later(&mut self.to_recheck, &self.order, pid);
         self.table

@@ -1,6 +1,6 @@
 //! Waits.
 
-ghost use Rattle.std.specs.Prelude.{◌≡◌, ◌≢◌, ◌<◌, ◌≤◌, ◌+◌, ◌*◌, ℕ, filter, length, option_map, Some, true, if◌then◌else◌};
+ghost use Rattle.std.specs.Prelude.{◌≡◌, ◌≢◌, ◌<◌, ◌≤◌, ◌+◌, ℕ, filter, length, option_map, Some, true, if◌then◌else◌};
 ghost use Rattle.std.specs.List.{list_any};
 ghost use Rattle.posix.specs.Processes.{Process, is_zombie};
 ghost use Rattle.posix.specs.Tables.{lookup, removed, children_in, first_pid, is_member, parent_of};
@@ -9,7 +9,7 @@ ghost use Rattle.posix.specs.Regular.{IsRegular};
 ghost use Rattle.posix.specs.declared.process.Report.TheVariants.{NoChild, Nothing};
 ghost use Rattle.posix.specs.declared.target.Target.TheVariants as whom;
 ghost use Rattle.posix.specs.Waits.{is_named as is_named_by, is_something, report, report_change as report_change_of, report_life as report_life_of, report_of as report_of_child, wanted_in, report_of_meant, news_told};
-ghost use Rattle.life.specs.Waits.{is_meant as is_meant_by, is_reported, slots_of_children, slots_of_wait};
+ghost use Rattle.life.specs.Waits.{is_meant as is_meant_by, is_reported};
 ghost use Rattle.proctable.specs.Records.{snapshot_of};
 ghost use Rattle.life.specs.Machines.{Finds, Changes, Removes, IsThere, IfThere, with_processes, CanGo, IsGone};
 ghost use Rattle.jobs.specs.Indexes.{seen_of};
@@ -126,7 +126,7 @@ pub(crate) fn discard<K: ProcessTable>(
     ensures value { Some result ≡ option_map snapshot_of (lookup pid table.old.processes) }
     ensures processes { table.new.processes ≡ removed pid table.old.processes }
     ensures counts { (it : Process) → lookup pid table.old.processes ≡ Some it → IsGone pids.old pids.new pid it }
-    ensures visits { table.new.visits ≤ table.old.visits + 5 }
+    ensures visits { table.new.visits ≤ table.old.visits + 2 }
     ensures no_fewer { table.old.visits ≤ table.new.visits }
 {
     let Some(snapshot) = table.remove(pid) else {
@@ -191,13 +191,13 @@ impl<K: ProcessTable> Machine<K> {
     }
 
     /// Whether a process that is there has a child in a process group. It goes over the members and the children side
-    /// by side, so it takes no more rounds than there are of the fewer.
-    #[tactic(auto, using(crate::proofs::ChildLemmas::child_there, crate::proofs::ChildLemmas::child_less, crate::proofs::MemberLemmas::member_there))]
-    fn has_child_in(&mut self, parent: Pid, group: Pid) -> bool
-        requires { IsThere parent self.old }
-        ensures { Finds (1 + 2 * length (children_in parent self.old.state.processes)) self.old self.new (result ≡ list_any (is_member group) (children_in parent self.old.state.processes)) }
+    /// by side, so it takes no more rounds than there are of the fewer. No slot is read.
+    #[tactic(auto, using(crate::proofs::MemberLemmas::member_there))]
+    fn has_child_in(&self, parent: Pid, group: Pid) -> bool
+        requires { IsThere parent self.now }
+        ensures { result ≡ list_any (is_member group) (children_in parent self.now.state.processes) }
     {
-        let mut next_child = self.first_child(parent);
+        let mut next_child = self.next_child(parent, Pid::NONE);
         let mut next_member = self.next_member(group, Pid::NONE);
         while let Some(child) = next_child {
             let Some(member) = next_member else {
@@ -209,21 +209,21 @@ impl<K: ProcessTable> Machine<K> {
             if self.parent(member) == parent {
                 return true;
             }
-            next_child = self.next_sibling(child);
+            next_child = self.next_child(parent, child);
             next_member = self.next_member(group, member);
         }
         false
     }
 
-    /// Whether a process that is there has a child, or one in a process group.
+    /// Whether a process that is there has a child, or one in a process group. No slot is read.
     #[tactic(auto, using(crate::proofs::ChildLemmas::any_child))]
-    fn has_child(&mut self, parent: Pid, group: &Option<Pid>) -> bool
-        requires { IsThere parent self.old }
-        ensures { Finds (1 + slots_of_children group.now parent self.old.state.processes) self.old self.new (result ≡ list_any (is_meant_by group.now) (children_in parent self.old.state.processes)) }
+    fn has_child(&self, parent: Pid, group: &Option<Pid>) -> bool
+        requires { IsThere parent self.now }
+        ensures { result ≡ list_any (is_meant_by group.now) (children_in parent self.now.state.processes) }
     {
         match group {
             Some(group) => self.has_child_in(parent, *group),
-            None => self.first_child(parent).is_some(),
+            None => self.next_child(parent, Pid::NONE).is_some(),
         }
     }
 
@@ -237,7 +237,7 @@ impl<K: ProcessTable> Machine<K> {
         options: WaitidOptions,
     ) -> Report
         requires { IsThere parent self.old }
-        ensures { Finds (1 + slots_of_children group.now parent self.old.state.processes) self.old self.new (result ≡ report_of_meant (is_meant_by group.now) options.0 (children_in parent self.old.state.processes)) }
+        ensures { Finds 1 self.old self.new (result ≡ report_of_meant (is_meant_by group.now) options.0 (children_in parent self.old.state.processes)) }
     {
         match self.first_wanted(parent, group, options) {
             Some(child) => self.report_of(child, options),
@@ -250,7 +250,7 @@ impl<K: ProcessTable> Machine<K> {
     #[tactic(auto, using(posix::proofs::ReportingLemmas::report_none_meant))]
     pub fn wait_attempt(&mut self, me: &Caller, asked: Asked) -> Report
         requires { IsThere me.now.pid self.old }
-        ensures { Finds (1 + slots_of_wait asked.target me.now.pid self.old.state.processes) self.old self.new (result ≡ report self.old.state.processes me.now.pid me.now.group asked.target asked.options.0) }
+        ensures { Finds 1 self.old self.new (result ≡ report self.old.state.processes me.now.pid me.now.group asked.target asked.options.0) }
     {
         let _ = &self.table;
         let Asked { target, options } = asked;
@@ -284,7 +284,7 @@ impl<K: ProcessTable> Machine<K> {
     pub fn reap(&mut self, pid: Pid)
         requires other { pid ≢ 1 }
         requires zombie { (child : Process) × (process self.old.state pid ≡ Some child) × (is_zombie child.life ≡ true) }
-        ensures changes { Removes 5 self.old self.new (with_processes self.old.state (removed pid self.old.state.processes)) (without_gone pid (parent_of pid self.old.state.processes) self.old.state.order self.old.to_recheck) }
+        ensures changes { Removes 2 self.old self.new (with_processes self.old.state (removed pid self.old.state.processes)) (without_gone pid (parent_of pid self.old.state.processes) self.old.state.order self.old.to_recheck) }
         ensures foregrounds_unchecked { IfThere pid self.old (λ it. self.new.foregrounds_unchecked ≡ also_in_by it.session self.old.foregrounds_unchecked) }
         ensures born { self.new.state.dropped + length self.new.state.processes < self.new.state.births }
     {
@@ -295,10 +295,11 @@ impl<K: ProcessTable> Machine<K> {
         self.give_up_unborne_pages(pid, snapshot.group, snapshot.session);
     }
 
-    /// A wait has reported the news of a process that is there: they become none. Nobody can act by it who couldn't.
+    /// A wait has reported the news of a process that is there: they become none (XSH waitpid). Nobody can act by it who
+    /// couldn't.
     pub fn clear_news(&mut self, pid: Pid)
         requires { IsThere pid self.old }
-        ensures { Changes 2 self.old self.new (change self.old.state pid news_told) self.old.to_recheck }
+        ensures { Changes 1 self.old self.new (change self.old.state pid news_told) self.old.to_recheck }
     {
         self.table.change_seen(pid, |fields| fields.clear_news());
     }

@@ -2,7 +2,7 @@
 //! from member to member of a process group.
 
 ghost use Rattle.std.specs.Prelude.{◌≡◌, slice_get};
-ghost use Rattle.posix.specs.Tables.{IsNext, first_pid, above, next_above, children_in, next_sibling as next_sibling_of};
+ghost use Rattle.posix.specs.Tables.{IsNext, first_pid, above, next_above, children_in};
 ghost use Rattle.posix.specs.Regular.{IsRegular};
 ghost use Rattle.posix.specs.Settle.{wakes};
 ghost use Rattle.posix.specs.Waits.{wanted_in};
@@ -21,20 +21,13 @@ impl<K: ProcessTable> Machine<K> {
         self.table.next_after(pid)
     }
 
-    /// The child with the least number of a process that is there, zombies included.
-    pub(crate) fn first_child(&mut self, pid: Pid) -> Option<Pid>
-        requires { IsThere pid self.old }
-        ensures { Finds 1 self.old self.new (result ≡ first_pid (children_in pid self.old.state.processes)) }
+    /// The child of a process that is there with the least number above `after`, zombies included. No slot is read.
+    pub(crate) fn next_child(&self, parent: Pid, after: Pid) -> Option<Pid>
+        requires { IsThere parent self.now }
+        ensures value { result ≡ first_pid (above after (children_in parent self.now.state.processes)) }
+        ensures regular { IsRegular self.now.state }
     {
-        self.table.first_child(pid)
-    }
-
-    /// The next of the children of the parent of a process that is there.
-    pub(crate) fn next_sibling(&mut self, pid: Pid) -> Option<Pid>
-        requires { IsThere pid self.old }
-        ensures { Finds 1 self.old self.new (result ≡ next_sibling_of pid self.old.state.processes) }
-    {
-        self.table.next_sibling(pid)
+        self.table.next_child(parent, after)
     }
 
     /// The child of a process that has something to report to a wait with these options, with the least number above

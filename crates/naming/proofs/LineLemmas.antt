@@ -1,11 +1,11 @@
 -- Lines without a line feed, and what stands for them.
-use Rattle.std.proofs.Common.{◌≡◌, ◌≢◌, ℕ, List, [], ◌∷◌, ◌++◌, Bor, length, not, take, drop, refl, ap, subst, ◌∙◌, append_assoc}
+use Rattle.std.proofs.Common.{◌≡◌, ◌≢◌, ℕ, List, [], ◌∷◌, ◌++◌, Bor, length, not, take, drop, refl, ap, subst, ◌∙◌}
 use Rattle.std.specs.Prelude.{All, Err, IfOk, MatchOption, None, Ok, Option, Result, Some}
 use Rattle.std.proofs.Math.Seq.{take-append_seam, drop-append_seam}
 use Rattle.std.proofs.lemmas.List.Elements.{All-append, All-cons, All-drop, All-nil, All-take}
 use Rattle.std.specs.List.{position_or_len}
 use Rattle.text.specs.Words.{from_word, is_separator}
-use Rattle.naming.specs.Lines.{Grows, IsOneLine}
+use Rattle.naming.specs.Lines.{IsOneLine}
 
 -- one line before another is one line
 pub both_one_line : (xs ys : List ℕ) → IsOneLine xs → IsOneLine ys → IsOneLine (xs ++ ys)
@@ -48,7 +48,3 @@ pub stands_weaker : {V E : Type 0} (r : Result (Option V) E) (A T : Type 0) (B C
 stands_weaker (Ok None) A T B C weaker h = h
 stands_weaker (Ok (Some v)) A T B C weaker h = (h.0, weaker v h.1)
 stands_weaker (Err e) A T B C weaker h = tt
-
--- what was told so far, and more, and more again
-pub grows_then : (a b c : List ℕ) → Grows a b → Grows b c → Grows a c
-grows_then a b c (xs, g) (ys, h) = (xs ++ ys, h ∙ ap (λ (l : List ℕ). l ++ ys) g ∙ append_assoc a xs ys)

@@ -1,15 +1,11 @@
 -- What becomes of a line.
-use Rattle.std.specs.Prelude.{◌≡◌, ◌≢◌, ◌⊎◌, ℕ, ◌==◌, ◌||◌, ◌++◌, not, Bool, true, List, [], All, codes, length, if◌then◌else◌}
+use Rattle.std.specs.Prelude.{◌≡◌, ◌≢◌, ◌⊎◌, ℕ, ◌==◌, ◌||◌, not, Bool, true, List, [], All, codes, length, if◌then◌else◌}
 use Rattle.std.specs.Char.{is_ascii_uppercase}
 use Rattle.std.specs.List.{list_any}
 use Rattle.std.specs.Str.{bytes_eq}
 use Rattle.text.specs.Words.{before_comment, behind_word, first_word}
 use Rattle.naming.specs.declared.line.Sort.{Sort}
 use Rattle.naming.specs.declared.line.Sort.TheVariants.{Set, Key, Typed, Other}
-
--- bytes were added, or none
-abbrev pub Grows : List ℕ → List ℕ → Type 0
-Grows old new = (more : List ℕ) × (new ≡ old ++ more)
 
 -- no line feed is in it
 abbrev pub IsOneLine : List ℕ → Type 0

@@ -1,11 +1,8 @@
 //! What is wrong with a name.
 
-ghost use Rattle.std.specs.Prelude.{OnOk};
-ghost use Rattle.naming.specs.Lines.{Grows};
+ghost use Rattle.wording.specs.Proses.{Grows};
 
-use crate::message::Message;
-use std::alloc::AllocError;
-use wording::meant;
+use wording::{Prose, meant};
 
 /// What is wrong with a name, a key or a text.
 #[derive(Clone, Copy)]
@@ -42,40 +39,44 @@ pub enum Fault<'a> {
 
 impl Fault<'_> {
     /// Adds a line with it, for a line of a text.
-    pub fn tell(self, line: u64, told: &mut Message) -> Result<(), AllocError>
-        ensures { OnOk result (Grows told.old told.new) }
+    pub fn tell(self, line: u64, told: &mut Prose)
+        ensures { Grows told.old.text told.new.text }
     {
-        told.say_number("jobk: line ", line)?;
-        told.say(": ")?;
-        self.say(told)?;
-        told.say("\n")
+        told.push_with("jobk: line ", line);
+        told.push_str(": ");
+        self.say(told);
+        told.push_str("\n");
     }
 
     /// Adds its words.
-    fn say(self, told: &mut Message) -> Result<(), AllocError>
-        ensures { OnOk result (Grows told.old told.new) }
+    fn say(self, told: &mut Prose)
+        ensures { Grows told.old.text told.new.text }
     {
         match self {
-            Fault::Missing => told.say("a name is missing beside `|`"),
-            Fault::Unknown(name) => say_unknown(told, name),
+            Fault::Missing => told.push_str("a name is missing beside `|`"),
+            Fault::Unknown(name) => {
+                told.push_word("no name is ", name);
+                let near = meant(told.alloc(), name);
+                told.push_meant(near);
+            }
             Fault::NoName(name, more) => {
-                told.say_with("no name is ", name)?;
-                told.quote(more)
+                told.push_word("no name is ", name);
+                told.push_bytes(more);
             }
-            Fault::NoSignal(name) => told.say_around("", name, NO_SIGNAL),
+            Fault::NoSignal(name) => told.push_around("", name, NO_SIGNAL),
             Fault::TwoKinds(first, name) => {
-                told.say_around("", first, " and ")?;
-                told.say_around("", name, " are of two kinds")
+                told.push_around("", first, " and ");
+                told.push_around("", name, " are of two kinds");
             }
-            Fault::Alone(name) => told.say_around("", name, ALONE),
-            Fault::OpenSet => told.say("a set that begins with { ends with }"),
-            Fault::NoKey(key) => told.say_around("no key is ", key, KEYS),
-            Fault::NoText => told.say("a line is written: type 1 \"fg\\n\""),
-            Fault::OpenText => told.say("a text ends with \""),
-            Fault::NoEscape(letter) => told.say_around("no letter is \\", letter, ESCAPES),
-            Fault::EmptyText => told.say("a text has at least one letter"),
-            Fault::GluedText => told.say("a text ends with \" and a blank"),
-            Fault::LongText => told.say(LONG_TEXT),
+            Fault::Alone(name) => told.push_around("", name, ALONE),
+            Fault::OpenSet => told.push_str("a set that begins with { ends with }"),
+            Fault::NoKey(key) => told.push_around("no key is ", key, KEYS),
+            Fault::NoText => told.push_str("a line is written: type 1 \"fg\\n\""),
+            Fault::OpenText => told.push_str("a text ends with \""),
+            Fault::NoEscape(letter) => told.push_around("no letter is \\", letter, ESCAPES),
+            Fault::EmptyText => told.push_str("a text has at least one letter"),
+            Fault::GluedText => told.push_str("a text ends with \" and a blank"),
+            Fault::LongText => told.push_str(LONG_TEXT),
         }
     }
 }
@@ -90,12 +91,3 @@ const ESCAPES: &str = "; \\n \\t \\r \\\\ \\\" and \\x1B are";
 
 const LONG_TEXT: &str =
     "this text makes a line of more than 200 bytes, three for each letter; divide it";
-
-/// Adds that no number has a name, and which is meant.
-fn say_unknown(told: &mut Message, name: &[u8]) -> Result<(), AllocError>
-    ensures { OnOk result (Grows told.old told.new) }
-{
-    told.say_with("no name is ", name)?;
-    let meant = meant(told.alloc(), name)?;
-    told.say_meant("; did you mean ", meant)
-}

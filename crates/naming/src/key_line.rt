@@ -3,12 +3,13 @@
 ghost use Rattle.std.specs.Prelude.{◌≡◌, ◌<◌, ◌++◌, IfOk, OnOk, true};
 ghost use Rattle.std.specs.Fmt.{digit_glyph};
 ghost use Rattle.naming.specs.Keys.{control as control_of, two_digits};
-ghost use Rattle.naming.specs.Lines.{Grows, IsOneLine};
+ghost use Rattle.naming.specs.Lines.{IsOneLine};
+ghost use Rattle.wording.specs.Proses.{Grows};
 
 use crate::fault::Fault;
-use crate::message::Message;
 use std::alloc::{AllocError, Global};
 use text::{next_word, split_comment};
+use wording::Prose;
 
 /// The byte of a key that is pressed with Ctrl, as `^C`.
 fn control(key: &[u8]) -> Option<u8>
@@ -51,10 +52,10 @@ fn push_word(
     number: u64,
     place: u64,
     word: &[u8],
-    told: &mut Message,
+    told: &mut Prose,
 ) -> Result<(), AllocError>
     ensures text { IsOneLine text.old.items → IsOneLine word.now → OnOk result (IsOneLine text.new.items) }
-    ensures told { OnOk result (Grows told.old told.new) }
+    ensures told { Grows told.old.text told.new.text }
 {
     if place < 2 || word.first() != Some(&b'^') {
         return text.extend_from_slice(word);
@@ -62,7 +63,7 @@ fn push_word(
     match control(word) {
         Some(byte) => push_byte(text, byte),
         None => {
-            Fault::NoKey(word).tell(number, told)?;
+            Fault::NoKey(word).tell(number, told);
             text.extend_from_slice(word)
         }
     }
@@ -73,10 +74,10 @@ pub fn key_line(
     alloc: Global,
     number: u64,
     line: &[u8],
-    told: &mut Message,
+    told: &mut Prose,
 ) -> Result<Vec<u8>, AllocError>
     ensures text { IsOneLine line.now → IfOk result (λ v. IsOneLine v.items) }
-    ensures told { OnOk result (Grows told.old told.new) }
+    ensures told { OnOk result (Grows told.old.text told.new.text) }
 {
     let (code, comment) = split_comment(line);
     let mut text = Vec::new(alloc);

@@ -4,7 +4,6 @@
 mod fault;
 mod key_line;
 mod line;
-mod message;
 mod number;
 mod serving;
 mod set_line;
@@ -12,6 +11,5 @@ mod texts;
 mod type_line;
 
 pub use key_line::push_byte;
-pub use message::{Message, digits_of};
 pub use serving::serve;
 pub use texts::{Named, name_text};

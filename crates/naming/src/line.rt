@@ -49,7 +49,7 @@ fn begins_name(byte: u8) -> bool
     byte.is_ascii_uppercase() || byte == b'{' || byte == b'^' || byte == b'"'
 }
 
-/// Whether a byte can begin a name, a set, a key or a text.
+/// Whether one of the bytes can begin a name, a set, a key or a text.
 fn has_beginning(code: &[u8]) -> bool
     ensures { result ≡ list_any begins_name_of code.now }
 {

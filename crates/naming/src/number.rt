@@ -3,9 +3,9 @@
 ghost use Rattle.std.specs.Prelude.{◌<◌, IfSome, length};
 
 use crate::fault::Fault;
-use posix::{Sig, SigSet};
+use posix::SigSet;
 use text::is_separator;
-use wording::{Kind, NAMES, SIGRTMIN};
+use wording::{Kind, SIGRTMIN, named, signal_in};
 
 /// How names stand together.
 #[derive(Clone, Copy, PartialEq, Eq)]
@@ -52,28 +52,11 @@ pub struct Meaning {
 
 /// What a name stands for; none where no number has it.
 fn known_as(word: &[u8]) -> Option<Meaning> {
-    for (kind, name, number) in &NAMES {
-        if name.as_bytes() == word {
-            let number = given_number(*kind, *number);
-            return Some(Meaning {
-                kind: *kind,
-                number,
-            });
-        }
-    }
-    let number = realtime(word)?;
-    Some(Meaning {
-        kind: Kind::Signal,
-        number,
-    })
-}
-
-/// The set of the signal that has a number.
-fn signal_of(number: i64) -> SigSet {
-    match u8::try_from(number).ok().and_then(Sig::new) {
-        Some(sig) => SigSet::just(sig),
-        None => SigSet::EMPTY,
-    }
+    let (kind, number) = match named(word) {
+        Some((kind, number)) => (kind, given_number(kind, number)),
+        None => (Kind::Signal, realtime(word)?),
+    };
+    Some(Meaning { kind, number })
 }
 
 /// What some names of one kind come to.
@@ -105,7 +88,8 @@ impl Sum {
                 self.is_one = true;
             }
         }
-        self.signals = self.signals.union(signal_of(known.number));
+        let signal = signal_in(known.number).map_or(SigSet::EMPTY, SigSet::just);
+        self.signals = self.signals.union(signal);
         self.bits |= known.number;
         true
     }

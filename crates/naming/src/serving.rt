@@ -1,12 +1,10 @@
 //! What the program does: a text with numbers for its names, and the statuses.
 
-ghost use Rattle.std.specs.Prelude.{◌≡◌, ◌≤◌, Err, map};
-ghost use Rattle.inputs.specs.declared.command_line.WordsFault.{WordsFault};
-ghost use Rattle.naming.specs.Serving.{Ends, EndsText, Means, answer_of, asked_by, text_in_words};
+ghost use Rattle.std.specs.Prelude.{◌≡◌, ◌≤◌, map};
+ghost use Rattle.naming.specs.Serving.{Ends, EndsText, Means, answer_of, text_in_words};
 
-use crate::message::Message;
 use crate::texts::{Named, name_text};
-use inputs::{FileFailure, ReadFiles, WordsFault, named_file, read_file};
+use inputs::{FileFailure, ReadFiles, named_file};
 use sink::{Sink, put_all};
 use std::alloc::Global;
 
@@ -15,7 +13,7 @@ fn serve_text<'a, O: Sink>(
     alloc: Global,
     text: &[u8],
     out: &mut O,
-) -> Result<Message, FileFailure<'a>>
+) -> Result<Vec<u8>, FileFailure<'a>>
     ensures { EndsText text.now out.old out.new (O.seen out.old) (O.seen out.new) result }
 {
     let Named { text, told } = name_text(alloc, text)?;
@@ -29,25 +27,25 @@ fn serve_words<'a, F: ReadFiles, O: Sink>(
     words: &'a [&'a str],
     files: &F,
     out: &mut O,
-) -> Result<Message, FileFailure<'a>>
+) -> Result<Vec<u8>, FileFailure<'a>>
     ensures { Ends (F.contents files.now) (text_in_words (map (λ w. w.now) words.entry.now)) out.old out.new (O.seen out.old) (O.seen out.new) result }
 {
     let name = named_file(alloc, "names", "text", words)?;
-    let text = read_file(files, name)?;
+    let text = files.read_file(name).map_err(FileFailure::Unread)?;
     serve_text(alloc, text.as_slice(), out)
 }
 
 /// The status of the program. What is wrong with names is told, and so is a failure.
-fn ended<E: Sink>(done: Result<Message, FileFailure<'_>>, err: &mut E) -> u8
+fn ended<E: Sink>(done: Result<Vec<u8>, FileFailure<'_>>, err: &mut E) -> u8
     ensures status { result ≡ answer_of done.entry }
     ensures silent { result ≡ 0 → err.new ≡ err.old }
 {
     match done {
         Ok(told) => {
-            if told.as_bytes().is_empty() {
+            if told.is_empty() {
                 return 0;
             }
-            let _ = put_all(err, told.as_bytes());
+            let _ = put_all(err, told.as_slice());
             1
         }
         Err(failure) => failure.end(b"usage: jobk names TEXT\n", err),
@@ -59,20 +57,14 @@ fn ended<E: Sink>(done: Result<Message, FileFailure<'_>>, err: &mut E) -> u8
 /// for a device or memory. What is wrong with names goes to `err` behind the text. A failing `err` changes no status.
 pub fn serve<'a, F: ReadFiles, O: Sink, E: Sink>(
     alloc: Global,
-    words: Result<&'a [&'a str], WordsFault>,
+    words: &'a [&'a str],
     files: &F,
     out: &mut O,
     err: &mut E,
 ) -> u8
     ensures status { result ≤ 3 }
-    ensures meaning { Means (F.contents files.now) (asked_by words.entry) out.old out.new (O.seen out.old) (O.seen out.new) result }
+    ensures meaning { Means (F.contents files.now) (text_in_words (map (λ w. w.now) words.entry.now)) out.old out.new (O.seen out.old) (O.seen out.new) result }
     ensures silent { result ≡ 0 → err.new ≡ err.old }
-    ensures not_text { words.entry ≡ Err WordsFault.NotText → result ≡ 2 }
 {
-    let done = match words {
-        Ok(words) => serve_words(alloc, words, files, out),
-        Err(WordsFault::NotText) => Err(FileFailure::Usage),
-        Err(WordsFault::Memory) => Err(FileFailure::Memory),
-    };
-    ended(done, err)
+    ended(serve_words(alloc, words, files, out), err)
 }

@@ -3,14 +3,15 @@
 ghost use Rattle.std.specs.Prelude.{◌≡◌, ◌≢◌, ◌≤◌, IfOk, IfSome, MatchOption, OnOk, length};
 ghost use Rattle.std.specs.Fmt.{signed_decimal};
 ghost use Rattle.std.specs.String.{string_bytes};
-ghost use Rattle.naming.specs.Lines.{Grows, IsOneLine};
+ghost use Rattle.naming.specs.Lines.{IsOneLine};
+ghost use Rattle.wording.specs.Proses.{Grows};
 
 use crate::fault::Fault;
 use crate::line::joined;
-use crate::message::Message;
 use crate::number::{Form, number_of};
 use std::alloc::{AllocError, Global};
 use text::{is_separator, next_word, skip_separators, split_comment, word_len};
+use wording::Prose;
 
 /// Where the operand of a `set` stands in a line without its comment; none where there is none.
 fn operand_at(code: &[u8]) -> Option<usize>
@@ -110,16 +111,16 @@ impl Around<'_> {
         form: Form,
         operand: &[u8],
         len: usize,
-        told: &mut Message,
+        told: &mut Prose,
     ) -> Result<Option<Vec<u8>>, AllocError>
         requires { len ≤ length operand.now }
-        ensures { IfOk result (λ o. MatchOption o (Grows told.old told.new) (λ v. (told.new ≡ told.old) × (IsOneLine self.entry.before.now → IsOneLine self.entry.comment.now → IsOneLine operand.now → IsOneLine v.items))) }
+        ensures { IfOk result (λ o. MatchOption o (Grows told.old.text told.new.text) (λ v. (told.new.text ≡ told.old.text) × (IsOneLine self.entry.before.now → IsOneLine self.entry.comment.now → IsOneLine operand.now → IsOneLine v.items))) }
     {
         let (names, behind) = operand.split_at(len);
         match number_before(form, names, behind) {
             Ok(number) => Ok(Some(self.with_number(alloc, number, behind)?)),
             Err(fault) => {
-                fault.tell(line, told)?;
+                fault.tell(line, told);
                 Ok(None)
             }
         }
@@ -132,9 +133,9 @@ pub fn set_line(
     alloc: Global,
     number: u64,
     line: &[u8],
-    told: &mut Message,
+    told: &mut Prose,
 ) -> Result<Option<Vec<u8>>, AllocError>
-    ensures { IfOk result (λ o. MatchOption o (Grows told.old told.new) (λ v. (told.new ≡ told.old) × (IsOneLine line.now → IsOneLine v.items))) }
+    ensures { IfOk result (λ o. MatchOption o (Grows told.old.text told.new.text) (λ v. (told.new.text ≡ told.old.text) × (IsOneLine line.now → IsOneLine v.items))) }
 {
     let (code, comment) = split_comment(line);
     let Some(at) = operand_at(code) else {
@@ -155,14 +156,14 @@ fn set_in_braces(
     number: u64,
     around: Around<'_>,
     operand: &[u8],
-    told: &mut Message,
+    told: &mut Prose,
 ) -> Result<Option<Vec<u8>>, AllocError>
-    ensures { IfOk result (λ o. MatchOption o (Grows told.old told.new) (λ v. (told.new ≡ told.old) × (IsOneLine around.entry.before.now → IsOneLine around.entry.comment.now → IsOneLine operand.now → IsOneLine v.items))) }
+    ensures { IfOk result (λ o. MatchOption o (Grows told.old.text told.new.text) (λ v. (told.new.text ≡ told.old.text) × (IsOneLine around.entry.before.now → IsOneLine around.entry.comment.now → IsOneLine operand.now → IsOneLine v.items))) }
 {
     match operand.iter().position(|b| *b == b'}') {
         Some(end) => around.with_names(alloc, number, Form::Set, operand, end + 1, told),
         None => {
-            Fault::OpenSet.tell(number, told)?;
+            Fault::OpenSet.tell(number, told);
             Ok(None)
         }
     }
@@ -174,9 +175,9 @@ fn set_of_names(
     number: u64,
     around: Around<'_>,
     operand: &[u8],
-    told: &mut Message,
+    told: &mut Prose,
 ) -> Result<Option<Vec<u8>>, AllocError>
-    ensures { IfOk result (λ o. MatchOption o (Grows told.old told.new) (λ v. (told.new ≡ told.old) × (IsOneLine around.entry.before.now → IsOneLine around.entry.comment.now → IsOneLine operand.now → IsOneLine v.items))) }
+    ensures { IfOk result (λ o. MatchOption o (Grows told.old.text told.new.text) (λ v. (told.new.text ≡ told.old.text) × (IsOneLine around.entry.before.now → IsOneLine around.entry.comment.now → IsOneLine operand.now → IsOneLine v.items))) }
 {
     let close = without_blanks(alloc, operand)?;
     let names = close.as_slice();

@@ -2,14 +2,15 @@
 
 ghost use Rattle.std.specs.Prelude.{◌≡◌, ◌<◌, IfOk, IfSome, MatchOption, OnOk};
 ghost use Rattle.naming.specs.Letters.{IsOneLineLetter, IsShorter};
-ghost use Rattle.naming.specs.Lines.{Grows, IsOneLine};
+ghost use Rattle.naming.specs.Lines.{IsOneLine};
+ghost use Rattle.wording.specs.Proses.{Grows};
 
 use crate::fault::Fault;
 use crate::key_line::push_byte;
 use crate::line::joined;
-use crate::message::Message;
 use std::alloc::{AllocError, Global};
 use text::{MAX_LINE_LEN, is_separator, next_word, skip_separators};
+use wording::Prose;
 
 /// The next letter of a text.
 enum Letter<'a> {
@@ -176,14 +177,14 @@ pub fn type_line(
     alloc: Global,
     number: u64,
     line: &[u8],
-    told: &mut Message,
+    told: &mut Prose,
 ) -> Result<Option<Vec<u8>>, AllocError>
-    ensures { IfOk result (λ o. MatchOption o (Grows told.old told.new) (λ v. (told.new ≡ told.old) × (IsOneLine line.now → IsOneLine v.items))) }
+    ensures { IfOk result (λ o. MatchOption o (Grows told.old.text told.new.text) (λ v. (told.new.text ≡ told.old.text) × (IsOneLine line.now → IsOneLine v.items))) }
 {
     match typed(alloc, line)? {
         Ok(key_line) => Ok(Some(key_line)),
         Err(fault) => {
-            fault.tell(number, told)?;
+            fault.tell(number, told);
             Ok(None)
         }
     }

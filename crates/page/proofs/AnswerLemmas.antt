@@ -1,5 +1,5 @@
 -- What a page is answered to its words.
-use Rattle.std.proofs.Common.{◌≡◌, ◌⊎◌, ◌∙◌, ℕ, ◌≤◌, List, [], ◌++◌, Option, None, Some, map, length, take, drop, refl, ap, sym, subst, arith, append-nil, inl, inr, codes, Bor, Ok, Err, IsUtf8}
+use Rattle.std.proofs.Common.{◌≡◌, ◌⊎◌, ◌∙◌, ℕ, ◌≤◌, List, [], ◌∷◌, ◌++◌, Option, None, Some, map, length, take, drop, refl, ap, sym, subst, arith, append-nil, inl, inr, codes, Ok, Err, IsUtf8}
 use Rattle.std.specs.Io.KnownBytes.{Appends}
 use Rattle.std.specs.List.{AllByRecursion}
 use Rattle.std.specs.Option.{IsSomeAnd}
@@ -7,33 +7,23 @@ use Rattle.std.proofs.Math.Seq.{take-append_seam}
 use Rattle.clap.proofs.OnLiterals.{clap_on_literals}
 use Rattle.kernel.specs.Headline.{CutsShort}
 use Rattle.sink.specs.Sinks.{Seen}
-use Rattle.inputs.specs.declared.command_line.WordsFault.{WordsFault}
 use Rattle.inputs.specs.declared.command_line.WordsFault.TheVariants.{NotText, Memory}
-use Rattle.inputs.proofs.MeaningLemmas.{means_along as means_of_along}
-use Rattle.inputs.specs.Reads.{AreInFiles, Contents, Text}
-use Rattle.commands.specs.Running.{AskFor, AskForAudit, IsAccepted, IsFaulty, IsRefused, IsTraced, Means, OfTexts, OfTrace, Words}
-use Rattle.commands.specs.Words.{Asked, AsksAudit, AsksRun, request_of_words}
+use Rattle.inputs.proofs.MeaningLemmas.{means_along}
+use Rattle.inputs.specs.Reads.{Contents, Text}
+use Rattle.commands.specs.Running.{AskFor, AskForAudit, IsAccepted, IsFaulty, IsRefused, IsTraced, OfTexts, OfTrace}
+use Rattle.commands.specs.Words.{audit_asked, run_asked}
 use Rattle.exploring.specs.Serving.{Means as MeansOfExploring}
 use Rattle.exploring.specs.Words.{Asked as AskedOfExploring}
-use Rattle.explaining.specs.Serving.{IsRefused as IsOtherTrace, Means as MeansOfExplaining}
+use Rattle.explaining.specs.Serving.{IsRefused as IsOtherTrace}
 use Rattle.explaining.specs.Words.{Asked as AskedOfExplaining, OfTrace as OfTraceAlone, OfRun}
-use Rattle.commands.specs.Commands.{AuditsInWords, Draws, Explains, Explores, Helps, Names, Purpose, RunsOrAudits, ServesAs, Shows, TellsVersion, purpose_of}
+use Rattle.commands.specs.Commands.{Audits, AuditsInWords, Draws, Explains, Explores, Helps, IsNone, Names, Purpose, Runs, RunsStored, ServesAs, Shows, TellsVersion, purpose_of}
 use Rattle.commands.specs.Named.{Place, ServesNamed, named_in, place_in}
-use Rattle.commands.specs.Serving.{Serves, ServesWords}
+use Rattle.commands.specs.Serving.{Serves, ServesWords, Words}
 use Rattle.page.specs.Answers.{AreServed, BeginsTrace, IsAnswered, IsAudited, IsGiven, IsRun, IsTrace}
 use Rattle.page.specs.Files.{files_of}
 use Rattle.page.specs.Words.{AreWordsOf, text_of, words_of, words_to_audit, words_to_run}
 
 -- ---- a sink is known by what is read of it
-
-means_along : {S T : Type 0} (f : S → T) (contents : Contents) (words : Words) (old new : S) (before after : Seen) (status : ℕ)
-    → Means contents words old new before after status → Means contents words (f old) (f new) before after status
-means_along f contents words old new before after status h = record {
-  done = h.done;
-  refused = λ e. elim (h.refused e) [ inl r ↦ inl (r.0, ap f r.1) | inr r ↦ inr r ];
-  other_words = λ e. let r = h.other_words e in (r.0, ap f r.1);
-  cut_short = λ e. elim (h.cut_short e) [ inl same ↦ inl (ap f same) | inr r ↦ inr r ];
-}
 
 exploring_along : {S T : Type 0} (f : S → T) (contents : Contents) (asked : Option AskedOfExploring) (old new : S) (before after : Seen) (status : ℕ)
     → MeansOfExploring contents asked old new before after status → MeansOfExploring contents asked (f old) (f new) before after status
@@ -45,31 +35,29 @@ exploring_along f contents asked old new before after status h = record {
   cut_short = λ e. elim (h.cut_short e) [ inl same ↦ inl (ap f same) | inr r ↦ inr r ];
 }
 
-explaining_along : {S T : Type 0} (f : S → T) (contents : Contents) (asked : Option AskedOfExplaining) (old new : S) (before after : Seen) (status : ℕ)
-    → MeansOfExplaining contents asked old new before after status → MeansOfExplaining contents asked (f old) (f new) before after status
-explaining_along {S} {T} f contents asked old new before after status h = record {
-  done = h.done;
-  refused = λ e. refused asked (h.refused e);
-  other_words = λ e. let r = h.other_words e in (r.0, ap f r.1);
-  cut_short = λ e. elim (h.cut_short e) [ inl same ↦ inl (ap f same) | inr r ↦ inr r ];
-}
-  where
-    refused : (a : Option AskedOfExplaining) → IsSomeAnd a (IsOtherTrace contents old new) → IsSomeAnd a (IsOtherTrace contents (f old) (f new))
-    refused None h = absurd h
-    refused (Some (OfTraceAlone name)) h = absurd h
-    refused (Some (OfRun names)) h = (h.0, ap f h.1)
+refusal_along : {S T : Type 0} (f : S → T) (contents : Contents) (old new : S) (asked : Option AskedOfExplaining)
+    → IsSomeAnd asked (IsOtherTrace contents old new) → IsSomeAnd asked (IsOtherTrace contents (f old) (f new))
+refusal_along f contents old new None h = absurd h
+refusal_along f contents old new (Some (OfTraceAlone name)) h = absurd h
+refusal_along f contents old new (Some (OfRun names)) h = (h.0, ap f h.1)
 
-as_along : {S T : Type 0} (f : S → T) (contents : Contents) (words : Words) (old new : S) (before after : Seen) (status : ℕ) (purpose : Purpose)
-    → ServesAs contents words old new before after status purpose → ServesAs contents words (f old) (f new) before after status purpose
-as_along f contents words old new before after status Helps h = h
-as_along f contents words old new before after status TellsVersion h = h
-as_along f contents words old new before after status (Explores more) h = (exploring_along f contents _ old new before after status h.0, h.1)
-as_along f contents words old new before after status (Shows more) h = h
-as_along f contents words old new before after status (Explains more) h = (explaining_along f contents _ old new before after status h.0, h.1)
-as_along f contents words old new before after status (AuditsInWords more) h = (record { done = h.0.done; refused = h.0.refused; other_words = λ e. let r = h.0.other_words e in (r.0, ap f r.1) }, h.1)
-as_along f contents words old new before after status (Draws more) h = (means_of_along f _ _ _ _ _ old new status (λ d. d) h.0, h.1)
-as_along f contents words old new before after status (Names more) h = (means_of_along f _ _ _ _ _ old new status (λ d. d) h.0, h.1)
-as_along f contents words old new before after status RunsOrAudits h = (means_along f contents words old new before after status h.0, h.1)
+still_refused : {S T : Type 0} (f : S → T) (A : Type 0) (old new : S) → A × (new ≡ old) → A × (f new ≡ f old)
+still_refused f A old new h = (h.0, ap f h.1)
+
+as_along : {S T : Type 0} (f : S → T) (contents : Contents) (old new : S) (before after : Seen) (status : ℕ) (purpose : Purpose)
+    → ServesAs contents old new before after status purpose → ServesAs contents (f old) (f new) before after status purpose
+as_along f contents old new before after status Helps h = h
+as_along f contents old new before after status TellsVersion h = h
+as_along f contents old new before after status RunsStored h = (means_along f _ _ _ _ _ old new status (still_refused f _ old new) h.0, h.1)
+as_along f contents old new before after status (Runs more) h = (means_along f _ _ _ _ _ old new status (still_refused f _ old new) h.0, h.1)
+as_along f contents old new before after status (Audits more) h = (means_along f _ _ _ _ _ old new status (λ r. r) h.0, h.1)
+as_along f contents old new before after status (Explores more) h = (exploring_along f contents _ old new before after status h.0, h.1)
+as_along f contents old new before after status (Shows more) h = h
+as_along f contents old new before after status (Explains more) h = (means_along f _ _ _ _ _ old new status (refusal_along f contents old new _) h.0, h.1)
+as_along f contents old new before after status (AuditsInWords more) h = (means_along f _ _ _ _ _ old new status (λ r. r) h.0, h.1)
+as_along f contents old new before after status (Draws more) h = (means_along f _ _ _ _ _ old new status (λ r. r) h.0, h.1)
+as_along f contents old new before after status (Names more) h = (means_along f _ _ _ _ _ old new status (λ r. r) h.0, h.1)
+as_along f contents old new before after status IsNone h = (h.0, ap f h.1)
 
 named_along : {S T : Type 0} (f : S → T) (contents : Contents) (command : Text) (place : Option Place) (old new : S) (before after : Seen) (status : ℕ)
     → ServesNamed contents command place old new before after status → ServesNamed contents command place (f old) (f new) before after status
@@ -82,26 +70,21 @@ named_along f contents command (Some place) old new before after status (inl h) 
   events_name = h.events_name;
   of_world = h.of_world;
   of_events = h.of_events;
-  served = record {
-    plain = h.served.plain;
-    are_plain = h.served.are_plain;
-    words = h.served.words;
-    are = h.served.are;
-    serves = as_along f _ (Ok h.served.words) old new before after status _ h.served.serves;
-  };
+  served = record { plain = h.served.plain; are_plain = h.served.are_plain; serves = as_along f _ old new before after status _ h.served.serves };
 })
 
-words_along : {S T : Type 0} (f : S → T) (contents : Contents) (words : Words) (texts : List Text) (old new : S) (before after : Seen) (status : ℕ) (named : Option (Text × List Text))
-    → ServesWords contents words texts old new before after status named → ServesWords contents words texts (f old) (f new) before after status named
-words_along f contents words texts old new before after status None h = as_along f contents words old new before after status _ h
-words_along f contents words texts old new before after status (Some named) h = named_along f contents named.0 (place_in named.1) old new before after status h
+words_along : {S T : Type 0} (f : S → T) (contents : Contents) (words : List Text) (old new : S) (before after : Seen) (status : ℕ) (named : Option (Text × List Text))
+    → ServesWords contents words old new before after status named → ServesWords contents words (f old) (f new) before after status named
+words_along f contents words old new before after status None h = as_along f contents old new before after status _ h
+words_along f contents words old new before after status (Some named) h = named_along f contents named.0 (place_in named.1) old new before after status h
 
 serves_along : {S T : Type 0} (f : S → T) (contents : Contents) (words : Words) (old new : S) (before after : Seen) (status : ℕ)
     → Serves contents words old new before after status → Serves contents words (f old) (f new) before after status
 serves_along f contents (Ok words) old new before after status h =
     let texts = map (λ w. w.now) words.now in
-    words_along f contents (Ok words) texts old new before after status (named_in texts) h
-serves_along f contents (Err fault) old new before after status h = (means_along f contents (Err fault) old new before after status h.0, h.1)
+    words_along f contents texts old new before after status (named_in texts) h
+serves_along f contents (Err NotText) old new before after status h = (h.0, ap f h.1)
+serves_along f contents (Err Memory) old new before after status h = (h.0, ap f h.1)
 
 pub are_served : {S : Type 0} (old new : S) (f : S → List ℕ) (seen : S → Seen) (contents : Contents) (words : Words) (status : ℕ)
     → f old ≡ [] → ((s : S) → (seen s).taken ≡ Some (f s)) → Serves contents words old new (seen old) (seen new) status → AreServed contents words (f new) status
@@ -115,85 +98,57 @@ are_served old new f seen contents words status none tells h = record {
 
 -- ---- statuses
 
-as_most : {S : Type 0} (contents : Contents) (words : Words) (old new : S) (before after : Seen) (status : ℕ) (purpose : Purpose)
-    → ServesAs contents words old new before after status purpose → status ≤ 4
-as_most contents words old new before after status Helps (inl h) = omega (arith, h.0)
-as_most contents words old new before after status Helps (inr h) = omega (arith, h.0)
-as_most contents words old new before after status TellsVersion (inl h) = omega (arith, h.0)
-as_most contents words old new before after status TellsVersion (inr h) = omega (arith, h.0)
-as_most contents words old new before after status (Explores more) h = h.1
-as_most contents words old new before after status (Shows more) h = omega (arith, h)
-as_most contents words old new before after status (Explains more) h = omega (arith, h.1)
-as_most contents words old new before after status (AuditsInWords more) h = omega (arith, h.1)
-as_most contents words old new before after status (Draws more) h = omega (arith, h.1)
-as_most contents words old new before after status (Names more) h = omega (arith, h.1)
-as_most contents words old new before after status RunsOrAudits h = omega (arith, h.1)
+as_most : {S : Type 0} (contents : Contents) (old new : S) (before after : Seen) (status : ℕ) (purpose : Purpose) → ServesAs contents old new before after status purpose → status ≤ 4
+as_most contents old new before after status Helps (inl h) = omega (arith, h.0)
+as_most contents old new before after status Helps (inr h) = omega (arith, h.0)
+as_most contents old new before after status TellsVersion (inl h) = omega (arith, h.0)
+as_most contents old new before after status TellsVersion (inr h) = omega (arith, h.0)
+as_most contents old new before after status RunsStored h = omega (arith, h.1)
+as_most contents old new before after status (Runs more) h = omega (arith, h.1)
+as_most contents old new before after status (Audits more) h = omega (arith, h.1)
+as_most contents old new before after status (Explores more) h = h.1
+as_most contents old new before after status (Shows more) h = omega (arith, h)
+as_most contents old new before after status (Explains more) h = omega (arith, h.1)
+as_most contents old new before after status (AuditsInWords more) h = omega (arith, h.1)
+as_most contents old new before after status (Draws more) h = omega (arith, h.1)
+as_most contents old new before after status (Names more) h = omega (arith, h.1)
+as_most contents old new before after status IsNone h = omega (arith, h.0)
 
 named_most : {S : Type 0} (contents : Contents) (command : Text) (place : Option Place) (old new : S) (before after : Seen) (status : ℕ)
     → ServesNamed contents command place old new before after status → status ≤ 4
 named_most contents command None old new before after status h = omega (arith, h.0)
-named_most contents command (Some place) old new before after status (inl h) = as_most _ (Ok h.served.words) old new before after status _ h.served.serves
+named_most contents command (Some place) old new before after status (inl h) = as_most _ old new before after status _ h.served.serves
 named_most contents command (Some place) old new before after status (inr h) = omega (arith, h.0)
 
-words_most : {S : Type 0} (contents : Contents) (words : Words) (texts : List Text) (old new : S) (before after : Seen) (status : ℕ) (named : Option (Text × List Text))
-    → ServesWords contents words texts old new before after status named → status ≤ 4
-words_most contents words texts old new before after status None h = as_most contents words old new before after status _ h
-words_most contents words texts old new before after status (Some named) h = named_most contents named.0 (place_in named.1) old new before after status h
+words_most : {S : Type 0} (contents : Contents) (words : List Text) (old new : S) (before after : Seen) (status : ℕ) (named : Option (Text × List Text))
+    → ServesWords contents words old new before after status named → status ≤ 4
+words_most contents words old new before after status None h = as_most contents old new before after status _ h
+words_most contents words old new before after status (Some named) h = named_most contents named.0 (place_in named.1) old new before after status h
 
 serves_most : {S : Type 0} (contents : Contents) (words : Words) (old new : S) (before after : Seen) (status : ℕ)
     → Serves contents words old new before after status → status ≤ 4
 serves_most contents (Ok words) old new before after status h =
     let texts = map (λ w. w.now) words.now in
-    words_most contents (Ok words) texts old new before after status (named_in texts) h
-serves_most contents (Err fault) old new before after status h = omega (arith, h.1)
+    words_most contents texts old new before after status (named_in texts) h
+serves_most contents (Err NotText) old new before after status h = omega (arith, h.0)
+serves_most contents (Err Memory) old new before after status h = omega (arith, h.0)
 
 pub most_answered : (words trace world events put : List ℕ) (status : ℕ) → IsAnswered words trace world events put status → status ≤ 4
 most_answered words trace world events put status h = serves_most _ h.said _ _ _ _ status h.served.serves
 
 -- ---- words that ask for a run or an audit
 
--- What a status means of these words.
-record IsMeant (contents : Contents) (words : List Text) (put : List ℕ) (before after : Seen) (status : ℕ) : Type 0 where
-  most : status ≤ 3
-  done : status ≡ 0 → OfTexts (AskFor contents words) (IsTraced before after) ⊎ OfTrace (AskForAudit contents words) (IsAccepted before after)
-  refused : status ≡ 1 → (OfTexts (AskFor contents words) IsRefused × (put ≡ [])) ⊎ OfTrace (AskForAudit contents words) IsFaulty
-  known : status ≡ 2 → request_of_words words ≡ None
-  cut_short : status ≡ 3 → (put ≡ []) ⊎ (OfTexts (AskFor contents words) (λ world events. CutsShort world events before after) ⊎ OfTrace (AskForAudit contents words) (λ trace. Unit {0}))
-
-meant_of_words : (contents : Contents) (said : Bor (List (Bor Text))) (words : List Text) (put : List ℕ) (before after : Seen) (status : ℕ)
-    → map (λ w. w.now) said.now ≡ words → named_in words ≡ None → purpose_of words ≡ RunsOrAudits → Serves contents (Ok said) [] put before after status → IsMeant contents words put before after status
-meant_of_words contents said words put before after status are plain purpose h =
-    let served = subst (λ named. ServesWords contents (Ok said) (map (λ w. w.now) said.now) [] put before after status named) (ap named_in are ∙ plain) h in
-    let asked : ServesAs contents (Ok said) [] put before after status RunsOrAudits =
-    subst (λ p. ServesAs contents (Ok said) [] put before after status p) (ap purpose_of are ∙ purpose) served in
-    let means = asked.0 in
-    subst (λ ws. IsMeant contents ws put before after status) are (record {
-      most = asked.1;
-      done = means.done;
-      refused = means.refused;
-      known = λ e. (means.other_words e).0.1;
-      cut_short = means.cut_short;
-    })
-
--- Words that are UTF-8 aren't read where there is no memory for them.
-meant_of_fault : (contents : Contents) (fault : WordsFault) (words : List Text) (put : List ℕ) (before after : Seen) (status : ℕ)
-    → (fault ≡ NotText → ⊥) → Serves contents (Err fault) [] put before after status → IsMeant contents words put before after status
-meant_of_fault contents NotText words put before after status other h = absurd (other refl)
-meant_of_fault contents Memory words put before after status other h = record {
-  most = h.1;
-  done = λ e. absurd (elim (h.0.done e) [ inl r ↦ r.2 | inr r ↦ r.1 ]);
-  refused = λ e. absurd (elim (h.0.refused e) [ inl r ↦ r.0.2 | inr r ↦ r.1 ]);
-  known = λ e. absurd (h.0.other_words e).0;
-  cut_short = λ e. elim (h.0.cut_short e) [ inl none ↦ inl none | inr r ↦ absurd (elim r [ inl s ↦ s.2 | inr s ↦ s.1 ]) ];
-}
-
-meant : (contents : Contents) (text : List ℕ) (said : Words) (words : List Text) (put : List ℕ) (before after : Seen) (status : ℕ) → AreWordsOf text said
-    → words_of text ≡ Some words → AllByRecursion IsUtf8 words → named_in words ≡ None → purpose_of words ≡ RunsOrAudits → Serves contents said [] put before after status → IsMeant contents words put before after status
-meant contents text (Ok said) words put before after status are is texts plain purpose h =
+-- Words that are UTF-8 are served by what they are for, unless there is no memory for them.
+served : (contents : Contents) (text : List ℕ) (said : Words) (words : List Text) (put : List ℕ) (before after : Seen) (status : ℕ) → AreWordsOf text said
+    → words_of text ≡ Some words → AllByRecursion IsUtf8 words → named_in words ≡ None → Serves contents said [] put before after status
+    → ServesAs contents [] put before after status (purpose_of words) ⊎ ((status ≡ 3) × (put ≡ []))
+served contents text (Ok said) words put before after status are is texts plain h =
     let same : map (λ w. w.now) said.now ≡ words = cc in
-    meant_of_words contents said words put before after status same plain purpose h
-meant contents text (Err fault) words put before after status are is texts plain purpose h =
-    meant_of_fault contents fault words put before after status (λ e. let none : (AllByRecursion IsUtf8 words → ⊥) = rw is at (are e) in none texts) h
+    let of_words = subst (λ ws. ServesWords contents ws [] put before after status (named_in ws)) same h in
+    inl (subst (λ named. ServesWords contents words [] put before after status named) plain of_words)
+served contents text (Err NotText) words put before after status are is texts plain h =
+    let none : (AllByRecursion IsUtf8 words → ⊥) = rw is at (are refl) in absurd (none texts)
+served contents text (Err Memory) words put before after status are is texts plain h = inr h
 
 -- ---- the words `run world events` and `audit trace`
 
@@ -211,38 +166,16 @@ texts_to_audit : AllByRecursion IsUtf8 words_to_audit
 unfolding clap_on_literals
 texts_to_audit = ((codes "audit", (refl, refl)), ((codes "trace", (refl, refl)), tt))
 
-asked_to_run : request_of_words words_to_run ≡ Some (AsksRun (codes "world") (codes "events"))
+asked_to_run : run_asked (codes "world" ∷ codes "events" ∷ []) ≡ Some (codes "world", codes "events")
 unfolding clap_on_literals
 asked_to_run = refl
 
-asked_to_audit : request_of_words words_to_audit ≡ Some (AsksAudit (codes "trace"))
+asked_to_audit : audit_asked (codes "trace" ∷ []) ≡ Some (codes "trace")
 unfolding clap_on_literals
 asked_to_audit = refl
 
-names_of : Option Asked → Text × Text
-names_of None = ([], [])
-names_of (Some (AsksRun world events)) = (world, events)
-names_of (Some (AsksAudit trace)) = (trace, [])
-
--- which texts they ask for
-texts_run : (trace world events w e : List ℕ) → AskFor (files_of trace world events) words_to_run w e → (w ≡ world) × (e ≡ events)
-unfolding names_of
-texts_run trace world events w e h =
-    let names : (codes "world", codes "events") ≡ h.0 = ap names_of (sym asked_to_run ∙ h.1) in
-    subst (λ n. AreInFiles (files_of trace world events) n w e) (sym names) h.2
-
-no_audit : (contents : Contents) (t : List ℕ) → AskForAudit contents words_to_run t → ⊥
-no_audit contents t h = let e : Some (AsksRun (codes "world") (codes "events")) ≡ Some (AsksAudit h.0) = sym asked_to_run ∙ h.1 in cc
-
-text_audited : (trace world events t : List ℕ) → AskForAudit (files_of trace world events) words_to_audit t → t ≡ trace
-unfolding names_of
-text_audited trace world events t h =
-    let name : codes "trace" ≡ h.0 = ap (λ asked. (names_of asked).0) (sym asked_to_audit ∙ h.1) in
-    let P : Text → Type 0 = λ n. AreInFiles (files_of trace world events) (n, n) t t in
-    (subst P (sym name) (h.2, h.2)).0
-
-no_run : (contents : Contents) (w e : List ℕ) → AskFor contents words_to_audit w e → ⊥
-no_run contents w e h = let e : Some (AsksAudit (codes "trace")) ≡ Some (AsksRun h.0.0 h.0.1) = sym asked_to_audit ∙ h.1 in cc
+something : {A : Type 0} (asked : Option A) (a : A) → asked ≡ Some a → asked ≡ None → ⊥
+something asked a is none = let e : Some a ≡ None = sym is ∙ none in cc
 
 -- what was put
 put_all : (before after : Option (List ℕ)) (put bytes : List ℕ) → before ≡ Some [] → after ≡ Some put → Appends before after bytes → put ≡ bytes
@@ -260,59 +193,62 @@ traced before after world events put began taken h =
     record { happened = h.1.events; lines = h.1.lines; last = h.1.last; run = h.1.run; printed = sym whole ∙ sym (append-nil put) }
 
 -- with these words' texts in place of those that they ask for
-of_run : (trace world events : List ℕ) (P : List ℕ → List ℕ → Type 0) → OfTexts (AskFor (files_of trace world events) words_to_run) P → P world events
+of_run : (trace world events : List ℕ) (P : List ℕ → List ℕ → Type 0)
+    → OfTexts (AskFor (files_of trace world events) (run_asked (codes "world" ∷ codes "events" ∷ []))) P → P world events
 of_run trace world events P h =
-    let same = texts_run trace world events h.0 h.1 h.2 in
+    let same : (h.0 ≡ world) × (h.1 ≡ events) = subst (λ asked. AskFor (files_of trace world events) asked h.0 h.1) asked_to_run h.2 in
     let Q : List ℕ → Type 0 = λ e. P world e in
     let R : List ℕ → Type 0 = λ w. P w h.1 in
     subst Q same.1 (subst R same.0 h.3)
 
-of_audit : (trace world events : List ℕ) (P : List ℕ → Type 0) → OfTrace (AskForAudit (files_of trace world events) words_to_audit) P → P trace
-of_audit trace world events P h = subst P (text_audited trace world events h.0 h.1) h.2
+of_audit : (trace world events : List ℕ) (P : List ℕ → Type 0) → OfTrace (AskForAudit (files_of trace world events) (audit_asked (codes "trace" ∷ []))) P → P trace
+of_audit trace world events P h =
+    let same : h.0 ≡ trace = subst (λ asked. AskForAudit (files_of trace world events) asked h.0) asked_to_audit h.1 in
+    subst P same h.2
 
 pub is_run : (words trace world events put : List ℕ) (status : ℕ) → words ≡ text_of words_to_run → IsAnswered words trace world events put status → IsRun world events put status
 is_run words trace world events put status is h =
     let s = h.served in
     let are : AreWordsOf (text_of words_to_run) h.said = subst (λ text. AreWordsOf text h.said) is h.are in
-    let m = meant (files_of trace world events) (text_of words_to_run) h.said words_to_run put s.before s.after status are text_to_run texts_to_run refl refl s.serves in
-    record {
-      most = m.most;
-      traced = λ e. elim (m.done e) [
-        | inl r ↦ traced s.before s.after world events put s.began s.taken (of_run trace world events (IsTraced s.before s.after) r)
-        | inr r ↦ absurd (no_audit _ r.0 r.1)
-      ];
-      refused = λ e. elim (m.refused e) [
-        | inl r ↦ (of_run trace world events IsRefused r.0, r.1)
-        | inr r ↦ absurd (no_audit _ r.0 r.1)
-      ];
-      known = λ e. let none = m.known e in let some = asked_to_run in cc;
-      cut_short = λ e. elim (m.cut_short e) [
-        | inl none ↦ inl none
-        | inr r ↦ elim r [
-          | inl cut ↦ inr (begun s.before s.after world events put s.began s.taken (of_run trace world events (λ w e. CutsShort w e s.before s.after) cut))
-          | inr other ↦ absurd (no_audit _ other.0 other.1)
-        ]
-      ];
-    }
+    elim (served (files_of trace world events) (text_of words_to_run) h.said words_to_run put s.before s.after status are text_to_run texts_to_run refl s.serves) [
+      | inl m ↦ record {
+        most = m.1;
+        traced = λ e. traced s.before s.after world events put s.began s.taken (of_run trace world events (IsTraced s.before s.after) (m.0.done e));
+        refused = λ e. let r = m.0.refused e in (of_run trace world events IsRefused r.0, r.1);
+        known = λ e. something _ _ asked_to_run (m.0.other_words e).0;
+        cut_short = λ e. elim (m.0.cut_short e) [
+          | inl none ↦ inl none
+          | inr cut ↦ inr (begun s.before s.after world events put s.began s.taken (of_run trace world events (λ w e. CutsShort w e s.before s.after) cut))
+        ];
+      }
+      | inr none ↦ record {
+        most = omega (arith, none.0);
+        traced = λ e. absurd (omega (arith, e, none.0));
+        refused = λ e. absurd (omega (arith, e, none.0));
+        known = λ e. omega (arith, e, none.0);
+        cut_short = λ e. inl none.1;
+      }
+    ]
 
 pub is_audited : (words trace world events put : List ℕ) (status : ℕ) → words ≡ text_of words_to_audit → IsAnswered words trace world events put status → IsAudited trace put status
 is_audited words trace world events put status is h =
     let s = h.served in
     let are : AreWordsOf (text_of words_to_audit) h.said = subst (λ text. AreWordsOf text h.said) is h.are in
-    let m = meant (files_of trace world events) (text_of words_to_audit) h.said words_to_audit put s.before s.after status are text_to_audit texts_to_audit refl refl s.serves in
-    record {
-      most = m.most;
-      lawful = λ e. elim (m.done e) [
-        | inl r ↦ absurd (no_run _ r.0 r.1 r.2)
-        | inr r ↦ let accepted = of_audit trace world events (IsAccepted s.before s.after) r in
-            (accepted.0, put_all s.before.taken s.after.taken put _ s.began s.taken accepted.1.taken)
-      ];
-      faulty = λ e. elim (m.refused e) [
-        | inl r ↦ absurd (no_run _ r.0.0 r.0.1 r.0.2)
-        | inr r ↦ of_audit trace world events IsFaulty r
-      ];
-      known = λ e. let none = m.known e in let some = asked_to_audit in cc;
-    }
+    elim (served (files_of trace world events) (text_of words_to_audit) h.said words_to_audit put s.before s.after status are text_to_audit texts_to_audit refl s.serves) [
+      | inl m ↦ record {
+        most = m.1;
+        lawful = λ e. let accepted = of_audit trace world events (IsAccepted s.before s.after) (m.0.done e) in
+            (accepted.0, put_all s.before.taken s.after.taken put _ s.began s.taken accepted.1.taken);
+        faulty = λ e. of_audit trace world events IsFaulty (m.0.refused e);
+        known = λ e. something _ _ asked_to_audit (m.0.other_words e).0;
+      }
+      | inr none ↦ record {
+        most = omega (arith, none.0);
+        lawful = λ e. absurd (omega (arith, e, none.0));
+        faulty = λ e. absurd (omega (arith, e, none.0));
+        known = λ e. omega (arith, e, none.0);
+      }
+    ]
 
 -- what is in the room
 pub trace_given : (world events put old new : List ℕ) (count status : ℕ) → IsRun world events put status → IsGiven put old new count → status ≡ 0 → count ≤ length old → IsTrace world events (take count new)

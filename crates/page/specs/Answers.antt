@@ -8,8 +8,8 @@ use Rattle.kernel.specs.Headline.{RunsTexts}
 use Rattle.sink.specs.Sinks.{Seen}
 use Rattle.audit.specs.Texts.{IsLawful}
 use Rattle.inputs.specs.Reads.{Contents}
-use Rattle.commands.specs.Running.{IsRefused, Words}
-use Rattle.commands.specs.Serving.{Serves}
+use Rattle.commands.specs.Running.{IsRefused}
+use Rattle.commands.specs.Serving.{Serves, Words}
 use Rattle.page.specs.Files.{files_of}
 use Rattle.page.specs.Words.{AreWordsOf}
 

@@ -3,7 +3,7 @@ use Rattle.std.specs.Prelude.{◌≡◌, ℕ, ◌==◌, Bool, true, false, List,
 use Rattle.std.specs.List.{AllByRecursion}
 use Rattle.inputs.specs.declared.command_line.WordsFault.TheVariants.{NotText}
 use Rattle.inputs.specs.Reads.{Text}
-use Rattle.commands.specs.Running.{Words}
+use Rattle.commands.specs.Serving.{Words}
 
 -- the text of words
 abbrev pub text_of : List Text → List ℕ

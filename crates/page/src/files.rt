@@ -1,9 +1,10 @@
 //! The files of a page.
 
-ghost use Rattle.std.specs.Prelude.{◌≡◌, IfOk, IfSome, MatchResult, None, Some, option_map};
+ghost use Rattle.std.specs.Prelude.{◌≡◌, IfErr, IfOk, IfSome, MatchResult, None, Some, option_map};
+ghost use Rattle.inputs.specs.Failures.{IsUnread};
 ghost use Rattle.page.specs.Files.{files_of};
 
-use inputs::{FileFault, ReadFiles};
+use inputs::{ReadFiles, Unread};
 use std::alloc::Global;
 
 /// Three texts in memory, as the files `trace`, `world` and `events`.
@@ -32,18 +33,16 @@ impl TextFiles<'_> {
 impl ReadFiles for TextFiles<'_> {
     ghost contents = { λ files name. files_of files.trace.now files.world.now files.events.now name };
 
-    fn read_file(&self, name: &str) -> Result<Vec<u8>, FileFault>
-        ensures known { IfOk result (λ read. IfSome (files_of self.now.trace.now self.now.world.now self.now.events.now name.now) (λ text. read.items ≡ text)) }
+    fn read_file<'a>(&self, name: &'a str) -> Result<Vec<u8>, Unread<'a>>
+        ensures ok { IfOk result (λ read. IfSome (files_of self.now.trace.now self.now.world.now self.now.events.now name.entry.now) (λ text. read.items ≡ text)) }
+        ensures err { IfErr result (IsUnread name.entry) }
         ensures exact { MatchResult result
-            (λ read. files_of self.now.trace.now self.now.world.now self.now.events.now name.now ≡ Some read.items)
-            (λ fault. fault ≡ FileFault.Device → files_of self.now.trace.now self.now.world.now self.now.events.now name.now ≡ None) }
+            (λ read. files_of self.now.trace.now self.now.world.now self.now.events.now name.entry.now ≡ Some read.items)
+            (λ why. why ≡ Unread.CannotRead name.entry → files_of self.now.trace.now self.now.world.now self.now.events.now name.entry.now ≡ None) }
     {
         let Some(text) = self.text(name) else {
-            return Err(FileFault::Device);
+            return Err(Unread::CannotRead(name));
         };
-        match Vec::from_slice(self.alloc, text) {
-            Ok(bytes) => Ok(bytes),
-            Err(_) => Err(FileFault::Memory),
-        }
+        Vec::from_slice(self.alloc, text).map_err(|_| Unread::Memory)
     }
 }

@@ -1,7 +1,8 @@
 //! Nobody is at a terminal.
 
 use exploring::Progress;
-use showing::{Ask, AskFault};
+use inputs::Unread;
+use showing::Ask;
 
 /// Is told nothing, and asks for nothing.
 #[derive(Drop)]
@@ -18,7 +19,7 @@ impl Ask for Nobody {
         false
     }
 
-    fn ask(&mut self, _line: &mut String) -> Result<bool, AskFault> {
+    fn ask(&mut self, _line: &mut String) -> Result<bool, Unread<'static>> {
         Ok(false)
     }
 }

@@ -5,6 +5,5 @@ pub mod laws;
 pub mod row;
 pub mod table;
 
-pub use posix::Pid;
 pub use row::Role;
 pub use table::PidTable;

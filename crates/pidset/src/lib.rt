@@ -15,5 +15,4 @@ pub use lists::Lists;
 pub use numbered::Numbered;
 pub use pages::Pages;
 pub use pid_set::PidSet;
-pub use posix::Pid;
 pub use rows::Rows;

@@ -82,16 +82,6 @@ keyed byte c = if c.hung_up then c else keyed_by (key_signal byte) byte c
 unfoldable pub signal_typed : ℕ → Console → Option ℕ
 signal_typed byte c = if c.hung_up then None else key_signal byte
 
--- a byte that is edited finishes a line that has room
-unfoldable pub ends_edited : ℕ → Console → Bool
-ends_edited byte c =
-    if byte == 10 then has_room (c.edited ++ 10 ∷ []) c.lines
-    else byte == 4 && has_room c.edited c.lines
-
--- and so of a console that has its line
-unfoldable pub finishes : ℕ → Console → Bool
-finishes byte c = if c.hung_up then false else ends_edited byte c
-
 -- ---- its line is lost
 
 -- The session whose terminal it is is told of it, XBD 11.1.10, but for one that was told already (own).

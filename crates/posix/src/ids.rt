@@ -97,7 +97,7 @@ impl Gid {
 }
 
 /// The real, effective and saved ids of a process (credentials(7)).
-#[derive(Clone, Copy)]
+#[derive(Clone, Copy, PartialEq, Eq)]
 pub struct Ids<T> {
     pub real: T,
     pub effective: T,

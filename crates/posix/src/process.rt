@@ -12,7 +12,7 @@ use crate::status::Status;
 use crate::waits::WaitCall;
 
 /// What comes with a signal: a value and its sender, number 0 where the kernel sent it.
-#[derive(Clone, Copy)]
+#[derive(Clone, Copy, PartialEq, Eq)]
 pub struct Carried {
     pub value: i64,
     pub sender: Pid,
@@ -27,7 +27,7 @@ impl Carried {
 }
 
 /// A pending signal with what comes with it.
-#[derive(Clone, Copy)]
+#[derive(Clone, Copy, PartialEq, Eq)]
 pub struct PendingSignal {
     pub sig: Sig,
     pub carried: Carried,
@@ -35,7 +35,7 @@ pub struct PendingSignal {
 
 /// What a process does with a signal that is delivered: the default, nothing, or the code at an
 /// address (XSH 2.4.3 Signal Actions).
-#[derive(Clone, Copy)]
+#[derive(Clone, Copy, PartialEq, Eq)]
 pub enum Handler {
     /// The signal's default action (signal(7)).
     Default,
@@ -85,7 +85,7 @@ pub enum News {
 }
 
 /// The call that a process is blocked in; for sigsuspend with the signal mask before it.
-#[derive(Clone, Copy)]
+#[derive(Clone, Copy, PartialEq, Eq)]
 pub enum Blocked {
     Wait(WaitCall),
     Read,

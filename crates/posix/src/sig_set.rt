@@ -9,7 +9,7 @@ use std::marker::Model;
 
 /// A set of signals, as a signal mask: signal s is bit s - 1. The bits of 32 and 33, which are no
 /// signals, may be set.
-#[derive(Clone, Copy)]
+#[derive(Clone, Copy, PartialEq, Eq)]
 pub struct SigSet {
     bits: u64,
 }

@@ -10,7 +10,7 @@ use crate::wait_options::{WaitOptions, WaitidOptions};
 use bitflags::Flags;
 
 /// A call that waits for a child.
-#[derive(Clone, Copy)]
+#[derive(Clone, Copy, PartialEq, Eq)]
 pub enum WaitCall {
     /// What it reports is collected (XSH waitpid).
     Waitpid,

@@ -14,7 +14,6 @@ ghost use Rattle.proctable.specs.Records.{own_of, give_own, forked};
 use crate::spare::Spare;
 use arena::new_arena;
 use posix::{Blocked, Gid, PendingSignal, Pid, Register, SigSet, Status, Uid, WaitCall};
-use signal::sameness::are_same_calls;
 use signal::{Creds, FramesFull, NoFrame, Signals, leave_call, mask_before};
 use std::alloc::{AllocError, Global};
 use umach::Cpu;
@@ -81,8 +80,8 @@ impl OwnPart {
     {
         self.program == other.program
             && self.ran_exec == other.ran_exec
-            && are_same_calls(self.blocked, other.blocked)
-            && self.creds.is_same(&other.creds)
+            && self.blocked == other.blocked
+            && self.creds == other.creds
             && self.cpu.is_same(&other.cpu)
             && self.signals.is_same(&other.signals)
     }

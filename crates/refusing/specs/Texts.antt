@@ -3,7 +3,7 @@ use Rattle.std.specs.Prelude.{◌≡◌, ◌⊎◌, ℕ, List, None, Some, Ok, I
 use Rattle.std.specs.Str.{bytes_eq}
 use Rattle.inputs.specs.Reads.{Contents, Text}
 use Rattle.inputs.specs.declared.failure.FileFailure.{FileFailure}
-use Rattle.inputs.specs.declared.failure.FileFailure.TheVariants.{Usage, CannotRead, Memory as NoMemory, Write}
+use Rattle.inputs.specs.declared.failure.FileFailure.TheVariants.{Usage, Unread, Memory as NoMemory, Write}
 use Rattle.naming.specs.Texts.{IsNamed}
 use Rattle.posix.specs.declared.event.Event.{Event}
 use Rattle.posix.specs.States.{World}
@@ -39,7 +39,7 @@ named_files texts = files_with texts.world.named.text.items texts.events.named.t
 -- It isn't read.
 abbrev pub IsUnread : FileFailure → Type 0
 IsUnread Usage = ⊥
-IsUnread (CannotRead name) = Unit {0}
+IsUnread (Unread why) = Unit {0}
 IsUnread NoMemory = Unit {0}
 IsUnread Write = ⊥
 

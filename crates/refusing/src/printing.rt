@@ -1,6 +1,7 @@
 //! What is told of a refusal, as it is printed.
 
-ghost use Rattle.std.specs.Prelude.{◌≡◌, ◌++◌, IfOk, OnOk};
+ghost use Rattle.std.specs.Prelude.{◌≡◌, ◌++◌, IfOk, OnOk, decimal};
+ghost use Rattle.std.specs.String.{string_bytes};
 ghost use Rattle.refusing.specs.Marks.{shown};
 ghost use Rattle.refusing.specs.Sections.{section_line};
 ghost use Rattle.refusing.specs.Printing.{behind_marks, file_line, first_lines, mark_line, note_line, place_line, printed as printed_of, sentence_line, text_line};
@@ -8,8 +9,14 @@ ghost use Rattle.refusing.specs.Printing.{behind_marks, file_line, first_lines, 
 use crate::marks::{write_blanks, write_marks, write_shown};
 use crate::sight::Sight;
 use crate::telling::{Section, Shown, Told};
-use naming::digits_of;
 use std::alloc::{AllocError, Global};
+
+/// The decimal digits of a number.
+fn digits_of(alloc: Global, number: u64) -> Result<String, AllocError>
+    ensures { IfOk result (λ t. string_bytes t ≡ decimal number) }
+{
+    format!(in alloc; "{number}")
+}
 
 /// Adds the line with the name of the file.
 fn write_file(out: &mut Vec<u8>, name: &str) -> Result<(), AllocError>

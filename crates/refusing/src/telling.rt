@@ -71,7 +71,7 @@ impl Section {
     }
 }
 
-/// What is wrong with the names of a line, the first of it.
+/// The first thing that is wrong with the names of a line, if there is one.
 fn told_of<'a>(alloc: Global, told: &'a [u8], line: u64) -> Result<Option<&'a [u8]>, AllocError> {
     let begin = format!(in alloc; "jobk: line {line}: ")?;
     let mut rest = told;

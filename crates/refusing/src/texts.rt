@@ -9,10 +9,10 @@ ghost use Rattle.refusing.specs.Texts.{AreAccepted, IsInput, IsRefused, IsUnread
 
 use crate::printing::printed;
 use crate::telling::{Refused, told_of_events, told_of_world};
-use inputs::{FileFailure, FileFault, ReadFiles, read_file};
+use inputs::{FileFailure, ReadFiles, Unread};
 use naming::{Named, name_text};
 use std::alloc::{AllocError, Global};
-use text::{Reason, TextFault, next_line, read_events, read_world};
+use text::{TextFault, next_line, read_events, read_world};
 
 /// So many faults behind the first are told at most.
 const OTHERS: u8 = 9;
@@ -37,7 +37,7 @@ impl<'a> Input<'a> {
         ensures name { IfOk result (λ i. i.name.now ≡ name.entry.now) }
         ensures err { IfErr result IsUnread }
     {
-        let given = read_file(files, name)?;
+        let given = files.read_file(name).map_err(FileFailure::Unread)?;
         let named = name_text(alloc, given.as_slice())?;
         Ok(Input { name, given, named })
     }
@@ -54,22 +54,22 @@ impl<'a> Input<'a> {
         ensures err { IfErr result IsUnread }
     {
         match Input::read(alloc, files, name) {
-            Err(FileFailure::CannotRead(_)) => match Input::read(alloc, files, other) {
-                Err(FileFailure::CannotRead(_)) => Err(FileFailure::CannotRead(name)),
-                read => read,
-            },
+            Err(why @ FileFailure::Unread(Unread::CannotRead(_))) => {
+                match Input::read(alloc, files, other) {
+                    Err(FileFailure::Unread(Unread::CannotRead(_))) => Err(why),
+                    read => read,
+                }
+            }
             read => read,
         }
     }
 
     /// A copy of the text with numbers for its names.
-    fn copy_named(&self, alloc: Global) -> Result<Vec<u8>, FileFault>
-        ensures { IfOk result (λ copy. copy.items ≡ self.now.named.text.items) }
+    fn copy_named<'n>(&self, alloc: Global) -> Result<Vec<u8>, Unread<'n>>
+        ensures ok { IfOk result (λ copy. copy.items ≡ self.now.named.text.items) }
+        ensures err { IfErr result (λ why. why ≡ Unread.Memory) }
     {
-        match Vec::from_slice(alloc, self.named.text.as_slice()) {
-            Ok(copy) => Ok(copy),
-            Err(_) => Err(FileFault::Memory),
-        }
+        Vec::from_slice(alloc, self.named.text.as_slice()).map_err(|_| Unread::Memory)
     }
 
     /// The text, with its fault.
@@ -80,7 +80,7 @@ impl<'a> Input<'a> {
         Refused {
             given: self.given.as_slice(),
             named: self.named.text.as_slice(),
-            told: self.named.told.as_bytes(),
+            told: self.named.told.as_slice(),
             fault,
         }
     }
@@ -107,7 +107,7 @@ impl<'a> Input<'a> {
     fn without(&self, alloc: Global, number: u64) -> Result<Input<'a>, AllocError>
         ensures name { IfOk result (λ i. i.name.now ≡ self.now.name.now) }
         ensures given { IfOk result (λ i. i.given.items ≡ without_line_of number self.now.given.items) }
-        ensures named { IfOk result (λ i. IsNamed i.given.items i.named.text.items i.named.told) }
+        ensures named { IfOk result (λ i. IsNamed i.given.items i.named.text.items i.named.told.items) }
     {
         let given = without_line(alloc, self.given.as_slice(), number)?;
         let named = name_text(alloc, given.as_slice())?;
@@ -186,10 +186,7 @@ fn without_line(alloc: Global, text: &[u8], number: u64) -> Result<Vec<u8>, Allo
 fn own_fault(fault: TextFault) -> Result<TextFault, AllocError>
     ensures { IfOk result (λ own. (own ≡ fault) × (fault.reason ≢ Memory)) }
 {
-    match fault.reason {
-        Reason::Memory => Err(AllocError),
-        _ => Ok(fault),
-    }
+    fault.unless_memory(Ok(fault), Err(AllocError))
 }
 
 /// A world and its events. With numbers for their names they are the files `world` and `events`, and no others are there.
@@ -205,11 +202,11 @@ impl ReadFiles for Texts<'_> {
 
     ghost contents = { λ texts. named_files texts };
 
-    fn read_file(&self, name: &str) -> Result<Vec<u8>, FileFault> {
+    fn read_file<'a>(&self, name: &'a str) -> Result<Vec<u8>, Unread<'a>> {
         match name {
             "world" => self.world.copy_named(self.alloc),
             "events" => self.events.copy_named(self.alloc),
-            _ => Err(FileFault::Device),
+            _ => Err(Unread::CannotRead(name)),
         }
     }
 }

@@ -1,6 +1,6 @@
 //! Why a word is no instruction, no operand and no call.
 
-use crate::why_words::{put_meant, put_no_digits, put_no_name};
+use crate::why_words::{put_no_digits, put_no_name};
 use judging::{
     Line, Named, Operands, is_call, is_instruction, is_listed, is_long_name, is_number,
     is_register, label_line, lower, nearest_call, nearest_in, nearest_instruction, operands_of,
@@ -8,7 +8,7 @@ use judging::{
 };
 use std::alloc::{AllocError, Global};
 use text::is_name;
-use wording::{NAMES, Prose, meant};
+use wording::{Prose, meant, named};
 
 /// Whether a word goes on behind a label, as `loop:note`.
 fn goes_on(word: &[u8]) -> bool {
@@ -91,11 +91,6 @@ pub fn put_no_register(why: &mut Prose, line: Line<'_>, word: &[u8]) {
     }
 }
 
-/// Whether a word is the name of a number.
-fn is_known(word: &[u8]) -> bool {
-    NAMES.iter().any(|(_, name, _)| name.as_bytes() == word)
-}
-
 /// Adds why a word is no value of a `set`, in the program that begins in this line of a text.
 pub fn put_no_value(why: &mut Prose, text: &[u8], line: Line<'_>, program: u64) {
     let word = line.word(2);
@@ -107,12 +102,12 @@ pub fn put_no_value(why: &mut Prose, text: &[u8], line: Line<'_>, program: u64) 
         why.push_word("the address of a label is written @", word);
     } else if is_name(word) && program_line(text, word).is_some() {
         why.push_word("the number of a program is written $", word);
-    } else if is_known(capitals.as_slice()) {
+    } else if named(capitals.as_slice()).is_some() {
         why.push_around("did you mean ", capitals.as_slice(), "?");
     } else if !put_no_digits(why, word) {
         why.push_str("a number, @LABEL or $PROGRAM stands here");
         let name = meant(why.alloc(), capitals.as_slice());
-        put_meant(why, name);
+        why.push_meant(name);
     }
 }
 
@@ -128,7 +123,7 @@ pub fn put_no_call(why: &mut Prose, word: &[u8]) {
     } else {
         why.push_str("no call has this name");
         let name = nearest_call(why.alloc(), word);
-        put_meant(why, name);
+        why.push_meant(name);
     }
 }
 

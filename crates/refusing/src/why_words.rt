@@ -1,21 +1,13 @@
 //! Why a word is no name, no number, and none of the header's and the programs' lines.
 
 use judging::{Line, Named, Number, is_listed, is_long_name, is_number, lower, nearest_in, oddity};
-use std::alloc::AllocError;
 use text::{are_digits, is_name};
 use wording::Prose;
-
-/// Adds which name is meant, if one is near.
-pub fn put_meant(why: &mut Prose, near: Result<Option<&[u8]>, AllocError>) {
-    if let Some(name) = why.found(near) {
-        why.push_around("; did you mean ", name, "?");
-    }
-}
 
 /// Adds which word of a list is meant by a word, if one is near.
 pub fn put_nearest(why: &mut Prose, word: &[u8], list: &'static str) {
     let near = nearest_in(why.alloc(), word, list);
-    put_meant(why, near);
+    why.push_meant(near);
 }
 
 /// Adds words, and which numbers may stand at the place of this one, but for the number of a console.
@@ -130,16 +122,6 @@ fn has_unit(word: &[u8]) -> bool {
     }
 }
 
-/// The value of a digit to base 16.
-fn digit_of(byte: u8) -> Option<u64> {
-    match byte {
-        b'0'..=b'9' => Some(u64::from(byte - b'0')),
-        b'a'..=b'f' => Some(u64::from(byte - b'a') + 10),
-        b'A'..=b'F' => Some(u64::from(byte - b'A') + 10),
-        _ => None,
-    }
-}
-
 /// The number of a word to base 16 of at most 11 digits behind `0x`.
 fn hexadecimal(word: &[u8]) -> Option<u64> {
     let [b'0', b'x' | b'X', digits @ ..] = word else {
@@ -150,7 +132,8 @@ fn hexadecimal(word: &[u8]) -> Option<u64> {
     }
     let mut sum: u64 = 0;
     for byte in digits {
-        sum = sum.saturating_mul(16).saturating_add(digit_of(*byte)?);
+        let digit = char::from(*byte).to_digit(16)?;
+        sum = sum.saturating_mul(16).saturating_add(u64::from(digit));
     }
     Some(sum)
 }

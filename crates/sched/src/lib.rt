@@ -4,4 +4,3 @@
 pub mod order;
 
 pub use order::Order;
-pub use posix::Pid;

@@ -2,7 +2,7 @@
 use Rattle.std.specs.Prelude.{ℕ}
 use Rattle.inputs.specs.Statuses.{status_of as status_of_input}
 use Rattle.showing.specs.declared.serving.Failure.{Failure}
-use Rattle.showing.specs.declared.serving.Failure.TheVariants.{Usage, At, AtAbove, Process, Step, Input, Memory, Write, Read}
+use Rattle.showing.specs.declared.serving.Failure.TheVariants.{Usage, At, AtAbove, Process, Step, Input, Unread, Memory, Write}
 
 -- 1 for a refused text, 2 for other words, 3 for a device or memory
 abbrev pub status_of : Failure → ℕ
@@ -12,6 +12,6 @@ status_of At = 2
 status_of (AtAbove at events) = 2
 status_of Process = 2
 status_of Step = 2
+status_of (Unread why) = 3
 status_of Memory = 3
 status_of Write = 3
-status_of Read = 3

@@ -8,11 +8,9 @@ ghost use Rattle.showing.specs.Comparing.{IsCompared, IsUnread, Means, said};
 
 use crate::comparison::first_difference;
 use crate::serving::serve_trace;
-use arrayvec::ArrayString;
-use inputs::{InputFault, Inputs, ReadFiles, read_inputs, read_text, tell_unread};
-use sink::{Sink, SinkFault, put_all};
+use inputs::{InputFault, Inputs, ReadFiles, read_inputs, tell};
+use sink::{Sink, put_all};
 use std::alloc::{AllocError, Global};
-use std::fmt::Write;
 use warning::put_warnings;
 use wording::Prose;
 
@@ -34,7 +32,7 @@ fn compare<'a, F: ReadFiles>(
     ensures compared { MatchResult result (λ read. IsCompared (F.contents files.now) (said named.entry) read.0) (IsUnread (F.contents files.now) (said named.entry)) }
     ensures within { IfOk result (λ read. length read.1.events ≤ most_events) }
 {
-    let trace = read_text(files, named.trace)?;
+    let trace = files.read_file(named.trace).map_err(InputFault::Unread)?;
     let inputs = read_inputs(alloc, files, named.world, named.events)?;
     match first_difference(alloc, trace.as_slice(), &inputs) {
         Ok(number) => Ok((number, inputs)),
@@ -68,28 +66,11 @@ fn serve_same<O: Sink, E: Sink>(
     Ok(status)
 }
 
-/// Tells why there is nothing to compare, as far as the error output takes it. It takes no memory.
-fn tell<E: Sink>(why: InputFault<'_>, err: &mut E) -> Result<(), SinkFault> {
-    if let InputFault::CannotRead(name) = why {
-        return tell_unread(name, err);
-    }
-    let mut text = ArrayString::<128>::new();
-    let _ = writeln!(text, "jobk: {why}");
-    put_all(err, text.as_str().as_bytes())
-}
-
-/// Tells the first line that differs. The longest of these texts has less than 64 bytes.
-fn tell_difference<E: Sink>(number: u64, err: &mut E) -> Result<(), SinkFault> {
-    let mut text = ArrayString::<64>::new();
-    let _ = writeln!(text, "jobk: line {number}: not what the world writes");
-    put_all(err, text.as_str().as_bytes())
-}
-
 /// The status of a program that ends so. It is told.
 fn ended<E: Sink>(why: InputFault<'_>, err: &mut E) -> u8
     ensures { result ≡ status_of why.entry }
 {
-    let _ = tell(why, err);
+    why.tell(err);
     why.status()
 }
 
@@ -112,7 +93,10 @@ pub fn serve_beside<'a, F: ReadFiles, O: Sink, E: Sink>(
             Err(_) => ended(InputFault::Memory, err),
         },
         Ok((Some(number), _)) => {
-            let _ = tell_difference(number, err);
+            tell(
+                format_args!("jobk: line {number}: not what the world writes"),
+                err,
+            );
             1
         }
         Err(why) => ended(why, err),

@@ -14,4 +14,4 @@ mod words;
 
 pub use comparing::{Named, serve_beside};
 pub use serving::serve;
-pub use stepping::{Ask, AskFault};
+pub use stepping::Ask;

@@ -1,22 +1,22 @@
 //! What `show` does: its texts and its statuses.
 
-ghost use Rattle.std.specs.Prelude.{◌≡◌, ◌≤◌, ◌⊎◌, IfOk, None, Ok, length};
+ghost use Rattle.std.specs.Prelude.{◌≡◌, ◌≤◌, ◌⊎◌, IfOk, MatchResult, None, Some, length, option_map};
+ghost use Rattle.inputs.specs.Numbers.{number_asked};
 ghost use Rattle.text.specs.EventTexts.{most_events};
 ghost use Rattle.showing.specs.Statuses.{status_of};
 
 use crate::hearing::Telling;
 use crate::replay::{Replay, past_at, run_to};
 use crate::state::put_state;
-use crate::stepping::{Ask, AskFault, Steps, put_text};
+use crate::stepping::{Ask, Steps, put_text};
 use crate::words::{Request, process_of, requested};
-use arrayvec::ArrayString;
 use inputs::{
-    InputFault, Inputs, NoRequest, ReadFiles, WordsFault, number, read_inputs, tell_unread,
+    InputFault, Inputs, NoRequest, NumberFault, ReadFiles, Unread, number, number_up_to,
+    read_inputs, tell,
 };
-use kernel::{Sink, SinkFault, put_all};
+use kernel::{Sink, SinkFault};
 use posix::Pid;
 use std::alloc::{AllocError, Global};
-use std::fmt::Write;
 use telling::{Teller, View};
 use text::EventList;
 use thiserror::Error;
@@ -41,8 +41,8 @@ pub enum Failure<'a> {
     Memory,
     #[error("jobk: cannot write")]
     Write,
-    #[error("jobk: cannot read the terminal")]
-    Read,
+    #[error("jobk: {0}")]
+    Unread(#[from] Unread<'a>),
 }
 
 impl From<AllocError> for Failure<'_> {
@@ -66,15 +66,6 @@ impl From<NoRequest> for Failure<'_> {
     }
 }
 
-impl From<AskFault> for Failure<'_> {
-    fn from(why: AskFault) -> Self {
-        match why {
-            AskFault::Device => Failure::Read,
-            AskFault::Memory => Failure::Memory,
-        }
-    }
-}
-
 impl Failure<'_> {
     /// The status of the program.
     fn status(self) -> u8
@@ -89,7 +80,7 @@ impl Failure<'_> {
             | Failure::AtAbove(_, _)
             | Failure::Process
             | Failure::Step => 2,
-            Failure::Memory | Failure::Write | Failure::Read => 3,
+            Failure::Unread(_) | Failure::Memory | Failure::Write => 3,
         }
     }
 }
@@ -97,16 +88,15 @@ impl Failure<'_> {
 /// After which event the state is shown: the last one, if not named.
 fn at_of<'a>(word: Option<&str>, events: u64) -> Result<u64, Failure<'a>>
     ensures within { IfOk result (λ at. at ≤ events) }
-    ensures not_named { word.entry ≡ None → IfOk result (λ at. at ≡ events) }
+    ensures asked { MatchResult result
+        (λ at. number_asked events events (option_map (λ w. w.now) word.entry) ≡ Some at)
+        (λ why. (status_of why ≡ 2) × (number_asked events events (option_map (λ w. w.now) word.entry) ≡ None)) }
 {
-    let Some(word) = word else {
-        return Ok(events);
-    };
-    let at = number(word).ok_or(Failure::At)?;
-    if at > events {
-        return Err(Failure::AtAbove(at, events));
+    match number_up_to(word, events, events) {
+        Ok(at) => Ok(at),
+        Err(NumberFault::NoNumber) => Err(Failure::At),
+        Err(NumberFault::Above(at)) => Err(Failure::AtAbove(at, events)),
     }
-    Ok(at)
 }
 
 /// The processes that words name.
@@ -269,7 +259,7 @@ pub fn serve_trace<O: Sink, E: Sink>(alloc: Global, inputs: &Inputs, out: &mut O
     match put_trace(alloc, inputs, out) {
         Ok(()) => 0,
         Err(failure) => {
-            let _ = tell(failure, err);
+            tell_failure(failure, err);
             3
         }
     }
@@ -292,27 +282,22 @@ fn serve_request<'a, F: ReadFiles, O: Sink, A: Ask>(
 }
 
 /// Tells a failure, as far as the error output takes it. It takes no memory.
-fn tell<E: Sink>(failure: Failure<'_>, err: &mut E) -> Result<(), SinkFault> {
-    if let Failure::Input(InputFault::CannotRead(name)) = failure {
-        return tell_unread(name, err);
+fn tell_failure<E: Sink>(failure: Failure<'_>, err: &mut E) {
+    match failure {
+        Failure::Input(why) => why.tell(err),
+        _ => tell(failure, err),
     }
-    let mut text = ArrayString::<256>::new();
-    let _ = writeln!(text, "{failure}");
-    put_all(err, text.as_str().as_bytes())
 }
 
 /// Does what the words ask for.
 fn serve_words<'a, F: ReadFiles, O: Sink, A: Ask>(
     alloc: Global,
-    words: Result<&'a [&'a str], WordsFault>,
+    words: &'a [&'a str],
     files: &F,
     out: &mut O,
     ask: &mut A,
 ) -> Result<(), Failure<'a>> {
-    match words {
-        Ok(words) => serve_request(alloc, &requested(alloc, words)?, files, out, ask),
-        Err(fault) => Err(NoRequest::from(fault).into()),
-    }
+    serve_request(alloc, &requested(alloc, words)?, files, out, ask)
 }
 
 /// Does what the words of the command line ask for, without the program's name, and gives the status of the program: 0
@@ -320,7 +305,7 @@ fn serve_words<'a, F: ReadFiles, O: Sink, A: Ask>(
 /// status.
 pub fn serve<'a, F: ReadFiles, O: Sink, E: Sink, A: Ask>(
     alloc: Global,
-    words: Result<&'a [&'a str], WordsFault>,
+    words: &'a [&'a str],
     files: &F,
     out: &mut O,
     err: &mut E,
@@ -331,7 +316,7 @@ pub fn serve<'a, F: ReadFiles, O: Sink, E: Sink, A: Ask>(
     match serve_words(alloc, words, files, out, ask) {
         Ok(()) => 0,
         Err(failure) => {
-            let _ = tell(failure, err);
+            tell_failure(failure, err);
             failure.status()
         }
     }

@@ -8,6 +8,7 @@ use crate::replay::{Replay, Silent, run_to};
 use crate::serving::Failure;
 use crate::state::{put_head, put_state};
 use crate::words::process_of;
+use inputs::Unread;
 use kernel::{Sink, put_all};
 use posix::Pid;
 use std::alloc::{AllocError, Global};
@@ -20,17 +21,9 @@ pub trait Ask {
     /// Whether there is a person to be asked.
     fn is_terminal(&self) -> bool;
 
-    /// Adds the next line; whether there was one.
-    fn ask(&mut self, line: &mut String) -> Result<bool, AskFault>;
-}
-
-/// Why there is no next line.
-#[derive(Clone, Copy)]
-pub enum AskFault {
-    /// The device failed, or the line is no text in UTF-8.
-    Device,
-    /// There was no memory for it.
-    Memory,
+    /// Adds the next line; whether there was one. An error where the device failed, the line is no text in UTF-8, or there
+    /// was no memory for it.
+    fn ask(&mut self, line: &mut String) -> Result<bool, Unread<'static>>;
 }
 
 /// What a person asks for.
@@ -96,7 +89,7 @@ fn command_of(line: &str) -> Command {
 }
 
 /// What a person asks for next: the end, where there is no line.
-fn next_command<A: Ask>(alloc: Global, ask: &mut A) -> Result<Command, AskFault> {
+fn next_command<A: Ask>(alloc: Global, ask: &mut A) -> Result<Command, Unread<'static>> {
     let mut line = String::new(alloc);
     if ask.ask(&mut line)? {
         Ok(command_of(line.as_str()))

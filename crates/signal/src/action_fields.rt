@@ -5,7 +5,6 @@ ghost use Rattle.posix.specs.Processes.{initial_action};
 ghost use Rattle.posix.specs.Programs.{action_on_exec};
 ghost use Rattle.signal.specs.ActionFields.{AreFields, action_at, actions_of, actions_or_blank, blank_actions, handler_from, disposition_on_exec};
 
-use crate::sameness::{are_same_handlers, are_same_sets};
 use arena::Arena;
 use bitflags::Flags;
 use posix::{Action, Handler, SaFlags, Sig, SigSet};
@@ -55,9 +54,7 @@ impl Actions {
     {
         let mine = handler(self.dispositions[row], self.addresses[row]);
         let others = handler(other.dispositions[row], other.addresses[row]);
-        are_same_handlers(mine, others)
-            && are_same_sets(self.masks[row], other.masks[row])
-            && self.flags[row] == other.flags[row]
+        mine == others && self.masks[row] == other.masks[row] && self.flags[row] == other.flags[row]
     }
 
     /// Whether all actions are the same as another's.

@@ -9,7 +9,7 @@ use std::marker::Model;
 
 /// The real, effective and saved user and group ids of a process (credentials(7)). A process with
 /// effective user id 0 is privileged.
-#[derive(Clone, Copy)]
+#[derive(Clone, Copy, PartialEq, Eq)]
 pub struct Creds {
     user: Ids<Uid>,
     group: Ids<Gid>,
@@ -42,18 +42,6 @@ impl Creds {
                 saved: Gid::ROOT,
             },
         }
-    }
-
-    /// Whether two processes have the same ids.
-    pub fn is_same(&self, other: &Creds) -> bool
-        ensures { result ≡ true → self.now ≡ other.now }
-    {
-        self.user.real == other.user.real
-            && self.user.effective == other.user.effective
-            && self.user.saved == other.user.saved
-            && self.group.real == other.group.real
-            && self.group.effective == other.group.effective
-            && self.group.saved == other.group.saved
     }
 
     /// The user ids.

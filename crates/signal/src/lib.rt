@@ -7,15 +7,12 @@ mod actions;
 pub mod creds;
 pub mod interrupts;
 pub mod realtime_pool;
-pub mod sameness;
+mod sameness;
 pub mod signals;
 mod tables;
 
 pub use creds::Creds;
 pub use interrupts::{is_interrupted, leave_call, mask_before};
-pub use posix::{
-    Action, Carried, Errno, Frame, Gid, Handler, Ids, PendingSignal, SaFlags, Sig, SigSet, Uid,
-};
 pub use realtime_pool::{GrantedPools, NoPools, Pools, RealtimePool};
 pub use signals::Signals;
 pub use tables::{FramesFull, LazyTables, NoFrame};

@@ -14,7 +14,6 @@ ghost use Rattle.posix.specs.SignalCalls.{pending_set};
 
 use crate::actions::{does_nothing, is_caught, is_stop_signal};
 use crate::realtime_pool::RealtimePool;
-use crate::sameness::are_same_sets;
 use crate::tables::{FramesFull, LazyTables, NoFrame};
 use arena::Arena;
 use bitflags::Flags;
@@ -78,8 +77,8 @@ impl Signals {
     pub fn is_same(&self, other: &Signals) -> bool
         ensures { result ≡ true → self.now ≡ other.now }
     {
-        are_same_sets(self.mask, other.mask)
-            && are_same_sets(self.pending, other.pending)
+        self.mask == other.mask
+            && self.pending == other.pending
             && self.tables.has_same_carried(&other.tables, self.pending)
             && self.tables.is_same_but_carried(&other.tables)
     }

@@ -12,7 +12,7 @@ ghost use Rattle.signal.specs.SignalTables.{initial_tables, nothing_carried, car
 
 use crate::action_fields::{Actions, are_same_actions, keep_actions, row_of};
 use crate::realtime_pool::RealtimePool;
-use crate::sameness::{are_all_same_frames, are_same_carried, are_same_queues};
+use crate::sameness::{are_all_same_frames, are_same_queues};
 use arena::{Arena, new_arena, refill};
 use bitflags::Flags;
 use posix::{Action, Carried, Frame, Handler, PendingSignal, SaFlags, Sig, SigSet};
@@ -160,7 +160,7 @@ impl LazyTables {
     fn has_same_carried_at(&self, other: &LazyTables, pending: SigSet, sig: Sig) -> bool
         ensures { result ≡ true → pending_at pending self.now.carried (sig - 1) ≡ pending_at pending other.now.carried (sig - 1) }
     {
-        !pending.contains(sig) || are_same_carried(self.carried(sig), other.carried(sig))
+        !pending.contains(sig) || self.carried(sig) == other.carried(sig)
     }
 
     /// Whether the standard signals in a set of pending signals came with the same as in other tables.

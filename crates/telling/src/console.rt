@@ -16,6 +16,15 @@ pub fn put_turns(text: &mut Prose, turns: &[Pid]) {
     text.push_str("\n");
 }
 
+/// Writes a piece, and how many there are of what a word names.
+pub fn put_counted(text: &mut Prose, piece: &str, count: u64, word: &str) {
+    text.push_with(piece, count);
+    text.push_word(" ", word.as_bytes());
+    if count != 1 {
+        text.push_str("s");
+    }
+}
+
 /// Writes whose terminal a console is.
 fn put_owner(text: &mut Prose, session: Pid, foreground: Pid, is_living: bool) {
     if session == Pid::NONE {
@@ -31,19 +40,14 @@ fn put_owner(text: &mut Prose, session: Pid, foreground: Pid, is_living: bool) {
     }
 }
 
-/// Writes a console, by its number; whether a process of its foreground group hasn't ended.
+/// Writes a console, by its number. `is_living`: whether a process of its foreground group hasn't ended.
 pub fn put_console(text: &mut Prose, number: usize, console: &Console, is_living: bool) {
     text.push_with("console ", number);
     text.push_str(": ");
     put_owner(text, console.session(), console.foreground(), is_living);
     text.push_str(", edited ");
     put_quoted(text, console.edited());
-    let lines = console.finished_lines();
-    text.push_with(", ", lines);
-    text.push_str(match lines {
-        1 => " finished line",
-        _ => " finished lines",
-    });
+    put_counted(text, ", ", console.finished_lines() as u64, "finished line");
     if console.tostop() {
         text.push_str(", TOSTOP");
     }

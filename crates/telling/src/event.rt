@@ -2,7 +2,7 @@
 
 use crate::process::{end_cell, put_carried, put_name};
 use crate::reading::{Concern, Reading, Rows, row_of};
-use crate::sending::{Row, Sent, Whom, has_sent, is_taken, told_of};
+use crate::sending::{Row, Sent, Whom, has_sent, is_taken, words_behind};
 use crate::view::View;
 use posix::{Call, Entry, Event, Instr, Life, Pid, Register, Sig, SigSet, Target};
 use proctable::{OwnPart, Snapshot};
@@ -17,7 +17,7 @@ use wording::{
 /// What the current process was about to do.
 #[derive(Clone, Copy)]
 pub struct Actor {
-    it: Snapshot,
+    snapshot: Snapshot,
     with: Arguments,
     /// Whom it sends which signal, if it calls kill or sigqueue; whom it moves, if it calls setpgid.
     target: i64,
@@ -28,9 +28,9 @@ pub struct Actor {
 
 impl Actor {
     /// A process that is there, and acts next.
-    pub fn new(it: Snapshot, own: &OwnPart) -> Actor {
+    pub fn new(snapshot: Snapshot, own: &OwnPart) -> Actor {
         Actor {
-            it,
+            snapshot,
             with: Arguments::of(&own.cpu),
             target: own.cpu.register(Register::FIRST_ARGUMENT),
             sig: signal_in(own.cpu.register(Register::SECOND_ARGUMENT)),
@@ -112,12 +112,12 @@ fn put_given(text: &mut Prose, pid: Pid, heir: Pid) {
 
 /// Writes that the event continued a process, or woke it. Whether it did.
 fn put_new_life(text: &mut Prose, old: &Row, new: &Row) -> bool {
-    let words = match (old.it.life, new.it.life) {
+    let words = match (old.snapshot.life, new.snapshot.life) {
         (Life::Stopped, Life::Running) => "; continues ",
         _ if !old.can_act && new.can_act => "; wakes ",
         _ => return false,
     };
-    text.push_with(words, new.it.pid.number());
+    text.push_with(words, new.snapshot.pid.number());
     true
 }
 
@@ -193,18 +193,15 @@ impl<'l, 't> Teller<'l, 't> {
 
     /// Who acted in the last event.
     pub fn acted(&self) -> Option<Pid> {
-        match self.actor {
-            Some(actor) => Some(actor.it.pid),
-            None => None,
-        }
+        self.actor.as_ref().map(|actor| actor.snapshot.pid)
     }
 
     /// The call that an actor attempts, if its instruction is one.
     fn call_of_actor(&self, actor: &Actor) -> Option<Call> {
-        if let Some(blocked) = actor.it.blocked {
+        if let Some(blocked) = actor.snapshot.blocked {
             return Some(blocked.call());
         }
-        let program = self.programs.get(usize::from(actor.it.program))?;
+        let program = self.programs.get(usize::from(actor.snapshot.program))?;
         match program.get(actor.place?)? {
             Instr::Sys(call) => Some(call),
             _ => None,
@@ -213,7 +210,10 @@ impl<'l, 't> Teller<'l, 't> {
 
     /// The instruction of an actor, as its world writes it.
     fn written_of(&self, actor: &Actor) -> Option<Written<'t>> {
-        let source = self.view.listing.program(usize::from(actor.it.program))?;
+        let source = self
+            .view
+            .listing
+            .program(usize::from(actor.snapshot.program))?;
         source.at(actor.place?)
     }
 
@@ -221,7 +221,7 @@ impl<'l, 't> Teller<'l, 't> {
     fn put_instruction(&mut self, actor: &Actor) {
         if let Some(call) = self.call_of_actor(actor) {
             let listing = self.view.listing;
-            let source = listing.program(usize::from(actor.it.program));
+            let source = listing.program(usize::from(actor.snapshot.program));
             return put_call(&mut self.line, call, actor.with, source, listing);
         }
         let text = match self.written_of(actor) {
@@ -236,8 +236,11 @@ impl<'l, 't> Teller<'l, 't> {
         if self.view.traced {
             return;
         }
-        let source = self.view.listing.program(usize::from(actor.it.program));
-        put_name(&mut self.line, actor.it.pid, source);
+        let source = self
+            .view
+            .listing
+            .program(usize::from(actor.snapshot.program));
+        put_name(&mut self.line, actor.snapshot.pid, source);
         let start = self.line.len();
         if let Some(written) = self.written_of(actor) {
             self.line.push_with("line ", written.line);
@@ -249,7 +252,7 @@ impl<'l, 't> Teller<'l, 't> {
     fn put_silence(&mut self, new: &[Row], actor: &Actor) {
         if self.call_of_actor(actor).is_some() {
             let waits = self.waits(new);
-            self.line.push_str(match (waits, actor.it.blocked) {
+            self.line.push_str(match (waits, actor.snapshot.blocked) {
                 (true, None) => " waits",
                 (true, Some(_)) => " still waits",
                 (false, _) => " begins again",
@@ -260,10 +263,10 @@ impl<'l, 't> Teller<'l, 't> {
     /// Writes what an actor did.
     fn put_act(&mut self, new: &[Row], actor: &Actor, entries: &[Entry]) {
         self.put_actor(actor);
-        let is_signal = match entries.first() {
-            Some(first) => !is_of_instruction(first) && actor.it.chosen.is_some(),
-            None => false,
-        };
+        let is_other = entries
+            .first()
+            .is_some_and(|first| !is_of_instruction(first));
+        let is_signal = is_other && actor.snapshot.chosen.is_some();
         if !is_signal {
             self.put_instruction(actor);
         }
@@ -293,7 +296,7 @@ impl<'l, 't> Teller<'l, 't> {
 
     /// Writes which pending signals of a process went without being taken. Whether there are such.
     fn put_discarded(&mut self, old: &Row, new: &Row, entries: &[Entry]) -> bool {
-        let pid = new.it.pid;
+        let pid = new.snapshot.pid;
         let mut is_told = false;
         for number in 1..65u8 {
             if let Some(sig) = Sig::new(number) {
@@ -312,8 +315,8 @@ impl<'l, 't> Teller<'l, 't> {
         let mut is_told = false;
         for number in 1..65u8 {
             if let Some(sig) = Sig::new(number) {
-                if let Some(words) = told_of(old, new, hears, number == sent, sig) {
-                    put_signal_of(&mut self.line, "; sends ", sig, " to ", new.it.pid);
+                if let Some(words) = words_behind(old, new, hears, number == sent, sig) {
+                    put_signal_of(&mut self.line, "; sends ", sig, " to ", new.snapshot.pid);
                     self.line.push_str(words);
                     is_told = true;
                 }
@@ -340,7 +343,7 @@ impl<'l, 't> Teller<'l, 't> {
         if is_same && sent == 0 && !hears {
             return false;
         }
-        let is_zombie = matches!(new.it.life, Life::Zombie(_));
+        let is_zombie = matches!(new.snapshot.life, Life::Zombie(_));
         let is_discarded = !is_zombie && self.put_discarded(old, new, entries);
         let is_sent = self.put_sent(old, new, hears, sent);
         is_discarded || is_sent
@@ -348,40 +351,28 @@ impl<'l, 't> Teller<'l, 't> {
 
     /// Whether the parent of a process was this one.
     fn is_child(&self, pid: Pid, parent: Pid) -> bool {
-        match self.rows.of(pid) {
-            Some(row) => row.it.parent == parent,
-            None => false,
-        }
+        matches!(self.rows.of(pid), Some(row) if row.snapshot.parent == parent)
     }
 
     /// Whether a process gets a notice of a child, by the entries and the rows of the event.
-    fn hears(&self, it: &Row, entries: &[Entry], all: &[Row]) -> bool {
-        let parent = it.it.pid;
-        for entry in entries {
-            let hears = match *entry {
-                Entry::Ended { pid, .. } => it.hears_ends && self.is_child(pid, parent),
-                Entry::Stopped { pid, .. } => it.hears_changes && self.is_child(pid, parent),
-                _ => false,
-            };
-            if hears {
-                return true;
-            }
-        }
-        it.hears_changes && self.has_continued(parent, all)
+    fn hears(&self, hearer: &Row, entries: &[Entry], all: &[Row]) -> bool {
+        let parent = hearer.snapshot.pid;
+        let has_changed = entries.iter().any(|entry| match *entry {
+            Entry::Ended { pid, .. } => hearer.hears_ends && self.is_child(pid, parent),
+            Entry::Stopped { pid, .. } => hearer.hears_changes && self.is_child(pid, parent),
+            _ => false,
+        });
+        has_changed || (hearer.hears_changes && self.has_continued(parent, all))
     }
 
     /// Whether the event continued a child of a process.
     fn has_continued(&self, parent: Pid, all: &[Row]) -> bool {
-        for row in all {
-            if row.it.parent == parent && matches!(row.it.life, Life::Running) {
-                if let Some(old) = self.rows.of(row.it.pid) {
-                    if matches!(old.it.life, Life::Stopped) {
-                        return true;
-                    }
-                }
-            }
-        }
-        false
+        all.iter().any(|row| {
+            let new = &row.snapshot;
+            new.parent == parent
+                && matches!(new.life, Life::Running)
+                && matches!(self.rows.of(new.pid), Some(old) if matches!(old.snapshot.life, Life::Stopped))
+        })
     }
 
     /// Writes what the event made of one process. Whether it made something of it.
@@ -392,13 +383,13 @@ impl<'l, 't> Teller<'l, 't> {
         all: &[Row],
         sent: Option<&Sent>,
     ) -> bool {
-        let Some(old) = self.rows.of(new.it.pid) else {
+        let Some(old) = self.rows.of(new.snapshot.pid) else {
             return true;
         };
         let has_signals = self.put_signals(&old, new, entries, all, sent);
-        let is_given = old.it.parent != new.it.parent;
+        let is_given = old.snapshot.parent != new.snapshot.parent;
         if is_given {
-            put_given(&mut self.line, new.it.pid, new.it.parent);
+            put_given(&mut self.line, new.snapshot.pid, new.snapshot.parent);
         }
         let is_new = put_new_life(&mut self.line, &old, new);
         has_signals || is_given || is_new
@@ -437,15 +428,15 @@ impl<'l, 't> Teller<'l, 't> {
         let (sig, whom) = match self.call_of_actor(actor)? {
             Call::Kill if has_sent(entries) => {
                 let target = Target::from_word(actor.target);
-                (actor.sig?, Whom::Named(actor.it, target))
+                (actor.sig?, Whom::Named(actor.snapshot, target))
             }
             Call::Sigqueue if has_sent(entries) => {
                 let target = Target::process_from_word(actor.target);
-                (actor.sig?, Whom::Named(actor.it, target))
+                (actor.sig?, Whom::Named(actor.snapshot, target))
             }
-            Call::Read if entries.is_empty() => (Sig::TTIN, Whom::Group(actor.it.group)),
+            Call::Read if entries.is_empty() => (Sig::TTIN, Whom::Group(actor.snapshot.group)),
             Call::Write | Call::Tcsetpgrp | Call::Settostop if entries.is_empty() => {
-                (Sig::TTOU, Whom::Group(actor.it.group))
+                (Sig::TTOU, Whom::Group(actor.snapshot.group))
             }
             _ => return None,
         };
@@ -454,24 +445,22 @@ impl<'l, 't> Teller<'l, 't> {
 
     /// Whom a step of an actor may have changed, by what it showed and what it sent.
     fn concern_of(&self, actor: &Actor, entries: &[Entry], sent: Option<Sent>) -> Concern {
-        let it = &actor.it;
+        let snapshot = &actor.snapshot;
         let (mut hears, mut ended) = (Pid::NONE, Pid::NONE);
         for entry in entries {
             match entry {
-                Entry::Ended { .. } => (hears, ended) = (it.parent, it.pid),
-                Entry::Stopped { .. } => hears = it.parent,
+                Entry::Ended { .. } => (hears, ended) = (snapshot.parent, snapshot.pid),
+                Entry::Stopped { .. } => hears = snapshot.parent,
                 _ => {}
             }
         }
         let has_ended = ended != Pid::NONE;
         let other = other_of(actor, entries).unwrap_or(Pid::NONE);
-        let (target, continues) = match &sent {
-            Some(sent) => (sent.target(), sent.sig == Sig::CONT),
-            None => (Pid::NONE, false),
-        };
-        let hangs_up = has_ended && it.session == it.pid;
+        let target = sent.as_ref().map_or(Pid::NONE, Sent::target);
+        let continues = sent.as_ref().is_some_and(|sent| sent.sig == Sig::CONT);
+        let hangs_up = has_ended && snapshot.session == snapshot.pid;
         Concern {
-            few: [it.pid, hears, other, target],
+            few: [snapshot.pid, hears, other, target],
             ended,
             sent: if target == Pid::NONE { sent } else { None },
             all: hangs_up || ((has_ended || continues) && self.rows.have_stopped()),
@@ -500,13 +489,10 @@ impl<'l, 't> Teller<'l, 't> {
 
     /// Whether the actor waits in a call now.
     fn waits(&self, new: &[Row]) -> bool {
-        let Some(actor) = &self.actor else {
+        let Some(pid) = self.acted() else {
             return false;
         };
-        match row_of(new, actor.it.pid) {
-            Some(row) => row.it.blocked.is_some(),
-            None => false,
-        }
+        matches!(row_of(new, pid), Some(row) if row.snapshot.blocked.is_some())
     }
 
     /// Begins the line of an event: with its number, where no line of the trace stands before it.
@@ -566,10 +552,10 @@ impl<'l, 't> Teller<'l, 't> {
         self.put_event(event, entries, new);
         let is_shown = self.put_effects(new, entries, sent);
         let is_gone = self.put_gone(reading.gone.as_slice(), entries);
-        let has_actor = match self.actor {
-            Some(actor) => self.view.has(actor.it.pid),
-            None => self.view.only.is_empty(),
-        };
+        let view = self.view;
+        let has_actor = self
+            .acted()
+            .map_or(view.only.is_empty(), |pid| view.has(pid));
         if is_shown || is_gone || has_actor {
             return self.put_line(number, entries);
         }
@@ -582,7 +568,7 @@ impl<'l, 't> Teller<'l, 't> {
         let mut is_shown = false;
         for row in new {
             let is_told = self.put_effect(row, entries, new, sent);
-            is_shown = is_shown || (is_told && self.view.has(row.it.pid));
+            is_shown |= is_told && self.view.has(row.snapshot.pid);
         }
         is_shown
     }
@@ -590,10 +576,6 @@ impl<'l, 't> Teller<'l, 't> {
 
 /// Whether a wait reported a process.
 fn is_reported(entries: &[Entry], pid: Pid) -> bool {
-    for entry in entries {
-        if matches!(*entry, Entry::Reported { child, .. } if child == pid) {
-            return true;
-        }
-    }
-    false
+    let mut entries = entries.iter();
+    entries.any(|entry| matches!(*entry, Entry::Reported { child, .. } if child == pid))
 }

@@ -10,7 +10,7 @@ mod since;
 mod view;
 mod wakers;
 
-pub use console::{put_console, put_turns};
+pub use console::{put_console, put_counted, put_turns};
 pub use event::{Actor, Teller};
 pub use process::{Around, put_process};
 pub use reading::{Reading, Rows};

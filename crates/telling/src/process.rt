@@ -1,5 +1,6 @@
 //! A process as it is at an event, in words.
 
+use crate::console::put_counted;
 use crate::sending::MOST_QUEUED;
 use crate::since::Times;
 use crate::view::View;
@@ -7,6 +8,7 @@ use crate::wakers::{Terminal, put_wakers};
 use bitflags::Flags;
 use posix::{Action, Blocked, Handler, Life, News, Pid, Sig, SigSet};
 use proctable::{OwnPart, Snapshot};
+use signal::Creds;
 use wording::{
     Arguments, Listing, Prose, Source, put_address, put_call, put_flags, put_place, put_set,
     put_set_or_none, put_signal, put_status,
@@ -15,7 +17,7 @@ use wording::{
 /// A process that is there, as it is now.
 #[derive(Drop)]
 struct Shown<'l, 't> {
-    it: Snapshot,
+    snapshot: Snapshot,
     times: Times,
     source: Option<&'l Source<'t>>,
 }
@@ -76,10 +78,10 @@ fn put_stop(text: &mut Prose, shown: &Shown<'_, '_>, own: &OwnPart, listing: &Li
         put_signal(text, sig);
     }
     text.push_with(" since ", shown.times.stop);
-    if let News::StoppedBy(_) = shown.it.news {
+    if let News::StoppedBy(_) = shown.snapshot.news {
         text.push_str(", not reported yet");
     }
-    if let Some(blocked) = shown.it.blocked {
+    if let Some(blocked) = shown.snapshot.blocked {
         text.push_str(", in ");
         put_wait(text, shown, own, blocked, listing);
     }
@@ -87,7 +89,7 @@ fn put_stop(text: &mut Prose, shown: &Shown<'_, '_>, own: &OwnPart, listing: &Li
 
 /// Writes what a process does.
 fn put_doing(text: &mut Prose, shown: &Shown<'_, '_>, own: &OwnPart, listing: &Listing<'_>) {
-    match (shown.it.life, shown.it.blocked) {
+    match (shown.snapshot.life, shown.snapshot.blocked) {
         (Life::Zombie(status), _) => {
             text.push_with("zombie since ", shown.times.end);
             text.push_str(", ");
@@ -103,16 +105,20 @@ fn put_doing(text: &mut Prose, shown: &Shown<'_, '_>, own: &OwnPart, listing: &L
     }
     text.push_str(", ");
     put_place(text, shown.source, own.cpu.frame(SigSet::EMPTY).pc);
-    if let News::Continued = shown.it.news {
+    if let News::Continued = shown.snapshot.news {
         text.push_str(", continued, not reported yet");
     }
 }
 
 /// Writes the row of a process. A zombie has neither a mask nor pending signals.
 fn put_row(text: &mut Prose, shown: &Shown<'_, '_>, own: &OwnPart, listing: &Listing<'_>) {
-    let it = &shown.it;
-    let is_zombie = matches!(it.life, Life::Zombie(_));
-    put_name(text, it.pid, if is_zombie { None } else { shown.source });
+    let snapshot = &shown.snapshot;
+    let is_zombie = matches!(snapshot.life, Life::Zombie(_));
+    put_name(
+        text,
+        snapshot.pid,
+        if is_zombie { None } else { shown.source },
+    );
     let start = text.len();
     put_doing(text, shown, own, listing);
     end_cell(text, start, 45);
@@ -123,9 +129,9 @@ fn put_row(text: &mut Prose, shown: &Shown<'_, '_>, own: &OwnPart, listing: &Lis
         put_set_cell(text, "mask ", own.signals.mask(), 18);
         put_set_cell(text, "pending ", own.signals.pending(), 20);
     }
-    text.push_with("parent ", it.parent.number());
-    text.push_with("  group ", it.group.number());
-    text.push_with("  session ", it.session.number());
+    text.push_with("parent ", snapshot.parent.number());
+    text.push_with("  group ", snapshot.group.number());
+    text.push_with("  session ", snapshot.session.number());
     text.push_str("\n");
 }
 
@@ -192,31 +198,19 @@ fn put_queue(text: &mut Prose, own: &OwnPart) {
     }
 }
 
-/// Writes three ids: the real one, the effective one, and the saved one.
-fn put_three(text: &mut Prose, name: &str, real: u32, effective: u32, saved: u32) {
-    text.push_with(name, real);
-    text.push_with(", effective ", effective);
-    text.push_with(", saved ", saved);
-}
-
 /// Writes the ids of a process, unless all are 0.
-fn put_ids(text: &mut Prose, it: &Snapshot) {
-    let (user, group) = (it.creds.user(), it.creds.group());
-    let (u, v, w) = (
-        user.real.number(),
-        user.effective.number(),
-        user.saved.number(),
-    );
-    let (g, h, i) = (
-        group.real.number(),
-        group.effective.number(),
-        group.saved.number(),
-    );
-    if (u, v, w, g, h, i) != (0, 0, 0, 0, 0, 0) {
-        put_three(text, "    user ", u, v, w);
-        put_three(text, "; group ", g, h, i);
-        text.push_str("\n");
+fn put_ids(text: &mut Prose, creds: Creds) {
+    if creds == Creds::root() {
+        return;
     }
+    let (user, group) = (creds.user(), creds.group());
+    text.push_with("    user ", user.real.number());
+    text.push_with(", effective ", user.effective.number());
+    text.push_with(", saved ", user.saved.number());
+    text.push_with("; group ", group.real.number());
+    text.push_with(", effective ", group.effective.number());
+    text.push_with(", saved ", group.saved.number());
+    text.push_str("\n");
 }
 
 /// Writes the registers of a process.
@@ -262,18 +256,27 @@ pub struct Around {
 pub fn put_process(
     view: View<'_, '_>,
     text: &mut Prose,
-    it: Snapshot,
+    snapshot: Snapshot,
     around: Around,
     own: &OwnPart,
 ) {
-    let source = view.listing.program(usize::from(it.program));
+    let source = view.listing.program(usize::from(snapshot.program));
     let times = around.times;
-    put_row(text, &Shown { it, times, source }, own, view.listing);
-    if matches!(it.life, Life::Zombie(_)) {
+    put_row(
+        text,
+        &Shown {
+            snapshot,
+            times,
+            source,
+        },
+        own,
+        view.listing,
+    );
+    if matches!(snapshot.life, Life::Zombie(_)) {
         return;
     }
     if around.sleeps {
-        put_wakers(text, &it, own, around.terminal);
+        put_wakers(text, &snapshot, own, around.terminal);
     }
     put_actions(text, source, own);
     put_queue(text, own);
@@ -282,13 +285,13 @@ pub fn put_process(
         text.push_with("    handlers that haven't returned: ", handlers);
         text.push_str("\n");
     }
-    if let Some(due) = it.alarm {
+    if let Some(due) = snapshot.alarm {
         let left = due.saturating_sub(around.ticks);
-        text.push_with("    alarm in ", left);
-        text.push_str(if left == 1 { " tick\n" } else { " ticks\n" });
+        put_counted(text, "    alarm in ", left, "tick");
+        text.push_str("\n");
     }
-    put_ids(text, &it);
-    if it.is_subreaper {
+    put_ids(text, snapshot.creds);
+    if snapshot.is_subreaper {
         text.push_str("    is a subreaper\n");
     }
     if !view.only.is_empty() {

@@ -1,6 +1,6 @@
 //! The processes as they are from one event to the next: those alone are read anew that an event may have changed.
 
-ghost use Rattle.std.specs.Prelude.{◌<◌, IfOk, length};
+ghost use Rattle.std.specs.Prelude.{◌<◌, ◌≤◌, MatchResult, length};
 
 use crate::sending::{Row, Sent};
 use posix::{Life, Pid, Sig};
@@ -33,13 +33,16 @@ impl Reading {
     /// A process is there, after an event that sent this, or before one.
     pub fn add(
         &mut self,
-        it: Snapshot,
+        snapshot: Snapshot,
         own: &OwnPart,
         sent: Option<&Sent>,
     ) -> Result<(), AllocError> {
-        let can_act = has(self.acting.as_slice(), it.pid);
-        let place = self.rows.len();
-        insert(&mut self.rows, place, Row::new(it, own, can_act, sent))
+        let can_act = has(self.acting.as_slice(), snapshot.pid);
+        let row = Row::new(snapshot, own, can_act, sent);
+        // The row is made anew, by a field whose type is named: the prover has to be told here that a row may have a signal.
+        let last_queued: Option<Sig> = row.last_queued;
+        self.rows.push(Row { last_queued, ..row })?;
+        Ok(())
     }
 }
 
@@ -60,23 +63,14 @@ fn add_others(pids: &mut Vec<Pid>, these: &[Pid], those: &[Pid]) -> Result<(), A
 
 /// The place of a process among rows that rise; where it isn't there, the place that it would have.
 fn place_of(rows: &[Row], pid: Pid) -> Result<usize, usize>
-    ensures { IfOk result (λ place. place < length rows.now) }
+    ensures { MatchResult result (λ place. place < length rows.now) (λ place. place ≤ length rows.now) }
 {
-    rows.binary_search_by_key(&pid, |row| row.it.pid)
+    rows.binary_search_by_key(&pid, |row| row.snapshot.pid)
 }
 
 /// The row of a process; none where it isn't there. The rows rise.
 pub fn row_of(rows: &[Row], pid: Pid) -> Option<Row> {
     rows.get(place_of(rows, pid).ok()?).copied()
-}
-
-/// Puts a row at a place; behind the last one where that is before it.
-fn insert(rows: &mut Vec<Row>, place: usize, row: Row) -> Result<(), AllocError> {
-    // The row is made anew, by a field whose type is named: the prover has to be told here that a row may have a signal.
-    let last_queued: Option<Sig> = row.last_queued;
-    let within = place.min(rows.len());
-    rows.insert(within, Row { last_queued, ..row })?;
-    Ok(())
 }
 
 /// Whom an event may have changed, beside those that get a turn or lose theirs.
@@ -101,15 +95,12 @@ impl Concern {
 
     /// Whether a process, which was as this row says, is one of the others.
     fn has_other(&self, old: &Row) -> bool {
-        let it = &old.it;
-        let may_inherit = it.pid == Pid::INIT || it.is_subreaper;
-        if self.ended != Pid::NONE && (it.parent == self.ended || may_inherit) {
+        let snapshot = &old.snapshot;
+        let may_inherit = snapshot.pid == Pid::INIT || snapshot.is_subreaper;
+        if self.ended != Pid::NONE && (snapshot.parent == self.ended || may_inherit) {
             return true;
         }
-        match &self.sent {
-            Some(sent) => self.all || sent.is_to(old),
-            None => self.all,
-        }
+        self.all || self.sent.as_ref().is_some_and(|sent| sent.is_to(old))
     }
 }
 
@@ -153,19 +144,15 @@ impl Rows {
 
     /// Whether a process is stopped.
     pub(crate) fn have_stopped(&self) -> bool {
-        for row in &self.rows {
-            if matches!(row.it.life, Life::Stopped) {
-                return true;
-            }
-        }
-        false
+        let mut rows = self.rows.iter();
+        rows.any(|row| matches!(row.snapshot.life, Life::Stopped))
     }
 
     /// Adds those that an event may have changed, beside the few.
     fn add_wide(&self, pids: &mut Vec<Pid>, concern: &Concern) -> Result<(), AllocError> {
         for row in &self.rows {
             if concern.has_other(row) {
-                pids.push(row.it.pid)?;
+                pids.push(row.snapshot.pid)?;
             }
         }
         Ok(())
@@ -192,15 +179,11 @@ impl Rows {
 
     /// A process is as this row says.
     fn put(&mut self, row: &Row) -> Result<(), AllocError> {
-        match place_of(self.rows.as_slice(), row.it.pid) {
-            Ok(place) => {
-                if let Some(kept) = self.rows.get_mut(place) {
-                    *kept = *row;
-                }
-                Ok(())
-            }
-            Err(place) => insert(&mut self.rows, place, *row),
+        match place_of(self.rows.as_slice(), row.snapshot.pid) {
+            Ok(place) => self.rows[place] = *row,
+            Err(place) => self.rows.insert(place, *row)?,
         }
+        Ok(())
     }
 
     /// These aren't there any more.

@@ -45,7 +45,7 @@ fn queue_of(signals: &Signals) -> (usize, Option<Sig>) {
 /// What is compared of a process before and after an event.
 #[derive(Clone, Copy)]
 pub struct Row {
-    pub it: Snapshot,
+    pub snapshot: Snapshot,
     pub pending: SigSet,
     /// How many real-time signals are queued, and which is the last.
     pub queued: usize,
@@ -60,15 +60,12 @@ pub struct Row {
 
 impl Row {
     /// What is compared of a process, after an event that sent this, or before one.
-    pub fn new(it: Snapshot, own: &OwnPart, can_act: bool, sent: Option<&Sent>) -> Row {
+    pub fn new(snapshot: Snapshot, own: &OwnPart, can_act: bool, sent: Option<&Sent>) -> Row {
         let signals = &own.signals;
         let (queued, last_queued): (usize, Option<Sig>) = queue_of(signals);
-        let fate = match sent {
-            Some(sent) => fate_of(it.pid, signals, sent.sig),
-            None => Fate::Kept,
-        };
+        let fate = sent.map_or(Fate::Kept, |sent| fate_of(snapshot.pid, signals, sent.sig));
         Row {
-            it,
+            snapshot,
             pending: signals.pending(),
             queued,
             last_queued,
@@ -109,12 +106,12 @@ pub struct Sent {
 }
 
 /// Whether a caller names a process.
-fn is_named(caller: &Snapshot, target: &Target, it: &Snapshot) -> bool {
+fn is_named(caller: &Snapshot, target: &Target, snapshot: &Snapshot) -> bool {
     match *target {
-        Target::Process(pid) => it.pid == pid,
-        Target::OwnGroup => it.group == caller.group,
-        Target::Group(group) => it.group == group,
-        Target::All => it.pid != caller.pid && it.pid != Pid::INIT,
+        Target::Process(pid) => snapshot.pid == pid,
+        Target::OwnGroup => snapshot.group == caller.group,
+        Target::Group(group) => snapshot.group == group,
+        Target::All => snapshot.pid != caller.pid && snapshot.pid != Pid::INIT,
         Target::Nobody => false,
     }
 }
@@ -130,64 +127,63 @@ impl Sent {
 
     /// Whether the signal is sent to a process, which was as this row says.
     pub fn is_to(&self, old: &Row) -> bool {
-        let it = &old.it;
+        let snapshot = &old.snapshot;
         match &self.whom {
             Whom::Named(caller, target) => {
-                let same_session = caller.session == it.session;
-                is_named(caller, target, it)
+                let same_session = caller.session == snapshot.session;
+                is_named(caller, target, snapshot)
                     && caller
                         .creds
-                        .may_signal(&it.creds, Some(self.sig), same_session)
+                        .may_signal(&snapshot.creds, Some(self.sig), same_session)
             }
-            Whom::Group(group) => it.group == *group,
-            Whom::Leader(pid) => it.pid == *pid,
-            Whom::Ringing(ticks) => it.alarm == Some(*ticks),
+            Whom::Group(group) => snapshot.group == *group,
+            Whom::Leader(pid) => snapshot.pid == *pid,
+            Whom::Ringing(ticks) => snapshot.alarm == Some(*ticks),
         }
     }
 }
 
 /// Whether a kill or a sigqueue has succeeded.
 pub fn has_sent(entries: &[Entry]) -> bool {
-    for entry in entries {
-        if let Entry::Called {
-            call: Call::Kill | Call::Sigqueue,
-            result: 0,
-            ..
-        } = entry
-        {
-            return true;
-        }
-    }
-    false
+    entries.iter().any(|entry| {
+        matches!(
+            entry,
+            Entry::Called {
+                call: Call::Kill | Call::Sigqueue,
+                result: 0,
+                ..
+            }
+        )
+    })
 }
 
 /// Whether a process has taken a signal.
-pub fn is_taken(entries: &[Entry], it: Pid, signal: Sig) -> bool {
-    for entry in entries {
-        let (pid, sig) = match *entry {
-            Entry::Handled { pid, sig, .. }
-            | Entry::Discarded { pid, sig }
-            | Entry::Stopped { pid, sig } => (pid, sig),
-            _ => continue,
-        };
-        if pid == it && sig == signal {
-            return true;
-        }
-    }
-    false
+pub fn is_taken(entries: &[Entry], taker: Pid, signal: Sig) -> bool {
+    entries.iter().any(|entry| match *entry {
+        Entry::Handled { pid, sig, .. }
+        | Entry::Discarded { pid, sig }
+        | Entry::Stopped { pid, sig } => pid == taker && sig == signal,
+        _ => false,
+    })
 }
 
 /// What is told behind a signal of a process, which hears of a child, and which was sent the signal; nothing where the
 /// signal isn't told.
-pub fn told_of(old: &Row, new: &Row, hears: bool, is_sent: bool, sig: Sig) -> Option<&'static str> {
+pub fn words_behind(
+    old: &Row,
+    new: &Row,
+    hears: bool,
+    is_sent: bool,
+    sig: Sig,
+) -> Option<&'static str> {
     if new.has_new(old, sig) {
         return Some("");
     }
     if hears && sig == Sig::CHLD {
         return Some(", pending already");
     }
-    let continues = sig == Sig::CONT && matches!(old.it.life, Life::Stopped);
-    if !is_sent || continues || matches!(new.it.life, Life::Zombie(_)) {
+    let continues = sig == Sig::CONT && matches!(old.snapshot.life, Life::Stopped);
+    if !is_sent || continues || matches!(new.snapshot.life, Life::Zombie(_)) {
         return None;
     }
     match new.fate {

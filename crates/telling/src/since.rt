@@ -30,35 +30,28 @@ impl Since {
 
     /// When the process with this number did what it does now.
     pub fn of(&self, pid: Pid) -> Times {
-        match self.times.get(&pid.number()) {
-            Some(times) => *times,
-            None => Times::default(),
-        }
+        self.times.get(&pid.number()).copied().unwrap_or_default()
     }
 
-    /// Sets the times of a process.
-    fn set(&mut self, pid: Pid, times: Times) -> Result<(), AllocError> {
-        match self.times.insert(pid.number(), times) {
-            Ok(_) => Ok(()),
-            Err(_) => Err(AllocError),
-        }
+    /// Changes the times of a process.
+    fn change<F: FnOnce(&mut Times)>(&mut self, pid: Pid, change: F) -> Result<(), AllocError>
+        requires { F.IsAlwaysCallable change }
+    {
+        let mut times = self.of(pid);
+        change(&mut times);
+        self.times.insert(pid.number(), times)?;
+        Ok(())
     }
 
     /// Notes what the entries of an event tell.
     pub fn note(&mut self, event: u64, entries: &[Entry]) -> Result<(), AllocError> {
         for entry in entries {
             match *entry {
-                Entry::Stopped { pid, sig } => {
-                    let mut times = self.of(pid);
+                Entry::Stopped { pid, sig } => self.change(pid, |times| {
                     times.stop = event;
                     times.stopped_by = sig.number();
-                    self.set(pid, times)?;
-                }
-                Entry::Ended { pid, .. } => {
-                    let mut times = self.of(pid);
-                    times.end = event;
-                    self.set(pid, times)?;
-                }
+                })?,
+                Entry::Ended { pid, .. } => self.change(pid, |times| times.end = event)?,
                 _ => {}
             }
         }
@@ -67,8 +60,6 @@ impl Since {
 
     /// Notes that a process waits from an event on.
     pub fn note_wait(&mut self, event: u64, pid: Pid) -> Result<(), AllocError> {
-        let mut times = self.of(pid);
-        times.wait = event;
-        self.set(pid, times)
+        self.change(pid, |times| times.wait = event)
     }
 }

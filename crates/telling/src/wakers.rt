@@ -14,28 +14,28 @@ pub struct Terminal {
 }
 
 /// The process group of a wait that is for the children in one, by a caller.
-fn group_of(it: &Snapshot, asked: &Asked) -> Option<Pid> {
+fn group_of(snapshot: &Snapshot, asked: &Asked) -> Option<Pid> {
     match asked.target {
-        Target::OwnGroup => Some(it.group),
+        Target::OwnGroup => Some(snapshot.group),
         Target::Group(group) => Some(group),
         Target::All | Target::Process(_) | Target::Nobody => None,
     }
 }
 
 /// Writes the children that a wait is for.
-fn put_children(text: &mut Prose, it: &Snapshot, asked: &Asked) {
+fn put_children(text: &mut Prose, snapshot: &Snapshot, asked: &Asked) {
     if let Target::Process(pid) = asked.target {
         return text.push_with("by child ", pid.number());
     }
     text.push_str("by a child");
-    if let Some(group) = group_of(it, asked) {
+    if let Some(group) = group_of(snapshot, asked) {
         text.push_with(" in group ", group.number());
     }
 }
 
 /// Whether something lets a wait go on, and what a child does then, in words. Of a child that is dropped no wait hears, but
 /// the wait for it alone has no child left.
-fn doings(it: &Snapshot, asked: &Asked, drops: bool) -> [(bool, &'static str); 5] {
+fn doings(snapshot: &Snapshot, asked: &Asked, drops: bool) -> [(bool, &'static str); 5] {
     let is_for_one = matches!(asked.target, Target::Process(_));
     let is_for_group = matches!(asked.target, Target::OwnGroup | Target::Group(_));
     let ends = if drops {
@@ -45,7 +45,7 @@ fn doings(it: &Snapshot, asked: &Asked, drops: bool) -> [(bool, &'static str); 5
     };
     let stops = asked.options.contains(WaitidOptions::WSTOPPED);
     let continues = asked.options.contains(WaitidOptions::WCONTINUED);
-    let gets_orphans = !is_for_one && (it.pid == Pid::INIT || it.is_subreaper);
+    let gets_orphans = !is_for_one && (snapshot.pid == Pid::INIT || snapshot.is_subreaper);
     let (comes, words) = if stops || continues {
         (gets_orphans, "is given to it so")
     } else {
@@ -61,12 +61,12 @@ fn doings(it: &Snapshot, asked: &Asked, drops: bool) -> [(bool, &'static str); 5
 }
 
 /// Writes what a child does that lets a wait go on, where there is such.
-fn put_doings(text: &mut Prose, it: &Snapshot, asked: &Asked, drops: bool) {
+fn put_doings(text: &mut Prose, snapshot: &Snapshot, asked: &Asked, drops: bool) {
     let start = text.len();
-    for (does, words) in doings(it, asked, drops) {
+    for (does, words) in doings(snapshot, asked, drops) {
         if does {
             if text.len() == start {
-                put_children(text, it, asked);
+                put_children(text, snapshot, asked);
                 text.push_str(" that ");
             } else {
                 text.push_str(" or ");
@@ -80,30 +80,33 @@ fn put_doings(text: &mut Prose, it: &Snapshot, asked: &Asked, drops: bool) {
 }
 
 /// Writes what else lets a wait go on: that it is for no child any more, or for others.
-fn put_losses(text: &mut Prose, it: &Snapshot, asked: &Asked, drops: bool) {
-    if let Some(group) = group_of(it, asked) {
+fn put_losses(text: &mut Prose, snapshot: &Snapshot, asked: &Asked, drops: bool) {
+    if let Some(group) = group_of(snapshot, asked) {
         text.push_with("once it has no child left in group ", group.number());
         text.push_str(", ");
     } else if drops && matches!(asked.target, Target::All) {
         text.push_str("once it has no child left, ");
     }
-    if matches!(asked.target, Target::OwnGroup) && it.session != it.pid && !it.ran_exec {
+    if matches!(asked.target, Target::OwnGroup)
+        && snapshot.session != snapshot.pid
+        && !snapshot.ran_exec
+    {
         text.push_str("once it is moved to another group, ");
     }
 }
 
 /// Writes what lets a wait for children go on. One that is refused doesn't sleep.
-fn put_waiting(text: &mut Prose, it: &Snapshot, own: &OwnPart, call: WaitCall) {
+fn put_waiting(text: &mut Prose, snapshot: &Snapshot, own: &OwnPart, call: WaitCall) {
     let Some(asked) = Arguments::of(&own.cpu).asked(call) else {
         return;
     };
     let drops = own.signals.drops_children();
-    put_doings(text, it, &asked, drops);
-    put_losses(text, it, &asked, drops);
+    put_doings(text, snapshot, &asked, drops);
+    put_losses(text, snapshot, &asked, drops);
 }
 
 /// Writes what lets a read go on.
-fn put_reading(text: &mut Prose, it: &Snapshot, terminal: Option<Terminal>) {
+fn put_reading(text: &mut Prose, snapshot: &Snapshot, terminal: Option<Terminal>) {
     let Some(terminal) = terminal else {
         return;
     };
@@ -115,30 +118,35 @@ fn put_reading(text: &mut Prose, it: &Snapshot, terminal: Option<Terminal>) {
     if terminal.is_shared {
         text.push_str("once it is in the background, ");
     }
-    if it.session != it.pid {
+    if snapshot.session != snapshot.pid {
         text.push_str("once the console is released, ");
     }
 }
 
 /// Writes by what a process that sleeps would be woken.
-pub fn put_wakers(text: &mut Prose, it: &Snapshot, own: &OwnPart, terminal: Option<Terminal>) {
-    if matches!(it.life, Life::Stopped) {
+pub fn put_wakers(
+    text: &mut Prose,
+    snapshot: &Snapshot,
+    own: &OwnPart,
+    terminal: Option<Terminal>,
+) {
+    if matches!(snapshot.life, Life::Stopped) {
         return text.push_str("    goes on by SIGCONT, and ends by SIGKILL\n");
     }
-    let Some(blocked) = it.blocked else {
+    let Some(blocked) = snapshot.blocked else {
         return;
     };
     text.push_str("    is woken ");
     let start = text.len();
     match blocked {
-        Blocked::Wait(call) => put_waiting(text, it, own, call),
-        Blocked::Read => put_reading(text, it, terminal),
+        Blocked::Wait(call) => put_waiting(text, snapshot, own, call),
+        Blocked::Read => put_reading(text, snapshot, terminal),
         Blocked::Pause | Blocked::Sigsuspend(_) => {}
     }
     if text.len() != start {
         text.push_str("or ");
     }
-    text.push_str(if it.pid == Pid::INIT {
+    text.push_str(if snapshot.pid == Pid::INIT {
         "by a signal that it catches and doesn't block: process 1 gets no other\n"
     } else {
         "by a signal that it neither blocks nor ignores\n"

@@ -40,6 +40,11 @@ abbrev pub unless : {A : Type 0} → Option TextFault → A → Result A TextFau
 unless None x = Ok x
 unless (Some fault) x = Err fault
 
+-- the first, unless the reason is want of memory, which is no fault of a text: then the second
+abbrev pub unless_memory : {A : Type 0} → Reason → A → A → A
+unless_memory Memory why memory = memory
+unless_memory reason why memory = why
+
 -- A fault is the text's, or want of memory stands in its place.
 abbrev pub IsFaultOf : {A : Type 0} → Result A TextFault → TextFault → Type 0
 IsFaultOf meaning fault = (fault.reason ≡ Memory) ⊎ (meaning ≡ Err fault)

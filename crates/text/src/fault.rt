@@ -2,6 +2,7 @@
 
 ghost use Rattle.std.specs.Prelude.{◌≡◌};
 ghost use Rattle.text.specs.declared.fault.Reason.TheVariants.{Memory};
+ghost use Rattle.text.specs.Reading.{unless_memory};
 
 use std::alloc::AllocError;
 use thiserror::Error;
@@ -55,6 +56,18 @@ pub struct TextFault {
     /// Its number, from 1. A fault of the end of a text has the number of lines plus one.
     pub line: u64,
     pub reason: Reason,
+}
+
+impl TextFault {
+    /// `why`, unless memory was refused, which is no fault of the text: then `memory`.
+    pub fn unless_memory<E: Drop>(self, why: E, memory: E) -> E
+        ensures { result ≡ unless_memory self.reason why memory }
+    {
+        match self.reason {
+            Reason::Memory => memory,
+            _ => why,
+        }
+    }
 }
 
 /// There was no memory at a line.

@@ -23,7 +23,7 @@ pub use fault::{Reason, TextFault};
 pub use numbers::{are_digits, integer};
 pub use umach::World;
 pub use words::{
-    MAX_LINE_LEN, are_name_bytes, is_name, is_name_byte, is_separator, next_line, next_word,
-    skip_separators, split_comment, word_len,
+    Lines, MAX_LINE_LEN, Words, are_name_bytes, is_name, is_name_byte, is_separator, next_line,
+    next_word, skip_separators, split_comment, word_len,
 };
 pub use world_reader::read_world;

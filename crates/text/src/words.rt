@@ -111,6 +111,50 @@ pub fn next_word(text: &[u8]) -> Option<(&[u8], &[u8], &[u8])>
     Some((separators, word, more))
 }
 
+/// The words of some bytes, one after another.
+#[derive(Clone, Copy)]
+pub struct Words<'a>(pub &'a [u8]);
+
+impl<'a> Iterator for Words<'a> {
+    ghost use Rattle.std.specs.Prelude.{length};
+    ghost use Rattle.std.specs.Iterator.{YieldsFirstBy, at_most};
+    ghost use Rattle.text.specs.Words.{words};
+
+    type Item = &'a [u8];
+
+    ghost next_gives = { YieldsFirstBy (λ w. w.now) (λ s. words s.0.now) };
+
+    ghost remaining = { λ s. at_most (length s.0.now) };
+
+    fn next(&mut self) -> Option<&'a [u8]> {
+        let (_, word, rest) = next_word(self.0)?;
+        self.0 = rest;
+        Some(word)
+    }
+}
+
+/// The lines of a text without their line feeds, one after another.
+#[derive(Clone, Copy)]
+pub struct Lines<'a>(pub &'a [u8]);
+
+impl<'a> Iterator for Lines<'a> {
+    ghost use Rattle.std.specs.Prelude.{length};
+    ghost use Rattle.std.specs.Iterator.{YieldsFirstBy, at_most};
+    ghost use Rattle.text.specs.Lines.{all_lines};
+
+    type Item = &'a [u8];
+
+    ghost next_gives = { YieldsFirstBy (λ line. line.now) (λ s. all_lines s.0.now) };
+
+    ghost remaining = { λ s. at_most (length s.0.now) };
+
+    fn next(&mut self) -> Option<&'a [u8]> {
+        let (line, rest) = next_line(self.0)?;
+        self.0 = rest;
+        Some(line)
+    }
+}
+
 /// The first word, and what follows it. A word too few is `UnknownWord`.
 pub fn first_word(line: &[u8]) -> Result<(&[u8], &[u8]), Reason>
     ensures within { IfOk result (λ f. length f.0.now + length f.1.now ≤ length line.now) }

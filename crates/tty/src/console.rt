@@ -1,7 +1,7 @@
 //! A console: the keys that are typed at it, the lines that they make, and whose terminal it is.
 
 ghost use Rattle.std.specs.Prelude.{◌≡◌, ◌≤◌, ◌==◌, ◌||◌, ◌++◌, not, length, true, IfOk};
-ghost use Rattle.posix.specs.Consoles.{unused_console, keyed, keyed_by, key_signal, signal_typed, disconnected, session_told, edit as edited_by, finishes, ends_edited, finish_line, has_room, flushed, erased, with_byte, line_taken, acquired, released, with_foreground, with_tostop};
+ghost use Rattle.posix.specs.Consoles.{unused_console, keyed, keyed_by, key_signal, signal_typed, disconnected, session_told, edit as edited_by, finish_line, flushed, erased, with_byte, line_taken, acquired, released, with_foreground, with_tostop};
 ghost use Rattle.tty.specs.Limits.{IsWithinLimits};
 ghost use Rattle.tty.specs.Lines.{Takes};
 
@@ -37,23 +37,6 @@ pub fn ends_line(key: u8) -> bool
     ensures { result ≡ (key == 10 || key == 4) }
 {
     key == NL || key == EOF
-}
-
-/// What a key did.
-#[derive(Clone, Copy)]
-pub struct KeyEffect {
-    /// The signal that goes to the foreground process group; none for a key that is no signal key.
-    pub signal: Option<Sig>,
-    /// Whether it finished a line, which now waits to be read; false where the line had no room.
-    pub finished: bool,
-}
-
-impl KeyEffect {
-    /// No effect.
-    const NOTHING: KeyEffect = KeyEffect {
-        signal: None,
-        finished: false,
-    };
 }
 
 /// The signal that a key sends: INT for INTR, QUIT for QUIT, TSTP for SUSP (XBD 11.1.9).
@@ -197,7 +180,7 @@ impl Console {
         self.foreground = Pid::NONE;
     }
 
-    /// A process group comes into the foreground.
+    /// A process group comes into the foreground (XBD 11.1.2).
     #[tactic(auto, unfolding(posix::specs::Consoles::with_foreground))]
     pub fn set_foreground(&mut self, group: Pid)
         ensures { self.new ≡ with_foreground group self.old }
@@ -205,7 +188,7 @@ impl Console {
         self.foreground = group;
     }
 
-    /// Sets or clears TOSTOP.
+    /// Sets or clears TOSTOP (XBD 11.2.5).
     #[tactic(auto, unfolding(posix::specs::Consoles::with_tostop))]
     pub fn set_tostop(&mut self, tostop: bool)
         ensures { self.new ≡ with_tostop tostop self.old }
@@ -232,34 +215,29 @@ impl Console {
     /// A key is pressed (XBD 11.1.6, 11.1.9). A signal key discards all input, edited and finished. ERASE and KILL
     /// edit the line; NL finishes it, and so does EOF, which isn't put into it. A line that has no room, as the 65th
     /// or beyond 1,024 bytes, is dropped whole (own). Any other byte is edited, and dropped where 255 are (own).
-    /// Nothing changes while it is hung up.
-    #[tactic(auto, unfolding(posix::specs::Consoles::keyed, posix::specs::Consoles::signal_typed, posix::specs::Consoles::finishes))]
-    pub fn key(&mut self, byte: u8) -> KeyEffect
+    /// Nothing changes while it is hung up. The signal that goes to the foreground process group, if the key sends one.
+    #[tactic(auto, unfolding(posix::specs::Consoles::keyed, posix::specs::Consoles::signal_typed))]
+    pub fn key(&mut self, byte: u8) -> Option<Sig>
         ensures console { self.new ≡ keyed byte self.old }
-        ensures signal { result.signal ≡ signal_typed byte self.old }
-        ensures finished { result.finished ≡ finishes byte self.old }
+        ensures signal { result ≡ signal_typed byte self.old }
     {
-        if self.hung_up {
-            return KeyEffect::NOTHING;
+        if self.is_hung_up() {
+            return None;
         }
         self.typed(byte)
     }
 
-    /// A key of a console that has its line.
-    fn typed(&mut self, byte: u8) -> KeyEffect
+    /// A key of a console that isn't hung up, and the signal that the key sends, if it sends one.
+    fn typed(&mut self, byte: u8) -> Option<Sig>
         ensures console { self.new ≡ keyed_by (key_signal byte) byte self.old }
-        ensures signal { result.signal ≡ key_signal byte }
-        ensures finished { result.finished ≡ ends_edited byte self.old }
+        ensures signal { result ≡ key_signal byte }
     {
         let signal = signal_of(byte);
-        let finished = match signal {
-            Some(_) => {
-                self.flush();
-                false
-            }
+        match signal {
+            Some(_) => self.flush(),
             None => self.edit(byte),
-        };
-        KeyEffect { signal, finished }
+        }
+        signal
     }
 
     /// Discards all input.
@@ -271,20 +249,18 @@ impl Console {
         self.edited.clear();
     }
 
-    /// A byte of no signal key, and whether it finishes a line.
-    #[tactic(auto, unfolding(posix::specs::Consoles::edit, posix::specs::Consoles::ends_edited))]
-    fn edit(&mut self, byte: u8) -> bool
-        ensures console { self.new ≡ edited_by byte self.old }
-        ensures finished { result ≡ ends_edited byte self.old }
+    /// A byte of no signal key.
+    #[tactic(auto, unfolding(posix::specs::Consoles::edit))]
+    fn edit(&mut self, byte: u8)
+        ensures { self.new ≡ edited_by byte self.old }
     {
         match byte {
             ERASE => self.erase(),
             KILL => self.edited.clear(),
-            NL => return self.finish(&[NL]),
-            EOF => return self.finish(&[]),
+            NL => self.finish(&[NL]),
+            EOF => self.finish(&[]),
             _ => self.insert(byte),
         }
-        false
     }
 
     /// Erases the last byte of the line that is edited, where there is one.
@@ -303,16 +279,14 @@ impl Console {
         let _ = self.edited.try_push(byte);
     }
 
-    /// Finishes the line that is edited, with an end, and says whether it had room among those that wait.
+    /// Finishes the line that is edited, with an end. Without room among those that wait it is dropped.
     #[tactic(auto, unfolding(posix::specs::Consoles::finish_line))]
-    fn finish(&mut self, end: &[u8]) -> bool
+    fn finish(&mut self, end: &[u8])
         requires { length end.now ≤ 1 }
-        ensures console { self.new ≡ finish_line (self.old.edited ++ end.now) self.old }
-        ensures finished { result ≡ has_room (self.old.edited ++ end.now) self.old.lines }
+        ensures { self.new ≡ finish_line (self.old.edited ++ end.now) self.old }
     {
-        let finished = self.lines.push(&self.edited, end);
+        self.lines.push(&self.edited, end);
         self.edited.clear();
-        finished
     }
 
     // ---- what is read

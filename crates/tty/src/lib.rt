@@ -4,5 +4,4 @@
 pub mod console;
 pub mod lines;
 
-pub use console::{Console, KeyEffect, ends_line};
-pub use posix::{Pid, Sig};
+pub use console::{Console, ends_line};

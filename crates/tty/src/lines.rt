@@ -85,21 +85,19 @@ impl LineQueue {
             && self.bytes.len() + len <= LineQueue::MOST_BYTES
     }
 
-    /// Appends the line of these bytes and an end, and says whether it had room; without room nothing changes.
+    /// Appends the line of these bytes and an end; without room nothing changes.
     #[tactic(auto, using(crate::proofs::LineLemmas::room_of))]
-    pub fn push(&mut self, line: &[u8], end: &[u8]) -> bool
+    pub fn push(&mut self, line: &[u8], end: &[u8])
         requires { length line.now + length end.now ≤ 256 }
-        ensures lines { self.new ≡ (if has_room (line.now ++ end.now) self.old then self.old ++ (line.now ++ end.now) ∷ [] else self.old) }
-        ensures pushed { result ≡ has_room (line.now ++ end.now) self.old }
+        ensures { self.new ≡ (if has_room (line.now ++ end.now) self.old then self.old ++ (line.now ++ end.now) ∷ [] else self.old) }
     {
         let len = line.len() + end.len();
         if !self.has_room(len) {
-            return false;
+            return;
         }
         self.bytes.fill_from_slice(line);
         self.bytes.fill_from_slice(end);
         let _ = self.lengths.push_back(len as u16);
-        true
     }
 
     /// Moves bytes of the first line into the front of `out`, as many as it holds, and returns their number; none where

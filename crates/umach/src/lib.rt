@@ -9,6 +9,5 @@ pub mod world;
 
 pub use cpu::Cpu;
 pub use memory::UserMem;
-pub use posix::{Call, Condition, Instr, Operator, Register, Trap};
 pub use program::Program;
 pub use world::World;

@@ -5,7 +5,7 @@ ghost use Rattle.posix.specs.Waits.{asked};
 
 use crate::listing::{Listing, Source};
 use crate::names::{
-    errno_name, put_action_flags, put_kind, put_name, put_set, put_signal_word, put_status,
+    errno_name, put_action_flags, put_name, put_set, put_signal_word, put_status,
     put_waitid_options, put_waitpid_options,
 };
 use crate::prose::Prose;
@@ -104,11 +104,6 @@ fn put_handler(text: &mut Prose, source: Option<&Source<'_>>, word: i64) {
     }
 }
 
-/// Writes what sigprocmask does with its set.
-fn put_how(text: &mut Prose, word: i64) {
-    put_name(text, Kind::How, word);
-}
-
 /// Writes the program that a word names.
 fn put_program(text: &mut Prose, listing: &Listing<'_>, word: i64) {
     let source = usize::try_from(word)
@@ -120,34 +115,23 @@ fn put_program(text: &mut Prose, listing: &Listing<'_>, word: i64) {
     }
 }
 
-/// Writes the arguments of sigaction: without mask and flags where it sets nothing.
-fn put_action(text: &mut Prose, source: Option<&Source<'_>>, with: Arguments) {
-    put_signal_word(text, with.first);
-    text.push_str(", ");
-    put_handler(text, source, with.second);
-    if with.second != -1 {
-        text.push_str(", ");
-        put_set(text, SigSet::from_word(with.third));
-        text.push_str(", ");
-        put_action_flags(text, with.fourth);
-    }
+/// What a word in a register is for a call.
+#[derive(Clone, Copy)]
+enum Word {
+    Number,
+    Signal,
+    Set,
+    Options,
+    WaitidOptions,
+    Children,
+    How,
+    Handler,
+    Flags,
+    Program,
 }
 
-/// Writes a number and a comma, as further arguments follow.
-fn put_one_of(text: &mut Prose, number: i64) {
-    text.push_number(number);
-    text.push_str(", ");
-}
-
-/// Writes the arguments of a call.
-fn put_arguments(
-    text: &mut Prose,
-    call: Call,
-    with: Arguments,
-    source: Option<&Source<'_>>,
-    listing: &Listing<'_>,
-) {
-    let (first, second) = (with.first, with.second);
+/// What the words in the registers are for a call, from r1 on: for a sigaction that sets nothing no mask and no flags.
+fn words_of(call: Call, with: Arguments) -> &'static [Word] {
     match call {
         Call::Fork
         | Call::Pause
@@ -161,7 +145,7 @@ fn put_arguments(
         | Call::Sigpending
         | Call::Sigreturn
         | Call::Setsid
-        | Call::Tcgetpgrp => {}
+        | Call::Tcgetpgrp => &[],
         Call::Exit
         | Call::Setuid
         | Call::Seteuid
@@ -173,43 +157,39 @@ fn put_arguments(
         | Call::Setctty
         | Call::Tcsetpgrp
         | Call::Settostop
-        | Call::Subreaper => text.push_number(first),
-        Call::Setpgid | Call::Read | Call::Write => {
-            put_one_of(text, first);
-            text.push_number(second);
-        }
-        Call::Waitpid => {
-            put_one_of(text, first);
-            put_waitpid_options(text, second);
-        }
-        Call::Waitid => {
-            put_kind(text, first);
-            text.push_str(", ");
-            put_one_of(text, second);
-            put_waitid_options(text, with.third);
-        }
-        Call::Kill => {
-            put_one_of(text, first);
-            put_signal_word(text, second);
-        }
-        Call::Sigqueue => {
-            put_one_of(text, first);
-            put_signal_word(text, second);
-            text.push_with(", ", with.third);
-        }
-        Call::Sigaction => put_action(text, source, with),
-        Call::Sigprocmask => {
-            put_how(text, first);
-            text.push_str(", ");
-            put_set(text, SigSet::from_word(second));
-        }
-        Call::Sigsuspend => put_set(text, SigSet::from_word(first)),
-        Call::Exec => {
-            put_program(text, listing, first);
-            text.push_str(", ");
-            put_one_of(text, second);
-            text.push_number(with.third);
-        }
+        | Call::Subreaper => &[Word::Number],
+        Call::Setpgid | Call::Read | Call::Write => &[Word::Number, Word::Number],
+        Call::Waitpid => &[Word::Number, Word::Options],
+        Call::Waitid => &[Word::Children, Word::Number, Word::WaitidOptions],
+        Call::Kill => &[Word::Number, Word::Signal],
+        Call::Sigqueue => &[Word::Number, Word::Signal, Word::Number],
+        Call::Sigaction if with.second == -1 => &[Word::Signal, Word::Handler],
+        Call::Sigaction => &[Word::Signal, Word::Handler, Word::Set, Word::Flags],
+        Call::Sigprocmask => &[Word::How, Word::Set],
+        Call::Sigsuspend => &[Word::Set],
+        Call::Exec => &[Word::Program, Word::Number, Word::Number],
+    }
+}
+
+/// Writes a word in a register as what it is for a call.
+fn put_word(
+    text: &mut Prose,
+    kind: Word,
+    word: i64,
+    source: Option<&Source<'_>>,
+    listing: &Listing<'_>,
+) {
+    match kind {
+        Word::Number => text.push_number(word),
+        Word::Signal => put_signal_word(text, word),
+        Word::Set => put_set(text, SigSet::from_word(word)),
+        Word::Options => put_waitpid_options(text, word),
+        Word::WaitidOptions => put_waitid_options(text, word),
+        Word::Children => put_name(text, Kind::Children, word),
+        Word::How => put_name(text, Kind::How, word),
+        Word::Handler => put_handler(text, source, word),
+        Word::Flags => put_action_flags(text, word),
+        Word::Program => put_program(text, listing, word),
     }
 }
 
@@ -221,11 +201,14 @@ pub fn put_call(
     source: Option<&Source<'_>>,
     listing: &Listing<'_>,
 ) {
-    for byte in call.name() {
-        text.push_byte(*byte);
+    text.push_around("", call.name(), "(");
+    let words = [with.first, with.second, with.third, with.fourth];
+    let mut is_first = true;
+    for (kind, word) in words_of(call, with).iter().zip(words) {
+        text.push_str(if is_first { "" } else { ", " });
+        put_word(text, *kind, word, source, listing);
+        is_first = false;
     }
-    text.push_str("(");
-    put_arguments(text, call, with, source, listing);
     text.push_str(")");
 }
 
@@ -238,7 +221,7 @@ pub fn put_result(text: &mut Prose, value: i64) {
     }
 }
 
-/// Writes a byte as a key of a terminal is written: `^C`, or as a text in C has it.
+/// Writes a byte as a text in C has it: as a letter, or `\n`, or `\x1b`.
 pub fn put_byte(text: &mut Prose, byte: u8) {
     match byte {
         b'\n' => text.push_str("\\n"),

@@ -19,4 +19,4 @@ pub use names::{
 };
 pub use nearest::{Nearest, distance, meant};
 pub use prose::Prose;
-pub use table::{Kind, NAMES, SIGRTMIN};
+pub use table::{Kind, SIGRTMIN, named};

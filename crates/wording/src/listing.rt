@@ -2,6 +2,7 @@
 
 use std::alloc::{AllocError, Global};
 use std::str;
+use text::{is_separator, split_comment};
 
 /// An instruction as its world writes it.
 #[derive(Clone, Copy)]
@@ -34,23 +35,17 @@ pub struct Listing<'t> {
     programs: Vec<Source<'t>>,
 }
 
-/// Whether a character separates words.
-fn is_separator(c: char) -> bool {
-    c == ' ' || c == '\t' || c == '\r' || c == ','
-}
-
 /// What stands in a line before its comment, without the blanks around it.
 fn code_of(line: &[u8]) -> &str {
-    let bytes = match line.iter().position(|byte| *byte == b'#') {
-        Some(end) => line.get(..end).unwrap_or(line),
-        None => line,
-    };
-    str::from_utf8(bytes).unwrap_or("").trim()
+    let (code, _) = split_comment(line);
+    str::from_utf8(code).unwrap_or("").trim()
 }
 
 /// The words of a line: the first, and the second.
 fn first_words(code: &str) -> (&str, &str) {
-    let mut words = code.split(is_separator).filter(|word| !word.is_empty());
+    let mut words = code
+        .split(|c| u8::try_from(c).is_ok_and(|b| is_separator(b)))
+        .filter(|word| !word.is_empty());
     let first = words.next().unwrap_or("");
     (first, words.next().unwrap_or(""))
 }

@@ -91,11 +91,6 @@ pub fn errno_name(number: i64) -> Option<&'static str> {
     name_of(Kind::Errno, number)
 }
 
-/// Writes a signal by its number, or the number where it is none.
-fn put_signal_number(text: &mut Prose, number: u16) {
-    put_signal_word(text, i64::from(number));
-}
-
 /// Writes what a status word says of a process.
 pub fn put_status(text: &mut Prose, status: Status) {
     let word = status.word();
@@ -106,12 +101,12 @@ pub fn put_status(text: &mut Prose, status: Status) {
         }
         127 => {
             text.push_str("stopped by ");
-            put_signal_number(text, high);
+            put_signal_word(text, i64::from(high));
         }
         255 => text.push_str("continued"),
         _ => {
             text.push_str("killed by ");
-            put_signal_number(text, low);
+            put_signal_word(text, i64::from(low));
         }
     }
 }
@@ -147,11 +142,6 @@ fn put_names_or<F: Flags>(text: &mut Prose, bits: Option<F>, word: i64) {
 /// Writes the options of waitpid that a word is, or the word.
 pub fn put_waitpid_options(text: &mut Prose, word: i64) {
     put_names_or(text, WaitOptions::from_bits(word.cast_unsigned()), word);
-}
-
-/// Writes by its name the kind of children that a word is for waitid, or the word.
-pub fn put_kind(text: &mut Prose, word: i64) {
-    put_name(text, Kind::Children, word);
 }
 
 /// Writes the options of waitid that a word is, or the word.

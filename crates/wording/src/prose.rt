@@ -1,8 +1,12 @@
 //! A text that grows piece by piece.
 
+ghost use Rattle.std.specs.Prelude.{◌≡◌, ◌&&◌, ◌++◌, ◌∷◌, [], IfOk, is_ok, length, true};
+ghost use Rattle.wording.specs.Proses.{Adds, Grows};
+
+use itoa::{Buffer, Integer};
 use std::alloc::{AllocError, Global};
 use std::fmt;
-use std::fmt::{Display, Write};
+use std::marker::Model;
 
 /// A text that grows piece by piece, of words and of bytes that a user wrote. Once there is no memory for a piece it takes no
 /// other, and isn't given out.
@@ -13,9 +17,19 @@ pub struct Prose {
     is_whole: bool,
 }
 
+impl Model for Prose {
+    ghost use Rattle.wording.specs.Proses.{ProseView};
+
+    ghost Value = { ProseView };
+
+    ghost view = { λ p. record { text = p.text.items; is_whole = p.is_whole } };
+}
+
 impl Prose {
     /// The empty text.
-    pub fn new(alloc: Global) -> Prose {
+    pub fn new(alloc: Global) -> Prose
+        ensures { result ≡ record { text = []; is_whole = true } }
+    {
         Prose {
             alloc,
             text: Vec::new(alloc),
@@ -29,43 +43,55 @@ impl Prose {
     }
 
     /// Adds bytes, as a user wrote them.
-    pub fn push_bytes(&mut self, bytes: &[u8]) {
+    pub fn push_bytes(&mut self, bytes: &[u8])
+        ensures { Adds bytes.now self.old self.new }
+    {
         if self.is_whole {
             self.is_whole = self.text.extend_from_slice(bytes).is_ok();
         }
     }
 
     /// Adds a byte.
-    pub fn push_byte(&mut self, byte: u8) {
+    pub fn push_byte(&mut self, byte: u8)
+        ensures { Adds (byte ∷ []) self.old self.new }
+    {
         self.push_bytes(&[byte]);
     }
 
     /// Adds a piece.
-    pub fn push_str(&mut self, piece: &str) {
+    pub fn push_str(&mut self, piece: &str)
+        ensures { Adds piece.now self.old self.new }
+    {
         self.push_bytes(piece.as_bytes());
     }
 
     /// Adds a piece and a word.
-    pub fn push_word(&mut self, piece: &str, word: &[u8]) {
+    pub fn push_word(&mut self, piece: &str, word: &[u8])
+        ensures { Adds (piece.now ++ word.now) self.old self.new }
+    {
         self.push_str(piece);
         self.push_bytes(word);
     }
 
     /// Adds a word between two pieces.
-    pub fn push_around(&mut self, before: &str, word: &[u8], behind: &str) {
+    pub fn push_around(&mut self, before: &str, word: &[u8], behind: &str)
+        ensures { Adds ((before.now ++ word.now) ++ behind.now) self.old self.new }
+    {
         self.push_word(before, word);
         self.push_str(behind);
     }
 
     /// Adds a number.
-    pub fn push_number<N: Display + Drop>(&mut self, number: N) {
-        if write!(self, "{number}").is_err() {
-            self.is_whole = false;
-        }
+    pub fn push_number<N: Integer>(&mut self, number: N)
+        ensures { Adds (N.text number) self.old self.new }
+    {
+        self.push_str(Buffer::new().format(number));
     }
 
     /// Adds a piece and a number.
-    pub fn push_with<N: Display + Drop>(&mut self, piece: &str, number: N) {
+    pub fn push_with<N: Integer>(&mut self, piece: &str, number: N)
+        ensures { Adds (piece.now ++ N.text number) self.old self.new }
+    {
         self.push_str(piece);
         self.push_number(number);
     }
@@ -78,7 +104,9 @@ impl Prose {
     }
 
     /// What was looked for, to be told here. Where there was no memory to find it this text isn't given out.
-    pub fn found<'n>(&mut self, what: Result<Option<&'n [u8]>, AllocError>) -> Option<&'n [u8]> {
+    pub fn found<'n>(&mut self, what: Result<Option<&'n [u8]>, AllocError>) -> Option<&'n [u8]>
+        ensures { self.new ≡ record self.old { is_whole = is_ok what.entry && self.old.is_whole } }
+    {
         match what {
             Ok(what) => what,
             Err(AllocError) => {
@@ -88,18 +116,34 @@ impl Prose {
         }
     }
 
+    /// Adds which name is meant, if one is near.
+    pub fn push_meant(&mut self, near: Result<Option<&[u8]>, AllocError>)
+        ensures { Grows self.old.text self.new.text }
+    {
+        if let Some(name) = self.found(near) {
+            self.push_around("; did you mean ", name, "?");
+        }
+    }
+
     /// How many bytes it has.
-    pub fn len(&self) -> usize {
+    pub fn len(&self) -> usize
+        ensures { result ≡ length self.now.text }
+    {
         self.text.len()
     }
 
     /// Takes all pieces away. What lacks a piece is given out neither then.
-    pub fn clear(&mut self) {
+    pub fn clear(&mut self)
+        ensures { self.new ≡ record self.old { text = [] } }
+    {
         self.text.clear();
     }
 
     /// Its bytes; an error where there was no memory for a piece.
-    pub fn as_bytes(&self) -> Result<&[u8], AllocError> {
+    pub fn as_bytes(&self) -> Result<&[u8], AllocError>
+        ensures whole { is_ok result ≡ self.now.is_whole }
+        ensures text { IfOk result (λ bytes. bytes.now ≡ self.now.text) }
+    {
         if self.is_whole {
             Ok(self.text.as_slice())
         } else {
@@ -108,7 +152,10 @@ impl Prose {
     }
 
     /// Its bytes, at its end; an error where there was no memory for a piece.
-    pub fn finish(self) -> Result<Vec<u8>, AllocError> {
+    pub fn finish(self) -> Result<Vec<u8>, AllocError>
+        ensures whole { is_ok result ≡ self.is_whole }
+        ensures text { IfOk result (λ bytes. bytes.items ≡ self.text) }
+    {
         if self.is_whole {
             Ok(self.text)
         } else {

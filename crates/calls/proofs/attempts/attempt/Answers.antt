@@ -1,6 +1,5 @@
 use Rattle.std.proofs.Common.{sym, subst, true}
 use Rattle.posix.specs.States.{change}
-use Rattle.posix.proofs.TableLemmas.{pid_looked}
 use Rattle.posix.specs.Attempts.{attempt}
 use Rattle.proctable.specs.Records.{give_own}
 use Rattle.calls.specs.Outcomes.{Comes}
@@ -16,7 +15,7 @@ returns-in_default-clause-attempts g c = λ me e.
     )
 
 pub returns-in-Waitpid-clause-brief : goal.returns-in-Waitpid-clause-brief
-returns-in-Waitpid-clause-brief g c = λ me e quiet. rw (c.in-Waitpid.is, pid_looked c.args.pid _ me e) (c.wait.ensures.brief quiet)
+returns-in-Waitpid-clause-brief g c = λ me e quiet. rw c.in-Waitpid.is (c.wait.ensures.brief quiet)
 
 pub returns-in-Waitid-clause-brief : goal.returns-in-Waitid-clause-brief
-returns-in-Waitid-clause-brief g c = λ me e quiet. rw (c.in-Waitid.is, pid_looked c.args.pid _ me e) (c.wait-in-Waitid.ensures.brief quiet)
+returns-in-Waitid-clause-brief g c = λ me e quiet. rw c.in-Waitid.is (c.wait-in-Waitid.ensures.brief quiet)

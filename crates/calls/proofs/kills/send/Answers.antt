@@ -16,7 +16,7 @@ returns-in-Err-clause-comes g c =
 
 pub returns-in-Err-clause-brief : goal.returns-in-Err-clause-brief
 returns-in-Err-clause-brief g c = λ one quiet.
-    brief_more 1 _ c.args.machine.now _ (kill_least c.args.machine.now.state.processes c.args.target (signal_or_none c.args.me.now.r2)) (brief_done c.args.me.now.pid _ c.args.machine.now _ quiet c.refuse.ensures.state c.refuse.ensures.costs)
+    brief_more 1 _ c.args.machine.now _ (kill_least (signal_or_none c.args.me.now.r2)) (brief_done c.args.me.now.pid _ c.args.machine.now _ quiet c.refuse.ensures.state c.refuse.ensures.costs)
 
 pub finish_shown-requires-clause-there : goal.finish_shown-requires-clause-there
 finish_shown-requires-clause-there g c = there_sent c.send-sending.result c.args.machine.now.state _ (process_like c.args.me.now) c.args.target c.message.result c.args.me.now.pid c.send-sending.ensures.changes.state c.requires.there

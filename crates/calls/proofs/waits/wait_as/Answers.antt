@@ -2,7 +2,7 @@ use Rattle.std.proofs.Common.{arith, ◌≡◌, ◌∙◌, ap, sym, refl, subst,
 use Rattle.std.specs.Option.{IsSome}
 use Rattle.posix.specs.declared.errno.Errno.TheVariants.{ECHILD, EINVAL}
 use Rattle.posix.specs.declared.call.Call.{Call}
-use Rattle.posix.specs.declared.entry.Entry.TheVariants.{Called, Looked, Reported}
+use Rattle.posix.specs.declared.entry.Entry.TheVariants.{Called}
 use Rattle.posix.specs.Calls.{call_of_wait}
 use Rattle.posix.specs.declared.process.Blocked.TheVariants as blocked
 use Rattle.posix.specs.declared.process.Report.TheVariants as found
@@ -11,17 +11,18 @@ use Rattle.posix.specs.States.{State, process, change, has_place}
 use Rattle.jobs.proofs.RunLemmas.{parent_is}
 use Rattle.life.specs.Rechecks.{without_gone}
 use Rattle.calls.proofs.BriefLemmas.{quiet_on, brief_on, brief_behind, brief_look, brief_more, brief_done, brief_reaped}
-use Rattle.calls.proofs.CountLemmas.{wait_slots}
 use Rattle.posix.specs.Outcomes.{Block, refusal}
-use Rattle.posix.specs.Waits.{WNOHANG, WNOWAIT, has_option, news_told, wait_for, gives_nothing, gives_report, results_of, results_of_nothing}
+use Rattle.posix.specs.Waits.{WNOHANG, has_option, news_told, wait_for, gives_nothing, results_of_nothing}
 use Rattle.posix.proofs.OrderLemmas.{placed_some}
 use Rattle.posix.proofs.RegularLemmas.{keeps_news_told, placed_least}
 use Rattle.calls.specs.declared.outcome.Attempt.TheVariants as came
 use Rattle.calls.specs.Outcomes.{Comes}
 use Rattle.life.specs.Callers.{process_like}
+use Rattle.life.specs.Machines.{MachineView}
 use Rattle.calls.proofs.CallLemmas.{shows_is, wait_is, wait_finds}
 use Rattle.posix.proofs.ReportLemmas.{reported, not_first, caller_stays, some_changed}
 use Rattle.calls.proofs.waits.wait_as.Goals as goal
+use Rattle.calls.proofs.waits.wait_as.Goals.{then-not-leaves, else-not-leaves, then-not-leaves-2, else-not-leaves-2}
 
 pub returns-in_default-clause-comes : goal.returns-in_default-clause-comes
 returns-in_default-clause-comes g c =
@@ -65,74 +66,6 @@ returns-else-contains-clause-comes g c =
     let value = is ∙ ap (λ b. cond b (gives_nothing s me.pid call) (Block (blocked.Wait call))) hangs in
     subst (λ a. Comes s a (came.Block (blocked.Wait call)) c.args.entries.now.items c.args.entries.now.items c.wait_attempt.new.self.state) (sym value) (refl, refl, c.wait_attempt.ensures.looks.same.state)
 
-pub returns-then-leaves-clause-comes : goal.returns-then-leaves-clause-comes
-returns-then-leaves-clause-comes g c =
-    let s = c.args.machine.now.state in
-    let me = c.args.me.now in
-    let call = c.args.call in
-    let a = c.in-Some.asked in
-    let is = wait_finds s (process_like me) call _ a _ (found.End c.in-End.child c.in-End.status) c.asked.ensures c.in-Some.is c.wait_attempt.ensures.value c.in-End.is in
-    let leaves : has_option a.options.0 WNOWAIT ≡ true = sym {b = has_option a.options.0 WNOWAIT} (c.contains-leaves.ensures tt) ∙ c.if-leaves.true in
-    let child = c.in-End.child in
-    let status = c.in-End.status in
-    let value = is ∙ ap (λ b. cond b (gives_report s me.pid call child status (Looked me.pid child status)) (gives_report (record s { processes = removed c.in-End.child s.processes }) me.pid call child status (Reported me.pid call child status))) leaves in
-    let r = c.look in
-    shows_is s s _ _ _ me.pid (results_of call child status) (Looked me.pid child status) _ _ _ value r.ensures.done r.ensures.state c.wait_attempt.ensures.looks.same.state r.ensures.shown
-
-pub returns-else-leaves-clause-comes : goal.returns-else-leaves-clause-comes
-returns-else-leaves-clause-comes g c =
-    let s = c.args.machine.now.state in
-    let me = c.args.me.now in
-    let call = c.args.call in
-    let a = c.in-Some.asked in
-    let is = wait_finds s (process_like me) call _ a _ (found.End c.in-End.child c.in-End.status) c.asked.ensures c.in-Some.is c.wait_attempt.ensures.value c.in-End.is in
-    let takes : has_option a.options.0 WNOWAIT ≡ false = sym {b = has_option a.options.0 WNOWAIT} (c.contains-leaves.ensures tt) ∙ c.if-leaves.false in
-    let child = c.in-End.child in
-    let status = c.in-End.status in
-    let value = is ∙ ap (λ b. cond b (gives_report s me.pid call child status (Looked me.pid child status)) (gives_report (record s { processes = removed c.in-End.child s.processes }) me.pid call child status (Reported me.pid call child status))) takes in
-    let then = c.reap.ensures.changes.state ∙ ap (λ (t : State). record t { processes = removed child t.processes }) c.wait_attempt.ensures.looks.same.state in
-    let r = c.take in
-    shows_is s (record s { processes = removed c.in-End.child s.processes }) _ _ _ me.pid (results_of call child status) (Reported me.pid call child status) _ _ _ value r.ensures.done r.ensures.state then r.ensures.shown
-
-pub returns-then-leaves-2-clause-comes : goal.returns-then-leaves-2-clause-comes
-returns-then-leaves-2-clause-comes g c =
-    let s = c.args.machine.now.state in
-    let me = c.args.me.now in
-    let call = c.args.call in
-    let a = c.in-Some.asked in
-    let is = wait_finds s (process_like me) call _ a _ (found.Change c.in-Change.child c.in-Change.status) c.asked.ensures c.in-Some.is c.wait_attempt.ensures.value c.in-Change.is in
-    let leaves : has_option a.options.0 WNOWAIT ≡ true = sym {b = has_option a.options.0 WNOWAIT} (c.contains-leaves.ensures tt) ∙ c.if-leaves-2.true in
-    let child = c.in-Change.child in
-    let status = c.in-Change.status in
-    let value = is ∙ ap (λ b. cond b (gives_report s me.pid call child status (Looked me.pid child status)) (gives_report (change s c.in-Change.child news_told) me.pid call child status (Reported me.pid call child status))) leaves in
-    let r = c.look-then-leaves-2 in
-    shows_is s s _ _ _ me.pid (results_of call child status) (Looked me.pid child status) _ _ _ value r.ensures.done r.ensures.state c.wait_attempt.ensures.looks.same.state r.ensures.shown
-
-pub returns-else-leaves-2-clause-comes : goal.returns-else-leaves-2-clause-comes
-returns-else-leaves-2-clause-comes g c =
-    let s = c.args.machine.now.state in
-    let me = c.args.me.now in
-    let call = c.args.call in
-    let a = c.in-Some.asked in
-    let is = wait_finds s (process_like me) call _ a _ (found.Change c.in-Change.child c.in-Change.status) c.asked.ensures c.in-Some.is c.wait_attempt.ensures.value c.in-Change.is in
-    let takes : has_option a.options.0 WNOWAIT ≡ false = sym {b = has_option a.options.0 WNOWAIT} (c.contains-leaves.ensures tt) ∙ c.if-leaves-2.false in
-    let child = c.in-Change.child in
-    let status = c.in-Change.status in
-    let value = is ∙ ap (λ b. cond b (gives_report s me.pid call child status (Looked me.pid child status)) (gives_report (change s c.in-Change.child news_told) me.pid call child status (Reported me.pid call child status))) takes in
-    let then = c.clear_news.ensures.state ∙ ap (λ (t : State). change t child news_told) c.wait_attempt.ensures.looks.same.state in
-    let r = c.take-in-Change in
-    shows_is s (change s c.in-Change.child news_told) _ _ _ me.pid (results_of call child status) (Reported me.pid call child status) _ _ _ value r.ensures.done r.ensures.state then r.ensures.shown
-
-pub look-requires-clause-there : goal.look-requires-clause-there
-look-requires-clause-there g c =
-    let s = c.args.machine.now.state in
-    subst (λ (t : State). IsSome (process t c.args.me.now.pid)) (sym c.wait_attempt.ensures.looks.same.state) (placed_some s.processes c.args.me.now.pid c.requires.placed)
-
-pub look-requires-then-leaves-2-clause-there : goal.look-requires-then-leaves-2-clause-there
-look-requires-then-leaves-2-clause-there g c =
-    let s = c.args.machine.now.state in
-    subst (λ (t : State). IsSome (process t c.args.me.now.pid)) (sym c.wait_attempt.ensures.looks.same.state) (placed_some s.processes c.args.me.now.pid c.requires.placed)
-
 pub reap-requires-clause-other : goal.reap-requires-clause-other
 reap-requires-clause-other g c =
     let s = c.args.machine.now.state in
@@ -147,13 +80,18 @@ reap-requires-clause-zombie g c =
     let child = reported s.processes c.requires.regular.rising me.pid me.group _ _ (found.End c.in-End.child c.in-End.status) c.in-End.child (sym c.wait_attempt.ensures.value ∙ c.in-End.is) refl in
     (child.what, ap (λ (t : State). process t c.in-End.child) c.wait_attempt.ensures.looks.same.state ∙ child.found, child.dead)
 
-pub take-requires-clause-there : goal.take-requires-clause-there
-take-requires-clause-there g c =
+pub report-requires-clause-there : goal.report-requires-clause-there
+report-requires-clause-there g c =
     let s = c.args.machine.now.state in
     let me = c.args.me.now in
     let child = reported s.processes c.requires.regular.rising me.pid me.group _ _ (found.End c.in-End.child c.in-End.status) c.in-End.child (sym c.wait_attempt.ensures.value ∙ c.in-End.is) refl in
-    let gone = c.reap.ensures.changes.state ∙ ap (λ (t : State). record t { processes = removed c.in-End.child t.processes }) c.wait_attempt.ensures.looks.same.state in
-    subst (λ (t : State). IsSome (process t me.pid)) (sym gone) (caller_stays s.processes me.pid c.in-End.child c.requires.placed child)
+    let same = c.wait_attempt.ensures.looks.same.state in
+    elim c.if-not-leaves.branch [
+      | then-not-leaves w ↦
+          let now = ap (λ (m : MachineView). m.state) w.machine-is ∙ w.reap.ensures.changes.state ∙ ap (λ (t : State). record t { processes = removed c.in-End.child t.processes }) same in
+          subst (λ (t : State). IsSome (process t me.pid)) (sym now) (caller_stays s.processes me.pid c.in-End.child c.requires.placed child)
+      | else-not-leaves w ↦ subst (λ (t : State). IsSome (process t me.pid)) (sym (ap (λ (m : MachineView). m.state) w.machine-is ∙ same)) (placed_some s.processes me.pid c.requires.placed)
+    ]
 
 pub clear_news-requires : goal.clear_news-requires
 clear_news-requires g c =
@@ -162,13 +100,17 @@ clear_news-requires g c =
     let child = reported s.processes c.requires.regular.rising me.pid me.group _ _ (found.Change c.in-Change.child c.in-Change.status) c.in-Change.child (sym c.wait_attempt.ensures.value ∙ c.in-Change.is) refl in
     subst (λ (t : State). IsSome (process t c.in-Change.child)) (sym c.wait_attempt.ensures.looks.same.state) (subst IsSome (sym child.found) refl)
 
-pub take-requires-in-Change-clause-there : goal.take-requires-in-Change-clause-there
-take-requires-in-Change-clause-there g c =
+pub report-requires-in-Change-clause-there : goal.report-requires-in-Change-clause-there
+report-requires-in-Change-clause-there g c =
     let s = c.args.machine.now.state in
     let me = c.args.me.now in
-    let child = reported s.processes c.requires.regular.rising me.pid me.group _ _ (found.Change c.in-Change.child c.in-Change.status) c.in-Change.child (sym c.wait_attempt.ensures.value ∙ c.in-Change.is) refl in
-    let told = (c.clear_news.ensures).state ∙ ap (λ (t : State). change t c.in-Change.child news_told) c.wait_attempt.ensures.looks.same.state in
-    subst (λ (t : State). IsSome (process t me.pid)) (sym told) (some_changed c.in-Change.child me.pid news_told (keeps_news_told {now = 0}).pid s.processes (placed_some s.processes me.pid c.requires.placed))
+    let same = c.wait_attempt.ensures.looks.same.state in
+    elim c.if-not-leaves-2.branch [
+      | then-not-leaves-2 w ↦
+          let now = ap (λ (m : MachineView). m.state) w.machine-is ∙ w.clear_news.ensures.state ∙ ap (λ (t : State). change t c.in-Change.child news_told) same in
+          subst (λ (t : State). IsSome (process t me.pid)) (sym now) (some_changed c.in-Change.child me.pid news_told (keeps_news_told {now = 0}).pid s.processes (placed_some s.processes me.pid c.requires.placed))
+      | else-not-leaves-2 w ↦ subst (λ (t : State). IsSome (process t me.pid)) (sym (ap (λ (m : MachineView). m.state) w.machine-is ∙ same)) (placed_some s.processes me.pid c.requires.placed)
+    ]
 
 pub returns-in_default-clause-brief : goal.returns-in_default-clause-brief
 returns-in_default-clause-brief g c = λ quiet. brief_more 1 _ c.args.machine.now _ (omega arith) (brief_done c.args.me.now.pid _ c.args.machine.now _ quiet c.refuse.ensures.state c.refuse.ensures.costs)
@@ -176,59 +118,53 @@ returns-in_default-clause-brief g c = λ quiet. brief_more 1 _ c.args.machine.no
 pub returns-in-NoChild-clause-brief : goal.returns-in-NoChild-clause-brief
 returns-in-NoChild-clause-brief g c = λ quiet.
     let looks = c.wait_attempt.ensures.looks in
-    let slots = wait_slots c.in-Some.asked.target c.args.me.now.pid c.args.machine.now.state.processes in
     let r = c.refuse-in-NoChild in
-    brief_on 1 _ _ c.args.machine.now c.wait_attempt.new.self _ looks.same looks.visits (omega (arith, slots)) (brief_done c.args.me.now.pid _ c.wait_attempt.new.self _ (quiet_on _ c.args.machine.now _ looks.same quiet) r.ensures.state r.ensures.costs)
+    brief_on 1 _ _ c.args.machine.now c.wait_attempt.new.self _ looks.same looks.visits (omega arith) (brief_done c.args.me.now.pid _ c.wait_attempt.new.self _ (quiet_on _ c.args.machine.now _ looks.same quiet) r.ensures.state r.ensures.costs)
 
 pub returns-then-contains-clause-brief : goal.returns-then-contains-clause-brief
 returns-then-contains-clause-brief g c = λ quiet.
     let looks = c.wait_attempt.ensures.looks in
-    let slots = wait_slots c.in-Some.asked.target c.args.me.now.pid c.args.machine.now.state.processes in
-    brief_on 1 _ _ c.args.machine.now c.wait_attempt.new.self _ looks.same looks.visits (omega (arith, slots)) (brief_done c.args.me.now.pid _ c.wait_attempt.new.self _ (quiet_on _ c.args.machine.now _ looks.same quiet) c.find_nothing.ensures.state c.find_nothing.ensures.costs)
+    brief_on 1 _ _ c.args.machine.now c.wait_attempt.new.self _ looks.same looks.visits (omega arith) (brief_done c.args.me.now.pid _ c.wait_attempt.new.self _ (quiet_on _ c.args.machine.now _ looks.same quiet) c.find_nothing.ensures.state c.find_nothing.ensures.costs)
 
 pub returns-else-contains-clause-brief : goal.returns-else-contains-clause-brief
 returns-else-contains-clause-brief g c = λ quiet.
     let looks = c.wait_attempt.ensures.looks in
-    let slots = wait_slots c.in-Some.asked.target c.args.me.now.pid c.args.machine.now.state.processes in
-    brief_more _ _ c.args.machine.now _ (omega (arith, slots)) (brief_look c.args.me.now.pid _ c.args.machine.now _ quiet looks.same looks.visits)
+    brief_more _ _ c.args.machine.now _ (omega arith) (brief_look c.args.me.now.pid _ c.args.machine.now _ quiet looks.same looks.visits)
 
-pub returns-else-leaves-clause-brief : goal.returns-else-leaves-clause-brief
-returns-else-leaves-clause-brief g c = λ quiet.
+pub returns-after-not-leaves-clause-brief : goal.returns-after-not-leaves-clause-brief
+returns-after-not-leaves-clause-brief g c = λ quiet.
     let s = c.args.machine.now.state in
     let me = c.args.me.now in
     let looks = c.wait_attempt.ensures.looks in
     let mid = c.wait_attempt.new.self in
-    let child = reported s.processes c.requires.regular.rising me.pid me.group _ _ (found.End c.in-End.child c.in-End.status) c.in-End.child (sym c.wait_attempt.ensures.value ∙ c.in-End.is) refl in
-    let there_child = ap (λ (t : State). process t c.in-End.child) looks.same.state ∙ child.found in
-    let parent = parent_is c.in-End.child _ mid.state.processes child.what refl there_child ∙ child.parent in
-    let slots = wait_slots c.in-Some.asked.target me.pid s.processes in
-    brief_on 7 _ _ c.args.machine.now mid _ looks.same looks.visits (omega (arith, slots))
-    (brief_reaped me.pid c.in-End.child _ mid c.reap.new.self _ child.what (c.requires.regular.bounded c.in-End.child child.what child.found).session_least (quiet_on _ c.args.machine.now _ looks.same quiet) c.reap.ensures.changes.state (c.reap.ensures.changes.to_recheck ∙ ap (λ p. without_gone c.in-End.child p mid.state.order mid.to_recheck) parent)
-    (c.reap.ensures.foregrounds_unchecked child.what there_child) c.reap.ensures.changes.costs.visits c.take.ensures.state c.take.ensures.costs)
+    let still = quiet_on me.pid c.args.machine.now mid looks.same quiet in
+    let r = c.report in
+    elim c.if-not-leaves.branch [
+      | then-not-leaves w ↦
+          let child = reported s.processes c.requires.regular.rising me.pid me.group _ _ (found.End c.in-End.child c.in-End.status) c.in-End.child (sym c.wait_attempt.ensures.value ∙ c.in-End.is) refl in
+          let there_child = ap (λ (t : State). process t c.in-End.child) looks.same.state ∙ child.found in
+          let parent = parent_is c.in-End.child _ mid.state.processes child.what refl there_child ∙ child.parent in
+          let gone = w.reap.ensures in
+          brief_on 4 _ _ c.args.machine.now mid _ looks.same looks.visits (omega arith)
+          (brief_reaped me.pid c.in-End.child _ mid c.if-not-leaves.machine _ child.what (c.requires.regular.bounded c.in-End.child child.what child.found).session_least still (ap (λ (m : MachineView). m.state) w.machine-is ∙ gone.changes.state)
+          (ap (λ (m : MachineView). m.to_recheck) w.machine-is ∙ gone.changes.to_recheck ∙ ap (λ p. without_gone c.in-End.child p mid.state.order mid.to_recheck) parent)
+          (ap (λ (m : MachineView). m.foregrounds_unchecked) w.machine-is ∙ gone.foregrounds_unchecked child.what there_child) (rw w.machine-is gone.changes.costs.visits) r.ensures.state r.ensures.costs)
+      | else-not-leaves w ↦ brief_on 1 _ _ c.args.machine.now mid _ looks.same looks.visits (omega arith) (rw (← w.machine-is) (brief_done me.pid _ c.if-not-leaves.machine _ (rw w.machine-is still) r.ensures.state r.ensures.costs))
+    ]
 
-pub returns-else-leaves-2-clause-brief : goal.returns-else-leaves-2-clause-brief
-returns-else-leaves-2-clause-brief g c = λ quiet.
+pub returns-after-not-leaves-2-clause-brief : goal.returns-after-not-leaves-2-clause-brief
+returns-after-not-leaves-2-clause-brief g c = λ quiet.
+    let s = c.args.machine.now.state in
     let me = c.args.me.now in
     let looks = c.wait_attempt.ensures.looks in
     let mid = c.wait_attempt.new.self in
-    let told = c.clear_news.ensures in
     let still = quiet_on me.pid c.args.machine.now mid looks.same quiet in
-    let slots = wait_slots c.in-Some.asked.target me.pid c.args.machine.now.state.processes in
-    let r = c.take-in-Change in
-    brief_on 3 _ _ c.args.machine.now mid _ looks.same looks.visits (omega (arith, slots))
-    (brief_behind 1 2 3 mid c.clear_news.new.self _ (ap (λ (t : State). t.consoles) told.state) told.costs.visits (omega arith)
-    (brief_done me.pid _ c.clear_news.new.self _ (record { none = told.to_recheck ∙ still.none; checked = told.foregrounds_unchecked ∙ still.checked; place = ap (λ (t : State). has_place t me.pid) told.state ∙ still.place }) r.ensures.state r.ensures.costs))
-
-pub returns-then-leaves-clause-brief : goal.returns-then-leaves-clause-brief
-returns-then-leaves-clause-brief g c = λ quiet.
-    let looks = c.wait_attempt.ensures.looks in
-    let slots = wait_slots c.in-Some.asked.target c.args.me.now.pid c.args.machine.now.state.processes in
-    let r = c.look in
-    brief_on 1 _ _ c.args.machine.now c.wait_attempt.new.self _ looks.same looks.visits (omega (arith, slots)) (brief_done c.args.me.now.pid _ c.wait_attempt.new.self _ (quiet_on _ c.args.machine.now _ looks.same quiet) r.ensures.state r.ensures.costs)
-
-pub returns-then-leaves-2-clause-brief : goal.returns-then-leaves-2-clause-brief
-returns-then-leaves-2-clause-brief g c = λ quiet.
-    let looks = c.wait_attempt.ensures.looks in
-    let slots = wait_slots c.in-Some.asked.target c.args.me.now.pid c.args.machine.now.state.processes in
-    let r = c.look-then-leaves-2 in
-    brief_on 1 _ _ c.args.machine.now c.wait_attempt.new.self _ looks.same looks.visits (omega (arith, slots)) (brief_done c.args.me.now.pid _ c.wait_attempt.new.self _ (quiet_on _ c.args.machine.now _ looks.same quiet) r.ensures.state r.ensures.costs)
+    let r = c.report-in-Change in
+    elim c.if-not-leaves-2.branch [
+      | then-not-leaves-2 w ↦
+          let told = w.clear_news.ensures in
+          brief_on 2 _ _ c.args.machine.now mid _ looks.same looks.visits (omega arith)
+          (brief_behind 1 1 2 mid w.clear_news.new.self _ (ap (λ (t : State). t.consoles) told.state) told.costs.visits (omega arith)
+          (rw (← w.machine-is) (brief_done me.pid _ c.if-not-leaves-2.machine _ (rw w.machine-is (record { none = told.to_recheck ∙ still.none; checked = told.foregrounds_unchecked ∙ still.checked; place = ap (λ (t : State). has_place t me.pid) told.state ∙ still.place })) r.ensures.state r.ensures.costs)))
+      | else-not-leaves-2 w ↦ brief_on 1 _ _ c.args.machine.now mid _ looks.same looks.visits (omega arith) (rw (← w.machine-is) (brief_done me.pid _ c.if-not-leaves-2.machine _ (rw w.machine-is still) r.ensures.state r.ensures.costs))
+    ]

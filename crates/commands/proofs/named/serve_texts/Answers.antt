@@ -1,5 +1,4 @@
 use Rattle.std.proofs.Common.{◌∙◌, ap, map, subst}
-use Rattle.std.specs.Prelude.{Ok}
 use Rattle.std.specs.String.{string_bytes}
 use Rattle.refusing.specs.Texts.{named_files}
 use Rattle.commands.specs.Commands.{ServesAs, purpose_of}
@@ -13,7 +12,5 @@ returns-clause-ok g c =
     record {
       plain = map string_bytes c.in_ok-plain.plain.items;
       are_plain = c.in_ok-plain.ensures;
-      words = c.as_slice-2.result;
-      are = are;
-      serves = subst (λ ws. ServesAs (named_files c.args.texts.now) (Ok c.as_slice-2.result) c.args.out.now status.new.out (g.O.Sink.seen c.args.out.now) (g.O.Sink.seen status.new.out) status.result (purpose_of ws)) are status.ensures;
+      serves = subst (λ ws. ServesAs (named_files c.args.texts.now) c.args.out.now status.new.out (g.O.Sink.seen c.args.out.now) (g.O.Sink.seen status.new.out) status.result (purpose_of ws)) are status.ensures;
     }

@@ -15,6 +15,6 @@ pub returns : goal.returns
 returns c =
     let words = map (λ w. w.now) c.args.words.now in
     told_asked said c.ok_or.result c.asked_by.result (asked_in_words words) c.ok_or.ensures.value
-    (taken_words _ command_line words c.in_ok-matches.matches (λ rows sub. asked_in rows) is_simple c.in_ok-command.ensures c.in_ok-matches.ensures.kinds c.in_ok-matches.ensures.matches
+    (taken_words _ command_line words c.in_ok-matches.matches asked_in is_simple c.in_ok-command.ensures c.in_ok-matches.ensures.kinds c.in_ok-matches.ensures.matches
     ∙ asks (rows_of (found_of c.in_ok-matches.matches)) c.value_of.result c.value_of-2.result c.value_of-3.result c.asked_by.result c.value_of.ensures c.value_of-2.ensures c.value_of-3.ensures
     c.asked_by.ensures)

@@ -13,12 +13,12 @@ returns-in_err-matches c =
 
 pub returns-in-Some : goal.returns-in-Some
 returns-in-Some c =
-    taken_words _ command_line (map (λ w. w.now) c.args.words.now) c.in_ok-matches.matches (λ rows sub. asked_in rows) is_simple c.in_ok-command_with_flag.ensures c.in_ok-matches.ensures.kinds
+    taken_words _ command_line (map (λ w. w.now) c.args.words.now) c.in_ok-matches.matches asked_in is_simple c.in_ok-command_with_flag.ensures c.in_ok-matches.ensures.kinds
     c.in_ok-matches.ensures.matches
     ∙ asks (rows_of (found_of c.in_ok-matches.matches)) c.value_of.result c.in-Some.name c.is_used.result c.value_of.ensures c.in-Some.is c.is_used.ensures
 
 pub returns : goal.returns
 returns c = λ usage.
-    taken_words _ command_line (map (λ w. w.now) c.args.words.now) c.in_ok-matches.matches (λ rows sub. asked_in rows) is_simple c.in_ok-command_with_flag.ensures c.in_ok-matches.ensures.kinds
+    taken_words _ command_line (map (λ w. w.now) c.args.words.now) c.in_ok-matches.matches asked_in is_simple c.in_ok-command_with_flag.ensures c.in_ok-matches.ensures.kinds
     c.in_ok-matches.ensures.matches
     ∙ asks_nothing (rows_of (found_of c.in_ok-matches.matches)) c.value_of.result c.value_of.ensures c.in-None.is

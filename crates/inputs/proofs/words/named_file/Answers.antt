@@ -17,5 +17,5 @@ returns c =
     let program = c.args.program.now in
     let file = c.args.file.now in
     told_asked (λ n. n.now) c.ok_or.result c.value_of.result (file_in_words program file (map (λ w. w.now) c.args.words.now)) c.ok_or.ensures.value
-    (taken_words _ (command_with_file program file) _ c.in_ok-matches.matches (λ rows sub. first_of file rows) (file_is_simple program file) c.in_ok-command_with_file.ensures
+    (taken_words _ (command_with_file program file) _ c.in_ok-matches.matches (first_of file) (file_is_simple program file) c.in_ok-command_with_file.ensures
     c.in_ok-matches.ensures.kinds c.in_ok-matches.ensures.matches ∙ sym c.value_of.ensures)

@@ -1,4 +1,4 @@
-use Rattle.std.proofs.Common.{◌+◌, ◌*◌, length, subst, ◌≡◌, ◌≢◌, ◌∙◌, ap, sym, true, Some, None, option_map, List, ◌++◌}
+use Rattle.std.proofs.Common.{subst, ◌≡◌, ◌≢◌, ◌∙◌, ap, sym, true, Some, None, option_map, List, ◌++◌}
 use Rattle.posix.specs.declared.entry.Entry.{Entry}
 use Rattle.posix.specs.SignalNumbers.{KILL}
 use Rattle.posix.specs.Statuses.{killed}
@@ -9,8 +9,6 @@ use Rattle.proctable.specs.Records.{snapshot_of}
 use Rattle.calls.proofs.CallLemmas.{same_outcome}
 use Rattle.calls.proofs.ChosenLemmas.{act_killed, act_blocked, act_delivers, act_runs, kill_chosen, no_kill_chosen, chosen_is, chosen_not}
 use Rattle.std.specs.Option.{IfSome}
-use Rattle.posix.specs.Tables.{children_in}
-use Rattle.posix.proofs.TableLemmas.{pid_looked}
 use Rattle.calls.specs.Outcomes.{CostsWithRechecks}
 use Rattle.kernel.specs.Counts.{slots_of_acting}
 use Rattle.kernel.proofs.CallCountLemmas.{acting_blocked}
@@ -67,4 +65,4 @@ returns-in-Some-clause-brief g c = λ me e quiet.
     let in_call : me.blocked ≡ Some c.in-Some.blocked = ap (λ (f : Snapshot). f.blocked) (sym is) ∙ c.in-Some.is in
     subst (λ b. IfSome (slots_of_acting old.state me b) (λ n. CostsWithRechecks n old c.go_on.new.machine)) (sym in_call)
     (acting_blocked old.state me c.in-Some.blocked (λ n. CostsWithRechecks n old c.go_on.new.machine)
-    (λ call waits nothing. subst (λ n. CostsWithRechecks (11 + 2 * length (children_in n old.state.processes)) old c.go_on.new.machine) (sym (pid_looked c.args.pid old.state.processes me e)) (c.go_on.ensures.brief me e quiet call waits nothing)))
+    (c.go_on.ensures.brief me e quiet))

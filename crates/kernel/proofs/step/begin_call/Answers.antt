@@ -1,4 +1,4 @@
-use Rattle.std.proofs.Common.{◌+◌, ◌*◌, length, arith, ◌≡◌, ◌∙◌, ap, sym, subst, [], Bool, Some}
+use Rattle.std.proofs.Common.{◌+◌, arith, ◌≡◌, ◌∙◌, ap, sym, subst, [], Bool, Some}
 use Rattle.posix.specs.Outcomes.{Block}
 use Rattle.posix.specs.declared.call.Call.{Call}
 use Rattle.posix.specs.declared.call.Call.TheVariants.{Waitpid, Waitid}
@@ -14,7 +14,6 @@ use Rattle.posix.proofs.TableLemmas.{pid_looked}
 use Rattle.calls.proofs.CallLemmas.{block_is, same_outcome}
 use Rattle.std.specs.Option.{IfSome}
 use Rattle.std.proofs.lemmas.Option.{IfSome_then}
-use Rattle.posix.specs.Tables.{children_in}
 use Rattle.calls.specs.Outcomes.{CostsWithRechecks, slots_of_brief}
 use Rattle.calls.proofs.BriefLemmas.{brief_more, brief_on, brief_visits, quiet_on}
 use Rattle.kernel.specs.Counts.{slots_of_blocking}
@@ -55,15 +54,15 @@ returns-in-Block-clause-begins g c = λ me e.
     )
 
 pub returns-in-Done-clause-brief : goal.returns-in-Done-clause-brief
-returns-in-Done-clause-brief g c = λ me e quiet. IfSome_then (slots_of_brief c.args.call c.args.machine.now.state.processes me) (c.attempt.ensures.brief me e quiet) (λ n h. brief_more n (n + slots_of_blocking c.args.call) c.args.machine.now c.attempt.new.machine (omega arith) h)
+returns-in-Done-clause-brief g c = λ me e quiet. IfSome_then (slots_of_brief c.args.call me) (c.attempt.ensures.brief me e quiet) (λ n h. brief_more n (n + slots_of_blocking c.args.call) c.args.machine.now c.attempt.new.machine (omega arith) h)
 
 pub returns-in-Block-clause-brief : goal.returns-in-Block-clause-brief
 returns-in-Block-clause-brief g c = λ me e quiet.
     let old = c.args.machine.now in
-    brief_call c.args.call old.state.processes me (λ n. CostsWithRechecks (n + slots_of_blocking c.args.call) old c.block.new.machine)
+    brief_call c.args.call me (λ n. CostsWithRechecks (n + slots_of_blocking c.args.call) old c.block.new.machine)
     (λ is.
-    let reads = wait_reads c.args.call old.state.processes me is in
+    let reads = wait_reads c.args.call me is in
     let same = c.attempt.ensures.waits c.in-Block.blocked is c.in-Block.is in
-    let h : CostsWithRechecks (11 + 2 * length (children_in me.pid old.state.processes)) old c.attempt.new.machine = subst (λ o. IfSome o (λ n. CostsWithRechecks n old c.attempt.new.machine)) reads.0 (c.attempt.ensures.brief me e quiet) in
-    rw reads.1 (brief_on 1 (11 + 2 * length (children_in me.pid old.state.processes)) _ old c.attempt.new.machine c.block.new.machine same (brief_visits _ old _ h) (omega arith) (c.block.ensures.brief is (quiet_on c.args.pid old c.attempt.new.machine same quiet))))
+    let h : CostsWithRechecks 6 old c.attempt.new.machine = subst (λ o. IfSome o (λ n. CostsWithRechecks n old c.attempt.new.machine)) reads.0 (c.attempt.ensures.brief me e quiet) in
+    rw reads.1 (brief_on 1 6 _ old c.attempt.new.machine c.block.new.machine same (brief_visits _ old _ h) (omega arith) (c.block.ensures.brief is (quiet_on c.args.pid old c.attempt.new.machine same quiet))))
     (λ is. let no = sym c.in-Block.is ∙ c.attempt.ensures.done is in absurd (cc))

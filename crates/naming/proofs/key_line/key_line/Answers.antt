@@ -1,6 +1,7 @@
 use Rattle.std.proofs.Common.{subst, sym}
 use Rattle.naming.specs.Lines.{IsOneLine}
-use Rattle.naming.proofs.LineLemmas.{both_one_line, grows_then, parts_one_line, rest_one_line}
+use Rattle.naming.proofs.LineLemmas.{both_one_line, parts_one_line, rest_one_line}
+use Rattle.wording.proofs.ProseLemmas.{grows_then}
 use Rattle.naming.proofs.key_line.key_line.Goals as goal
 
 pub loop-separators-preserved : goal.loop-separators-preserved
@@ -11,7 +12,7 @@ loop-separators-preserved c =
       text = λ h. c.in_ok-push_word.ensures.text
           (subst IsOneLine (sym c.in_ok-extend_from_slice.ensures.items) (both_one_line c.loop-separators.text.items c.in-Some.separators.now (so_far.text h) (parts h).0)) (parts h).1;
       rest = λ h. (parts h).2;
-      told = grows_then c.args.told.now c.loop-separators.told c.push_word.new.told so_far.told c.in_ok-push_word.ensures.told;
+      told = grows_then c.args.told.now.text c.loop-separators.told.text c.push_word.new.told.text so_far.told c.push_word.ensures.told;
     }
 
 pub returns-clause-text : goal.returns-clause-text

@@ -1,15 +1,18 @@
+use Rattle.std.proofs.Common.{ap}
 use Rattle.naming.proofs.TextLemmas.{has_named_all, has_named_more, has_named_none}
+use Rattle.wording.specs.Proses.{ProseView}
 use Rattle.naming.proofs.texts.name_text.Goals as goal
 
 pub loop-line-init : goal.loop-line-init
-loop-line-init c = has_named_none c.args.text.now c.new-named.result.items c.new-told.result c.new-named.ensures.items c.new-told.ensures
+loop-line-init c = has_named_none c.args.text.now c.new-named.result.items c.new-told.result.text c.new-named.ensures.items (ap (λ (p : ProseView). p.text) c.new-told.ensures)
 
 pub loop-line-preserved : goal.loop-line-preserved
 loop-line-preserved c =
     has_named_more c.args.text.now c.loop-line.rest.now c.in-Some.line.now c.in-Some.more.now c.loop-line.named.items c.push_line.new.text.items c.push.new.self.items
-    c.loop-line.told c.push_line.new.told c.loop-line.invariant c.in-Some.ensures.line.1 c.in_ok-push_line.ensures c.in_ok-push.ensures.items
+    c.loop-line.told.text c.push_line.new.told.text c.loop-line.invariant c.in-Some.ensures.line.1 c.in_ok-push_line.ensures c.in_ok-push.ensures.items
 
 pub returns : goal.returns
 returns c =
-    has_named_all c.args.text.now c.loop-line.rest.now c.loop-line.named.items c.push_line-2.new.text.items c.loop-line.told c.push_line-2.new.told
-    c.loop-line.invariant c.in_ok-push_line-2.ensures
+    rw c.in_ok-told.ensures.text
+    (has_named_all c.args.text.now c.loop-line.rest.now c.loop-line.named.items c.push_line-2.new.text.items c.loop-line.told.text c.push_line-2.new.told.text
+    c.loop-line.invariant c.in_ok-push_line-2.ensures)

@@ -3,7 +3,7 @@ use Rattle.naming.proofs.TextLemmas.{HasNamed}
 use Rattle.naming.proofs.texts.name_text.Given as goal
 
 abbrev pub invariant-loop-line : goal.invariant-loop-line
-invariant-loop-line l = HasNamed l.fn.text l.rest l.named.items l.told
+invariant-loop-line l = HasNamed l.fn.text l.rest l.named.items l.told.text
 
 abbrev pub decreases-loop-line : goal.decreases-loop-line
 decreases-loop-line l = length l.rest

@@ -1,4 +1,4 @@
-use Rattle.std.proofs.Common.{◌∙◌, ap, arith, sym}
+use Rattle.std.proofs.Common.{◌∙◌, ap, sym}
 use Rattle.posix.specs.Tables.{adopted}
 use Rattle.jobs.specs.declared.indexes.Indexes.{Indexes}
 use Rattle.jobs.proofs.ChildLemmas.{none_adopted}

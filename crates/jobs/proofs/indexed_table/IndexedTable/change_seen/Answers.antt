@@ -35,7 +35,7 @@ same a b e =
     grind (arith, eqb-true a.group b.group group.0, eqb-true a.session b.session session.0, same_life a.life b.life lives.0, same_news a.news b.news told.0, told.1)
 
 pub change_in-seen-requires-clause-parent : goal.change_in-seen-requires-clause-parent
-change_in-seen-requires-clause-parent g c = c.unwrap_or-parent.ensures ∙ parent_listed c.args.pid _ _ _ c.self.invariant.children.index c.list.ensures (rw (← c.self.view_is) at c.requires.there)
+change_in-seen-requires-clause-parent g c = c.unwrap_or-parent.ensures ∙ parent_listed c.args.pid _ _ _ c.self.invariant.children c.list.ensures (rw (← c.self.view_is) at c.requires.there)
 
 pub reindex-requires-clause-can : goal.reindex-requires-clause-can
 reindex-requires-clause-can g c =
@@ -60,7 +60,7 @@ pub update_anchors-requires-clause-kin : goal.update_anchors-requires-clause-kin
 update_anchors-requires-clause-kin g c =
     let r = c.change_in-seen.ensures.run.0 in
     let k = c.self.invariant in
-    rw (r.is, c.reindex.ensures.children) (record { rising = record_rises _ k.rising c.args.pid r.after; none = none_record _ c.args.pid r.after k.numbers; index = kin_record _ c.args.pid r.after _ k.children.index })
+    rw (r.is, c.reindex.ensures.children) (record { rising = record_rises _ k.rising c.args.pid r.after; none = none_record _ c.args.pid r.after k.numbers; index = kin_record _ c.args.pid r.after _ k.children })
 
 pub returns-then-eq-clause-after : goal.returns-then-eq-clause-after
 returns-then-eq-clause-after g c = let r = c.change_in-seen.ensures.run in rw (r.0.is, record_found _ c.args.pid r.0.before r.0.after r.0.found, r.2) refl
@@ -88,7 +88,7 @@ returns-clause-costs g c =
     let r = c.change_in-seen.ensures.run in
     let kids = rw (← r.0.is) at (length_children c.args.pid (give_record r.0.after) (λ r. refl) c.args.pid (g.K.ProcessTable.contents c.self.inside.table)) in
     let fewer = le_trans c.change_in-seen.ensures.costs.no_fewer c.update_anchors.ensures.costs.no_fewer in
-    rw (← c.self.view_is) record { room = search rules; visits = grind (arith, c.update_anchors.ensures.costs.visits, kids, c.change_in-seen.ensures.costs.visits); no_fewer = fewer }
+    rw (← c.self.view_is) record { room = search rules; sizes = rw (c.update_anchors.ensures.sizes, c.reindex.ensures.anchors, c.reindex.ensures.children, c.reindex.ensures.moved.sizes) refl; visits = grind (arith, c.update_anchors.ensures.costs.visits, kids, c.change_in-seen.ensures.costs.visits); no_fewer = fewer }
 
 pub returns-clause-put : goal.returns-clause-put
 returns-clause-put g c = λ h.
@@ -96,4 +96,4 @@ returns-clause-put g c = λ h.
     let put = subst (λ rs. StaysPut g.F.FnOnce c.args.change rs c.args.pid) (sym (processes_of c.self.view_is)) h in
     let keeps : keeps_group_and_session c.change_in-seen.result.before c.change_in-seen.result.after ≡ true = rw (r.1, r.2) (put _ _ _ r.0.found r.0.ran) in
     let fewer = le_trans c.change_in-seen.ensures.costs.no_fewer c.update_anchors.ensures.costs.no_fewer in
-    rw (← c.self.view_is) record { room = search rules; visits = grind (arith, keeps, c.update_anchors.ensures.costs.visits, c.change_in-seen.ensures.costs.visits); no_fewer = fewer }
+    rw (← c.self.view_is) record { room = search rules; sizes = rw (c.update_anchors.ensures.sizes, c.reindex.ensures.anchors, c.reindex.ensures.children, c.reindex.ensures.moved.sizes) refl; visits = grind (arith, keeps, c.update_anchors.ensures.costs.visits, c.change_in-seen.ensures.costs.visits); no_fewer = fewer }

@@ -14,5 +14,5 @@ returns-in_err-number g c =
     let no = no_number c.args.session c.args.group _ _ c.self.invariant.rising c.self.invariant.within (c.group_number.ensures.none c.in_err-number.was) in
     record {
       value = rw (← c.self.view_is, no) c.from_residual.ensures;
-      looks = record { processes = refl; room = refl; visits = grind (arith); no_fewer = grind (arith); rising = rw (← c.self.view_is) c.self.invariant.rising; numbers = rw (← c.self.view_is) c.self.invariant.numbers };
+      looks = record { processes = refl; room = refl; sizes = refl; visits = grind (arith); no_fewer = grind (arith); rising = rw (← c.self.view_is) c.self.invariant.rising; numbers = rw (← c.self.view_is) c.self.invariant.numbers };
     }

@@ -1,4 +1,4 @@
-use Rattle.std.proofs.Common.{arith, ◌∙◌, refl, ap}
+use Rattle.std.proofs.Common.{◌∙◌, refl, ap}
 use Rattle.std.proofs.lemmas.Result.{IfOk-weaker}
 use Rattle.proctable.proofs.RecordLemmas.{same_record, child_groups}
 use Rattle.jobs.specs.Indexes.{lesser, room_in}
@@ -18,6 +18,7 @@ pub returns-clause-looks : goal.returns-clause-looks
 returns-clause-looks g c = rw (← c.self.view_is) (record {
   processes = g.met.K.ProcessTable.puts _ _ _ ∙ same_record _ c.update.ensures.rising c.args.pid c.update.result.now c.update.ensures.value ∙ c.spare-spare.ensures.contents;
   room = ap (λ n. lesser n (room_in c.self.inside.count c.self.inside.indexes)) (g.met.K.ProcessTable.keeps_room _ _ _ ∙ c.spare-spare.ensures.room);
+  sizes = refl;
   visits = rw (g.met.K.ProcessTable.put_reads c.spare-spare.new.self c.args.pid c.update.result.now, c.spare-spare.ensures.visits) (g.met.K.ProcessTable.at_most_one _);
   no_fewer = rw (g.met.K.ProcessTable.put_reads c.spare-spare.new.self c.args.pid c.update.result.now, c.spare-spare.ensures.visits) (g.met.K.ProcessTable.no_less _);
   rising = c.self.invariant.rising;

@@ -1,4 +1,4 @@
-use Rattle.std.proofs.Common.{◌∙◌, ap, arith, sym}
+use Rattle.std.proofs.Common.{◌∙◌, ap, sym}
 use Rattle.posix.specs.Tables.{removed}
 use Rattle.jobs.proofs.KeptLemmas.{can_leave, kept_removed}
 use Rattle.jobs.proofs.RoomLemmas.{anchors_room, children_room}

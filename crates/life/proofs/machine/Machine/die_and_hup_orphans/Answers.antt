@@ -1,5 +1,4 @@
 use Rattle.std.proofs.Common.{rules, ℕ, ◌≡◌, ◌≤◌, ap, arith, length, ◌∙◌, subst}
-use Rattle.std.proofs.Math.Nat.{le_trans}
 use Rattle.posix.specs.States.{State, process}
 use Rattle.posix.specs.Tables.{children_in}
 use Rattle.life.specs.Ends.{slots_of_hups, slots_of_orphans}
@@ -34,7 +33,7 @@ returns g c =
       zombie =
           let it = still_there p now.state.processes _ last zombie.0 (ap (λ (s : State). process s p) c.keep_orphans_with_stopped.ensures.same ∙ zombie.1) in
           rw c.hup_and_cont_all.ensures.state (it.what, it.found, it.zombie ∙ zombie.2);
-      no_fewer = le_trans c.note_groups_at_risk.ensures.notes.no_fewer (le_trans c.leave_children_and_die-parent.ensures.costs.no_fewer (subst (λ n. n ≤ c.hup_and_cont_all.new.self.visits) c.keep_orphans_with_stopped.ensures.visits c.hup_and_cont_all.ensures.no_fewer));
+      no_fewer = omega (arith, c.note_groups_at_risk.ensures.notes.visits, c.leave_children_and_die-parent.ensures.costs.no_fewer, c.keep_orphans_with_stopped.ensures.visits, c.hup_and_cont_all.ensures.no_fewer);
       visits =
           let slots : slots_of_hups now.groups_at_risk now.state.processes ≡ slots_of_orphans s gone = search rules in
           omega (arith, slots, many p, c.note_groups_at_risk.ensures.notes.visits, c.leave_children_and_die-parent.ensures.costs.visits, c.keep_orphans_with_stopped.ensures.visits, c.hup_and_cont_all.ensures.visits);

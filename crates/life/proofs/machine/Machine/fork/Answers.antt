@@ -88,7 +88,7 @@ pub insert-requires-clause-fresh : goal.insert-requires-clause-fresh
 insert-requires-clause-fresh g c = ap (lookup c.args.child) (c.in_ok-fields.ensures.looks.processes ∙ processes_of c.in_ok-reserve.ensures.rest) ∙ (next_is_new _ _ _ _ c.args.child (state_is c.self.view_is) c.self.invariant.sound c.requires.child).fresh
 
 pub insert-requires-clause-inside : goal.insert-requires-clause-inside
-insert-requires-clause-inside g c = subst (λ sizes. HasRoom sizes c.args.child) (sym c.newborn.ensures.sizes) c.in_ok-reserve.ensures.number
+insert-requires-clause-inside g c = subst (λ sizes. HasRoom sizes c.args.child) (sym c.newborn.ensures.looks.sizes) c.in_ok-reserve.ensures.number
 
 pub insert-requires-clause-number : goal.insert-requires-clause-number
 insert-requires-clause-number g c = λ none. absurd (omega (arith, none, (next_is_new _ _ _ _ c.args.child (state_is c.self.view_is) c.self.invariant.sound c.requires.child).least))

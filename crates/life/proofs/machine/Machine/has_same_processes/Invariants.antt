@@ -14,8 +14,8 @@ invariant-loop-next g l =
       others : AreSame l.fn.other l.other;
       begins : first_pid (left_of l.next rs) ≡ l.next;
       others_begin : first_pid (left_of l.their_next qs) ≡ l.their_next;
-      read : l.self.visits + 3 * length (left_of l.next rs) ≤ l.fn.self.visits + 1 + 3 * length rs;
-      others_read : l.other.visits + 3 * length (left_of l.their_next qs) ≤ l.fn.other.visits + 1 + 3 * length qs;
+      read : l.self.visits + 2 * length (left_of l.next rs) ≤ l.fn.self.visits + 1 + 2 * length rs;
+      others_read : l.other.visits + 2 * length (left_of l.their_next qs) ≤ l.fn.other.visits + 1 + 2 * length qs;
       no_fewer : l.fn.self.visits ≤ l.self.visits;
       others_no_fewer : l.fn.other.visits ≤ l.other.visits;
       same : left_of l.next rs ≡ left_of l.their_next qs → rs ≡ qs;

@@ -1,7 +1,7 @@
 use Rattle.std.proofs.Common.{rules, ◌≡◌, ◌||◌, arith, ap, refl, ◌∙◌, subst, cond, length, List, ℕ}
 use Rattle.std.specs.List.{list_any}
 use Rattle.posix.specs.Numbers.{with_number}
-use Rattle.posix.specs.Tables.{children_in, is_child, first_pid, next_sibling}
+use Rattle.posix.specs.Tables.{above, children_in, is_child, first_pid}
 use Rattle.posix.proofs.PassingLemmas.{filter_at_most}
 use Rattle.posix.specs.States.{State, process, is_in}
 use Rattle.posix.specs.Regular.{IsRegular}
@@ -32,16 +32,15 @@ pub loop-next-init : goal.loop-next-init
 loop-next-init g c =
     let s = c.args.self.now.state in
     let old = state_is c.self.view_is in
-    let looks = c.first_child-next.ensures.looks in
     let same : c.note_anchor.new.self.state ≡ s = c.note_anchor.ensures.notes.state ∙ old in
-    let regular = subst IsRegular same looks.regular in
-    let next = c.first_child-next.ensures.value ∙ ap (λ (t : State). first_pid (children_in c.args.pid t.processes)) same in
+    let regular = subst IsRegular same c.next_child-next.ensures.regular in
+    let next = c.next_child-next.ensures.value ∙ ap (λ (t : State). first_pid (above 0 (children_in c.args.pid t.processes))) same in
     let me = there _ c.requires in
-    let now = looks.same.groups_at_risk ∙ c.note_anchor.ensures.groups_at_risk me.what (ap (λ (t : State). process t c.args.pid) old ∙ me.found)
+    let now = c.note_anchor.ensures.groups_at_risk me.what (ap (λ (t : State). process t c.args.pid) old ∙ me.found)
     ∙ ap (λ (t : State). cond (is_anchor t.processes me.what) (with_number me.what.group c.clear.new.self.pids) c.clear.new.self.pids) old in
-    let all = first_todo s.processes regular.rising c.args.pid _ next in
-    let walk = first_here s.processes regular.rising c.args.pid _ next in
-    let todo = λ (n : ℕ). ap (λ qs. is_in n c.first_child-next.new.self.groups_at_risk || list_any (keeps s.processes n) qs) all ∙ begin_noted s.processes regular.rising c.args.pid me.what me.found _ _ c.clear.ensures.pids now n in
+    let all = first_todo s regular c.args.pid _ next in
+    let walk = first_here s regular c.args.pid _ next in
+    let todo = λ (n : ℕ). ap (λ qs. is_in n c.note_anchor.new.self.groups_at_risk || list_any (keeps s.processes n) qs) all ∙ begin_noted s.processes regular.rising c.args.pid me.what me.found _ _ c.clear.ensures.pids now n in
     let many = ap length all in
     let few = few_noted (is_anchor s.processes me.what) me.what.group c.clear.new.self.pids in
     let none = ap (λ (ns : List ℕ). length ns) c.clear.ensures.pids in
@@ -53,9 +52,9 @@ loop-next-preserved g c =
     let i = c.loop-next.invariant in
     let same = c.note_anchor-in-Some.ensures.notes.state ∙ i.same in
     let at = child_here i.walk c.in-Some.is in
-    let next = c.next_sibling-next.ensures.value ∙ ap (λ (t : State). next_sibling c.in-Some.child t.processes) same in
+    let next = c.next_child-next-in-Some.ensures.value ∙ ap (λ (t : State). first_pid (above c.in-Some.child (children_in c.args.pid t.processes))) same in
     let ns = c.loop-next.self.groups_at_risk in
-    let now = c.next_sibling-next.ensures.looks.same.groups_at_risk ∙ c.note_anchor-in-Some.ensures.groups_at_risk at.what (ap (λ (t : State). process t c.in-Some.child) i.same ∙ at.found)
+    let now = c.note_anchor-in-Some.ensures.groups_at_risk at.what (ap (λ (t : State). process t c.in-Some.child) i.same ∙ at.found)
     ∙ ap (λ (t : State). cond (is_anchor t.processes at.what) (with_number at.what.group ns) ns) i.same in
     let walk = next_here i.walk c.in-Some.is next in
     let todo = λ (n : ℕ). step_noted c.args.self.now.state.processes c.args.pid c.in-Some.child _ _ at c.in-Some.is next ns _ now n ∙ i.todo n in

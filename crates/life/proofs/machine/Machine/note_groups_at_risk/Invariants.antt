@@ -22,8 +22,7 @@ invariant-loop-next g l =
       walk : IsAtChild rs l.fn.pid l.next;
       todo : (n : ℕ) → (is_in n l.self.groups_at_risk || list_any (keeps rs n) (left_of l.next kids)) ≡ loses_anchor l.fn.pid rs n;
       few : length l.self.groups_at_risk + length (left_of l.next kids) ≤ length kids + 1;
-      read : l.self.visits + length (left_of l.next kids) ≤ l.fn.self.visits + 1 + length kids;
-      no_fewer : l.fn.self.visits ≤ l.self.visits;
+      read : l.self.visits ≡ l.fn.self.visits;
     }
 
 abbrev pub decreases-loop-next : goal.decreases-loop-next

@@ -15,5 +15,5 @@ pub returns-in-None : goal.returns-in-None
 returns-in-None g c =
     let rs = c.args.self.now.state.processes in
     let first = c.first_wanted.ensures in
-    let value = c.without_report.ensures ∙ sym (wanted_none rs c.args.parent (is_meant c.args.group.now) c.args.options.0 _ (sym first.value ∙ c.in-None.is) c.has_child.ensures.value) in
+    let value = c.without_report.ensures ∙ sym (wanted_none rs c.args.parent (is_meant c.args.group.now) c.args.options.0 _ (sym first.value ∙ c.in-None.is) c.has_child.ensures) in
     search (rules, arith)

@@ -9,7 +9,7 @@ invariant-loop-next g l =
     record {
       telling : IsTelling first l.self.state l.fn.pid l.fn.heir l.next;
       groups_at_risk : l.self.groups_at_risk ≡ l.fn.self.groups_at_risk;
-      read : l.self.visits + 7 * zombies_left l.self.state.processes l.fn.pid l.next ≤ l.fn.self.visits + 7 * length (zombies_of l.fn.pid first.processes);
+      read : l.self.visits + 4 * zombies_left l.self.state.processes l.fn.pid l.next ≤ l.fn.self.visits + 4 * length (zombies_of l.fn.pid first.processes);
       no_fewer : l.fn.self.visits ≤ l.self.visits;
     }
 

@@ -7,6 +7,6 @@ pub invariant_of-self : goal.invariant_of-self
 invariant_of-self c =
     let short = length-append c.deref.result.now c.args.end.now in
     record {
-      lines = subst AreFew (sym c.push-finished.ensures.lines) (few_finished _ _ c.self.invariant.lines (omega (arith, short)));
+      lines = subst AreFew (sym c.push.ensures) (few_finished _ _ c.self.invariant.lines (omega (arith, short)));
       bytes = omega (arith, ap length c.clear.ensures);
     }

@@ -17,5 +17,5 @@ one_more c =
 pub invariant_of-self : goal.invariant_of-self
 invariant_of-self c = (one_more c).0
 
-pub returns-clause-lines : goal.returns-clause-lines
-returns-clause-lines c = (one_more c).1 ∙ sym (cond-true _ _ _ (room c))
+pub returns : goal.returns
+returns c = (one_more c).1 ∙ sym (cond-true _ _ _ (room c))
