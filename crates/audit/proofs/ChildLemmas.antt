@@ -1,14 +1,13 @@
 -- Children in lists that are linked, as one goes into a list or is taken out.
-use Rattle.std.proofs.Common.{◌≡◌, ◌≢◌, ◌⊎◌, inl, inr, ℕ, ◌+◌, ◌<◌, ◌≤◌, true, cond, refl, ap, sym, ◌∙◌, subst, arith, List, ◌==◌, Option, Some, None, is_some}
+use Rattle.std.proofs.Common.{◌≡◌, ◌≢◌, ◌⊎◌, inl, inr, ℕ, ◌+◌, ◌<◌, ◌≤◌, true, cond, refl, ap, sym, ◌∙◌, subst, arith, List, ◌==◌, Option, Some, None, option_map, is_some}
 use Rattle.std.proofs.lemmas.Bool.Decides.{nat_tests}
 use Rattle.std.proofs.lemmas.Bool.{cases_eq, cond_both, eq-eqb, ne_eqb}
 use Rattle.audit.specs.declared.records.Record.{Record}
-use Rattle.audit.specs.declared.records.State.{State}
-use Rattle.audit.specs.Children.{parent_in, first_of, behind_in, before_in, Stands, IsNext, AreLinked, KeepLinks, IsJoined, IsGiven, IsBegun, restarted, linked}
-use Rattle.audit.specs.declared.records.Link.TheVariants.{Before, First, Parent, Place}
-use Rattle.audit.specs.Records.{record_in, IsChanged}
+use Rattle.audit.specs.Children.{parent_in, first_of, behind_in, before_in, state_in, Stands, IsNext, AreLinked, KeepLinks, joined, IsGiven, IsBegun, linked}
+use Rattle.audit.specs.declared.records.Link.TheVariants.{Before, Begins, First, Parent, Place}
+use Rattle.audit.specs.Records.{newborn_state, record_in, changed, Become}
 use Rattle.std.specs.Option.{option_map_or}
-use Rattle.audit.proofs.FieldLemmas.{IsParentSet, parent_set, AreJoined, joins, IsFirstPut, first_put, state_same, state_set, there_same, IsNew}
+use Rattle.audit.proofs.FieldLemmas.{IsParentSet, parent_set, AreJoined, joins, IsFirstPut, first_put, state_same, state_set, there_same}
 
 -- ---- one without a list
 
@@ -141,10 +140,7 @@ record IsAdded (f g : ℕ → Option Record) (k p b : ℕ) : Type 0 where
   first_is : behind_in f k 0 ≡ b
   above : Stands f k b
   back : b ≢ 0 → before_in f b ≡ 0
-  parent : (i : ℕ) → parent_in g i ≡ cond (i == p) k (parent_in f i)
-  behind : (n i : ℕ) → n ≡ k → behind_in g n i ≡ cond (i == p) b (cond (i == 0) p (behind_in f n i))
-  else_behind : (n i : ℕ) → n ≢ k → i ≢ p → behind_in g n i ≡ behind_in f n i
-  before : (i : ℕ) → i ≢ 0 → before_in g i ≡ cond (i == b) p (cond (i == p) 0 (before_in f i))
+  put : IsFirstPut k p b f g
 
 -- the places after it: p comes first
 abbrev place_after : (ℕ → ℕ) → ℕ → ℕ → ℕ
@@ -152,28 +148,28 @@ place_after place p i = cond (i == p) 0 (place i + 1)
 
 added_behind : (f g : ℕ → Option Record) (place : ℕ → ℕ) (k p b n x y z : ℕ) → IsAdded f g k p b → 2 ≤ n → x ≢ p → Stands f n x → IsNext f place n x y → y ≡ behind_in f n x → z ≡ behind_in g n x → IsNext g (place_after place p) n x z
 added_behind f g place k p b n x y z t two apart hx m ey ez =
-    let at = t.behind n x in
-    let other = t.else_behind n x in
+    let at = t.put.behind n x in
+    let other = t.put.else_behind n x in
     record {
-      stands = grind (arith, nat_tests, t.two, t.some, t.apart, m.stands, t.parent z, at, other);
-      back = λ some. grind (arith, nat_tests, t.two, t.some, t.apart, t.first_is, t.above, t.back, m.stands, m.back, t.before z, at, other);
+      stands = grind (arith, nat_tests, t.two, t.some, t.apart, m.stands, t.put.parent z, at, other);
+      back = λ some. grind (arith, nat_tests, t.two, t.some, t.apart, t.first_is, t.above, t.back, m.stands, m.back, t.put.before z, at, other);
       rises = λ some up. grind (arith, nat_tests, t.two, t.some, t.apart, m.stands, m.rises, at, other);
     }
 
 -- and behind p
 added_first : (f g : ℕ → Option Record) (place : ℕ → ℕ) (k p b n z : ℕ) → IsAdded f g k p b → n ≡ k → z ≡ behind_in g n p → IsNext g (place_after place p) n p z
 added_first f g place k p b n z t same ez =
-    let at = t.behind n p same in
+    let at = t.put.behind n p same in
     record {
-      stands = grind (arith, nat_tests, t.two, t.apart, t.above, t.parent z, at, same);
-      back = λ some. grind (arith, nat_tests, t.before z, at);
+      stands = grind (arith, nat_tests, t.two, t.apart, t.above, t.put.parent z, at, same);
+      back = λ some. grind (arith, nat_tests, t.put.before z, at);
       rises = λ some up. grind (arith, nat_tests, t.two, t.apart, t.above, at);
     }
 
 added_before : (f g : ℕ → Option Record) (k p b n x y z : ℕ) → IsAdded f g k p b → 2 ≤ n → y ≢ 0 → y ≢ p → parent_in f y ≡ n → x ≡ before_in f y → Stands f n x → behind_in f n x ≡ y → z ≡ before_in g y → Stands g n z × (behind_in g n z ≡ y)
 added_before f g k p b n x y z t two some apart e ex hx m ez = (
-  grind (arith, nat_tests, t.two, t.some, t.apart, t.first_is, t.above, t.parent z, t.before y),
-  grind (arith, nat_tests, t.two, t.some, t.apart, t.first_is, t.above, t.back, t.behind n z, t.else_behind n z, t.before y),
+  grind (arith, nat_tests, t.two, t.some, t.apart, t.first_is, t.above, t.put.parent z, t.put.before y),
+  grind (arith, nat_tests, t.two, t.some, t.apart, t.first_is, t.above, t.back, t.put.behind n z, t.put.else_behind n z, t.put.before y),
 )
 
 pub added : (f g : ℕ → Option Record) (k p b : ℕ) → AreLinked f → 2 ≤ k → p ≢ 0 → parent_in f p ≡ 0 → b ≡ behind_in f k 0 → IsFirstPut k p b f g → AreLinked g
@@ -188,10 +184,7 @@ added f g k p b l two some apart eb q =
       first_is = sym eb;
       above = first.stands;
       back = first.back;
-      parent = q.parent;
-      behind = q.behind;
-      else_behind = q.else_behind;
-      before = q.before;
+      put = q;
     } in
     record {
       place = place_after l.place p;
@@ -205,8 +198,8 @@ added f g k p b l two some apart eb q =
       before = λ n y high e. elim (cases_eq y p) [
         | inl same ↦
             let here : n ≡ k = grind (arith, nat_tests, parent y, same) in
-            let none : before_in g y ≡ 0 = grind (arith, nat_tests, t.before y, t.above, t.apart, some, two, same) in
-            rw none (inl refl, grind (arith, nat_tests, t.behind n 0 here, some, same))
+            let none : before_in g y ≡ 0 = grind (arith, nat_tests, q.before y, t.above, t.apart, some, two, same) in
+            rw none (inl refl, grind (arith, nat_tests, q.behind n 0 here, some, same))
         | inr other ↦
             let was : parent_in f y ≡ n = grind (arith, nat_tests, parent y) in
             let there : y ≢ 0 = grind (arith, nat_tests, l.nobody) in
@@ -258,26 +251,15 @@ unfolding behind_in
 has_first f k = has_field (λ r. r.first) (f k)
 
 -- what the record of p says of it
-pub parent_read : (f : ℕ → Option Record) (p : ℕ) (r : Record) → f p ≡ Some r → parent_in f p ≡ r.parent
-unfolding parent_in
-parent_read f p r e = rw e refl
-
-pub first_read : (f : ℕ → Option Record) (p : ℕ) (r : Record) → f p ≡ Some r → r.first ≡ first_of f p
-first_read f p r e = rw e refl
-
-pub before_read : (f : ℕ → Option Record) (p : ℕ) (r : Record) → f p ≡ Some r → before_in f p ≡ r.before
-unfolding before_in
-before_read f p r e = rw e refl
-
-pub behind_read : (f : ℕ → Option Record) (k p : ℕ) (r : Record) → p ≢ 0 → f p ≡ Some r → behind_in f k p ≡ r.behind
-unfolding behind_in
-behind_read f k p r some e = rw (ne_eqb p 0 some, e) refl
+says : (f : ℕ → Option Record) (k p : ℕ) (r : Record) → p ≢ 0 → f p ≡ Some r → (parent_in f p ≡ r.parent) × (before_in f p ≡ r.before) × (behind_in f k p ≡ r.behind)
+unfolding parent_in behind_in before_in
+says f k p r some e = rw (ne_eqb p 0 some, e) (refl, refl, refl)
 
 pub behind_first : (f : ℕ → Option Record) (k : ℕ) → behind_in f k 0 ≡ first_of f k
 unfolding behind_in
 behind_first f k = refl
 
-pub given_unlisted : (p k : ℕ) (old new : List (ℕ × Record)) → AreLinked (record_in old) → 1 ≤ p → is_some (record_in old p) ≡ true → parent_in (record_in old) p ≤ 1 → k ≤ 1 → IsChanged p (linked (Parent k)) old new → IsGiven p k old new
+pub given_unlisted : (p k : ℕ) (old new : List (ℕ × Record)) → AreLinked (record_in old) → 1 ≤ p → is_some (record_in old p) ≡ true → parent_in (record_in old) p ≤ 1 → k ≤ 1 → Become (changed p (linked (Parent k))) old new → IsGiven p k old new
 given_unlisted p k old new l one there low none h =
     let s = parent_set p k (linked (Parent k)) (λ r. (refl, refl, refl, refl)) old new h there in
     record {
@@ -293,7 +275,7 @@ child_there f k i two (inl none) other = absurd (other none)
 child_there f k i two (inr e) other = is_there f i (λ z. omega (arith, e, z, two))
 
 pub given_first : (p k b : ℕ) (old mid next new : List (ℕ × Record)) → AreLinked (record_in old) → 1 ≤ p → is_some (record_in old p) ≡ true → parent_in (record_in old) p ≡ 0 → 2 ≤ k → is_some (record_in old k) ≡ true → b ≡ behind_in (record_in old) k 0
-    → IsChanged k (linked (First p)) old mid → IsChanged p (linked (Place k b)) mid next → IsChanged b (linked (Before p)) next new → IsGiven p k old new
+    → Become (changed k (linked (First p))) old mid → Become (changed p (linked (Place k b))) mid next → Become (changed b (linked (Before p))) next new → IsGiven p k old new
 given_first p k b old mid next new l one there apart two parent first x y z =
     let some : p ≢ 0 = (λ n. omega (arith, one, n)) in
     let above : Stands (record_in old) k b = subst (Stands (record_in old) k) (sym first) (l.behind k 0 two (inl refl)).stands in
@@ -303,43 +285,67 @@ given_first p k b old mid next new l one there apart two parent first x y z =
 -- ---- a life that begins
 
 -- one whose parent has no list
-pub begun_unlisted : (p : ℕ) (s : State) (r : Record) (old new : List (ℕ × Record)) → AreLinked (record_in old) → 1 ≤ p → record_in old p ≡ Some r → r.parent ≤ 1 → IsChanged p (restarted s) old new → IsBegun p s old new
-begun_unlisted p s r old new l one found low h =
-    let f : ℕ → Option Record = record_in old in
-    let there : is_some (f p) ≡ true = ap is_some found in
-    let is : parent_in f p ≡ r.parent = parent_read f p r found in
-    let g = parent_set p 0 (restarted s) (λ r. (refl, refl, refl, refl)) old new h there in
-    record { linked = unlisted f (record_in new) p 0 l (omega (arith, is, low)) (omega arith) (λ z. omega (arith, one, z)) g; parent = g.parent; state = state_set p s old new h there }
-
--- one that is taken out from a list
-pub begun_away : (p : ℕ) (s : State) (r : Record) (old mid new : List (ℕ × Record)) → AreLinked (record_in old) → 1 ≤ p → record_in old p ≡ Some r → 2 ≤ r.parent → IsChanged p (restarted s) old mid → IsJoined r.parent r.before r.behind mid new → IsBegun p s old new
-begun_away p s r old mid new l one found two h w =
+pub begun_unlisted : (p : ℕ) (r : Record) (old new : List (ℕ × Record)) → AreLinked (record_in old) → 1 ≤ p → record_in old p ≡ Some r → r.parent ≤ 1 → Become (changed p (linked Begins)) old new → IsBegun p old new
+begun_unlisted p r old new l one found low h =
     let f : ℕ → Option Record = record_in old in
     let some : p ≢ 0 = (λ z. omega (arith, one, z)) in
     let there : is_some (f p) ≡ true = ap is_some found in
-    let is : parent_in f p ≡ r.parent = parent_read f p r found in
-    let before : r.before ≡ before_in f p = sym (before_read f p r found) in
-    let behind : r.behind ≡ behind_in f r.parent p = sym (behind_read f r.parent p r some found) in
+    let is : parent_in f p ≡ r.parent = (says f r.parent p r some found).0 in
+    let g = parent_set p 0 (linked Begins) (λ r. (refl, refl, refl, refl)) old new h there in
+    record { linked = unlisted f (record_in new) p 0 l (omega (arith, is, low)) (omega arith) some g; parent = g.parent; state = state_set p old new h there }
+
+-- one that is taken out from a list
+pub begun_away : (p : ℕ) (r : Record) (old mid new : List (ℕ × Record)) → AreLinked (record_in old) → 1 ≤ p → record_in old p ≡ Some r → 2 ≤ r.parent → Become (changed p (linked Begins)) old mid → Become (joined r.parent r.before r.behind) mid new → IsBegun p old new
+begun_away p r old mid new l one found two h w =
+    let f : ℕ → Option Record = record_in old in
+    let some : p ≢ 0 = (λ z. omega (arith, one, z)) in
+    let there : is_some (f p) ≡ true = ap is_some found in
+    let reads = says f r.parent p r some found in
+    let is : parent_in f p ≡ r.parent = reads.0 in
+    let before : r.before ≡ before_in f p = sym reads.1 in
+    let behind : r.behind ≡ behind_in f r.parent p = sym reads.2 in
     let low : Stands f r.parent r.before × (behind_in f r.parent r.before ≡ p) = rw (before) (l.before r.parent p two is) in
     let up : Stands f r.parent r.behind = rw (behind) ((l.behind r.parent p two (inr is)).stands) in
-    let still = there_same p (restarted s) f (record_in mid) h.is in
+    let still = there_same p (linked Begins) f (record_in mid) h.is in
     let j : AreJoined r.parent r.before r.behind (record_in mid) (record_in new) = joins r.parent r.before r.behind mid new w
     (λ none. still r.parent ∙ has_first f r.parent (λ z. some (sym low.1 ∙ ap (behind_in f r.parent) none ∙ z)))
     (λ other. still r.before ∙ child_there f r.parent r.before two low.0 other) (λ other. still r.behind ∙ child_there f r.parent r.behind two up other) in
-    let g = parent_set p 0 (restarted s) (λ r. (refl, refl, refl, refl)) old mid h there in
+    let g = parent_set p 0 (linked Begins) (λ r. (refl, refl, refl, refl)) old mid h there in
     record {
       linked = removed f (record_in mid) (record_in new) r.parent p r.before r.behind l two is before behind g j;
       parent = λ i. j.parent i ∙ g.parent i;
-      state = λ i. j.state i ∙ state_set p s old mid h there i;
+      state = λ i. j.state i ∙ state_set p old mid h there i;
     }
 
-pub begun_anew : (p : ℕ) (s : State) (old new : List (ℕ × Record)) → AreLinked (record_in old) → IsNew p s old new → IsBegun p s old new
-begun_anew p s old new l h = record {
-  linked = same_links (record_in old) (record_in new) h.links l;
-  parent = λ i. h.links.parent i ∙ by i (cases_eq i p);
-  state = h.state;
-}
+-- one of a number without a record
+pub begun_anew : (p n : ℕ) (r : Record) (old new : List (ℕ × Record)) → AreLinked (record_in old) → n ≡ p → record_in old n ≡ None → r ≡ record { parent = 0; before = 0; behind = 0; first = 0; state = newborn_state }
+    → ((q : ℕ) → record_in new q ≡ cond (n == q) (Some r) (record_in old q)) → IsBegun p old new
+unfolding parent_in behind_in before_in state_in
+begun_anew p n r old new l same none e is =
+    let links : KeepLinks (record_in old) (record_in new) = record {
+      parent = field (λ r. r.parent) (ap (λ (r : Record). r.parent) e);
+      behind = λ k i. rw (field (λ r. r.first) (ap (λ (r : Record). r.first) e) k, field (λ r. r.behind) (ap (λ (r : Record). r.behind) e) i) refl;
+      before = field (λ r. r.before) (ap (λ (r : Record). r.before) e);
+    } in
+    record {
+      linked = same_links (record_in old) (record_in new) links l;
+      parent = λ i. links.parent i ∙ parent i (cases_eq n i);
+      state = λ i. ap (option_map (λ (r : Record). r.state)) (is i) ∙ state i (cases_eq n i);
+    }
   where
-    by : (i : ℕ) → (i ≡ p) ⊎ (i ≢ p) → parent_in (record_in old) i ≡ cond (i == p) 0 (parent_in (record_in old) i)
-    by i (inl same) = rw (eq-eqb i p same) (ap (parent_in (record_in old)) same ∙ h.none)
-    by i (inr apart) = rw (ne_eqb i p apart) refl
+    gone : (i : ℕ) → n ≡ i → record_in old i ≡ None
+    gone i here = ap (record_in old) (sym here) ∙ none
+
+    field : (read : Record → ℕ) → read r ≡ 0 → (i : ℕ) → option_map_or read (record_in new i) 0 ≡ option_map_or read (record_in old i) 0
+    field read zero i = ap (λ o. option_map_or read o 0) (is i) ∙ elim (cases_eq n i) [
+      | inl here ↦ rw (eq-eqb n i here, gone i here) zero
+      | inr apart ↦ rw (ne_eqb n i apart) refl
+    ]
+
+    parent : (i : ℕ) → (n ≡ i) ⊎ (n ≢ i) → option_map_or (λ (r : Record). r.parent) (record_in old i) 0 ≡ cond (i == p) 0 (option_map_or (λ (r : Record). r.parent) (record_in old i) 0)
+    parent i (inl here) = rw (eq-eqb i p (sym here ∙ same), gone i here) refl
+    parent i (inr apart) = rw (ne_eqb i p (λ h. apart (same ∙ sym h))) refl
+
+    state : (i : ℕ) → (n ≡ i) ⊎ (n ≢ i) → option_map (λ (r : Record). r.state) (cond (n == i) (Some r) (record_in old i)) ≡ cond (i == p) (Some newborn_state) (option_map (λ (r : Record). r.state) (record_in old i))
+    state i (inl here) = rw (eq-eqb n i here, eq-eqb i p (sym here ∙ same)) (ap (λ (r : Record). Some r.state) e)
+    state i (inr apart) = rw (ne_eqb n i apart, ne_eqb i p (λ h. apart (same ∙ sym h))) refl

@@ -1,13 +1,13 @@
 -- The fields of records, as one of the records changes.
 use Rattle.std.proofs.Common.{◌≡◌, ◌≢◌, ◌⊎◌, inl, inr, ℕ, Bool, true, false, cond, if◌then◌else◌, refl, ap, sym, ◌∙◌, arith, List, ◌==◌, Option, Some, None, option_map, is_some}
 use Rattle.std.specs.Option.{option_map_or}
-use Rattle.std.proofs.lemmas.Bool.{cases_eq, eq-eqb, ne_eqb}
+use Rattle.std.proofs.lemmas.Bool.{cases_eq, eq-eqb, eqb-true, eqb-false, ne_eqb}
 use Rattle.std.proofs.lemmas.Bool.Decides.{nat_tests}
 use Rattle.audit.specs.declared.records.Record.{Record}
 use Rattle.audit.specs.declared.records.State.{State}
-use Rattle.audit.specs.Records.{record_in, changed, IsChanged}
-use Rattle.audit.specs.Children.{parent_in, first_of, behind_of, behind_in, before_in, state_in, in_state, restarted, put_behind, IsJoined, KeepLinks, linked}
-use Rattle.audit.specs.declared.records.Link.TheVariants.{Before, Behind, First, Place}
+use Rattle.audit.specs.Records.{newborn_state, record_in, changed, Become}
+use Rattle.audit.specs.Children.{parent_in, first_of, behind_of, behind_in, before_in, state_in, in_state, put_behind, joined, KeepLinks, linked}
+use Rattle.audit.specs.declared.records.Link.TheVariants.{Before, Begins, Behind, First, Place}
 
 -- a field that doesn't change
 field_same : (read : Record → ℕ) (p : ℕ) (h : Record → Record) → ((r : Record) → read (h r) ≡ read r) → (f g : ℕ → Option Record) → ((q : ℕ) → g q ≡ changed p h f q) → (i : ℕ) → option_map_or read (g i) 0 ≡ option_map_or read (f i) 0
@@ -58,7 +58,7 @@ pub record IsParentSet (p k : ℕ) (f g : ℕ → Option Record) : Type 0 where
   pub behind : (n i : ℕ) → behind_in g n i ≡ behind_in f n i
   pub before : (i : ℕ) → before_in g i ≡ before_in f i
 
-pub parent_set : (p k : ℕ) (h : Record → Record) → ((r : Record) → ((h r).parent ≡ k) × ((h r).before ≡ r.before) × ((h r).behind ≡ r.behind) × ((h r).first ≡ r.first)) → (old new : List (ℕ × Record)) → IsChanged p h old new → is_some (record_in old p) ≡ true
+pub parent_set : (p k : ℕ) (h : Record → Record) → ((r : Record) → ((h r).parent ≡ k) × ((h r).before ≡ r.before) × ((h r).behind ≡ r.behind) × ((h r).first ≡ r.first)) → (old new : List (ℕ × Record)) → Become (changed p h) old new → is_some (record_in old p) ≡ true
     → IsParentSet p k (record_in old) (record_in new)
 unfolding parent_in behind_in before_in
 parent_set p k h is old new x there = record {
@@ -77,7 +77,7 @@ pub record IsFirstSet (k b : ℕ) (f g : ℕ → Option Record) : Type 0 where
   pub before : (i : ℕ) → before_in g i ≡ before_in f i
   pub state : (i : ℕ) → state_in g i ≡ state_in f i
 
-pub first_set : (k b : ℕ) (old new : List (ℕ × Record)) → IsChanged k (linked (First b)) old new → (b ≢ 0 → is_some (record_in old k) ≡ true) → IsFirstSet k b (record_in old) (record_in new)
+pub first_set : (k b : ℕ) (old new : List (ℕ × Record)) → Become (changed k (linked (First b))) old new → (b ≢ 0 → is_some (record_in old k) ≡ true) → IsFirstSet k b (record_in old) (record_in new)
 unfolding parent_in behind_in before_in
 first_set k b old new h there = record {
   parent = field_same (λ r. r.parent) k (linked (First b)) (λ r. refl) (record_in old) (record_in new) h.is;
@@ -97,71 +97,58 @@ pub record AreJoined (k a b : ℕ) (f g : ℕ → Option Record) : Type 0 where
   pub before : (i : ℕ) → i ≢ 0 → before_in g i ≡ cond (i == b) a (before_in f i)
   pub state : (i : ℕ) → state_in g i ≡ state_in f i
 
--- the first half: b is the first, or behind a
-record IsHalf (k a b : ℕ) (f g : ℕ → Option Record) : Type 0 where
+-- the first half: b is the first, where a is nobody, or behind a
+record IsHalf (none : Bool) (k a b : ℕ) (f g : ℕ → Option Record) : Type 0 where
   parent : (i : ℕ) → parent_in g i ≡ parent_in f i
-  first : a ≡ 0 → (i : ℕ) → first_of g i ≡ cond (i == k) b (first_of f i)
-  else_first : a ≢ 0 → (i : ℕ) → first_of g i ≡ first_of f i
-  behind : a ≢ 0 → (i : ℕ) → behind_of g i ≡ cond (i == a) b (behind_of f i)
-  else_behind : a ≡ 0 → (i : ℕ) → behind_of g i ≡ behind_of f i
+  first : (i : ℕ) → first_of g i ≡ cond none (cond (i == k) b (first_of f i)) (first_of f i)
+  behind : (i : ℕ) → behind_of g i ≡ cond none (behind_of f i) (cond (i == a) b (behind_of f i))
   before : (i : ℕ) → before_in g i ≡ before_in f i
   state : (i : ℕ) → state_in g i ≡ state_in f i
   there : (i : ℕ) → is_some (g i) ≡ is_some (f i)
 
-half_first : (k a b : ℕ) (f g : ℕ → Option Record) → a ≡ 0 → ((q : ℕ) → g q ≡ changed k (linked (First b)) f q) → is_some (f k) ≡ true → IsHalf k a b f g
+half : (k a b : ℕ) (f : ℕ → Option Record) (none : Bool) → (none ≡ true → is_some (f k) ≡ true) → (none ≡ false → is_some (f a) ≡ true) → IsHalf none k a b f (if none then changed k (linked (First b)) f else changed a (linked (Behind b)) f)
 unfolding parent_in before_in
-half_first k a b f g none is there = record {
-  parent = field_same (λ r. r.parent) k (linked (First b)) (λ r. refl) f g is;
-  first = λ e i. field_set (λ r. r.first) k b (linked (First b)) (λ r. refl) f g is i (λ same some. there);
-  else_first = λ some. absurd (some none);
-  behind = λ some. absurd (some none);
-  else_behind = λ e. field_same (λ r. r.behind) k (linked (First b)) (λ r. refl) f g is;
-  before = field_same (λ r. r.before) k (linked (First b)) (λ r. refl) f g is;
-  state = state_same k (linked (First b)) (λ r. refl) f g is;
-  there = there_same k (linked (First b)) f g is;
-}
-
-half_behind : (k a b : ℕ) (f g : ℕ → Option Record) → a ≢ 0 → ((q : ℕ) → g q ≡ changed a (linked (Behind b)) f q) → is_some (f a) ≡ true → IsHalf k a b f g
-unfolding parent_in before_in
-half_behind k a b f g some is there = record {
-  parent = field_same (λ r. r.parent) a (linked (Behind b)) (λ r. refl) f g is;
-  first = λ e. absurd (some e);
-  else_first = λ e. field_same (λ r. r.first) a (linked (Behind b)) (λ r. refl) f g is;
-  behind = λ e i. field_set (λ r. r.behind) a b (linked (Behind b)) (λ r. refl) f g is i (λ same some. there);
-  else_behind = λ e. absurd (some e);
-  before = field_same (λ r. r.before) a (linked (Behind b)) (λ r. refl) f g is;
-  state = state_same a (linked (Behind b)) (λ r. refl) f g is;
-  there = there_same a (linked (Behind b)) f g is;
-}
-
-half_joined : (k a b : ℕ) (f : ℕ → Option Record) → (a ≡ 0 → is_some (f k) ≡ true) → (a ≢ 0 → is_some (f a) ≡ true) → IsHalf k a b f (put_behind k a b f)
-half_joined k a b f first behind = elim (cases_eq a 0) [
-  | inl none ↦ half_first k a b f (put_behind k a b f) none (λ q. rw (eq-eqb a 0 none) refl) (first none)
-  | inr some ↦ half_behind k a b f (put_behind k a b f) some (λ q. rw (ne_eqb a 0 some) refl) (behind some)
-]
+half k a b f true first behind =
+    let g : ℕ → Option Record = changed k (linked (First b)) f in
+    record {
+      parent = field_same (λ r. r.parent) k (linked (First b)) (λ r. refl) f g (λ q. refl);
+      first = λ i. field_set (λ r. r.first) k b (linked (First b)) (λ r. refl) f g (λ q. refl) i (λ same some. first refl);
+      behind = field_same (λ r. r.behind) k (linked (First b)) (λ r. refl) f g (λ q. refl);
+      before = field_same (λ r. r.before) k (linked (First b)) (λ r. refl) f g (λ q. refl);
+      state = state_same k (linked (First b)) (λ r. refl) f g (λ q. refl);
+      there = there_same k (linked (First b)) f g (λ q. refl);
+    }
+half k a b f false first behind =
+    let g : ℕ → Option Record = changed a (linked (Behind b)) f in
+    record {
+      parent = field_same (λ r. r.parent) a (linked (Behind b)) (λ r. refl) f g (λ q. refl);
+      first = field_same (λ r. r.first) a (linked (Behind b)) (λ r. refl) f g (λ q. refl);
+      behind = λ i. field_set (λ r. r.behind) a b (linked (Behind b)) (λ r. refl) f g (λ q. refl) i (λ same some. behind refl);
+      before = field_same (λ r. r.before) a (linked (Behind b)) (λ r. refl) f g (λ q. refl);
+      state = state_same a (linked (Behind b)) (λ r. refl) f g (λ q. refl);
+      there = there_same a (linked (Behind b)) f g (λ q. refl);
+    }
 
 -- who stands behind i, by who did
-behind_same : (k a b n i x y v w : ℕ) → n ≡ k → (a ≡ 0 → v ≡ cond (n == k) b x) → (a ≢ 0 → v ≡ x) → (a ≢ 0 → w ≡ cond (i == a) b y) → (a ≡ 0 → w ≡ y) → cond (i == 0) v w ≡ cond (i == a) b (cond (i == 0) x y)
-behind_same k a b n i x y v w same first else_first behind else_behind = grind (arith, nat_tests)
+behind_same : (k a b n i x y v w : ℕ) → n ≡ k → v ≡ cond (a == 0) (cond (n == k) b x) x → w ≡ cond (a == 0) y (cond (i == a) b y) → cond (i == 0) v w ≡ cond (i == a) b (cond (i == 0) x y)
+behind_same k a b n i x y v w same first behind = grind (arith, nat_tests)
 
-behind_other : (k a b n i x y v w : ℕ) → n ≢ k → (i ≡ a → a ≡ 0) → (a ≡ 0 → v ≡ cond (n == k) b x) → (a ≢ 0 → v ≡ x) → (a ≢ 0 → w ≡ cond (i == a) b y) → (a ≡ 0 → w ≡ y) → cond (i == 0) v w ≡ cond (i == 0) x y
-behind_other k a b n i x y v w other apart first else_first behind else_behind = grind (arith, nat_tests)
+behind_other : (k a b n i x y v w : ℕ) → n ≢ k → (i ≡ a → a ≡ 0) → v ≡ cond (a == 0) (cond (n == k) b x) x → w ≡ cond (a == 0) y (cond (i == a) b y) → cond (i == 0) v w ≡ cond (i == 0) x y
+behind_other k a b n i x y v w other apart first behind = grind (arith, nat_tests)
 
-pub joins : (k a b : ℕ) (old new : List (ℕ × Record)) → IsJoined k a b old new → (a ≡ 0 → is_some (record_in old k) ≡ true) → (a ≢ 0 → is_some (record_in old a) ≡ true) → (b ≢ 0 → is_some (record_in old b) ≡ true) → AreJoined k a b (record_in old) (record_in new)
+pub joins : (k a b : ℕ) (old new : List (ℕ × Record)) → Become (joined k a b) old new → (a ≡ 0 → is_some (record_in old k) ≡ true) → (a ≢ 0 → is_some (record_in old a) ≡ true) → (b ≢ 0 → is_some (record_in old b) ≡ true) → AreJoined k a b (record_in old) (record_in new)
 unfolding parent_in behind_in before_in
 joins k a b old new h first behind next =
     let f : ℕ → Option Record = record_in old in
     let g : ℕ → Option Record = record_in new in
     let m : ℕ → Option Record = put_behind k a b f in
-    let j : IsHalf k a b f m = half_joined k a b f first behind in
-    let firsts : (i : ℕ) → first_of g i ≡ first_of m i = field_same (λ r. r.first) b (linked (Before a)) (λ r. refl) m g h.is in
-    let behinds : (i : ℕ) → behind_of g i ≡ behind_of m i = field_same (λ r. r.behind) b (linked (Before a)) (λ r. refl) m g h.is in
+    let j : IsHalf (a == 0) k a b f m = half k a b f (a == 0) (λ t. first (eqb-true a 0 t)) (λ t. behind (eqb-false a 0 t)) in
+    let firsts : (i : ℕ) → first_of g i ≡ cond (a == 0) (cond (i == k) b (first_of f i)) (first_of f i) = (λ i. field_same (λ r. r.first) b (linked (Before a)) (λ r. refl) m g h.is i ∙ j.first i) in
+    let behinds : (i : ℕ) → behind_of g i ≡ cond (a == 0) (behind_of f i) (cond (i == a) b (behind_of f i)) = (λ i. field_same (λ r. r.behind) b (linked (Before a)) (λ r. refl) m g h.is i ∙ j.behind i) in
     record {
       parent = λ i. field_same (λ r. r.parent) b (linked (Before a)) (λ r. refl) m g h.is i ∙ j.parent i;
-      behind = λ n i same. behind_same k a b n i (first_of f n) (behind_of f i) (first_of g n) (behind_of g i) same
-          (λ e. firsts n ∙ j.first e n) (λ e. firsts n ∙ j.else_first e n) (λ e. behinds i ∙ j.behind e i) (λ e. behinds i ∙ j.else_behind e i);
-      else_behind = λ n i other apart. behind_other k a b n i (first_of f n) (behind_of f i) (first_of g n) (behind_of g i) other apart
-          (λ e. firsts n ∙ j.first e n) (λ e. firsts n ∙ j.else_first e n) (λ e. behinds i ∙ j.behind e i) (λ e. behinds i ∙ j.else_behind e i);
+      behind = λ n i same. behind_same k a b n i (first_of f n) (behind_of f i) (first_of g n) (behind_of g i) same (firsts n) (behinds i);
+      else_behind = λ n i other apart. behind_other k a b n i (first_of f n) (behind_of f i) (first_of g n) (behind_of g i) other apart (firsts n) (behinds i);
       before = λ i some. field_set (λ r. r.before) b a (linked (Before a)) (λ r. refl) m g h.is i (λ same has. j.there b ∙ next (λ none. some (same ∙ none))) ∙ ap (cond (i == b) a) (j.before i);
       state = λ i. state_same b (linked (Before a)) (λ r. refl) m g h.is i ∙ j.state i;
     }
@@ -183,7 +170,7 @@ put_other : (k p b n i x y v w : ℕ) → n ≢ k → i ≢ p → v ≡ cond (n 
 put_other k p b n i x y v w other apart first behind = grind (arith, nat_tests)
 
 pub first_put : (k p b : ℕ) (old mid next new : List (ℕ × Record)) → p ≢ 0 → is_some (record_in old p) ≡ true → is_some (record_in old k) ≡ true → (b ≢ 0 → is_some (record_in old b) ≡ true)
-    → IsChanged k (linked (First p)) old mid → IsChanged p (linked (Place k b)) mid next → IsChanged b (linked (Before p)) next new → IsFirstPut k p b (record_in old) (record_in new)
+    → Become (changed k (linked (First p))) old mid → Become (changed p (linked (Place k b))) mid next → Become (changed b (linked (Before p))) next new → IsFirstPut k p b (record_in old) (record_in new)
 unfolding parent_in behind_in before_in
 first_put k p b old mid next new some there parent behind x y z =
     let f : ℕ → Option Record = record_in old in
@@ -210,7 +197,7 @@ first_put k p b old mid next new some there parent behind x y z =
 
 -- ---- a state is set
 
-pub links_stay : (p : ℕ) (s : State) (old new : List (ℕ × Record)) → IsChanged p (in_state s) old new → KeepLinks (record_in old) (record_in new)
+pub links_stay : (p : ℕ) (s : State) (old new : List (ℕ × Record)) → Become (changed p (in_state s)) old new → KeepLinks (record_in old) (record_in new)
 unfolding parent_in behind_in before_in
 links_stay p s old new h = record {
   parent = field_same (λ r. r.parent) p (in_state s) (λ r. refl) (record_in old) (record_in new) h.is;
@@ -226,43 +213,14 @@ pub links_same : (f : ℕ → Option Record) → KeepLinks f f
 links_same f = record { parent = λ i. refl; behind = λ k a. refl; before = λ b. refl }
 
 -- where a life begins
-pub state_set : (p : ℕ) (s : State) (old new : List (ℕ × Record)) → IsChanged p (restarted s) old new → is_some (record_in old p) ≡ true → (i : ℕ) → state_in (record_in new) i ≡ cond (i == p) (Some s) (state_in (record_in old) i)
+pub state_set : (p : ℕ) (old new : List (ℕ × Record)) → Become (changed p (linked Begins)) old new → is_some (record_in old p) ≡ true → (i : ℕ) → state_in (record_in new) i ≡ cond (i == p) (Some newborn_state) (state_in (record_in old) i)
 unfolding state_in
-state_set p s old new h there i = ap (option_map (λ (r : Record). r.state)) (h.is i) ∙ by (cases_eq p i)
+state_set p old new h there i = ap (option_map (λ (r : Record). r.state)) (h.is i) ∙ by (cases_eq p i)
   where
-    here : (o : Option Record) → is_some o ≡ true → option_map (λ (r : Record). r.state) (option_map (restarted s) o) ≡ Some s
+    here : (o : Option Record) → is_some o ≡ true → option_map (λ (r : Record). r.state) (option_map (linked Begins) o) ≡ Some newborn_state
     here None t = absurd (cc)
     here (Some r) t = refl
 
-    by : (p ≡ i) ⊎ (p ≢ i) → option_map (λ (r : Record). r.state) (changed p (restarted s) (record_in old) i) ≡ cond (i == p) (Some s) (option_map (λ (r : Record). r.state) (record_in old i))
+    by : (p ≡ i) ⊎ (p ≢ i) → option_map (λ (r : Record). r.state) (changed p (linked Begins) (record_in old) i) ≡ cond (i == p) (Some newborn_state) (option_map (λ (r : Record). r.state) (record_in old i))
     by (inl same) = rw (eq-eqb p i same, eq-eqb i p (sym same)) (here (record_in old i) (ap (λ q. is_some (record_in old q)) (sym same) ∙ there))
     by (inr apart) = rw (ne_eqb p i apart, ne_eqb i p (λ e. apart (sym e))) refl
-
--- a record without a parent where there was none
-pub record IsNew (p : ℕ) (s : State) (old new : List (ℕ × Record)) : Type 0 where
-  pub links : KeepLinks (record_in old) (record_in new)
-  pub none : parent_in (record_in old) p ≡ 0
-  pub state : (i : ℕ) → state_in (record_in new) i ≡ cond (i == p) (Some s) (state_in (record_in old) i)
-
-pub is_new : (p n : ℕ) (s : State) (r : Record) (old new : List (ℕ × Record)) → n ≡ p → record_in old n ≡ None → r ≡ record { parent = 0; before = 0; behind = 0; first = 0; state = s } → ((q : ℕ) → record_in new q ≡ cond (n == q) (Some r) (record_in old q)) → IsNew p s old new
-unfolding parent_in behind_in before_in state_in
-is_new p n s r old new same none e is = record {
-  none = let gone : record_in old p ≡ None = ap (record_in old) (sym same) ∙ none in rw gone refl;
-  links = record {
-    parent = field (λ r. r.parent) (ap (λ (r : Record). r.parent) e);
-    behind = λ k i. rw (field (λ r. r.first) (ap (λ (r : Record). r.first) e) k, field (λ r. r.behind) (ap (λ (r : Record). r.behind) e) i) refl;
-    before = field (λ r. r.before) (ap (λ (r : Record). r.before) e);
-  };
-  state = λ i. ap (option_map (λ (r : Record). r.state)) (is i) ∙ by i (cases_eq n i);
-}
-  where
-    field : (read : Record → ℕ) → read r ≡ 0 → (i : ℕ) → option_map_or read (record_in new i) 0 ≡ option_map_or read (record_in old i) 0
-    field read zero i = ap (λ o. option_map_or read o 0) (is i) ∙ of (cases_eq n i)
-      where
-        of : (n ≡ i) ⊎ (n ≢ i) → option_map_or read (cond (n == i) (Some r) (record_in old i)) 0 ≡ option_map_or read (record_in old i) 0
-        of (inl here) = let gone : record_in old i ≡ None = ap (record_in old) (sym here) ∙ none in rw (eq-eqb n i here, gone) zero
-        of (inr apart) = rw (ne_eqb n i apart) refl
-
-    by : (i : ℕ) → (n ≡ i) ⊎ (n ≢ i) → option_map (λ (r : Record). r.state) (cond (n == i) (Some r) (record_in old i)) ≡ cond (i == p) (Some s) (option_map (λ (r : Record). r.state) (record_in old i))
-    by i (inl here) = rw (eq-eqb n i here, eq-eqb i p (sym here ∙ same)) (ap (λ (r : Record). Some r.state) e)
-    by i (inr apart) = rw (ne_eqb n i apart, ne_eqb i p (λ h. apart (same ∙ sym h))) refl

@@ -6,10 +6,10 @@ use Rattle.std.proofs.lemmas.List.Sums.{sum_by-cons, sum_by-le-sum_by}
 use Rattle.std.specs.List.{sum_by}
 use Rattle.std.specs.Map.{keys_of}
 use Rattle.audit.specs.declared.records.Record.{Record}
-use Rattle.audit.specs.Records.{record_in, IsChanged}
-use Rattle.audit.specs.Children.{parent_in, first_of, behind_of, behind_in, before_in, state_in, Stands, IsNext, AreLinked, IsJoined, AreAllGiven, AreGivenOn, count_children, linked}
+use Rattle.audit.specs.Records.{record_in, changed, Become}
+use Rattle.audit.specs.Children.{parent_in, first_of, behind_of, behind_in, before_in, state_in, Stands, IsNext, AreLinked, joined, AreAllGiven, AreGivenOn, count_children, linked}
 use Rattle.audit.specs.declared.records.Link.TheVariants.{First, Parent}
-use Rattle.audit.proofs.FieldLemmas.{IsParentSet, parent_set, IsFirstSet, first_set, AreJoined, joins, state_same}
+use Rattle.audit.proofs.FieldLemmas.{IsParentSet, parent_set, first_set, AreJoined, joins, state_same}
 use Rattle.audit.proofs.ChildLemmas.{is_there, behind_first, child_there}
 use Rattle.audit.proofs.KeptLemmas.{there_by_state}
 
@@ -86,26 +86,25 @@ before_child f l p i two e = by (before_in f i) (l.before p i two e).0
     by x (inr child) = inr (child_some f p x l.nobody two child, child)
 
 -- at first none is given
-none_given : (p heir c : ℕ) (f g : ℕ → Option Record) → AreLinked f → 2 ≤ p → c ≡ behind_in f p 0 → IsFirstSet p 0 f g → AreUpTo p heir 0 c f g
-none_given p heir c f g l two next s = record {
-  linked = l;
-  stands = inl refl;
-  next = next;
-  passed = λ i e other. absurd (other (s.parent i ∙ e));
-  left = λ i e. left i (before_child f l p i two (sym (s.parent i) ∙ e));
-  parent = λ i. inl (s.parent i);
-  first = s.first;
-  behind = s.behind;
-  before = s.before;
-  state = s.state;
-}
-  where
-    left : (i : ℕ) → (before_in f i ≡ 0) ⊎ ((before_in f i ≢ 0) × (parent_in f (before_in f i) ≡ p)) → (before_in f i ≡ 0) ⊎ ((before_in f i ≢ 0) × (parent_in g (before_in f i) ≡ p))
-    left i (inl none) = inl none
-    left i (inr q) = inr (q.0, s.parent (before_in f i) ∙ q.1)
-
-pub none_yet : (p heir c : ℕ) (old new : List (ℕ × Record)) → AreLinked (record_in old) → 2 ≤ p → c ≡ first_of (record_in old) p → IsChanged p (linked (First 0)) old new → AreUpTo p heir 0 c (record_in old) (record_in new)
-none_yet p heir c old new l two is h = none_given p heir c (record_in old) (record_in new) l two (is ∙ sym (behind_first (record_in old) p)) (first_set p 0 old new h (λ some. absurd (some refl)))
+pub none_yet : (p heir c : ℕ) (old new : List (ℕ × Record)) → AreLinked (record_in old) → 2 ≤ p → c ≡ first_of (record_in old) p → Become (changed p (linked (First 0))) old new → AreUpTo p heir 0 c (record_in old) (record_in new)
+none_yet p heir c old new l two is h =
+    let f : ℕ → Option Record = record_in old in
+    let s = first_set p 0 old new h (λ some. absurd (some refl)) in
+    record {
+      linked = l;
+      stands = inl refl;
+      next = is ∙ sym (behind_first f p);
+      passed = λ i e other. absurd (other (s.parent i ∙ e));
+      left = λ i e. elim (before_child f l p i two (sym (s.parent i) ∙ e)) [
+        | inl none ↦ inl none
+        | inr q ↦ inr (q.0, s.parent (before_in f i) ∙ q.1)
+      ];
+      parent = λ i. inl (s.parent i);
+      first = s.first;
+      behind = s.behind;
+      before = s.before;
+      state = s.state;
+    }
 
 -- the next one is a child, and p is its parent still
 next_child : (p heir z c : ℕ) (f g : ℕ → Option Record) (t : AreUpTo p heir z c f g) → 2 ≤ p → c ≢ 0 → (parent_in f c ≡ p) × (parent_in g c ≡ p) × (z ≢ 0 → t.linked.place z < t.linked.place c)
@@ -166,7 +165,7 @@ one_given p heir z c d f g h two other some next t s state =
       state = λ i. state i ∙ t.state i;
     }
 
-pub next_given : (p heir z c d : ℕ) (old now new : List (ℕ × Record)) → 2 ≤ p → heir ≢ p → c ≢ 0 → d ≡ behind_of (record_in now) c → AreUpTo p heir z c (record_in old) (record_in now) → IsChanged c (linked (Parent heir)) now new
+pub next_given : (p heir z c d : ℕ) (old now new : List (ℕ × Record)) → 2 ≤ p → heir ≢ p → c ≢ 0 → d ≡ behind_of (record_in now) c → AreUpTo p heir z c (record_in old) (record_in now) → Become (changed c (linked (Parent heir))) now new
     → AreUpTo p heir c d (record_in old) (record_in new) × (count_children p new < count_children p now)
 next_given p heir z c d old now new two other some is t h =
     let k = next_child p heir z c (record_in old) (record_in now) t two some in
@@ -352,7 +351,7 @@ first_joined h z b k f g end j = elim (cases_eq k h) [
 ]
 
 pub given_to_list : (p h c z b : ℕ) (old mid last new : List (ℕ × Record)) → AreLinked (record_in old) → 2 ≤ p → 2 ≤ h → h ≢ p → is_some (record_in old h) ≡ true → c ≢ 0
-    → AreAllGiven p h c z (record_in old) (record_in mid) → b ≡ first_of (record_in mid) h → IsChanged h (linked (First c)) mid last → IsJoined h z b last new → AreGivenOn p h old new
+    → AreAllGiven p h c z (record_in old) (record_in mid) → b ≡ first_of (record_in mid) h → Become (changed h (linked (First c))) mid last → Become (joined h z b) last new → AreGivenOn p h old new
 given_to_list p h c z b old mid last new l two high other heir some m is y w =
     let f : ℕ → Option Record = record_in old in
     let o : ℕ → Option Record = record_in last in

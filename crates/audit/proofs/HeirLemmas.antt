@@ -1,13 +1,14 @@
 -- Heirs by the records: the walk up the parents.
-use Rattle.std.proofs.Common.{◌≡◌, ◌≢◌, ℕ, ◌-◌, Bool, true, false, not, ◌&&◌, ◌==◌, List, Option, Some, None, refl, ap, sym, ◌∙◌, arith, ◌≤◌, inl, inr, is_some}
+use Rattle.std.proofs.Common.{◌≡◌, ◌≢◌, ℕ, true, false, ◌==◌, List, Option, Some, None, refl, ap, sym, ◌∙◌, arith, ◌≤◌, inl, inr, is_some}
 use Rattle.std.proofs.lemmas.Bool.{cond_both, ne_eqb, cases_eq}
 use Rattle.posix.specs.Heirs.{Forebear, nearest_marked, heir_among, most_processes}
-use Rattle.posix.proofs.HeirLemmas.{IsFound, heir_found, nearest_gone, nearest_here, nearest_on, nearest_none}
+use Rattle.posix.proofs.HeirLemmas.{IsFound, heir_found, nearest_gone, nearest_none}
 use Rattle.laws.specs.Keeping.{Kept, NeverBorn, Lives, Died, forebear_kept, heir_of, lives_now}
 use Rattle.audit.specs.declared.records.Record.{Record}
-use Rattle.audit.specs.declared.records.State.TheVariants.{Living, Ended}
+use Rattle.audit.specs.declared.records.Life.{Life}
+use Rattle.audit.specs.declared.records.State.TheVariants.{Living}
 use Rattle.audit.specs.declared.records.Change.TheVariants as change
-use Rattle.audit.specs.Records.{kept_by, record_in, has_mark_now, IsAfter, NobodyMarked}
+use Rattle.audit.specs.Records.{kept_record, kept_by, record_in, has_mark_now, IsAfter, NobodyMarked}
 use Rattle.audit.proofs.KeptLemmas.{there_by_life}
 
 -- who is a forebear by what is kept
@@ -21,25 +22,15 @@ walk_from entries p left q = nearest_marked (living_by (kept_by entries)) p left
 pub walk_begins : (entries : List (ℕ × Record)) (p : ℕ) → p ≢ 1 → walk_from entries p 2147483647 p ≡ heir_of (kept_by entries) p
 walk_begins entries p other = rw (ne_eqb p 1 other) refl
 
-pub walk_gone : (entries : List (ℕ × Record)) (p left q n : ℕ) → left ≢ 0 → n ≡ q → record_in entries n ≡ None → walk_from entries p left q ≡ 1
+-- where who is there is no forebear
+pub walk_gone : (entries : List (ℕ × Record)) (p left q n : ℕ) (o : Option Record) → left ≢ 0 → n ≡ q → record_in entries n ≡ o → forebear_kept (kept_record o) ≡ None → walk_from entries p left q ≡ 1
 unfolding kept_by
-walk_gone entries p left q n some same found = nearest_gone (living_by (kept_by entries)) p left q some (rw (ap (record_in entries) (sym same) ∙ found) refl)
+walk_gone entries p left q n o some same found none = nearest_gone (living_by (kept_by entries)) p left q some (rw (ap (record_in entries) (sym same) ∙ found) none)
 
-pub walk_dead : (entries : List (ℕ × Record)) (p left q n : ℕ) (r : Record) (status : ℕ) (reported : Bool) → left ≢ 0 → n ≡ q → record_in entries n ≡ Some r → r.state ≡ Ended status reported → walk_from entries p left q ≡ 1
+-- who lives is one
+pub lives_at : (entries : List (ℕ × Record)) (q n : ℕ) (r : Record) (life : Life) → n ≡ q → record_in entries n ≡ Some r → r.state ≡ Living life → living_by (kept_by entries) q ≡ Some (record { is_marked = life.is_marked; parent = r.parent })
 unfolding kept_by
-walk_dead entries p left q n r status reported some same found is = nearest_gone (living_by (kept_by entries)) p left q some (rw (ap (record_in entries) (sym same) ∙ found, is) refl)
-
-pub walk_here : (entries : List (ℕ × Record)) (p left q n : ℕ) (r : Record) (is_marked has_stopped may_continue : Bool) (stop : Option ℕ) → left ≢ 0 → n ≡ q → record_in entries n ≡ Some r
-    → r.state ≡ Living is_marked has_stopped stop may_continue → (is_marked && not (q == p)) ≡ true → walk_from entries p left q ≡ q
-unfolding kept_by
-walk_here entries p left q n r is_marked has_stopped may_continue stop some same found is mark =
-    nearest_here (living_by (kept_by entries)) p left q (record { is_marked = is_marked; parent = r.parent }) some (rw (ap (record_in entries) (sym same) ∙ found, is) refl) mark
-
-pub walk_on : (entries : List (ℕ × Record)) (p left q n : ℕ) (r : Record) (is_marked has_stopped may_continue : Bool) (stop : Option ℕ) → left ≢ 0 → n ≡ q → record_in entries n ≡ Some r
-    → r.state ≡ Living is_marked has_stopped stop may_continue → (is_marked && not (q == p)) ≡ false → walk_from entries p left q ≡ walk_from entries p (left - 1) r.parent
-unfolding kept_by
-walk_on entries p left q n r is_marked has_stopped may_continue stop some same found is mark =
-    nearest_on (living_by (kept_by entries)) p left q (record { is_marked = is_marked; parent = r.parent }) some (rw (ap (record_in entries) (sym same) ∙ found, is) refl) mark
+lives_at entries q n r life same found is = rw (ap (record_in entries) (sym same) ∙ found, is) refl
 
 pub walk_over : (entries : List (ℕ × Record)) (p left q : ℕ) → left ≡ 0 → walk_from entries p left q ≡ 1
 unfolding nearest_marked

@@ -1,19 +1,18 @@
 -- What is kept of each number, as it is born, as its parent is another and as its children are given on.
-use Rattle.std.proofs.Common.{◌≡◌, ◌≢◌, ◌⊎◌, inl, inr, ℕ, Bool, true, false, cond, if◌then◌else◌, refl, ap, sym, ◌∙◌, List, [], ◌==◌, Option, Some, None, option_map, is_some, Result, Ok, Err, OnErr}
+use Rattle.std.proofs.Common.{◌≡◌, inl, inr, ℕ, Bool, true, false, if◌then◌else◌, refl, ap, sym, ◌∙◌, List, [], ◌==◌, Option, Some, None, option_map, is_some, Result, Ok, Err, OnErr}
 use Rattle.std.proofs.lemmas.Bool.{cases_eq, eq-eqb, ne_eqb}
 use Rattle.std.specs.Option.{option_map_or}
-use Rattle.laws.specs.Keeping.{Kept, NeverBorn, Lives, Died, lives_now, kept_of, moved_from, given_on, newborn, ended_with}
+use Rattle.laws.specs.Keeping.{Kept, NeverBorn, Lives, lives_now, kept_of, moved_from, given_on, newborn, ended_with}
 use Rattle.laws.specs.Lives.{newest_life, parents_from}
 use Rattle.audit.specs.declared.records.Record.{Record}
 use Rattle.audit.specs.declared.records.State.{State}
 use Rattle.audit.specs.declared.records.State.TheVariants.{Living, Ended}
 use Rattle.audit.specs.declared.records.Change.{Change}
-use Rattle.audit.specs.declared.records.Change.TheVariants.{Stopped, Marked, Reported}
+use Rattle.audit.specs.declared.records.Change.TheVariants.{Marked}
 use Rattle.audit.specs.declared.records.Change.TheVariants as change
-use Rattle.audit.specs.Records.{after, kept_as, kept_record, kept_by, record_in, has_mark_now, IsAfter, NobodyMarked}
+use Rattle.audit.specs.Records.{newborn_state, after, kept_as, kept_record, kept_by, record_in, has_mark_now, IsAfter, NobodyMarked}
 use Rattle.audit.specs.Children.{parent_in, first_of, state_in, AreSound, KeepLinks, IsGiven, AreGivenOn, IsBegun}
-use Rattle.audit.proofs.RecordLemmas.{never_after}
-use Rattle.audit.proofs.ChildLemmas.{behind_first, first_read}
+use Rattle.audit.proofs.ChildLemmas.{behind_first}
 
 -- ---- by its parts
 
@@ -56,63 +55,53 @@ given_kept p heir old new h c =
   where
     by : (n : ℕ) (o : Option State) → kept_parts (moved_from p heir n) o ≡ given_on p heir (kept_parts n o)
     by n None = refl
-    by n (Some (Living is_marked has_stopped stop may_continue)) = refl
+    by n (Some (Living life)) = refl
     by n (Some (Ended status reported)) = refl
 
 -- ---- a life that begins
 
-pub begun_apart : (p : ℕ) (s : State) (old new : List (ℕ × Record)) → IsBegun p s old new → parent_in (record_in new) p ≡ 0
-begun_apart p s old new h = h.parent p ∙ rw (eq-eqb p p refl) refl
+pub begun_apart : (p : ℕ) (old new : List (ℕ × Record)) → IsBegun p old new → parent_in (record_in new) p ≡ 0
+begun_apart p old new h = h.parent p ∙ rw (eq-eqb p p refl) refl
 
-pub begun_there : (p : ℕ) (s : State) (old new : List (ℕ × Record)) → IsBegun p s old new → is_some (record_in new p) ≡ true
+pub begun_there : (p : ℕ) (old new : List (ℕ × Record)) → IsBegun p old new → is_some (record_in new p) ≡ true
 unfolding state_in
-begun_there p s old new h = by (record_in new p) (h.state p ∙ rw (eq-eqb p p refl) refl)
+begun_there p old new h = by (record_in new p) (h.state p ∙ rw (eq-eqb p p refl) refl)
   where
-    by : (o : Option Record) → option_map (λ (r : Record). r.state) o ≡ Some s → is_some o ≡ true
+    by : (o : Option Record) → option_map (λ (r : Record). r.state) o ≡ Some newborn_state → is_some o ≡ true
     by None e = absurd (cc)
     by (Some r) e = refl
 
-pub begun_others : (p q : ℕ) (s : State) (old new : List (ℕ × Record)) → IsBegun p s old new → is_some (record_in old q) ≡ true → is_some (record_in new q) ≡ true
+pub begun_others : (p q : ℕ) (old new : List (ℕ × Record)) → IsBegun p old new → is_some (record_in old q) ≡ true → is_some (record_in new q) ≡ true
 unfolding state_in
-begun_others p q s old new h there = elim (cases_eq q p) [
-  | inl same ↦ rw same (begun_there p s old new h)
+begun_others p q old new h there = elim (cases_eq q p) [
+  | inl same ↦ rw same (begun_there p old new h)
   | inr apart ↦ there_by_state (record_in old) (record_in new) q (h.state q ∙ rw (ne_eqb q p apart) refl) there
 ]
 
-pub born_kept : (p parent : ℕ) (s : State) (old mid new : List (ℕ × Record)) → ((n : ℕ) → kept_as n s ≡ newborn n) → IsBegun p s old mid → IsGiven p parent mid new
+pub born_kept : (p parent : ℕ) (old mid new : List (ℕ × Record)) → IsBegun p old mid → IsGiven p parent mid new
     → (c : ℕ) → kept_by new c ≡ (if p == c then newborn parent else kept_by old c)
 unfolding kept_by
-born_kept p parent s old mid new fresh b h c =
-    kept_is (record_in new) c ∙ rw (h.parent c, b.parent c, h.state c, b.state c) (by (cases_eq c p))
-  where
-    by : (c ≡ p) ⊎ (c ≢ p) → kept_parts (cond (c == p) parent (cond (c == p) 0 (parent_in (record_in old) c))) (cond (c == p) (Some s) (state_in (record_in old) c)) ≡ (if p == c then newborn parent else kept_record (record_in old c))
-    by (inl same) = rw (eq-eqb c p same, eq-eqb p c (sym same)) (fresh parent)
-    by (inr apart) = rw (ne_eqb c p apart, ne_eqb p c (λ e. apart (sym e))) (sym (kept_is (record_in old) c))
+born_kept p parent old mid new b h c =
+    kept_is (record_in new) c ∙ rw (h.parent c, b.parent c, h.state c, b.state c) elim (cases_eq c p) [
+      | inl same ↦ rw (eq-eqb c p same, eq-eqb p c (sym same)) refl
+      | inr apart ↦ rw (ne_eqb c p apart, ne_eqb p c (λ e. apart (sym e))) (sym (kept_is (record_in old) c))
+    ]
 
--- the first life of process 1
-pub first_kept : (s : State) (old new : List (ℕ × Record)) → old ≡ [] → ((n : ℕ) → kept_as n s ≡ newborn n) → IsBegun 1 s old new → (c : ℕ) → kept_by new c ≡ (if 1 == c then newborn 0 else NeverBorn)
-unfolding kept_by parent_in state_in
-first_kept s old new none fresh b c =
-    kept_is (record_in new) c ∙ rw (b.parent c, b.state c, none) (by (cases_eq c 1))
-  where
-    by : (c ≡ 1) ⊎ (c ≢ 1) → kept_parts (cond (c == 1) 0 0) (cond (c == 1) (Some s) None) ≡ (if 1 == c then newborn 0 else NeverBorn)
-    by (inl same) = rw (eq-eqb c 1 same, eq-eqb 1 c (sym same)) (fresh 0)
-    by (inr apart) = rw (ne_eqb c 1 apart, ne_eqb 1 c (λ e. apart (sym e))) refl
+-- the first life of process 1 is what no lines say
+pub first_kept : (old new : List (ℕ × Record)) → old ≡ [] → IsBegun 1 old new → (c : ℕ) → kept_by new c ≡ kept_of [] c
+unfolding kept_by parent_in state_in kept_of newest_life parents_from
+first_kept old new none b c =
+    kept_is (record_in new) c ∙ rw (b.parent c, b.state c, none) elim (cases_eq c 1) [
+      | inl same ↦ rw (eq-eqb c 1 same) refl
+      | inr apart ↦ rw (ne_eqb c 1 apart) refl
+    ]
 
--- which is what no lines say
-pub first_said : (c : ℕ) → (if 1 == c then newborn 0 else NeverBorn) ≡ kept_of [] c
-unfolding kept_of newest_life parents_from
-first_said c = elim (cases_eq 1 c) [
-  | inl same ↦ rw (eq-eqb 1 c same, eq-eqb c 1 (sym same)) refl
-  | inr apart ↦ rw (ne_eqb 1 c apart, ne_eqb c 1 (λ e. apart (sym e))) refl
+pub first_unmarked : (c : ℕ) → has_mark_now (kept_of [] c) ≡ false
+unfolding kept_of newest_life
+first_unmarked c = elim (cases_eq c 1) [
+  | inl same ↦ rw (eq-eqb c 1 same) refl
+  | inr apart ↦ rw (ne_eqb c 1 apart) refl
 ]
-
-pub first_unmarked : (c : ℕ) → has_mark_now (if 1 == c then newborn 0 else NeverBorn) ≡ false
-first_unmarked c = by (1 == c)
-  where
-    by : (b : Bool) → has_mark_now (if b then newborn 0 else NeverBorn) ≡ false
-    by true = refl
-    by false = refl
 
 -- ---- marks
 
@@ -125,23 +114,15 @@ unmarked_after p x old new keeps is none c = ap has_mark_now (is c) ∙ by (p ==
 
 -- no change but that of a mark sets one
 pub change_keeps : (x : Change) (k : Kept) → ((mark : Bool) → x ≡ Marked mark → ⊥) → has_mark_now k ≡ false → has_mark_now (after x k) ≡ false
-change_keeps x NeverBorn other h = ap has_mark_now (never_after x)
-change_keeps (Stopped s) (Lives a) other h = h
-change_keeps (Stopped s) (Died d) other h = refl
 change_keeps (Marked mark) (Lives a) other h = absurd (other mark refl)
-change_keeps (Marked mark) (Died d) other h = refl
-change_keeps (Reported w) (Lives a) other h = h
-change_keeps (Reported w) (Died d) other h = refl
 change_keeps (change.Ended w) (Lives a) other h = refl
-change_keeps (change.Ended w) (Died d) other h = refl
+change_keeps x (Lives a) other h = h
+change_keeps x k other h = refl
 
 pub end_keeps : (w p heir : ℕ) (b : Bool) (k : Kept) → has_mark_now k ≡ false → has_mark_now (if b then ended_with w (given_on p heir k) else given_on p heir k) ≡ false
 end_keeps w p heir true NeverBorn h = refl
-end_keeps w p heir false NeverBorn h = refl
-end_keeps w p heir true (Lives a) h = refl
 end_keeps w p heir false (Lives a) h = h
-end_keeps w p heir true (Died d) h = refl
-end_keeps w p heir false (Died d) h = refl
+end_keeps w p heir b k h = refl
 
 -- ---- an end
 
@@ -151,20 +132,18 @@ end_kept p heir w old mid new told h c = given_kept p heir mid new h c ∙ ap (g
   where
     by : (b : Bool) (k : Kept) → given_on p heir (if b then ended_with w k else k) ≡ (if b then ended_with w (given_on p heir k) else given_on p heir k)
     by true NeverBorn = refl
-    by true (Lives a) = refl
-    by true (Died d) = refl
-    by false k = refl
+    by b k = refl
 
 pub sound_end : (p heir w : ℕ) (may : Bool) (old mid new : List (ℕ × Record)) → IsAfter (change.Ended w) p old mid → AreGivenOn p heir mid new → AreSound may old → AreSound may new
 sound_end p heir w may old mid new told h sound = (h.linked, λ none c. ap has_mark_now (end_kept p heir w old mid new told h c) ∙ end_keeps w p heir (p == c) (kept_by old c) (sound.1 none c))
 
 pub first_still : (p : ℕ) (r : Record) (f g : ℕ → Option Record) → f p ≡ Some r → KeepLinks f g → r.first ≡ first_of g p
-first_still p r f g found k = first_read f p r found ∙ sym (behind_first f p) ∙ sym (k.behind p 0) ∙ behind_first g p
+first_still p r f g found k = (rw found refl) ∙ sym (behind_first f p) ∙ sym (k.behind p 0) ∙ behind_first g p
 
 -- ---- a birth
 
-pub sound_birth : (p parent : ℕ) (s : State) (may : Bool) (old mid new : List (ℕ × Record)) → ((n : ℕ) → kept_as n s ≡ newborn n) → IsBegun p s old mid → IsGiven p parent mid new → AreSound may old → AreSound may new
-sound_birth p parent s may old mid new fresh b h sound = (h.linked, λ none c. ap has_mark_now (born_kept p parent s old mid new fresh b h c) ∙ by (p == c) (kept_by old c) (sound.1 none c))
+pub sound_birth : (p parent : ℕ) (may : Bool) (old mid new : List (ℕ × Record)) → IsBegun p old mid → IsGiven p parent mid new → AreSound may old → AreSound may new
+sound_birth p parent may old mid new b h sound = (h.linked, λ none c. ap has_mark_now (born_kept p parent old mid new b h c) ∙ by (p == c) (kept_by old c) (sound.1 none c))
   where
     by : (b : Bool) (k : Kept) → has_mark_now k ≡ false → has_mark_now (if b then newborn parent else k) ≡ false
     by true k h = refl

@@ -10,7 +10,7 @@ use Rattle.laws.proofs.TestLemmas.{tests_are_laws}
 use Rattle.laws.proofs.LawfulLemmas.{laws_more, laws_at}
 use Rattle.trace.proofs.EntryLemmas.{says_one}
 use Rattle.audit.proofs.PassLemmas.{tested_other}
-use Rattle.audit.specs.Knowing.{AuditView, kept_at, AllSay, AreLawful, Knows, Heard, StaysWith, IsRead, IsAnswer, IsNewBirth}
+use Rattle.audit.specs.Knowing.{AuditView, kept_at, AllSay, AreLawful, Knows, Heard, IsRead, IsAnswer, IsNewBirth}
 use Rattle.audit.specs.Faults.{number_of}
 use Rattle.audit.specs.declared.fault.AuditFault.{AuditFault}
 use Rattle.audit.specs.declared.fault.AuditFault.TheVariants.{NoLine, Memory}
@@ -29,9 +29,8 @@ all_one (text ∷ texts) (l ∷ ls) (m ∷ ms) a b =
 
 pub all_more : (texts : List (List ℕ)) (lines : List Line) (text : List ℕ) (l : Line) → AllSay texts lines → Says text l → AllSay (texts ++ text ∷ []) (lines ++ l ∷ [])
 all_more [] [] text l all says = (says, tt)
-all_more [] (x ∷ xs) text l all says = absurd all
-all_more (t ∷ ts) [] text l all says = absurd all
 all_more (t ∷ ts) (x ∷ xs) text l all says = (all.0, all_more ts xs text l all.1 says)
+all_more texts lines text l all says = absurd all
 
 -- a list of lines that texts and one more say has one more
 pub record IsOneMore (texts : List (List ℕ)) (text : List ℕ) (lines : List Line) : Type 0 where
@@ -136,7 +135,3 @@ first_read text r old new h texts k = record {
     | inr n ↦ n.1
   ];
 }
-
--- the audit with the fault that is remembered
-pub remembers : (f : AuditFault) (old new : AuditView) → StaysWith old.fault old new → StaysWith (Some f) old (record new { fault = Some f })
-remembers f old new s = record { kept = s.kept; last = s.last; phase = s.phase; fault = refl }

@@ -6,7 +6,7 @@ use Rattle.std.proofs.lemmas.Grind.{flat_map-append}
 use Rattle.std.proofs.lemmas.Bool.{and_parts, eqb-true}
 use Rattle.posix.specs.Entries.{Line}
 use Rattle.posix.specs.Printing.{print, print_line}
-use Rattle.laws.specs.TraceLines.{is_line, Says}
+use Rattle.laws.specs.TraceLines.{is_line}
 use Rattle.laws.specs.Lives.{Laws}
 use Rattle.laws.proofs.LawfulLemmas.{laws_first}
 use Rattle.audit.specs.declared.fault.AuditFault.{AuditFault}
@@ -40,19 +40,13 @@ one_ends a y h = let p = sym (list_all-append (λ b. not (b == 10)) a (10 ∷ y)
 
 pub cut_once : (a b x y : List ℕ) → is_one_line a ≡ true → is_one_line b ≡ true → a ++ 10 ∷ x ≡ b ++ 10 ∷ y → (a ≡ b) × (x ≡ y)
 cut_once [] [] x y one other h = (refl, cc)
-cut_once [] (c ∷ cs) x y one other h =
-    let p : c ≡ 10 = cc in
-    let q : false ≡ true = ap (λ (d : ℕ). not (d == 10)) (sym p) ∙ (and_parts (not (c == 10)) (is_one_line cs) other).0 in
-    absurd (cc)
-cut_once (b ∷ bs) [] x y one other h =
-    let p : b ≡ 10 = cc in
-    let q : false ≡ true = ap (λ (d : ℕ). not (d == 10)) (sym p) ∙ (and_parts (not (b == 10)) (is_one_line bs) one).0 in
-    absurd (cc)
+cut_once [] (c ∷ cs) x y one other h = let feed : c ≡ 10 = cc in let no : false ≡ true = rw feed at other in absurd (cc)
+cut_once (b ∷ bs) [] x y one other h = let feed : b ≡ 10 = cc in let no : false ≡ true = rw feed at one in absurd (cc)
 cut_once (b ∷ bs) (c ∷ cs) x y one other h =
     let same : b ≡ c = cc in
     let rest : bs ++ 10 ∷ x ≡ cs ++ 10 ∷ y = cc in
     let p = cut_once bs cs x y (and_parts (not (b == 10)) (is_one_line bs) one).1 (and_parts (not (c == 10)) (is_one_line cs) other).1 rest in
-    (ap (λ (d : ℕ). d ∷ bs) same ∙ ap (λ (ds : List ℕ). c ∷ ds) p.0, p.1)
+    (rw (same, p.0) refl, p.1)
 
 -- the first lines of a print are those that some texts say
 record IsBegun (texts : List (List ℕ)) (rest : List ℕ) (lines : List Line) : Type 0 where
@@ -61,15 +55,6 @@ record IsBegun (texts : List (List ℕ)) (rest : List ℕ) (lines : List Line) :
   pub is : lines ≡ first ++ later
   pub say : AllSay texts first
   pub follow : rest ≡ print later
-
-begun_more : (t : List ℕ) (ts : List (List ℕ)) (rest : List ℕ) (l : Line) (ls : List Line) → Says t l → IsBegun ts rest ls → IsBegun (t ∷ ts) rest (l ∷ ls)
-begun_more t ts rest l ls says r = record {
-  first = l ∷ r.first;
-  later = r.later;
-  is = ap (λ (xs : List Line). l ∷ xs) r.is;
-  say = (says, r.say);
-  follow = r.follow;
-}
 
 begun : (texts : List (List ℕ)) (rest : List ℕ) (lines : List Line) → list_all is_one_line texts ≡ true → list_all is_line lines ≡ true → joined texts ++ rest ≡ print lines → IsBegun texts rest lines
 begun [] rest lines one forms is = record { first = []; later = lines; is = refl; say = tt; follow = is }
@@ -83,28 +68,18 @@ begun (t ∷ ts) rest (l ∷ ls) one forms is =
     let f = and_parts (is_line l) (list_all is_line ls) forms in
     let left : ((t ++ 10 ∷ []) ++ joined ts) ++ rest ≡ t ++ 10 ∷ (joined ts ++ rest) = append_assoc (t ++ 10 ∷ []) (joined ts) rest ∙ append_assoc t (10 ∷ []) (joined ts ++ rest) in
     let right : (text_of l ++ 10 ∷ []) ++ print ls ≡ text_of l ++ 10 ∷ print ls = append_assoc (text_of l) (10 ∷ []) (print ls) in
-    let cut = cut_once t (text_of l) (joined ts ++ rest) (print ls) p.0 (text_one l f.0) (sym left ∙ is ∙ right) in
-    begun_more t ts rest l ls (ap ended cut.0, f.0) (begun ts rest ls p.1 f.1 cut.1)
+    let cut = cut_once t (text_of l) (joined ts ++ rest) (print ls) p.0 (text_one l) (sym left ∙ is ∙ right) in
+    let r = begun ts rest ls p.1 f.1 cut.1 in
+    record { first = l ∷ r.first; later = r.later; is = ap (λ (xs : List Line). l ∷ xs) r.is; say = ((ap ended cut.0, f.0), r.say); follow = r.follow }
 
 -- ---- what texts say
 
-pub said_print : (texts : List (List ℕ)) (lines : List Line) → AllSay texts lines → joined texts ≡ print lines
-said_print [] [] h = refl
-said_print [] (l ∷ ls) h = absurd h
-said_print (t ∷ ts) [] h = absurd h
-said_print (t ∷ ts) (l ∷ ls) h = ap (λ (x : List ℕ). x ++ joined ts) h.0.0 ∙ ap (λ (x : List ℕ). print_line l ++ x) (said_print ts ls h.1)
-
-pub said_forms : (texts : List (List ℕ)) (lines : List Line) → AllSay texts lines → list_all is_line lines ≡ true
-said_forms [] [] h = refl
-said_forms [] (l ∷ ls) h = absurd h
-said_forms (t ∷ ts) [] h = absurd h
-said_forms (t ∷ ts) (l ∷ ls) h = rw (h.0.1, said_forms ts ls h.1) refl
-
-pub said_len : (texts : List (List ℕ)) (lines : List Line) → AllSay texts lines → length texts ≡ length lines
-said_len [] [] h = refl
-said_len [] (l ∷ ls) h = absurd h
-said_len (t ∷ ts) [] h = absurd h
-said_len (t ∷ ts) (l ∷ ls) h = omega (arith, said_len ts ls h.1)
+pub said : (texts : List (List ℕ)) (lines : List Line) → AllSay texts lines → (joined texts ≡ print lines) × (list_all is_line lines ≡ true) × (length texts ≡ length lines)
+said [] [] h = (refl, refl, refl)
+said (t ∷ ts) (l ∷ ls) h =
+    let s = said ts ls h.1 in
+    (ap (λ (x : List ℕ). x ++ joined ts) h.0.0 ∙ ap (λ (x : List ℕ). print_line l ++ x) s.0, rw (h.0.1, s.1) refl, omega (arith, s.2))
+said texts lines h = absurd h
 
 -- ---- how far a text was read
 
@@ -139,22 +114,14 @@ heard_more text number rest line later a b h cut hears = record {
 }
 
 pub heard_all : (text : List ℕ) (number : ℕ) (a : AuditView) → HasHeard text number [] a → IsLawful text
-heard_all text number a h = record {
-  lines = h.knows.lines;
-  is = h.is ∙ append-nil (joined h.texts) ∙ said_print h.texts h.knows.lines h.knows.say;
-  forms = said_forms h.texts h.knows.lines h.knows.say;
-  laws = h.knows.laws;
-}
+heard_all text number a h =
+    let s = said h.texts h.knows.lines h.knows.say in
+    record { lines = h.knows.lines; is = h.is ∙ append-nil (joined h.texts) ∙ s.0; forms = s.1; laws = h.knows.laws }
 
 unfoldable pub heard_before : (text : List ℕ) (number : ℕ) (rest : List ℕ) (a : AuditView) → HasHeard text number rest a → IsLawfulBefore text number
-heard_before text number rest a h = record {
-  lines = h.knows.lines;
-  rest = rest;
-  is = h.is ∙ ap (λ (x : List ℕ). x ++ rest) (said_print h.texts h.knows.lines h.knows.say);
-  forms = said_forms h.texts h.knows.lines h.knows.say;
-  laws = h.knows.laws;
-  counted = omega (arith, h.counted, said_len h.texts h.knows.lines h.knows.say);
-}
+heard_before text number rest a h =
+    let s = said h.texts h.knows.lines h.knows.say in
+    record { lines = h.knows.lines; rest = rest; is = h.is ∙ ap (λ (x : List ℕ). x ++ rest) s.0; forms = s.1; laws = h.knows.laws; counted = omega (arith, h.counted, s.2) }
 
 -- ---- a text that is refused
 
@@ -180,7 +147,7 @@ first_line text number rest line later a f h cut answer none = record {
           texts = h.texts;
           knows = h.knows;
           one = h.one;
-          is = ap (λ (x : List ℕ). x ++ (line ++ 10 ∷ more)) (sym (said_print h.texts h.knows.lines h.knows.say));
+          is = ap (λ (x : List ℕ). x ++ (line ++ 10 ∷ more)) (sym (said h.texts h.knows.lines h.knows.say).0);
           counted = h.counted;
         } in
         refused_line (print h.knows.lines ++ (line ++ 10 ∷ more)) number (line ++ 10 ∷ more) line more a again (record { is = refl; one = cut.one }) none

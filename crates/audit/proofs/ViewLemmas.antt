@@ -1,7 +1,6 @@
 -- What an audit keeps is what its fields keep.
-use Rattle.std.proofs.Common.{◌≡◌, ℕ, List, Option, Some, None, Result, Ok, Err, OnOk, OnErr, true, false, refl, ap, sym, ◌∙◌, subst, nat_eq, option_map}
+use Rattle.std.proofs.Common.{◌≡◌, ℕ, List, Option, Some, None, refl, ap, sym, ◌∙◌, subst, nat_eq, option_map}
 use Rattle.std.specs.Option.{unwrap_or}
-use Rattle.std.specs.Result.{is_err}
 use Rattle.std.proofs.lemmas.Map.Made.{lookup-map_values}
 use mathlib.Core.Path.{fun_ext}
 use Rattle.posix.specs.Entries.{Line}
@@ -52,13 +51,3 @@ pub heard_seen : (entries new : List (ℕ × Record)) (last : ℕ) (phase after 
 heard_seen entries new last phase after fault a l same h next =
     subst (λ v. Heard l v (view_of new l.event after fault)) same
     (record { kept = λ c. all_at new c ∙ h c ∙ ap (λ (f : ℕ → Kept). kept_after f l.entry c) (all_kept entries); last = refl; phase = next; fault = refl })
-
--- ---- what holds of an answer
-
-pub at_err : {T E P : Type 0} (r : Result T E) → is_err r ≡ true → OnErr r P → P
-at_err (Ok x) h p = absurd (cc)
-at_err (Err e) h p = p
-
-pub at_ok : {T E P : Type 0} (r : Result T E) → is_err r ≡ false → OnOk r P → P
-at_ok (Ok x) h p = p
-at_ok (Err e) h p = absurd (cc)

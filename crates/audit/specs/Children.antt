@@ -5,9 +5,9 @@ use Rattle.std.specs.Option.{option_map_or}
 use Rattle.std.specs.Map.{keys_of}
 use Rattle.audit.specs.declared.records.Record.{Record}
 use Rattle.audit.specs.declared.records.Link.{Link}
-use Rattle.audit.specs.declared.records.Link.TheVariants.{Parent, First, Before, Behind, Place}
+use Rattle.audit.specs.declared.records.Link.TheVariants.{Parent, First, Before, Behind, Place, Begins}
 use Rattle.audit.specs.declared.records.State.{State}
-use Rattle.audit.specs.Records.{record_in, kept_by, changed, NobodyMarked}
+use Rattle.audit.specs.Records.{newborn_state, record_in, kept_by, changed, NobodyMarked}
 
 -- the parent of i; 0 for nobody
 unfoldable pub parent_in : (ℕ → Option Record) → ℕ → ℕ
@@ -60,31 +60,18 @@ linked (First first) r = record r { first = first }
 linked (Before before) r = record r { before = before }
 linked (Behind behind) r = record r { behind = behind }
 linked (Place parent behind) r = record r { parent = parent; before = 0; behind = behind }
+linked Begins r = record r { parent = 0; state = newborn_state }
 
 abbrev pub in_state : State → Record → Record
 in_state s r = record r { state = s }
-
--- a life begins, without a parent
-abbrev pub restarted : State → Record → Record
-restarted s r = record r { parent = 0; state = s }
 
 -- the records when b comes right behind a, or is the first child of k
 abbrev pub put_behind : ℕ → ℕ → ℕ → (ℕ → Option Record) → ℕ → Option Record
 put_behind k a b f = if a == 0 then changed k (linked (First b)) f else changed a (linked (Behind b)) f
 
--- they are so now
-pub record IsPutBehind (k a b : ℕ) (old new : List (ℕ × Record)) : Type 0 where
-  pub is : (q : ℕ) → record_in new q ≡ put_behind k a b (record_in old) q
-  pub keys : keys_of new ≡ keys_of old
-
 -- the records when b comes right behind a among the children of k
 abbrev pub joined : ℕ → ℕ → ℕ → (ℕ → Option Record) → ℕ → Option Record
 joined k a b f = changed b (linked (Before a)) (put_behind k a b f)
-
--- they are so now
-pub record IsJoined (k a b : ℕ) (old new : List (ℕ × Record)) : Type 0 where
-  pub is : (q : ℕ) → record_in new q ≡ joined k a b (record_in old) q
-  pub keys : keys_of new ≡ keys_of old
 
 -- p has the parent k, and all else is as it was
 pub record IsGiven (p k : ℕ) (old new : List (ℕ × Record)) : Type 0 where
@@ -121,8 +108,8 @@ pub record KeepLinks (f g : ℕ → Option Record) : Type 0 where
   pub behind : (k a : ℕ) → behind_in g k a ≡ behind_in f k a
   pub before : (b : ℕ) → before_in g b ≡ before_in f b
 
--- a life of p begins, in this state and without a parent, and all else is as it was
-pub record IsBegun (p : ℕ) (s : State) (old new : List (ℕ × Record)) : Type 0 where
+-- a life of p begins, without a parent, and all else is as it was
+pub record IsBegun (p : ℕ) (old new : List (ℕ × Record)) : Type 0 where
   pub linked : AreLinked (record_in new)
   pub parent : (i : ℕ) → parent_in (record_in new) i ≡ cond (i == p) 0 (parent_in (record_in old) i)
-  pub state : (i : ℕ) → state_in (record_in new) i ≡ cond (i == p) (Some s) (state_in (record_in old) i)
+  pub state : (i : ℕ) → state_in (record_in new) i ≡ cond (i == p) (Some newborn_state) (state_in (record_in old) i)

@@ -2,25 +2,29 @@
 use Rattle.std.specs.Prelude.{ℕ, ◌≡◌, ◌==◌, Bool, true, false, if◌then◌else◌, nat_eq, List, Option, Some, None, option_map, map}
 use Rattle.std.specs.Map.{keys_of, lookup}
 use Rattle.audit.specs.declared.records.Record.{Record}
+use Rattle.audit.specs.declared.records.Life.{Life}
 use Rattle.audit.specs.declared.records.State.{State}
 use Rattle.audit.specs.declared.records.State.TheVariants.{Living, Ended}
 use Rattle.audit.specs.declared.records.Change.{Change}
 use Rattle.audit.specs.declared.records.Change.TheVariants as change
-use Rattle.audit.specs.declared.known.Newest.{Newest}
-use Rattle.laws.specs.Keeping.{Kept, NeverBorn, Lives, Died, after_stop, after_mark, after_report, ended_with}
+use Rattle.laws.specs.Keeping.{Alive, Kept, NeverBorn, Lives, Died, after_stop, after_mark, after_report, ended_with}
 
 abbrev pub is_living_state : State → Bool
-is_living_state (Living is_marked has_stopped stop may_continue) = true
+is_living_state (Living life) = true
 is_living_state (Ended status reported) = false
+
+-- a life that begins
+abbrev pub newborn_state : State
+newborn_state = Living (record { is_marked = false; has_stopped = false; stop = None; may_continue = false })
+
+-- what is kept of a life that goes on
+abbrev pub alive : ℕ → Life → Alive
+alive parent life = record { parent = parent; is_marked = life.is_marked; has_stopped = life.has_stopped; stop = life.stop; may_continue = life.may_continue }
 
 -- what a life's parent and its state keep
 abbrev pub kept_as : ℕ → State → Kept
-kept_as parent (Living is_marked has_stopped stop may_continue) = Lives (record { parent = parent; is_marked = is_marked; has_stopped = has_stopped; stop = stop; may_continue = may_continue })
+kept_as parent (Living life) = Lives (alive parent life)
 kept_as parent (Ended status reported) = Died (record { parent = parent; status = status; reported = reported })
-
-abbrev pub kept_newest : Option Newest → Kept
-kept_newest None = NeverBorn
-kept_newest (Some x) = kept_as x.parent x.state
 
 -- what a change makes of what is kept
 abbrev pub after : Change → Kept → Kept
@@ -54,9 +58,9 @@ kept_all entries = map (λ e. (e.0, kept_record (Some e.1))) entries
 abbrev pub changed : ℕ → (Record → Record) → (ℕ → Option Record) → ℕ → Option Record
 changed p f records q = if p == q then option_map f (records q) else records q
 
--- they are so now
-pub record IsChanged (p : ℕ) (f : Record → Record) (old new : List (ℕ × Record)) : Type 0 where
-  pub is : (q : ℕ) → record_in new q ≡ changed p f (record_in old) q
+-- by now the records are what f makes of those before, of the same numbers
+pub record Become (f : (ℕ → Option Record) → ℕ → Option Record) (old new : List (ℕ × Record)) : Type 0 where
+  pub is : (q : ℕ) → record_in new q ≡ f (record_in old) q
   pub keys : keys_of new ≡ keys_of old
 
 -- whoever lives and is a child subreaper

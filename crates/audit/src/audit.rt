@@ -98,9 +98,9 @@ impl Audit {
         ensures new_number { result ≡ Err Memory → IsNewBirth (kept_at self.old.numbers) (line event entry.now) }
     {
         test(&self.known, self.last, self.phase, event, entry)?;
-        if self.known.take_in(entry).is_err() {
+        let Ok(()) = self.known.take_in(entry) else {
             return Err(AuditFault::Memory);
-        }
+        };
         self.last = event;
         self.phase = Phase::after(entry);
         Ok(())

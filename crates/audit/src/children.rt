@@ -1,10 +1,10 @@
 //! The children of each number, in lists of records that are linked both ways: so an end visits its own children alone.
 
 ghost use Rattle.std.specs.Prelude.{◌≡◌, ◌≢◌, ◌≤◌, true, nat_lt, is_some, OnOk, OnErr, None};
-ghost use Rattle.audit.specs.Records.{record_in};
-ghost use Rattle.audit.specs.Children.{AreLinked, IsPutBehind, IsJoined, IsGiven, AreAllGiven, AreGivenOn, IsBegun, first_of, parent_in};
+ghost use Rattle.audit.specs.Records.{record_in, Become};
+ghost use Rattle.audit.specs.Children.{AreLinked, put_behind as is_put_behind, joined, IsGiven, AreAllGiven, AreGivenOn, IsBegun, first_of, parent_in};
 
-use crate::records::{Link, Record, Records, State, behind_by, first_by, relink, restart};
+use crate::records::{Link, Record, Records, State, behind_by, first_by, relink};
 use posix::Pid;
 use std::alloc::AllocError;
 
@@ -17,7 +17,7 @@ fn has_list(parent: Pid) -> bool
 
 /// One comes right behind another from now on, or is the first child of a number.
 fn put_behind(records: &mut Records, parent: Pid, before: Pid, behind: Pid)
-    ensures { IsPutBehind parent before behind records.old.entries records.new.entries }
+    ensures { Become (is_put_behind parent before behind) records.old.entries records.new.entries }
 {
     if before == Pid::NONE {
         relink(records, parent, Link::First(behind));
@@ -29,7 +29,7 @@ fn put_behind(records: &mut Records, parent: Pid, before: Pid, behind: Pid)
 /// One comes right behind another among the children of a number from now on. Number 0 stands before the first, and
 /// behind the last.
 fn join(records: &mut Records, parent: Pid, before: Pid, behind: Pid)
-    ensures { IsJoined parent before behind records.old.entries records.new.entries }
+    ensures { Become (joined parent before behind) records.old.entries records.new.entries }
 {
     put_behind(records, parent, before, behind);
     relink(records, behind, Link::Before(before));
@@ -97,20 +97,20 @@ pub(crate) fn give_on(records: &mut Records, pid: Pid, first_child: Pid, heir: P
 }
 
 /// A life of a number begins, without a parent. At the error that there is no memory all stays, and there was no record of it.
-pub(crate) fn begin(records: &mut Records, pid: Pid, state: State) -> Result<(), AllocError>
+pub(crate) fn begin(records: &mut Records, pid: Pid) -> Result<(), AllocError>
     requires linked { AreLinked (record_in records.old.entries) }
     requires pid { 1 ≤ pid }
-    ensures ok { OnOk result (IsBegun pid state records.old.entries records.new.entries) }
+    ensures ok { OnOk result (IsBegun pid records.old.entries records.new.entries) }
     ensures err { OnErr result (records.new.entries ≡ records.old.entries) }
     ensures new_number { OnErr result (record_in records.old.entries pid ≡ None) }
 {
-    let Some(was) = restart(records, pid, &state) else {
+    let Some(was) = relink(records, pid, Link::Begins) else {
         let record = Record {
             parent: Pid::NONE,
             before: Pid::NONE,
             behind: Pid::NONE,
             first: Pid::NONE,
-            state,
+            state: State::newborn(),
         };
         records.insert(pid.number(), record)?;
         return Ok(());

@@ -5,23 +5,16 @@ ghost use Rattle.laws.specs.Keeping.{NeverBorn, kept_of, kept_after, lives_now, 
 ghost use Rattle.laws.specs.TraceLines.{is_entry};
 ghost use Rattle.posix.specs.Entries.{process_of as process_said};
 ghost use Rattle.laws.specs.Lives.{born_by as birth_said};
-ghost use Rattle.audit.specs.Records.{kept_newest, kept_by, IsAfter};
+ghost use Rattle.audit.specs.Records.{kept_record, kept_by, IsAfter};
 
 use crate::children::{begin, give_on, put_in};
 use crate::lines::born_by;
-use crate::records::{Change, Records, State, apply};
+use crate::records::{Change, Record, Records, State, apply};
 use posix::{Entry, Pid, Sig, Status};
 use std::alloc::{AllocError, Global};
 use std::collections::HashMap;
 use std::hash::RandomState;
 use std::marker::Model;
-
-/// The newest life of a number.
-#[derive(Clone, Copy)]
-pub(crate) struct Newest {
-    pub(crate) parent: Pid,
-    pub(crate) state: State,
-}
 
 /// What is known of each number: a record of the newest life of each that was ever born. They are found by a hash with
 /// random keys, so that nobody can choose numbers that are slow to find.
@@ -51,23 +44,19 @@ impl Known {
         ensures { IfOk result (λ known. (c : ℕ) → kept_by known c ≡ kept_of [] c) }
     {
         let mut records = HashMap::with_hasher(alloc, keys);
-        begin(&mut records, Pid::INIT, State::newborn())?;
+        begin(&mut records, Pid::INIT)?;
         Ok(Known {
             records,
             may_be_marked: false,
         })
     }
 
-    /// The newest life of a number, if it was ever born.
+    /// The record of the newest life of a number, if it was ever born.
     #[tactic(auto, unfolding(crate::specs::Records::kept_by))]
-    pub(crate) fn newest(&self, pid: Pid) -> Option<Newest>
-        ensures { kept_newest result ≡ kept_by self.now pid }
+    pub(crate) fn newest(&self, pid: Pid) -> Option<Record>
+        ensures { kept_record result ≡ kept_by self.now pid }
     {
-        let record = *self.records.get(&pid.number())?;
-        Some(Newest {
-            parent: record.parent,
-            state: record.state,
-        })
+        self.records.get(&pid.number()).copied()
     }
 
     /// Whether a number lives.
@@ -117,7 +106,7 @@ impl Known {
         ensures err { OnErr result ((c : ℕ) → kept_by self.new c ≡ kept_by self.old c) }
         ensures new_number { OnErr result (kept_by self.old pid ≡ NeverBorn) }
     {
-        begin(&mut self.records, pid, State::newborn())?;
+        begin(&mut self.records, pid)?;
         put_in(&mut self.records, pid, parent);
         Ok(())
     }
@@ -169,13 +158,14 @@ fn nearest_marked(records: &Records, pid: Pid) -> Pid
         let Some(record) = records.get(&forebear.number()).copied() else {
             return Pid::INIT;
         };
-        let State::Living { is_marked, .. } = record.state else {
+        let Record { parent, state, .. } = record;
+        let State::Living(life) = state else {
             return Pid::INIT;
         };
-        if is_marked && forebear != pid {
+        if life.is_marked && forebear != pid {
             return forebear;
         }
-        forebear = record.parent;
+        forebear = parent;
         left -= 1;
     }
     Pid::INIT

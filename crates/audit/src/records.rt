@@ -2,28 +2,32 @@
 
 ghost use Rattle.std.specs.Prelude.{◌≡◌, ℕ, None};
 ghost use Rattle.std.specs.Option.{option_map_or};
-ghost use Rattle.laws.specs.Keeping.{newborn, after_stop, after_mark, after_report, ended_with};
-ghost use Rattle.audit.specs.Records.{is_living_state, kept_as, record_in, after as change_of, IsAfter, IsChanged};
-ghost use Rattle.audit.specs.Children.{KeepLinks, linked, restarted};
+ghost use Rattle.audit.specs.Records.{newborn_state, is_living_state, kept_as, record_in, after as change_of, IsAfter, changed, Become};
+ghost use Rattle.audit.specs.Children.{KeepLinks, linked};
+ghost use Rattle.audit.specs.declared.records.State.TheVariants.{Living};
 
 use posix::{Pid, Sig, Status};
 use std::collections::HashMap;
 use std::hash::RandomState;
 
+/// What the lines so far say of a life that goes on.
+#[derive(Clone, Copy)]
+pub(crate) struct Life {
+    /// Whether it is a child subreaper.
+    pub(crate) is_marked: bool,
+    /// Whether it stopped since its birth.
+    pub(crate) has_stopped: bool,
+    /// The signal of the last stop, where no report of that came, nor of its continue.
+    pub(crate) stop: Option<Sig>,
+    /// Whether it stopped, and no report of the last stop's continue came.
+    pub(crate) may_continue: bool,
+}
+
 /// What the lines so far say of a life.
 #[derive(Clone, Copy)]
 pub(crate) enum State {
     /// It goes on.
-    Living {
-        /// Whether it is a child subreaper.
-        is_marked: bool,
-        /// Whether it stopped since its birth.
-        has_stopped: bool,
-        /// The signal of the last stop, where no report of that came, nor of its continue.
-        stop: Option<Sig>,
-        /// Whether it stopped, and no report of the last stop's continue came.
-        may_continue: bool,
-    },
+    Living(Life),
     /// It ended.
     Ended {
         status: Status,
@@ -62,7 +66,8 @@ pub(crate) enum Change {
     Ended(Status),
 }
 
-/// Where a number stands among the children of its parent, or which is its own first child. Number 0 stands for nobody.
+/// Where a number stands among the children of its parent, or which is its own first child, or that a life of it begins.
+/// Number 0 stands for nobody.
 #[derive(Clone, Copy)]
 pub(crate) enum Link {
     /// It has this parent, and stands where it stood.
@@ -75,20 +80,22 @@ pub(crate) enum Link {
     Behind(Pid),
     /// It is the first child of a parent, and this one stands behind it.
     Place { parent: Pid, behind: Pid },
+    /// A life of it begins, without a parent.
+    Begins,
 }
 
 impl State {
     /// The state of a life that begins.
     #[inline]
     pub(crate) fn newborn() -> State
-        ensures { (parent : ℕ) → kept_as parent result ≡ newborn parent }
+        ensures { result ≡ newborn_state }
     {
-        State::Living {
+        State::Living(Life {
             is_marked: false,
             has_stopped: false,
             stop: None,
             may_continue: false,
-        }
+        })
     }
 
     /// Whether the life goes on.
@@ -96,93 +103,54 @@ impl State {
     pub(crate) fn is_living(self) -> bool
         ensures { result ≡ is_living_state self }
     {
-        matches!(self, State::Living { .. })
+        matches!(self, State::Living(_))
     }
 
     /// The state after a change.
     fn after(self, change: Change) -> State
         ensures { (parent : ℕ) → kept_as parent result ≡ change_of change (kept_as parent self) }
     {
-        match change {
-            Change::Stopped(sig) => self.stopped(sig),
-            Change::Marked(mark) => self.marked(mark),
-            Change::Reported(status) => self.reported(status),
-            Change::Ended(status) => self.ended(status),
+        match self {
+            State::Living(life) => life.after(change),
+            State::Ended { status, reported } => match change {
+                Change::Reported(word) => State::Ended {
+                    status,
+                    reported: reported || word.is_end(),
+                },
+                Change::Stopped(_) | Change::Marked(_) | Change::Ended(_) => {
+                    State::Ended { status, reported }
+                }
+            },
         }
     }
+}
 
-    /// The state after a stop by a signal.
-    fn stopped(self, sig: Sig) -> State
-        ensures { (parent : ℕ) → kept_as parent result ≡ after_stop sig (kept_as parent self) }
+impl Life {
+    /// The state after a change.
+    fn after(self, change: Change) -> State
+        ensures { (parent : ℕ) → kept_as parent result ≡ change_of change (kept_as parent (Living self)) }
     {
-        match self {
-            State::Living { is_marked, .. } => State::Living {
-                is_marked,
+        match change {
+            Change::Stopped(sig) => State::Living(Life {
                 has_stopped: true,
                 stop: Some(sig),
                 may_continue: true,
-            },
-            State::Ended { .. } => self,
-        }
-    }
-
-    /// The state after the mark is set or cleared.
-    fn marked(self, mark: bool) -> State
-        ensures { (parent : ℕ) → kept_as parent result ≡ after_mark mark (kept_as parent self) }
-    {
-        match self {
-            State::Living {
-                has_stopped,
-                stop,
-                may_continue,
-                ..
-            } => State::Living {
-                is_marked: mark,
-                has_stopped,
-                stop,
-                may_continue,
-            },
-            State::Ended { .. } => self,
-        }
-    }
-
-    /// The state after a report with a status.
-    fn reported(self, word: Status) -> State
-        ensures { (parent : ℕ) → kept_as parent result ≡ after_report word (kept_as parent self) }
-    {
-        match self {
-            State::Living {
-                is_marked,
-                has_stopped,
-                stop,
-                may_continue,
-            } => State::Living {
-                is_marked,
-                has_stopped,
+                ..self
+            }),
+            Change::Marked(is_marked) => State::Living(Life { is_marked, ..self }),
+            Change::Reported(word) => State::Living(Life {
                 stop: if word.is_stop() || word.is_continuation() {
                     None
                 } else {
-                    stop
+                    self.stop
                 },
-                may_continue: may_continue && !word.is_continuation(),
-            },
-            State::Ended { status, reported } => State::Ended {
-                status,
-                reported: reported || word.is_end(),
-            },
-        }
-    }
-
-    /// The state after an end with a status.
-    fn ended(self, status: Status) -> State
-        ensures { (parent : ℕ) → kept_as parent result ≡ ended_with status (kept_as parent self) }
-    {
-        match self {
-            State::Living { .. } => State::Ended {
+                may_continue: self.may_continue && !word.is_continuation(),
+                ..self
+            }),
+            Change::Ended(status) => State::Ended {
                 status,
                 reported: false,
             },
-            State::Ended { .. } => self,
         }
     }
 }
@@ -202,6 +170,10 @@ impl Record {
                 self.parent = parent;
                 self.before = Pid::NONE;
                 self.behind = behind;
+            }
+            Link::Begins => {
+                self.parent = Pid::NONE;
+                self.state = State::newborn();
             }
         }
     }
@@ -225,8 +197,9 @@ pub(crate) fn apply(records: &mut Records, pid: Pid, change: Change) -> Option<R
 /// Links a number otherwise, where there is a record of it. The result is the record that was there.
 #[inline]
 pub(crate) fn relink(records: &mut Records, pid: Pid, link: Link) -> Option<Record>
-    ensures is { IsChanged pid (linked link) records.old.entries records.new.entries }
+    ensures is { Become (changed pid (linked link)) records.old.entries records.new.entries }
     ensures was { result ≡ record_in records.old.entries pid }
+    ensures none { result ≡ None → records.new.entries ≡ records.old.entries }
 {
     let Some(record) = records.get_mut(&pid.number()) else {
         return None;
@@ -254,20 +227,4 @@ pub(crate) fn behind_by(found: Option<Record>) -> Pid
         Some(record) => record.behind,
         None => Pid::NONE,
     }
-}
-
-/// A record's state is another from now on, and it has no parent, where there is a record. The result is the record that
-/// was there.
-pub(crate) fn restart(records: &mut Records, pid: Pid, state: &State) -> Option<Record>
-    ensures is { IsChanged pid (restarted state.now) records.old.entries records.new.entries }
-    ensures was { result ≡ record_in records.old.entries pid }
-    ensures none { result ≡ None → records.new.entries ≡ records.old.entries }
-{
-    let Some(record) = records.get_mut(&pid.number()) else {
-        return None;
-    };
-    let was = *record;
-    record.parent = Pid::NONE;
-    record.state = *state;
-    Some(was)
 }

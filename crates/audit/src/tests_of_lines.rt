@@ -1,19 +1,20 @@
 //! The tests of a line, by what is known of the numbers.
 
-ghost use Rattle.std.specs.Prelude.{◌≡◌, ℕ, Bool, true};
+ghost use Rattle.std.specs.Prelude.{◌≡◌, ◌≢◌, ℕ, true, Err};
 ghost use Rattle.posix.specs.Entries.{line};
 ghost use Rattle.laws.specs.TraceLines.{is_entry};
 ghost use Rattle.laws.specs.Keeping.{number_fault, place_fault, birth_fault, report_fault, word_fault, fault_of_living, fault_of_ended, fault_of, phase_after as phase_said_after};
 ghost use Rattle.laws.specs.Lives.{born_by as birth_said};
-ghost use Rattle.audit.specs.Records.{kept_as, kept_by};
+ghost use Rattle.audit.specs.Records.{alive, kept_as, kept_by};
 ghost use Rattle.audit.specs.Faults.{fault_number};
+ghost use Rattle.audit.specs.declared.fault.AuditFault.TheVariants.{Memory};
 ghost use Rattle.audit.specs.Phases.{phase_said};
 
 use crate::fault::AuditFault;
 use crate::known::Known;
 use crate::lines::born_by;
-use crate::records::State;
-use posix::{Entry, Pid, Sig, Status};
+use crate::records::{Life, State};
+use posix::{Entry, Pid, Status};
 
 /// Whether `halt` comes next, or nothing.
 #[derive(Clone, Copy)]
@@ -49,7 +50,8 @@ pub(crate) fn test(
     entry: &Entry,
 ) -> Result<(), AuditFault>
     requires { is_entry entry.now ≡ true }
-    ensures { fault_number result ≡ fault_of (kept_by known.now) last (phase_said phase) (line event entry.now) }
+    ensures fault { fault_number result ≡ fault_of (kept_by known.now) last (phase_said phase) (line event entry.now) }
+    ensures tested { result ≢ Err Memory }
 {
     test_number(last, event)?;
     test_place(known, phase, entry)?;
@@ -59,7 +61,8 @@ pub(crate) fn test(
 
 /// The numbers of events don't fall.
 fn test_number(last: u64, event: u64) -> Result<(), AuditFault>
-    ensures { fault_number result ≡ number_fault last event }
+    ensures fault { fault_number result ≡ number_fault last event }
+    ensures tested { result ≢ Err Memory }
 {
     if event < last {
         return Err(AuditFault::NoLine);
@@ -69,7 +72,8 @@ fn test_number(last: u64, event: u64) -> Result<(), AuditFault>
 
 /// The process of a line lives, and `halt` comes right after the end of process 1 and last.
 fn test_place(known: &Known, phase: Phase, entry: &Entry) -> Result<(), AuditFault>
-    ensures { fault_number result ≡ place_fault (kept_by known.now) (phase_said phase) entry.now }
+    ensures fault { fault_number result ≡ place_fault (kept_by known.now) (phase_said phase) entry.now }
+    ensures tested { result ≢ Err Memory }
 {
     let is_in_place = match phase {
         Phase::Going => match entry.process() {
@@ -89,7 +93,8 @@ fn test_place(known: &Known, phase: Phase, entry: &Entry) -> Result<(), AuditFau
 /// Who is born isn't living.
 fn test_birth(known: &Known, entry: &Entry) -> Result<(), AuditFault>
     requires { is_entry entry.now ≡ true }
-    ensures { fault_number result ≡ birth_fault (kept_by known.now) (birth_said entry.now) }
+    ensures fault { fault_number result ≡ birth_fault (kept_by known.now) (birth_said entry.now) }
+    ensures tested { result ≢ Err Memory }
 {
     match born_by(entry) {
         Some(child) if known.is_living(child) => Err(AuditFault::BornWhileLiving),
@@ -99,7 +104,8 @@ fn test_birth(known: &Known, entry: &Entry) -> Result<(), AuditFault>
 
 /// A report is made by the parent, and due, and so is what a look tells.
 fn test_report(known: &Known, entry: &Entry) -> Result<(), AuditFault>
-    ensures { fault_number result ≡ report_fault (kept_by known.now) entry.now }
+    ensures fault { fault_number result ≡ report_fault (kept_by known.now) entry.now }
+    ensures tested { result ≢ Err Memory }
 {
     match *entry {
         Entry::Reported {
@@ -115,7 +121,8 @@ fn test_report(known: &Known, entry: &Entry) -> Result<(), AuditFault>
 
 /// What is told of a child is due to this process.
 fn test_told(known: &Known, pid: Pid, child: Pid, word: Status) -> Result<(), AuditFault>
-    ensures { fault_number result ≡ word_fault pid word (kept_by known.now child) }
+    ensures fault { fault_number result ≡ word_fault pid word (kept_by known.now child) }
+    ensures tested { result ≢ Err Memory }
 {
     let Some(newest) = known.newest(child) else {
         return Err(AuditFault::NotHappened);
@@ -129,44 +136,36 @@ fn test_told(known: &Known, pid: Pid, child: Pid, word: Status) -> Result<(), Au
 impl State {
     /// A report by the parent with a status is due.
     fn test_report(self, word: Status) -> Result<(), AuditFault>
-        ensures { (p : ℕ) → fault_number result ≡ word_fault p word (kept_as p self) }
+        ensures fault { (p : ℕ) → fault_number result ≡ word_fault p word (kept_as p self) }
+        ensures tested { result ≢ Err Memory }
     {
         match self {
-            State::Living {
-                has_stopped,
-                stop,
-                may_continue,
-                ..
-            } => test_living(has_stopped, stop, may_continue, word),
+            State::Living(life) => test_living(life, word),
             State::Ended { status, reported } => test_ended(status, reported, word),
         }
     }
 }
 
 /// The same, of a life that goes on.
-fn test_living(
-    has_stopped: bool,
-    stop: Option<Sig>,
-    may_continue: bool,
-    word: Status,
-) -> Result<(), AuditFault>
-    ensures { (p : ℕ) (mark : Bool) → fault_number result ≡ fault_of_living p word (record { parent = p; is_marked = mark; has_stopped = has_stopped; stop = stop; may_continue = may_continue }) }
+fn test_living(life: Life, word: Status) -> Result<(), AuditFault>
+    ensures fault { (p : ℕ) → fault_number result ≡ fault_of_living p word (alive p life) }
+    ensures tested { result ≢ Err Memory }
 {
     if word.is_end() {
         Err(AuditFault::NotHappened)
     } else if word.is_stop() {
-        if !has_stopped {
+        if !life.has_stopped {
             return Err(AuditFault::NotHappened);
         }
-        match stop {
+        match life.stop {
             None => Err(AuditFault::ReportedBefore),
             Some(sig) if u16::from(sig.number()) == word.word() / 256 => Ok(()),
             Some(_) => Err(AuditFault::OtherStatus),
         }
     } else if word.is_continuation() {
-        if !has_stopped {
+        if !life.has_stopped {
             Err(AuditFault::NotHappened)
-        } else if may_continue {
+        } else if life.may_continue {
             Ok(())
         } else {
             Err(AuditFault::ReportedBefore)
@@ -178,7 +177,8 @@ fn test_living(
 
 /// The same, of one that ended with a status.
 fn test_ended(ended: Status, reported: bool, word: Status) -> Result<(), AuditFault>
-    ensures { (p : ℕ) → fault_number result ≡ fault_of_ended p word (record { parent = p; status = ended; reported = reported }) }
+    ensures fault { (p : ℕ) → fault_number result ≡ fault_of_ended p word (record { parent = p; status = ended; reported = reported }) }
+    ensures tested { result ≢ Err Memory }
 {
     if word.is_end() {
         if reported {

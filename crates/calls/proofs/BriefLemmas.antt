@@ -1,5 +1,5 @@
 -- How many slots a wait and a kill read, and who is to be rechecked after them.
-use Rattle.std.proofs.Common.{subst, ◌≡◌, ℕ, ℤ, ◌+◌, ◌≤◌, Bool, true, false, cond, ◌==◌, refl, ap, sym, ◌∙◌, arith, List, [], ◌∷◌, length, filter, Option, Some, None, Result, Ok}
+use Rattle.std.proofs.Common.{subst, ◌≡◌, ℕ, ℤ, ◌+◌, ◌≤◌, true, false, cond, ◌==◌, refl, ap, sym, ◌∙◌, arith, List, [], ◌∷◌, length, filter, Option, Some, None, Result, Ok}
 use Rattle.std.proofs.lemmas.Bool.{eqb-true}
 use Rattle.std.proofs.lemmas.List.{length-map}
 use Rattle.posix.specs.declared.target.Target.{Target}
@@ -165,52 +165,39 @@ one_slots : (me : Process) (to : Target) (k : Option PendingSignal) (results : L
     → 2 + slots_of_send (number_of k) + slots_of_survey_of_one (number_of k) + slots_of_rechecks (changed me.pid (finished results) (sent me to k rs)) None (rechecking_signalled me k (targets me to rs) rs order []) ≤ slots_of_kill (Ok (number_of k))
 unfolding slots_of_rechecks
 one_slots me (whom.Process p) k results rs order one up = kill_slots me p k results rs order up
-one_slots me whom.OwnGroup k results rs order one up = absurd (cc)
-one_slots me (whom.Group p) k results rs order one up = absurd (cc)
-one_slots me whom.All k results rs order one up = absurd (cc)
 one_slots me whom.Nobody k results rs order one up = let least = sending_least (number_of k) in rw (targets_nobody me rs, rechecked_nobody me k rs order []) (omega (arith, least))
+one_slots me to k results rs order one up = absurd (cc)
 
--- what a send to this target reads, with this signal
-brief_killed : (me : Process) (to : Target) (k : Option PendingSignal) (results : List (ℕ × ℤ)) (old mid new : MachineView) → is_one to ≡ true → IsQuiet me.pid old → IsRegular old.state
-    → mid.state ≡ with_processes old.state (sent me to k old.state.processes) → mid.to_recheck ≡ rechecking_signalled me k (targets me to old.state.processes) old.state.processes old.state.order old.to_recheck → mid.foregrounds_unchecked ≡ old.foregrounds_unchecked
-    → mid.visits ≤ old.visits + 1 + slots_of_send (number_of k) + slots_of_survey_of_one (number_of k) → new.state ≡ finish mid.state me.pid results → (has_place mid.state me.pid ≡ true → CostsAtMost 1 mid new) → CostsWithRechecks (slots_of_kill (Ok (number_of k))) old new
-brief_killed me to k results old mid new one h i is list still most done costs =
-    let c = costs (ap (λ (s : State). has_place s me.pid) is ∙ h.place) in
-    let rs = old.state.processes in
-    let ns = c.to_recheck ∙ list ∙ ap (rechecking_signalled me k (targets me to rs) rs old.state.order) h.none in
-    let checked = c.foregrounds_unchecked ∙ still ∙ h.checked in
-    let now : new.state.processes ≡ changed me.pid (finished results) (sent me to k rs) = ap (λ (s : State). s.processes) (done ∙ ap (λ (s : State). finish s me.pid results) is) in
-    let last = c.visits in
-    let checks = ap slots_of_checking checked in
-    let rechecks = ap (λ ts. slots_of_rechecks ts None new.to_recheck) now ∙ ap (slots_of_rechecks (changed me.pid (finished results) (sent me to k rs)) None) ns in
-    record {
-      reads = let all = one_slots me to k results rs old.state.order one i.rising in omega (arith, last, most, checks, rechecks, all);
-      unchecked = subst AreFew (sym checked) tt;
-      consoles = ap (λ (s : State). s.consoles) (done ∙ ap (λ (s : State). finish s me.pid results) is);
-    }
+-- and nothing more where it isn't sent
+answer_slots : (answer : Sending) (me : Process) (to : Target) (k : Option PendingSignal) (results : List (ℕ × ℤ)) (rs : List Process) (order : List ℕ) → is_one to ≡ true → IsRising rs
+    → 2 + slots_of_send (number_of k) + slots_of_survey_of_one (number_of k) + slots_of_rechecks (changed me.pid (finished results) (sent_as answer me to k rs)) None (rechecking_as answer me k to rs order []) ≤ slots_of_kill (Ok (number_of k))
+unfolding slots_of_rechecks
+answer_slots answer me to k results rs order one up = elim (is_sent answer) as (λ b. 2 + slots_of_send (number_of k) + slots_of_survey_of_one (number_of k)
+    + slots_of_rechecks (changed me.pid (finished results) (cond b (sent me to k rs) rs)) None (cond b (rechecking_signalled me k (targets me to rs) rs order []) []) ≤ slots_of_kill (Ok (number_of k))) [
+      | true ↦ one_slots me to k results rs order one up
+      | false ↦ let least = sending_least (number_of k) in omega (arith, least)
+    ]
 
--- one that isn't sent
-brief_unsent : (me : Process) (to : Target) (k : Option PendingSignal) (results : List (ℕ × ℤ)) (old mid new : MachineView) → IsQuiet me.pid old → mid.state ≡ old.state → mid.to_recheck ≡ old.to_recheck → mid.foregrounds_unchecked ≡ old.foregrounds_unchecked
-    → mid.visits ≤ old.visits + 1 + slots_of_send (number_of k) + slots_of_survey_of_one (number_of k) → new.state ≡ finish mid.state me.pid results → (has_place mid.state me.pid ≡ true → CostsAtMost 1 mid new) → CostsWithRechecks (slots_of_kill (Ok (number_of k))) old new
-brief_unsent me to k results old mid new h is list still most done costs =
-    let c = costs (ap (λ (s : State). has_place s me.pid) is ∙ h.place) in
-    let last = c.visits in
-    let least = sending_least (number_of k) in
-    brief_alone (slots_of_kill (Ok (number_of k))) old new (c.to_recheck ∙ list ∙ h.none) (c.foregrounds_unchecked ∙ still ∙ h.checked) (ap (λ (s : State). s.consoles) (done ∙ ap (λ (s : State). finish s me.pid results) is)) (omega (arith, last, most, least))
-
--- so it is whatever comes of it, where it means at most one process
+-- what a send to this target reads, with this signal, whatever comes of it
 pub brief_send : (me : Process) (to : Target) (named : Result (Option ℕ) Errno) (word : ℤ) (sig : Option ℕ) (value : ℤ) (k : Option PendingSignal) (answer : Sending) (results : List (ℕ × ℤ)) (old mid new : MachineView) → is_one to ≡ true → IsQuiet me.pid old → named ≡ signal_or_none word → named ≡ Ok sig → k ≡ message me.pid value sig
     → IsRegular old.state → mid.state ≡ with_processes old.state (sent_as answer me to k old.state.processes) → mid.to_recheck ≡ rechecking_as answer me k to old.state.processes old.state.order old.to_recheck → mid.foregrounds_unchecked ≡ old.foregrounds_unchecked
     → mid.visits ≤ old.visits + 1 + slots_of_send (number_of k) + slots_of_survey_of_one (number_of k) → new.state ≡ finish mid.state me.pid results → (has_place mid.state me.pid ≡ true → CostsAtMost 1 mid new)
     → CostsWithRechecks (slots_of_kill (signal_or_none word)) old new
-brief_send me to named word sig value k answer results old mid new one quiet known ok is regular state list still read done costs =
-    subst (λ w. CostsWithRechecks (slots_of_kill w) old new) (ap Ok (number_is me.pid value sig k is) ∙ sym ok ∙ known) (by (is_sent answer) refl)
-  where
-    by : (b : Bool) → is_sent answer ≡ b → CostsWithRechecks (slots_of_kill (Ok (number_of k))) old new
-    by true e = brief_killed me to k results old mid new one quiet regular (state ∙ ap (λ b. with_processes old.state (cond b (sent me to k old.state.processes) old.state.processes)) e)
-        (list ∙ ap (λ b. cond b (rechecking_signalled me k (targets me to old.state.processes) old.state.processes old.state.order old.to_recheck) old.to_recheck) e) still read done costs
-    by false e = brief_unsent me to k results old mid new quiet (state ∙ ap (λ b. with_processes old.state (cond b (sent me to k old.state.processes) old.state.processes)) e)
-        (list ∙ ap (λ b. cond b (rechecking_signalled me k (targets me to old.state.processes) old.state.processes old.state.order old.to_recheck) old.to_recheck) e) still read done costs
+brief_send me to named word sig value k answer results old mid new one h known ok is regular state list still most done costs =
+    let c = costs (ap (λ (s : State). has_place s me.pid) state ∙ h.place) in
+    let rs = old.state.processes in
+    let ns = c.to_recheck ∙ list ∙ ap (rechecking_as answer me k to rs old.state.order) h.none in
+    let checked = c.foregrounds_unchecked ∙ still ∙ h.checked in
+    let finishes = done ∙ ap (λ (s : State). finish s me.pid results) state in
+    let now : new.state.processes ≡ changed me.pid (finished results) (sent_as answer me to k rs) = ap (λ (s : State). s.processes) finishes in
+    let last = c.visits in
+    let checks = ap slots_of_checking checked in
+    let rechecks = ap (λ ts. slots_of_rechecks ts None new.to_recheck) now ∙ ap (slots_of_rechecks (changed me.pid (finished results) (sent_as answer me to k rs)) None) ns in
+    subst (λ w. CostsWithRechecks (slots_of_kill w) old new) (ap Ok (number_is me.pid value sig k is) ∙ sym ok ∙ known) (record {
+      reads = let all = answer_slots answer me to k results rs old.state.order one regular.rising in omega (arith, last, most, checks, rechecks, all);
+      unchecked = subst AreFew (sym checked) tt;
+      consoles = ap (λ (s : State). s.consoles) finishes;
+    })
 
 -- so it is by a caller that was looked at, who tells the target
 pub brief_sent_as : (p : ℕ) (old mid new : MachineView) (me : Process) (d : Caller) (f : Caller → Target) (to : Target) → Looks 1 old mid → d.pid ≡ p → d ≡ caller_of me → to ≡ f d → is_one (f (caller_of me)) ≡ true → IsQuiet p old

@@ -4,9 +4,8 @@ use Rattle.std.specs.Option.{IfSome}
 use Rattle.posix.specs.declared.call.Call.{Call}
 use Rattle.posix.specs.declared.waits.WaitCall.{WaitCall}
 use Rattle.posix.specs.declared.waits.Asked.{Asked}
-use Rattle.posix.specs.declared.errno.Errno.TheVariants.{EAGAIN}
 use Rattle.posix.specs.declared.entry.Entry.{Entry}
-use Rattle.posix.specs.declared.entry.Entry.TheVariants.{Called, NoMemory, Ended, Halted}
+use Rattle.posix.specs.declared.entry.Entry.TheVariants.{Called, Ended, Halted}
 use Rattle.posix.specs.declared.process.Blocked.{Blocked}
 use Rattle.posix.specs.declared.process.Report.{Report}
 use Rattle.posix.specs.Processes.{Process}
@@ -33,33 +32,30 @@ same_outcome s t xs ys e f = ap (λ (u : State). outcome_of u xs) e ∙ ap (outc
 
 -- where the process has to wait, the definition blocks it in the same call, and nothing has changed
 pub block_is : (s : State) (a : outcome.Attempted) (b : Blocked) (xs ys : List Entry) (n : State) → Comes s a (came.Block b) xs ys n → (a ≡ outcome.Block b) × (ys ≡ xs) × (n ≡ s)
-block_is s (outcome.Done o) b xs ys n h = absurd h
 block_is s (outcome.Block x) b xs ys n h = (ap outcome.Block (sym h.0), h.1, h.2)
-block_is s (outcome.Again t) b xs ys n h = absurd h
+block_is s a b xs ys n h = absurd h
 
 -- where it begins again, it does so in the definition, in the same state
 pub again_is : (s : State) (a : outcome.Attempted) (xs ys : List Entry) (n : State) → Comes s a came.Again xs ys n → (a ≡ outcome.Again n) × (ys ≡ xs)
-again_is s (outcome.Done o) xs ys n h = absurd h
-again_is s (outcome.Block b) xs ys n h = absurd h
 again_is s (outcome.Again t) xs ys n h = (ap outcome.Again (sym h.1), h.0)
+again_is s a xs ys n h = absurd h
+
+-- a call that gives these results in t, and shows this: the code did so in b, which is the same
+pub shows_is : (s t b n : State) (a : outcome.Attempted) (p : ℕ) (results : List (ℕ × ℤ)) (shown : Entry) (xs ys : List Entry) (r : Attempt) → a ≡ outcome.Done (outcome_of (outcome.finish t p results) (shown ∷ []))
+    → r ≡ came.Done → n ≡ outcome.finish b p results → b ≡ t → ys ≡ xs ++ shown ∷ [] → Comes s a r xs ys n
+shows_is s t b n a p results entry xs ys r is done state before shown =
+    subst (λ x. Comes s x r xs ys n) (sym is)
+    (subst (λ q. Comes s (outcome.Done (outcome_of (outcome.finish t p results) (entry ∷ []))) q xs ys n) (sym done)
+    (shown, state ∙ ap (λ (u : State). outcome.finish u p results) before))
 
 -- a call that gives z in t: the code gave v in b, and these are the same
 pub gives_is : (s t b n : State) (a : outcome.Attempted) (p : ℕ) (call : Call) (v z : ℤ) (xs ys : List Entry) (r : Attempt) → a ≡ outcome.finish_with t p call z
     → r ≡ came.Done → n ≡ outcome.finish b p ((0, v) ∷ []) → b ≡ t → ys ≡ xs ++ Called p call v ∷ [] → v ≡ z → Comes s a r xs ys n
 gives_is s t b n a p call v z xs ys r is done state before shown same =
-    subst (λ x. Comes s x r xs ys n) (sym is)
-    (subst (λ q. Comes s (outcome.finish_with t p call z) q xs ys n) (sym done)
-    (shown ∙ ap (λ w. xs ++ Called p call w ∷ []) same, state ∙ ap (λ (u : State). outcome.finish u p ((0, v) ∷ [])) before ∙ ap (λ w. outcome.finish t p ((0, w) ∷ [])) same))
-
--- one that is refused for want of memory
-pub wants_memory : (s b n : State) (a : outcome.Attempted) (p : ℕ) (call : Call) (xs ys : List Entry) (r : Attempt) → a ≡ outcome.no_memory s p call
-    → r ≡ came.Done → n ≡ outcome.finish b p ((0, outcome.refusal EAGAIN) ∷ []) → b ≡ s → ys ≡ xs ++ NoMemory p call ∷ [] → Comes s a r xs ys n
-wants_memory s b n a p call xs ys r is done state before shown =
-    subst (λ x. Comes s x r xs ys n) (sym is)
-    (subst (λ q. Comes s (outcome.no_memory s p call) q xs ys n) (sym done) (shown, state ∙ ap (λ (u : State). outcome.finish u p ((0, outcome.refusal EAGAIN) ∷ [])) before))
+    shows_is s t b n a p ((0, z) ∷ []) (Called p call z) xs ys r is done (state ∙ ap (λ w. outcome.finish b p ((0, w) ∷ [])) same) before (shown ∙ ap (λ w. xs ++ Called p call w ∷ []) same)
 
 -- one change of a process after another
-changed_then : (p : ℕ) (f g : Process → Process) → ((r : Process) → (g r).pid ≡ r.pid) → (rs : List Process) → changed p f (changed p g rs) ≡ changed p (λ r. f (g r)) rs
+pub changed_then : (p : ℕ) (f g : Process → Process) → ((r : Process) → (g r).pid ≡ r.pid) → (rs : List Process) → changed p f (changed p g rs) ≡ changed p (λ r. f (g r)) rs
 unfolding changed
 changed_then p f g keeps [] = refl
 changed_then p f g keeps (r ∷ rs) = elim (r.pid == p) as (λ b. (r.pid == p) ≡ b → at p f (cond b (g r) r) ∷ map (at p f) (map (at p g) rs) ≡ cond b (f (g r)) r ∷ map (at p (λ r. f (g r))) rs) [
@@ -70,14 +66,6 @@ changed_then p f g keeps (r ∷ rs) = elim (r.pid == p) as (λ b. (r.pid == p) �
 -- a call that gives z, and changes its process before that
 pub answers_then : (s : State) (p : ℕ) (call : Call) (z : ℤ) (g : Process → Process) → ((r : Process) → (g r).pid ≡ r.pid) → outcome.finish_call s p call (record { value = z; changes = g }) ≡ outcome.finish_with (change s p g) p call z
 answers_then s p call z g keeps = ap (λ rs. outcome.Done (outcome_of (record s { processes = rs }) (Called p call z ∷ []))) (sym (changed_then p (outcome.finished ((0, z) ∷ [])) g keeps s.processes))
-
--- a call that gives these results in t, and shows this: the code did so in b, which is the same
-pub shows_is : (s t b n : State) (a : outcome.Attempted) (p : ℕ) (results : List (ℕ × ℤ)) (shown : Entry) (xs ys : List Entry) (r : Attempt) → a ≡ outcome.Done (outcome_of (outcome.finish t p results) (shown ∷ []))
-    → r ≡ came.Done → n ≡ outcome.finish b p results → b ≡ t → ys ≡ xs ++ shown ∷ [] → Comes s a r xs ys n
-shows_is s t b n a p results entry xs ys r is done state before shown =
-    subst (λ x. Comes s x r xs ys n) (sym is)
-    (subst (λ q. Comes s (outcome.Done (outcome_of (outcome.finish t p results) (entry ∷ []))) q xs ys n) (sym done)
-    (shown, state ∙ ap (λ (u : State). outcome.finish u p results) before))
 
 -- ---- the caller
 

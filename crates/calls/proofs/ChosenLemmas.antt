@@ -52,6 +52,10 @@ no_kill_chosen l g ne = elim (is_pending g KILL) as (λ b. is_pending g KILL ≡
   | false ↦ λ k. refl
 ] refl
 
+-- nor where none is
+pub none_chosen : (l : Life) (g : Signals) → chosen l g ≡ None → is_pending g KILL ≡ false
+none_chosen l g none = no_kill_chosen l g (λ k. let no = sym none ∙ k in absurd (cc))
+
 -- a handler is entered the same, whether the signal was taken out of the record that is looked at or not
 pub handle_taken : (s : State) (me : Process) (n : ℕ) (signal : PendingSignal) (address : ℤ) → handle s (take_out n me) signal address ≡ handle s me signal address
 unfolding handle take_out taken end_process hang_up
@@ -130,9 +134,9 @@ act_delivers granted s r n e free takes =
     ∙ ap (λ o. deliver_or s r o (after_trap granted s r (exec_one (code_of s r) r.cpu).cpu (exec_one (code_of s r) r.cpu).trap)) takes
 
 -- or it runs an instruction
-pub act_runs : (granted : Bool) (s : State) (r : Process) → is_pending r.signals KILL ≡ false → r.blocked ≡ None → chosen r.life r.signals ≡ None
+pub act_runs : (granted : Bool) (s : State) (r : Process) → r.blocked ≡ None → chosen r.life r.signals ≡ None
     → act granted s r ≡ after_trap granted s r (exec_one (code_of s r) r.cpu).cpu (exec_one (code_of s r) r.cpu).trap
 unfolding act_in
-act_runs granted s r e free none =
-    act_on_not_killed granted s r e ∙ ap (act_in granted s r) free
+act_runs granted s r free none =
+    act_on_not_killed granted s r (none_chosen r.life r.signals none) ∙ ap (act_in granted s r) free
     ∙ ap (λ o. deliver_or s r o (after_trap granted s r (exec_one (code_of s r) r.cpu).cpu (exec_one (code_of s r) r.cpu).trap)) none

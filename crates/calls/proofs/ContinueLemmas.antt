@@ -22,6 +22,7 @@ use Rattle.posix.specs.Notices.{acted_upon, child_signal, generated_for, noticed
 use Rattle.posix.specs.Sends.{targets, permitted, sent, sent_among}
 use Rattle.posix.specs.Settle.{is_block}
 use Rattle.posix.specs.Waits.{report, report_among, wait_for, wait_with, has_option, WNOWAIT, is_named, is_something, report_life, report_of, reports}
+use Rattle.posix.proofs.ChangeLemmas.{unseen_noticed_of_change}
 use Rattle.posix.proofs.MapLemmas.{at_keeps, at_pid, lookup_on}
 use Rattle.posix.proofs.SeeLemmas.{seen}
 use Rattle.posix.proofs.TableLemmas.{pid_looked}
@@ -43,8 +44,7 @@ named_alike : (group : ℕ) (target : Target) (a b : Process) → seen a ≡ see
 named_alike group (whom.Process p) a b e = ap (λ s. s.pid == p) e
 named_alike group whom.OwnGroup a b e = ap (λ s. s.group == group) e
 named_alike group (whom.Group p) a b e = ap (λ s. s.group == p) e
-named_alike group whom.All a b e = refl
-named_alike group whom.Nobody a b e = refl
+named_alike group target a b e = refl
 
 reports_alike : (options : ℕ) (a b : Process) → seen a ≡ seen b → reports options a ≡ reports options b
 unfolding report_of
@@ -96,26 +96,10 @@ first_reported s me (Some q) call a told = by (report s.processes me.pid me.grou
     by (found.End c w) e = done (has_option a.options.0 WNOWAIT) _ _
     by (found.Change c w) e = done (has_option a.options.0 WNOWAIT) _ _
 
--- ---- one process
-
--- a process is as it was, but for its signals, its call and its processor
-record IsSeenAs (now was : Process) : Type 0 where
-  seen : seen now ≡ seen was
-  parent : now.parent ≡ was.parent
-  signal : takes_signal now ≡ takes_signal was
-
-finished_as : (results : List (ℕ × ℤ)) (c : ℕ) (r : Process) → IsSeenAs (at c (finished results) r) r
-unfolding finished
-finished_as results c r = record {
-  seen = at_keeps seen c (finished results) (λ r. refl) r;
-  parent = at_keeps (λ r. r.parent) c (finished results) (λ r. refl) r;
-  signal = at_keeps takes_signal c (finished results) (λ r. refl) r;
-}
+-- ---- CONT
 
 seen_noticed : (signal : PendingSignal) (r : Process) → seen (noticed_of_change signal r) ≡ seen r
 seen_noticed signal r = ap seen (only_noticed_of_change signal r)
-
--- ---- CONT
 
 -- a parent that acts by its child looks at no other child
 parent_told : (results : List (ℕ × ℤ)) (c p : ℕ) (ts : List Process) (up child now : Process) → lookup p ts ≡ Some now → now.parent ≡ up.pid → seen now ≡ seen child → (awaits up child || takes_signal up) ≡ true
@@ -160,12 +144,6 @@ told_slots results c signal r rs order ns found alone = by (lookup q mid) refl
     ts : List Process
     ts = changed c (finished results) mid
 
-    keeps : (r : Process) → (g r).pid ≡ r.pid
-    keeps r = ap (λ (q : Process). q.pid) (only_noticed_of_change (child_signal p continued) r)
-
-    same_parent : (r : Process) → (g r).parent ≡ r.parent
-    same_parent r = ap (λ (q : Process). q.parent) (only_noticed_of_change (child_signal p continued) r)
-
     told : Process
     told = at q g child
 
@@ -173,16 +151,13 @@ told_slots results c signal r rs order ns found alone = by (lookup q mid) refl
     now = at c (finished results) told
 
     here : lookup p ts ≡ Some now
-    here = lookup_on (at c (finished results)) (at_pid c (finished results) (λ r. refl)) p mid told (lookup_on (at q g) (at_pid q g keeps) p before child (changed_there p resumed (λ r. refl) (changed p f rs) (f r) (changed_there p f (λ r. refl) rs r found)))
-
-    like : IsSeenAs now told
-    like = finished_as results c told
+    here = lookup_on (at c (finished results)) (at_pid c (finished results) (λ r. refl)) p mid told (lookup_on (at q g) (at_pid q g (unseen_noticed_of_change (child_signal p continued)).pid) p before child (changed_there p resumed (λ r. refl) (changed p f rs) (f r) (changed_there p f (λ r. refl) rs r found)))
 
     same : seen now ≡ seen child
-    same = like.seen ∙ at_keeps seen q g (seen_noticed (child_signal p continued)) child
+    same = at_keeps seen c (finished results) (λ r. refl) told ∙ at_keeps seen q g (seen_noticed (child_signal p continued)) child
 
     its : now.parent ≡ q
-    its = like.parent ∙ at_keeps (λ r. r.parent) q g same_parent child
+    its = at_keeps (λ r. r.parent) c (finished results) (λ r. refl) told ∙ at_keeps (λ r. r.parent) q g (unseen_noticed_of_change (child_signal p continued)).parent child
 
     one : (l : List ℕ) → l ≡ p ∷ [] → slots_of_rechecks ts None l ≤ 7
     one l e = rw e (let most = rechecks_one ts p now here in omega (arith, most))
@@ -212,7 +187,7 @@ plain_slots results c signal r rs order found =
       | false ↦ λ e. omega arith
       | true ↦ λ e. elim (is_in r.pid order) as (λ b. slots_of_rechecks (changed c (finished results) (changed r.pid (signalled signal) rs)) None (cond b [] (r.pid ∷ [])) ≤ 7) [
         | true ↦ omega arith
-        | false ↦ let two = judged_brief (changed c (finished results) (changed r.pid (signalled signal) rs)) None (at c (finished results) it) (or_left _ _ ((finished_as results c it).signal ∙ e)) in rw here (omega (arith, two))
+        | false ↦ let two = judged_brief (changed c (finished results) (changed r.pid (signalled signal) rs)) None (at c (finished results) it) (or_left _ _ (at_keeps takes_signal c (finished results) (λ r. refl) it ∙ e)) in rw here (omega (arith, two))
       ]
     ] refl
 

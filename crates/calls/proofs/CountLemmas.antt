@@ -39,11 +39,9 @@ rechecks_taking rs last (n ∷ ns) h =
 
 -- a call that isn't a wait is told of by one more
 call_brief : (rs : List Process) (first : Option ℕ) (me : Process) (b : Option Blocked) → not (is_in_wait b) ≡ true → slots_of_call rs first me b ≤ 1
-call_brief rs first me None e = omega arith
 call_brief rs first me (Some (blocked.Wait call)) e = absurd (cc)
 call_brief rs first me (Some blocked.Read) e = omega arith
-call_brief rs first me (Some blocked.Pause) e = omega arith
-call_brief rs first me (Some (blocked.Sigsuspend mask)) e = omega arith
+call_brief rs first me b e = omega arith
 
 -- who isn't in a wait, or takes a signal, is told of by two
 pub judged_brief : (rs : List Process) (first : Option ℕ) (r : Process) → (is_some (chosen r.life r.signals) || not (is_in_wait r.blocked)) ≡ true → slots_of_rechecking rs first (Some r) ≤ 2
@@ -85,11 +83,9 @@ judged_told rs q r e = by (takes_signal r) r.blocked e
   where
     by : (t : Bool) (b : Option Blocked) → (t || (not (is_in_wait b) || reports_at_once rs q r (asked_in r b))) ≡ true → 1 + cond t 0 (slots_of_call rs (Some q) r b) ≤ 3
     by true b e = omega arith
-    by false None e = omega arith
     by false (Some (blocked.Wait call)) e = let two = asking_told rs q r (asked_by call r) e in omega (arith, two)
     by false (Some blocked.Read) e = omega arith
-    by false (Some blocked.Pause) e = omega arith
-    by false (Some (blocked.Sigsuspend mask)) e = omega arith
+    by false b e = omega arith
 
 -- any process
 judged_any : (rs : List Process) (first : Option ℕ) (r : Process) → slots_of_rechecking rs first (Some r) ≤ 4
@@ -108,11 +104,9 @@ judged_any rs first r = by (takes_signal r) r.blocked
 
     by : (t : Bool) (b : Option Blocked) → 1 + cond t 0 (slots_of_call rs first r b) ≤ 4
     by true b = omega arith
-    by false None = omega arith
     by false (Some (blocked.Wait call)) = let all = asking (asked_by call r) in omega (arith, all)
     by false (Some blocked.Read) = omega arith
-    by false (Some blocked.Pause) = omega arith
-    by false (Some (blocked.Sigsuspend mask)) = omega arith
+    by false b = omega arith
 
 -- one process alone
 pub rechecks_one : (rs : List Process) (p : ℕ) (r : Process) → lookup p rs ≡ Some r → slots_of_rechecks rs None (p ∷ []) ≤ 4

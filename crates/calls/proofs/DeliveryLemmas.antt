@@ -87,9 +87,7 @@ defaults s me n d = cond (me.pid == 1) (discard s me.pid n) (act_by_default s me
 default_taken : (s : State) (me : Process) (n : ℕ) (d : DefaultAction) → defaults s (take_out n me) n d ≡ defaults s me n d
 unfolding take_out stop_process told_of_change
 default_taken s me n default.Terminate = ap (λ x. cond (me.pid == 1) (discard s me.pid n) x) (end_taken s me n (killed n))
-default_taken s me n default.Ignore = refl
-default_taken s me n default.Stop = refl
-default_taken s me n default.Continue = refl
+default_taken s me n d = refl
 
 -- by default
 pub deliver_default : (s : State) (me : Process) (n : ℕ) (t : State) (a : Action) → Reads s me n t a → a.handler ≡ handler.Default → deliver s me n ≡ defaults t (take_out n me) n (default_action n)
@@ -100,17 +98,15 @@ deliver_default s me n t a is by_default =
     ∙ ap (λ x. defaults x me n (default_action n)) (sym is.state_is)
     ∙ sym (default_taken t me n (default_action n))
 
+-- whether it is process 1 decides first
+pub by_default_if : (s : State) (me : Process) (n : ℕ) (b : Bool) → (me.pid == 1) ≡ b → defaults s me n (default_action n) ≡ cond b (discard s me.pid n) (act_by_default s me n (default_action n))
+by_default_if s me n b e = ap (λ b. cond b (discard s me.pid n) (act_by_default s me n (default_action n))) e
+
 -- an end by default
 pub default_ends : (s : State) (me : Process) (n : ℕ) (u : State) (es : List Entry) → (me.pid == 1) ≡ false → default_action n ≡ default.Terminate
     → u ≡ (end_process s me (killed n)).state → es ≡ (end_process s me (killed n)).entries → defaults s me n (default_action n) ≡ outcome_of u es
 default_ends s me n u es other ends st en =
-    ap (λ b. cond b (discard s me.pid n) (act_by_default s me n (default_action n))) other
-    ∙ ap (act_by_default s me n) ends
-    ∙ same_outcome (end_process s me (killed n)).state u (end_process s me (killed n)).entries es (sym st) (sym en)
-
--- a stop by default
-pub default_stops : (s : State) (me : Process) (n : ℕ) → (me.pid == 1) ≡ false → default_action n ≡ default.Stop → defaults s me n (default_action n) ≡ stop_or_discard s me n
-default_stops s me n other stops = ap (λ b. cond b (discard s me.pid n) (act_by_default s me n (default_action n))) other ∙ ap (act_by_default s me n) stops
+    by_default_if s me n false other ∙ ap (act_by_default s me n) ends ∙ same_outcome (end_process s me (killed n)).state u (end_process s me (killed n)).entries es (sym st) (sym en)
 
 -- where the group is orphaned, and the signal isn't STOP, it has no effect
 pub stop_if : (s : State) (me : Process) (n : ℕ) (b : Bool) → (not (n == STOP) && is_orphaned me.group s.processes) ≡ b → stop_or_discard s me n ≡ cond b (discard s me.pid n) (stop_process s me n)
@@ -129,10 +125,6 @@ return_is s me frame t newest st = ap (return_to s me) newest ∙ ap (λ x. outc
 -- what was added to no entries stands alone
 pub shown_alone : (old new : List Entry) (e : Entry) → old ≡ [] → new ≡ old ++ e ∷ [] → e ∷ [] ≡ new
 shown_alone old new e none is = sym (is ∙ ap (λ (l : List Entry). l ++ e ∷ []) none)
-
--- whether it is process 1 decides first
-pub by_default_if : (s : State) (me : Process) (n : ℕ) (b : Bool) → (me.pid == 1) ≡ b → defaults s me n (default_action n) ≡ cond b (discard s me.pid n) (act_by_default s me n (default_action n))
-by_default_if s me n b e = ap (λ b. cond b (discard s me.pid n) (act_by_default s me n (default_action n))) e
 
 -- a default other than an end and a stop has no effect
 pub default_rests : (s : State) (me : Process) (n : ℕ) (d e : DefaultAction) → d ≡ e → (d ≡ default.Ignore) ⊎ (d ≡ default.Continue) → act_by_default s me n e ≡ discard s me.pid n

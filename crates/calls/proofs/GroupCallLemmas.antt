@@ -1,5 +1,5 @@
 -- Calls on process groups, sessions and programs.
-use Rattle.std.proofs.Common.{◌≡◌, ℕ, Bool, true, false, cond, refl, ap, sym, ◌∙◌, subst, List, Option, Some, None, Result, Ok, Err, ℤ, pos, negsuc, ◌==◌, ◌||◌, slice_get}
+use Rattle.std.proofs.Common.{◌≡◌, ℕ, Bool, true, false, refl, ap, sym, ◌∙◌, subst, List, Option, Some, None, Result, Ok, Err, ℤ, pos, negsuc, ◌==◌, ◌||◌, slice_get}
 use Rattle.std.specs.Option.{IsSome}
 use Rattle.posix.specs.declared.call.Call.TheVariants.{Exec, Setpgid, Setsid}
 use Rattle.posix.specs.declared.errno.Errno.{Errno}
@@ -37,16 +37,13 @@ setpgid_moves s me r group who moves = ap (setpgid_with s me (named me (argument
 abbrev pub is_session_refused : State → Process → Bool
 is_session_refused s me = me.group == me.pid || is_group_of_others me s.processes
 
-abbrev setsid_if : State → Process → Bool → outcome.Attempted
-setsid_if s me b = cond b (outcome.refused s me.pid Setsid EPERM) (outcome.finish_with (change s me.pid in_session) me.pid Setsid (pos me.pid))
-
 pub session_refused : (s : State) (me : Process) → is_session_refused s me ≡ true → setsid s me ≡ outcome.refused s me.pid Setsid EPERM
 unfolding setsid
-session_refused s me e = ap (setsid_if s me) e
+session_refused s me e = rw e refl
 
 pub session_led : (s : State) (me : Process) → is_session_refused s me ≡ false → setsid s me ≡ outcome.finish_with (change s me.pid in_session) me.pid Setsid (pos me.pid)
 unfolding setsid
-session_led s me e = ap (setsid_if s me) e
+session_led s me e = rw e refl
 
 -- who leads a session is there
 pub there_led : (s : State) (p : ℕ) → IsSome (process s p) → IsSome (process (change s p in_session) p)

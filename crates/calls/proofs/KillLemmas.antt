@@ -75,11 +75,8 @@ finished_as answer s me to k = outcome.finish (sent_in answer s me to k) me.pid 
 
 -- its call is finished and shown by the answer
 answered_as : (answer : Sending) (s new : State) (me : Process) (call : Call) (to : Target) (k : Option PendingSignal) (xs ys : List Entry) → new ≡ finished_as answer s me to k → ys ≡ xs ++ entry_of_sending me.pid call answer ∷ [] → Comes s (send_with s me call to k answer) came.Done xs ys new
-answered_as found.NobodyFound s new me call to k xs ys state shown = (shown, state)
-answered_as found.NobodyPermitted s new me call to k xs ys state shown = (shown, state)
-answered_as found.QueueFull s new me call to k xs ys state shown = (shown, state)
 answered_as found.NoMemory s new me call to k xs ys state shown = (shown, state)
-answered_as found.Permitted s new me call to k xs ys state shown = (shown, state)
+answered_as answer s new me call to k xs ys state shown = (shown, state)
 
 pub send_comes : (granted : Bool) (s now new : State) (me : Process) (call : Call) (to : Target) (value word z : ℤ) (named : Result (Option ℕ) Errno) (sig : Option ℕ) (k : Option PendingSignal) (answer : Sending) (xs ys : List Entry) (r : Attempt) → named ≡ signal_or_none word → named ≡ Ok sig → k ≡ message me.pid value sig
     → answer ≡ sending_granted granted me to (number_of k) s.processes → now ≡ sent_in answer s me to k → z ≡ value_of_sending answer → r ≡ came.Done → new ≡ outcome.finish now me.pid ((0, z) ∷ []) → ys ≡ xs ++ entry_of_sending me.pid call answer ∷ []

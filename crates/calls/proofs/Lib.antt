@@ -4,10 +4,8 @@ pub mod RemainLemmas
 pub mod DeliveryLemmas
 pub mod OwnLemmas
 pub mod KillLemmas
-pub mod ReplyLemmas
 pub mod GroupCallLemmas
 pub mod TerminalCallLemmas
-pub mod TransferLemmas
 pub mod CountLemmas
 pub mod ContinueLemmas
 pub mod BriefLemmas

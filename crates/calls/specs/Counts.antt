@@ -32,11 +32,9 @@ slots_of_waiting rs first call me = slots_of_asking rs first me.pid me.group (as
 
 -- to tell whether a call goes on in which a process is
 abbrev pub slots_of_call : List Process → Option ℕ → Process → Option Blocked → ℕ
-slots_of_call rs first me None = 0
 slots_of_call rs first me (Some (blocked.Wait call)) = slots_of_waiting rs first call me
 slots_of_call rs first me (Some blocked.Read) = 1
-slots_of_call rs first me (Some blocked.Pause) = 0
-slots_of_call rs first me (Some (blocked.Sigsuspend mask)) = 0
+slots_of_call rs first me b = 0
 
 -- to tell whether a process can act, beside its own: its call doesn't count where a signal is chosen for it
 abbrev pub slots_of_judging : List Process → Option ℕ → Process → ℕ

@@ -1,7 +1,7 @@
 -- What the functions of calls come to.
 use Rattle.std.specs.Prelude.{◌≡◌, ◌≢◌, ◌==◌, ◌&&◌, not, ⊤, ℕ, ◌+◌, ◌≤◌, if◌then◌else◌, Option, None, Bool, true, false, List, [], ◌∷◌, ◌++◌, Some, ℤ, pos, Result, Ok, Err}
 use Rattle.posix.specs.declared.call.Call.{Call}
-use Rattle.posix.specs.declared.call.Call.TheVariants.{Exit, Fork, Waitpid, Waitid, Pause, SchedYield, Getppid, Kill, Sigqueue, Sigsuspend, Sigreturn, Alarm, Exec, Getpgid, Getsid, Setpgid, Setsid, Setctty, Tcgetpgrp, Tcsetpgrp, Settostop, Read, Write, Subreaper}
+use Rattle.posix.specs.declared.call.Call.TheVariants.{Getpid, Getuid, Geteuid, Getgid, Getegid, Setuid, Seteuid, Setgid, Setegid, Sigaction, Sigprocmask, Sigpending, Waitpid, Waitid, Kill, Sigqueue, Getsid}
 use Rattle.posix.specs.declared.entry.Entry.{Entry}
 use Rattle.posix.specs.declared.entry.Entry.TheVariants.{Called, NoMemory}
 use Rattle.posix.specs.declared.errno.Errno.{Errno}
@@ -61,9 +61,8 @@ pub record CostsWithRechecks (most : ℕ) (old new : MachineView) : Type 0 where
 
 -- CONT is named
 abbrev pub is_cont : Result (Option ℕ) Errno → Bool
-is_cont (Ok None) = false
 is_cont (Ok (Some n)) = n == CONT
-is_cont (Err why) = false
+is_cont sig = false
 
 -- before a real-time signal is queued for one process two slots are read
 abbrev pub slots_before : Result (Option ℕ) Errno → ℕ
@@ -89,8 +88,7 @@ slots_of_brief call me = None
 
 abbrev pub is_address : Handler → Bool
 is_address (handler.At address) = true
-is_address handler.Ignore = false
-is_address handler.Default = false
+is_address other = false
 
 -- a machine fault enters a handler: there is one, which isn't blocked, and there is room for its frame
 abbrev pub enters_handler : Process → ℕ → Bool
@@ -102,14 +100,9 @@ enters_handler me n = is_address (action me.signals n).handler && (not (has me.s
 -- begins again, and shows nothing; or the process has to wait, and nothing has changed.
 abbrev pub Comes : State → outcome.Attempted → Attempt → List Entry → List Entry → State → Type 0
 Comes old (outcome.Done o) came.Done before after new = (after ≡ before ++ o.entries) × (new ≡ o.state)
-Comes old (outcome.Done o) came.Again before after new = ⊥
-Comes old (outcome.Done o) (came.Block c) before after new = ⊥
-Comes old (outcome.Block b) came.Done before after new = ⊥
-Comes old (outcome.Block b) came.Again before after new = ⊥
 Comes old (outcome.Block b) (came.Block c) before after new = (c ≡ b) × (after ≡ before) × (new ≡ old)
-Comes old (outcome.Again t) came.Done before after new = ⊥
 Comes old (outcome.Again t) came.Again before after new = (after ≡ before) × (new ≡ t)
-Comes old (outcome.Again t) (came.Block c) before after new = ⊥
+Comes old attempted result before after new = ⊥
 
 -- The call of p may come to this.
 abbrev pub Attempts : State → ℕ → Call → Attempt → List Entry → List Entry → State → Type 0
@@ -145,31 +138,19 @@ with_own p o r = record (give_own o r) { pid = p }
 -- ---- calls that change their process alone
 
 abbrev pub changes_caller_alone : Call → Bool
-changes_caller_alone Exit = false
-changes_caller_alone Fork = false
-changes_caller_alone Waitpid = false
-changes_caller_alone Waitid = false
-changes_caller_alone Pause = false
-changes_caller_alone SchedYield = false
-changes_caller_alone Getppid = false
-changes_caller_alone Kill = false
-changes_caller_alone Sigqueue = false
-changes_caller_alone Sigsuspend = false
-changes_caller_alone Sigreturn = false
-changes_caller_alone Alarm = false
-changes_caller_alone Exec = false
-changes_caller_alone Getpgid = false
-changes_caller_alone Getsid = false
-changes_caller_alone Setpgid = false
-changes_caller_alone Setsid = false
-changes_caller_alone Setctty = false
-changes_caller_alone Tcgetpgrp = false
-changes_caller_alone Tcsetpgrp = false
-changes_caller_alone Settostop = false
-changes_caller_alone Read = false
-changes_caller_alone Write = false
-changes_caller_alone Subreaper = false
-changes_caller_alone call = true
+changes_caller_alone Getpid = true
+changes_caller_alone Getuid = true
+changes_caller_alone Geteuid = true
+changes_caller_alone Getgid = true
+changes_caller_alone Getegid = true
+changes_caller_alone Setuid = true
+changes_caller_alone Seteuid = true
+changes_caller_alone Setgid = true
+changes_caller_alone Setegid = true
+changes_caller_alone Sigaction = true
+changes_caller_alone Sigprocmask = true
+changes_caller_alone Sigpending = true
+changes_caller_alone call = false
 
 -- what a call gives that is done, or refused
 abbrev pub value_of : Result (Unit {0}) Errno → ℤ

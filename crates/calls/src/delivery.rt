@@ -1,6 +1,7 @@
 //! Delivery of signals, machine faults, and returns from handlers.
 
-ghost use Rattle.std.specs.Prelude.{◌≡◌, ◌==◌, ◌&&◌, not, ◌+◌, ◌≤◌, ◌++◌, [], IsSome, Some, false, true, length, if◌then◌else◌};
+ghost use Rattle.std.specs.Prelude.{◌≡◌, ◌==◌, ◌&&◌, not, ◌+◌, ◌≤◌, ◌++◌, ◌∷◌, [], IsSome, Some, false, true, length, if◌then◌else◌};
+ghost use Rattle.posix.specs.declared.entry.Entry.TheVariants.{Ended, Halted};
 ghost use Rattle.posix.specs.Processes.{Process};
 ghost use Rattle.posix.specs.States.{process, has_place};
 ghost use Rattle.posix.specs.Handlers.{is_full};
@@ -21,6 +22,17 @@ use posix::{
 use proctable::ProcessTable;
 use signal::is_interrupted;
 
+/// What an end shows: that the process has ended, and of process 1 that the machine halts.
+fn show_end(pid: Pid, status: Status, entries: &mut Entries)
+    requires room { length entries.old.items ≤ 2 }
+    ensures { entries.new.items ≡ entries.old.items ++ (if pid == 1 then Ended pid status ∷ Halted ∷ [] else Ended pid status ∷ []) }
+{
+    entries.push(Entry::Ended { pid, status });
+    if pid == Pid::INIT {
+        entries.push(Entry::Halted);
+    }
+}
+
 /// The end of a process that is there, and what it shows. The terminal of the session that it leads is hung up
 /// first (XSH _exit).
 #[tactic(auto, unfolding(posix::specs::Ends::end_process))]
@@ -40,10 +52,7 @@ pub fn end<K: ProcessTable>(
     machine.hang_up(pid);
     let heir = machine.heir(pid);
     machine.end(pid, heir, status);
-    entries.push(Entry::Ended { pid, status });
-    if pid == Pid::INIT {
-        entries.push(Entry::Halted);
-    }
+    show_end(pid, status, entries);
 }
 
 /// Shows that the call that a process is blocked in, if any, is interrupted as a handler with this action

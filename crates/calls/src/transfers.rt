@@ -131,6 +131,7 @@ fn read_span<K: ProcessTable>(
 /// What it leaves of the line stays. ENOTTY where the caller's session has no terminal; EINVAL for a count outside 0 to
 /// 16; EFAULT where a word is none of the process; EIO, or TTIN for the caller's process group and the call again, in the
 /// background (XBD 11.1.4, 11.1.6, XSH read). Where no line is finished the caller has to wait.
+#[tactic(auto, unfolding(posix::specs::Terminals::read))]
 pub fn read<K: ProcessTable>(machine: &mut Machine<K>, pid: Pid, entries: &mut Entries) -> Attempt
     requires there { IsSome (process machine.old.state pid) }
     requires room { length entries.old.items ≤ 1 }
@@ -150,6 +151,7 @@ pub fn read<K: ProcessTable>(machine: &mut Machine<K>, pid: Pid, entries: &mut E
 /// Whether a read of a process that is there, with this snapshot, would have to wait: its process group is the
 /// foreground one of its controlling terminal, which isn't hung up, it asks for bytes, and no line is finished (XBD
 /// 11.1.4, 11.1.6, 11.1.10).
+#[tactic(auto, unfolding(posix::specs::Terminals::waits_to_read))]
 pub fn has_to_read<K: ProcessTable>(machine: &mut Machine<K>, pid: Pid, snapshot: Snapshot) -> bool
     requires there { IsSome (process machine.old.state pid) }
     requires snapshot { Some snapshot ≡ option_map snapshot_of (process machine.old.state pid) }
@@ -207,6 +209,7 @@ fn write_span<K: ProcessTable>(
 /// ENOTTY where the caller's session has no terminal; EINVAL for a count outside 0 to 16; EFAULT where a word is none of
 /// the process; EIO where the terminal is hung up (XBD 11.1.10); EIO, or TTOU for the caller's process group and the call
 /// again, in the background where TOSTOP is set (XBD 11.1.4, XSH write).
+#[tactic(auto, unfolding(posix::specs::Terminals::write))]
 pub fn write<K: ProcessTable>(machine: &mut Machine<K>, pid: Pid, entries: &mut Entries) -> Attempt
     requires there { IsSome (process machine.old.state pid) }
     requires room { length entries.old.items ≤ 1 }

@@ -3,7 +3,7 @@ use Rattle.std.proofs.Common.{◌≡◌, ℕ, List, Option, Result, refl, inl, i
 use Rattle.kernel.specs.Headline.{Fails}
 use Rattle.kernel.specs.declared.texts.RunError.{RunError}
 use Rattle.kernel.specs.declared.texts.RunError.TheVariants as error
-use Rattle.sink.specs.Sinks.{Seen}
+use Rattle.trace.specs.Sinks.{Seen}
 use Rattle.inputs.specs.Failures.{MeansOf}
 use Rattle.inputs.proofs.MeaningLemmas.{means_cut_short, means_done}
 use Rattle.commands.specs.Running.{EndsAudit, EndsRun, MeansOfAudit, MeansOfRun, answer_of}

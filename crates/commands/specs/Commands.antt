@@ -8,7 +8,7 @@ use Rattle.exploring.specs.Serving.{Means as MeansOfExploring}
 use Rattle.exploring.specs.Words.{request_of_words as exploring_asked}
 use Rattle.inputs.specs.Reads.{Contents}
 use Rattle.naming.specs.Serving.{Means as MeansOfNaming, text_in_words}
-use Rattle.sink.specs.Sinks.{Seen}
+use Rattle.trace.specs.Sinks.{Seen}
 use Rattle.commands.specs.Running.{AreStored, AskFor, AskForAudit, IsToldAs, MeansOfAudit, MeansOfRun}
 use Rattle.commands.specs.Words.{audit_asked, run_asked}
 use Rattle.commands.specs.declared.help.TheConstants.{HELP, VERSION}
@@ -29,7 +29,7 @@ pub data Purpose : Type 0 where
   AuditsInWords : List (List ℕ) → Purpose  -- by those behind `explain --audit`
   Draws : List (List ℕ) → Purpose  -- by those behind `lanes`
   Names : List (List ℕ) → Purpose
-  IsNone : Purpose  -- any other words
+  AsksNothing : Purpose  -- any other words
 
 abbrev pub is_help : List ℕ → Bool
 is_help word = bytes_eq word (codes "--help") || bytes_eq word (codes "-h")
@@ -53,7 +53,7 @@ purpose first second more = if is_help first || is_help second then Helps
     else if bytes_eq first (codes "explain") then explained more
     else if bytes_eq first (codes "lanes") then Draws more
     else if bytes_eq first (codes "names") then Names more
-    else IsNone
+    else AsksNothing
 
 abbrev pub first_or_empty : List (List ℕ) → List ℕ
 first_or_empty [] = []
@@ -75,7 +75,7 @@ said (command.Explain more) = Explains (map (λ w. w.now) more.now)
 said (command.AuditInWords more) = AuditsInWords (map (λ w. w.now) more.now)
 said (command.Lanes more) = Draws (map (λ w. w.now) more.now)
 said (command.Names more) = Names (map (λ w. w.now) more.now)
-said command.Other = IsNone
+said command.Other = AsksNothing
 
 -- What a status means of words that are for this, with the files and the output from the call to the return. Of `show` it is
 -- only said how great it may be.
@@ -91,4 +91,4 @@ ServesAs contents old new before after status (Explains more) = MeansOfExplainin
 ServesAs contents old new before after status (AuditsInWords more) = MeansOfAudit (AskForAudit contents (audit_asked more)) (audit_asked more) old new before after status × (status ≤ 3)
 ServesAs contents old new before after status (Draws more) = MeansOfDrawing contents (drawing_asked more) old new status × (status ≤ 3)
 ServesAs contents old new before after status (Names more) = MeansOfNaming contents (text_in_words more) old new before after status × (status ≤ 3)
-ServesAs contents old new before after status IsNone = (status ≡ 2) × (new ≡ old)
+ServesAs contents old new before after status AsksNothing = (status ≡ 2) × (new ≡ old)

@@ -3,7 +3,7 @@ use Rattle.std.specs.Prelude.{◌≡◌, ◌⊎◌, ◌||◌, ◌&&◌, ◌==◌
 use Rattle.std.specs.Option.{option_map_or}
 use Rattle.std.specs.Str.{bytes_eq}
 use Rattle.inputs.specs.Reads.{Contents, Text}
-use Rattle.sink.specs.Sinks.{Seen}
+use Rattle.trace.specs.Sinks.{Seen}
 use Rattle.refusing.specs.Texts.{Input, IsInput, files_with}
 use Rattle.commands.specs.Commands.{ServesAs, purpose_of}
 use Rattle.commands.specs.Options.{ArePlain, first_option}

@@ -9,7 +9,7 @@ use Rattle.text.specs.declared.fault.Reason.TheVariants.{Memory}
 use Rattle.text.specs.declared.fault.TextFault.{TextFault}
 use Rattle.kernel.specs.declared.texts.RunError.TheVariants as error
 use Rattle.kernel.specs.Headline.{CutsShort, Traces}
-use Rattle.sink.specs.Sinks.{BreaksOff, Seen, TakesAll}
+use Rattle.trace.specs.Sinks.{BreaksOff, Seen, TakesAll}
 use Rattle.audit.specs.Texts.{IsLawful}
 use Rattle.inputs.specs.Failures.{MeansOf}
 use Rattle.inputs.specs.Reads.{AreInFiles, Contents, Text}

@@ -4,7 +4,7 @@ use Rattle.std.specs.Borrow.{Bor}
 use Rattle.inputs.specs.Reads.{Contents, Text}
 use Rattle.inputs.specs.declared.command_line.WordsFault.{WordsFault}
 use Rattle.inputs.specs.declared.command_line.WordsFault.TheVariants.{NotText, Memory}
-use Rattle.sink.specs.Sinks.{Seen}
+use Rattle.trace.specs.Sinks.{Seen}
 use Rattle.commands.specs.Commands.{ServesAs, purpose_of}
 use Rattle.commands.specs.Named.{ServesNamed, named_in, place_in}
 

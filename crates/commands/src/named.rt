@@ -23,7 +23,7 @@ const USAGE: &[u8] =
 pub fn takes_names(command: &str) -> bool
     ensures { result ≡ takes_names_of command.now }
 {
-    command == "run" || command == "explore" || command == "show"
+    matches!(command, "run" | "explore" | "show")
 }
 
 /// Whether a word is an option, and names no file.

@@ -1,7 +1,7 @@
 //! What `run` and `audit` do: their texts and their statuses.
 
 ghost use Rattle.std.specs.Prelude.{◌≡◌, ◌≤◌, IfOk, IfErr, IfSome, OnErr, OnOk, Some, map};
-ghost use Rattle.sink.specs.Sinks.{BreaksOff, TakesAll};
+ghost use Rattle.trace.specs.Sinks.{BreaksOff, TakesAll};
 ghost use Rattle.inputs.specs.Reads.{AreInFiles};
 ghost use Rattle.commands.specs.Running.{AreStored, AskFor, AskForAudit, EndsAudit, EndsRun, IsToldAs, MeansOfAudit, MeansOfRun, answer_of, status_of};
 ghost use Rattle.commands.specs.Words.{audit_asked, run_asked};
@@ -86,10 +86,7 @@ fn put_answer<'a, O: Sink>(answer: &[u8], out: &mut O) -> Result<(), Failure<'a>
     ensures err { IfErr result (λ why. why ≡ Failure.Run RunError.Write) }
     ensures cut { OnErr result (BreaksOff (O.seen out.old) (O.seen out.new) answer.now) }
 {
-    match put_all(out, answer) {
-        Ok(()) => Ok(()),
-        Err(_) => Err(Failure::Run(RunError::Write)),
-    }
+    put_all(out, answer).map_err(|_| Failure::Run(RunError::Write))
 }
 
 /// Tells the first fault of a trace. The longest of these texts has less than 40 bytes.

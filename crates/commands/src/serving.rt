@@ -48,24 +48,21 @@ enum Command<'a> {
 fn is_help(word: &str) -> bool
     ensures { result ≡ is_help_of word.now }
 {
-    word == "--help" || word == "-h"
+    matches!(word, "--help" | "-h")
 }
 
 /// Whether a word asks for the program's version.
 fn is_version(word: &str) -> bool
     ensures { result ≡ is_version_of word.now }
 {
-    word == "--version" || word == "-V"
+    matches!(word, "--version" | "-V")
 }
 
 /// The first word, or an empty one.
 fn first_or_empty<'a>(words: &[&'a str]) -> &'a str
     ensures { result.now ≡ first_or_empty_of (map (λ w. w.now) words.now) }
 {
-    match words.first() {
-        Some(word) => word,
-        None => "",
-    }
+    words.first().copied().unwrap_or("")
 }
 
 /// What the words behind `explain` are for.
@@ -87,25 +84,20 @@ fn command_in<'a>(words: &'a [&'a str]) -> Command<'a>
     };
     let second = first_or_empty(more);
     if is_help(first) || is_help(second) {
-        Command::Help
-    } else if is_version(first) || is_version(second) {
-        Command::Version
-    } else if *first == "run" {
-        Command::Run(more)
-    } else if *first == "audit" {
-        Command::Audit(more)
-    } else if *first == "explore" {
-        Command::Explore(more)
-    } else if *first == "show" {
-        Command::Show(more)
-    } else if *first == "explain" {
-        explain_in(more)
-    } else if *first == "lanes" {
-        Command::Lanes(more)
-    } else if *first == "names" {
-        Command::Names(more)
-    } else {
-        Command::Other
+        return Command::Help;
+    }
+    if is_version(first) || is_version(second) {
+        return Command::Version;
+    }
+    match *first {
+        "run" => Command::Run(more),
+        "audit" => Command::Audit(more),
+        "explore" => Command::Explore(more),
+        "show" => Command::Show(more),
+        "explain" => explain_in(more),
+        "lanes" => Command::Lanes(more),
+        "names" => Command::Names(more),
+        _ => Command::Other,
     }
 }
 

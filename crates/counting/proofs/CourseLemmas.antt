@@ -1,13 +1,12 @@
 -- Runs where all memory is granted, and the lines that they add.
-use Rattle.std.proofs.Common.{Result, Ok, Err, OnOk, ◌≡◌, ℕ, zero, suc, ◌+◌, ◌<◌, Bool, true, false, ◌||◌, List, [], ◌∷◌, ◌++◌, length, map, take, get_or, Contains, refl, ap, ap₂, sym, subst, ◌∙◌, append_assoc, append-nil, arith}
+use Rattle.std.proofs.Common.{Result, Ok, Err, OnOk, ◌≡◌, ℕ, ◌+◌, Bool, true, false, ◌||◌, List, [], ◌∷◌, ◌++◌, refl, ap, ap₂, sym, subst, ◌∙◌}
+use Rattle.std.specs.List.{list_any}
 use Rattle.std.specs.Result.{IfOk}
-use Rattle.std.proofs.lemmas.List.{map-append, take_more}
-use Rattle.std.proofs.lemmas.List.Folds.{list_any-append}
+use Rattle.std.proofs.lemmas.List.Folds.{list_any-append, list_any_at}
 use Rattle.posix.specs.declared.event.Event.{Event}
 use Rattle.posix.specs.declared.entry.Entry.{Entry}
-use Rattle.posix.specs.declared.call.Call.{Call}
 use Rattle.posix.specs.declared.entry.Entry.TheVariants.{NoMemory}
-use Rattle.posix.specs.Entries.{Line, line, numbered}
+use Rattle.posix.specs.Entries.{Line, numbered}
 use Rattle.posix.specs.States.{State, World, boot}
 use Rattle.posix.specs.Step.{next}
 use Rattle.posix.specs.Runs.{RunsFrom}
@@ -19,17 +18,16 @@ use Rattle.counting.specs.declared.ending.Ending.{Ending}
 use Rattle.life.specs.declared.noted_bursts.Note.{Note}
 use Rattle.kernel.specs.Steps.{noted_lines}
 use Rattle.counting.specs.Endings.{ending_of}
-use Rattle.counting.specs.AddLaws.{added_then, both_grant}
+use Rattle.counting.specs.AddLaws.{added_then}
 use Rattle.counting.specs.Courses.{Adds, AddsGranted, Course, IsCourse, course_from, course_of, denies_memory, one_denies_memory}
 
 -- ---- where all memory is granted
 
 -- so the run is that of the definitions
 
-an_entry_denies : (k : ℕ) (entries : List Entry) (p : ℕ) (call : Call) → Contains entries (NoMemory p call) → one_denies_memory (numbered k entries) ≡ true
-an_entry_denies k [] p call c = let l = c.1 in absurd (omega arith)
-an_entry_denies k (e ∷ es) p call (zero, l, is) = ap (λ (x : Entry). denies_memory x || one_denies_memory (numbered k es)) is
-an_entry_denies k (e ∷ es) p call (suc i, l, is) = let rest = an_entry_denies k es p call (i, omega arith, is) in grind (arith, rest)
+pub denies_by_entries : (k : ℕ) (entries : List Entry) → one_denies_memory (numbered k entries) ≡ list_any denies_memory entries
+denies_by_entries k [] = refl
+denies_by_entries k (e ∷ es) = ap (λ b. denies_memory e || b) (denies_by_entries k es)
 
 parts_grant : (ls ms : List Line) → one_denies_memory (ls ++ ms) ≡ false → (one_denies_memory ls ≡ false) × (one_denies_memory ms ≡ false)
 parts_grant ls ms none = both (one_denies_memory ls) (one_denies_memory ms) (sym (list_any-append (λ (l : Line). denies_memory l.entry) ls ms) ∙ none)
@@ -39,7 +37,8 @@ parts_grant ls ms none = both (one_denies_memory ls) (one_denies_memory ms) (sym
     both true b p = cc
 
 entries_grant : (k : ℕ) (entries : List Entry) → one_denies_memory (numbered k entries) ≡ false → EntriesGrantAll entries
-entries_grant k entries none p call c = let no = sym none ∙ an_entry_denies k entries p call c in absurd (cc)
+entries_grant k entries none p call c =
+    let no = sym none ∙ denies_by_entries k entries ∙ list_any_at denies_memory entries c.0 (NoMemory p call) c.1 (ap denies_memory c.2) in absurd (cc)
 
 pub granted_course : (k : ℕ) (s last : State) (events : List Event) (lines : List Line) → RunsFrom k s events lines last → one_denies_memory lines ≡ false → course_from k s events ≡ record { lines = lines; last = last }
 granted_course k s last [] lines (none, same) all = ap₂ (λ ls (t : State). record { lines = ls; last = t }) (sym none) (sym same)
@@ -59,16 +58,6 @@ is_course world loose events spots lines ending c =
     (c.adds.holds.0 ∙ ap (λ (x : Course). x.lines) (sym same), c.ends ∙ ap (λ (x : Course). ending_of x.last) (sym same))
 
 -- ---- lines that are added
-
-pub mapped_more : {X Y : Type 0} (f : X → Y) (xs : List X) (i : ℕ) (x : X) → i < length xs → x ≡ get_or xs i x → map f (take (i + 1) xs) ≡ map f (take i xs) ++ f x ∷ []
-mapped_more f xs i x lt is = ap (map f) (take_more xs i x lt ∙ ap (λ y. take i xs ++ y ∷ []) (sym is)) ∙ map-append f (take i xs) (x ∷ [])
-
-pub added_more : (before now next ls : List Line) (l : Line) → now ≡ before ++ ls → next ≡ now ++ l ∷ [] → next ≡ before ++ (ls ++ l ∷ [])
-added_more before now next ls l a b = b ∙ ap (λ xs. xs ++ l ∷ []) a ∙ append_assoc before ls (l ∷ [])
-
-pub granted_more : (k : ℕ) (entries : List Entry) (i : ℕ) (e : Entry) → i < length entries → e ≡ get_or entries i e → denies_memory e ≡ false
-    → one_denies_memory (numbered k (take i entries)) ≡ false → one_denies_memory (numbered k (take (i + 1) entries)) ≡ false
-granted_more k entries i e lt is grants before = ap one_denies_memory (mapped_more (line k) entries i e lt is) ∙ both_grant (numbered k (take i entries)) (line k e ∷ []) before (ap (λ b. b || false) grants)
 
 notes_grant : (p : ℕ) (notes : List Note) → one_denies_memory (noted_lines p notes) ≡ false
 notes_grant p [] = refl

@@ -1,81 +1,62 @@
 -- Places in a list of events, run by run: a schedule that is given, the event with a place, and the events from one place up to another.
-use Rattle.std.proofs.Common.{min, max, ap₂, zero, suc, Result, Ok, Err, IfOk, Some, ◌≡◌, ℕ, ◌+◌, ◌-◌, ◌<◌, ◌≤◌, List, [], ◌∷◌, ◌++◌, length, map, replicate, take, drop, get_or, slice_get, slice_index, refl, ap, sym, subst, ◌∙◌, arith, length-append}
+use Rattle.std.proofs.Common.{min, max, ap₂, zero, suc, Some, ◌≡◌, ℕ, ◌+◌, ◌-◌, ◌<◌, ◌≤◌, List, [], ◌∷◌, ◌++◌, length, map, replicate, take, drop, get_or, slice_get, refl, ap, sym, subst, ◌∙◌, arith, add-one, append_assoc, append-nil, drop-cons, length-append}
 use Rattle.std.specs.List.{All}
 use Rattle.std.specs.List.Sorted.{IsNonDecreasing}
 use Rattle.std.proofs.lemmas.List.{drop-replicate, length-drop, length-replicate, length-take, take-replicate, take_all, take_min}
 use Rattle.posix.specs.declared.event.Event.{Event}
-use Rattle.schedules.specs.Families.{Spots, place_of, IsSchedule}
-use Rattle.schedules.specs.Schedules.{put_at, scheduled, given, IsGiven}
-use Rattle.schedules.proofs.ScheduledLemmas.{length_scheduled}
-use Rattle.schedules.proofs.GivenLemmas.{all_are_given, given_all, given_of_run, given_put, more_are_given, put_is_given}
+use Rattle.schedules.specs.Families.{RisesFrom, Spots, place_of, IsSchedule}
+use Rattle.schedules.specs.Schedules.{from_front, put_at}
+use Rattle.schedules.proofs.ScheduledLemmas.{put_among, run_next}
 use Rattle.text.specs.EventLists.{CountedEvent, expanded}
 use Rattle.kernel.proofs.EventLemmas.{expanded_more, expanded_split}
 
--- the events of a run from the one with index done up to a later one
-run_given : (loose : List Event) (start done later used count : ℕ) (event : Event) (before behind events : List Event) (spots : Spots)
-    → events ≡ before ++ replicate count event ++ behind → length before ≡ start → IsGiven (length loose) done used spots → start ≤ done → done ≤ later → later ≤ start + count
-    → given loose later used events spots ≡ given loose done used events spots ++ replicate (later - done) event
-run_given loose start done later used count event before behind events spots whole first g from more within =
-    given_of_run loose done later used count event before behind events spots whole g (omega (arith, first, from)) more (omega (arith, first, within))
-
--- the place of the next spot, where the events before it are given
-pub place_is_given : (loose done used place : ℕ) (spots : Spots) → IsNonDecreasing (map (place_of loose) spots) → IsGiven loose done used spots → done ≤ place
-    → place ≡ place_of loose (slice_index spots used) → IsGiven loose place used spots
-place_is_given loose done used place spots up g more at = more_are_given loose done used place spots up g more (λ _. omega (arith, at))
-
--- the next spot, too
-pub spot_is_given : (loose done used place : ℕ) (spots : Spots) → IsNonDecreasing (map (place_of loose) spots) → IsGiven loose done used spots → done ≤ place
-    → place ≡ place_of loose (slice_index spots used) → IsGiven loose place (used + 1) spots
-spot_is_given loose done used place spots up g more at = put_is_given loose place used spots (place_is_given loose done used place spots up g more at) (sym at)
-
--- the events up to that place, and what is put in there
-pub put_given : (loose : List Event) (start done used count place : ℕ) (event x : Event) (before behind events old mid new : List Event) (spots : Spots)
-    → events ≡ before ++ replicate count event ++ behind → length before ≡ start → IsNonDecreasing (map (place_of (length loose)) spots) → IsGiven (length loose) done used spots → start ≤ done
-    → used < length spots → done ≤ place → place ≤ start + count → place ≡ place_of (length loose) (slice_index spots used) → x ≡ put_at loose (slice_index spots used)
-    → old ≡ given loose done used events spots → mid ≡ old ++ replicate (place - done) event → new ≡ mid ++ replicate 1 x → new ≡ given loose place (used + 1) events spots
-put_given loose start done used count place event x before behind events old mid new spots whole first up g from short more within at what was came last =
-    let long : length events ≡ length before + count + length behind =
-    ap length whole ∙ omega (arith, length-append (before ++ replicate count event) behind, length-append before (replicate count event), length-replicate count event) in
-    let here = place_is_given (length loose) done used place spots up g more at in
-    last
-    ∙ ap (λ xs. xs ++ x ∷ []) (came ∙ ap (λ xs. xs ++ replicate (place - done) event) was ∙ sym (run_given loose start done place used count event before behind events spots whole first g from more within))
-    ∙ ap (λ y. given loose place used events spots ++ y ∷ []) what
-    ∙ sym (given_put loose place used events spots here (omega (arith, long, first, within)) short (sym at))
+-- a spot within a run: the events before its place are there, and what is put in
+pub spot_put : (loose : List Event) (done end place : ℕ) (x y : Event) (old mid new whole behind : List Event) (q : ℕ) (ps qs : Spots) → qs ≡ q ∷ ps
+    → place ≡ place_of (length loose) q → done ≤ place → place ≤ end → y ≡ put_at loose q → mid ≡ old ++ replicate (place - done) x → new ≡ mid ++ replicate 1 y
+    → old ++ from_front loose done (replicate (end - done) x ++ behind) qs ≡ whole → new ++ from_front loose place (replicate (end - place) x ++ behind) ps ≡ whole
+spot_put loose done end place x y old mid new whole behind q ps qs is at from within what came last before =
+    let m : ℕ = place_of (length loose) q - done in
+    let less : end - place ≡ end - done - m = omega (arith, at, from, within) in
+    let rest : List Event = from_front loose (place_of (length loose) q) (replicate (end - done - m) x ++ behind) ps in
+    rw (last, came, what, less, at)
+    (append_assoc (old ++ replicate m x) (put_at loose q ∷ []) rest
+    ∙ append_assoc old (replicate m x) (put_at loose q ∷ rest)
+    ∙ ap (λ es. old ++ es) (sym (put_among loose done (end - done) x behind q ps (omega (arith, at, within))))
+    ∙ ap (λ rs. old ++ from_front loose done (replicate (end - done) x ++ behind) rs) (sym is)
+    ∙ before)
 
 pub put_length : (n : ℕ) (event x : Event) (old mid new : List Event) → mid ≡ old ++ replicate n event → new ≡ mid ++ replicate 1 x → length new ≡ length old + n + 1
 put_length n event x old mid new came last =
     ap length last ∙ length-append mid (replicate 1 x) ∙ omega (arith, length-replicate 1 x, ap length came, length-append old (replicate n event), length-replicate n event)
 
--- the rest of a run
-pub rest_given : (loose : List Event) (start done used count : ℕ) (event : Event) (before behind events old new : List Event) (spots : Spots)
-    → events ≡ before ++ replicate count event ++ behind → length before ≡ start → IsGiven (length loose) done used spots → start ≤ done → done ≤ start + count
-    → old ≡ given loose done used events spots → new ≡ old ++ replicate (start + count - done) event → new ≡ given loose (start + count) used events spots
-rest_given loose start done used count event before behind events old new spots whole first g from within was came =
-    came ∙ ap (λ xs. xs ++ replicate (start + count - done) event) was
-    ∙ sym (run_given loose start done (start + count) used count event before behind events spots whole first g from within (omega arith))
+-- the rest of a run, where no other spot lies within it
+pub rest_put : (loose : List Event) (done end high : ℕ) (x : Event) (old new whole behind : List Event) (ps : Spots) → done ≤ end → RisesFrom (length loose) end high ps
+    → new ≡ old ++ replicate (end - done) x → old ++ from_front loose done (replicate (end - done) x ++ behind) ps ≡ whole → new ++ from_front loose end behind ps ≡ whole
+rest_put loose done end high x old new whole behind ps within rises came before =
+    let all : done + (end - done) ≡ end = omega arith in
+    ap (λ es. es ++ from_front loose end behind ps) came
+    ∙ append_assoc old (replicate (end - done) x) (from_front loose end behind ps)
+    ∙ ap (λ es. old ++ es)
+    (ap (λ i. replicate (end - done) x ++ from_front loose i behind ps) (sym all)
+    ∙ sym (run_next loose done (end - done) high x behind ps (subst (λ low. RisesFrom (length loose) low high ps) (sym all) rises)))
+    ∙ before
+
+-- behind the last run nothing is left
+pub all_put : (loose : List Event) (start high : ℕ) (list whole left : List Event) (ps : Spots) → high ≤ start → RisesFrom (length loose) start high ps → left ≡ []
+    → list ++ from_front loose start left ps ≡ whole → list ≡ whole
+unfolding from_front
+all_put loose start high list whole left [] end rises none is = sym (append-nil list) ∙ ap (λ es. list ++ es) (sym none) ∙ is
+all_put loose start high list whole left (q ∷ ps) end rises none is = absurd (omega (arith, rises.0, rises.1, end))
 
 -- ---- runs among the events
 
--- the run at i, between those before it and those behind it
-pub around_run : (rs : List CountedEvent) (i : ℕ) (r : CountedEvent) (all : List Event) → i < length rs → r ≡ get_or rs i r → expanded rs ≡ all
-    → all ≡ expanded (take i rs) ++ replicate r.count r.event ++ expanded (drop (i + 1) rs)
-around_run rs i r all lt is same = sym (expanded_split rs i r lt is ∙ same)
+-- the run at i is the first of those that are left
+pub runs_left : (rs : List CountedEvent) (i : ℕ) (r : CountedEvent) → i < length rs → r ≡ get_or rs i r → expanded (drop i rs) ≡ replicate r.count r.event ++ expanded (drop (i + 1) rs)
+runs_left rs i r lt is = rw (add-one i) (ap expanded (drop-cons rs i r lt ∙ ap (λ q. q ∷ drop (suc i) rs) (sym is)))
 
 -- all runs are all events
 pub all_runs : (rs : List CountedEvent) (i now : ℕ) (all : List Event) → length rs ≤ i → expanded rs ≡ all → now ≡ length (expanded (take i rs)) → now ≡ length all
 all_runs rs i now all end same at = at ∙ ap (λ (qs : List CountedEvent). length (expanded qs)) (take_all i rs end) ∙ ap length same
-
--- where all events are given, so is what is put in
-pub all_given : (loose : List Event) (i j : ℕ) (events list : List Event) (spots : Spots) → IsGiven (length loose) i j spots → j ≤ length spots
-    → All (λ q. place_of (length loose) q < length events) spots → i ≡ length events → list ≡ given loose i j events spots → list ≡ scheduled loose events spots
-all_given loose i j events list spots g l below all is =
-    let within : All (λ q. place_of (length loose) q < i) spots = subst (λ n. All (λ q. place_of (length loose) q < n) spots) (sym all) below in
-    is ∙ given_all loose i j events spots all (all_are_given (length loose) i j spots g within l)
-
-pub short_schedule : {E : Type 0} (r : Result (List Event) E) (loose events : List Event) (spots : Spots) (most : ℕ) → IfOk r (λ list. list ≡ scheduled loose events spots)
-    → length events + length spots ≤ most → IfOk r (λ list. length list ≤ most)
-short_schedule (Ok list) loose events spots most is l = omega (arith, l, ap length is, length_scheduled loose events spots)
-short_schedule (Err e) loose events spots most is l = tt
 
 -- ---- the event with a place
 
@@ -101,7 +82,7 @@ event_in_run rs i now place r all lt is same at from within =
     let before = expanded (take i rs) in
     let run = replicate r.count r.event in
     sym
-    (ap (λ (xs : List Event). slice_get xs place) (around_run rs i r all lt is same)
+    (ap (λ (xs : List Event). slice_get xs place) (sym (expanded_split rs i r lt is ∙ same))
     ∙ got_in_front (before ++ run) (expanded (drop (i + 1) rs)) place r.event
     (got_behind before run (place - now) place (omega (arith, at, from)) ∙ replicate_got r.count (place - now) r.event within))
 
@@ -142,11 +123,6 @@ part_fits part before now from to count n most is at fits some = omega (arith, a
 -- all runs are gone through
 pub part_of_all : (rs : List CountedEvent) (i from to : ℕ) (part all : List Event) → length rs ≤ i → expanded rs ≡ all → part ≡ take (to - from) (drop from (expanded (take i rs))) → part ≡ take (to - from) (drop from all)
 part_of_all rs i from to part all end same was = was ∙ ap (λ (qs : List CountedEvent). take (to - from) (drop from (expanded qs))) (take_all i rs end) ∙ ap (λ xs. take (to - from) (drop from xs)) same
-
--- up to the end
-pub rest_of_all : {E : Type 0} (r : Result (List Event) E) (place end : ℕ) (all : List Event) → end ≡ length all → IfOk r (λ part. part ≡ take (end - place) (drop place all)) → IfOk r (λ rest. rest ≡ drop place all)
-rest_of_all (Ok part) place end all long is = is ∙ take_all (end - place) (drop place all) (omega (arith, long, length-drop place all))
-rest_of_all (Err e) place end all long is = tt
 
 -- ---- schedules without loose events
 

@@ -1,5 +1,5 @@
 -- A walk through a family, and what the book tells on the way.
-use Rattle.std.proofs.Common.{MatchBool, IsTrue, ◌≡◌, ℕ, ◌+◌, ◌<◌, Bool, true, false, List, [], ◌∷◌, ◌++◌, length, ap, sym, ◌∙◌, arith, length-append, append_assoc}
+use Rattle.std.proofs.Common.{◌≡◌, ℕ, ◌+◌, ◌<◌, Bool, true, false, List, [], ◌∷◌, ◌++◌, length, ap, sym, ◌∙◌, arith, length-append, append_assoc}
 use Rattle.posix.specs.declared.event.Event.{Event}
 use Rattle.posix.specs.States.{World}
 use Rattle.posix.specs.Entries.{Line}
@@ -57,10 +57,3 @@ goes_on world loose events texts all ps next book new lines ending more h course
     comes_on more all ps next (book_over world loose events texts) new h.done h.late h.whole
     (is ∙ ap (with_run lines ending ps) h.tells ∙ sym (book_more world loose events texts h.done ps lines ending course))
     (comes h.done h.late h.whole)
-
-pub where_true : (b : Bool) (A B : Type 0) → MatchBool b A B → IsTrue b → A
-where_true b A B h is = by b h is
-  where
-    by : (c : Bool) → MatchBool c A B → IsTrue c → A
-    by true held t = held
-    by false held t = let no : false ≡ true = t in absurd (cc)

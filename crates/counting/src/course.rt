@@ -1,13 +1,14 @@
 //! The run of a list of events in a world.
 
 ghost use Rattle.std.specs.Prelude.{◌≡◌, ◌+◌, ◌<◌, ◌≤◌, ◌++◌, [], ◌∷◌, ⊤, length, IfOk, OnOk, false};
+ghost use Rattle.std.specs.List.{list_any};
 ghost use Rattle.posix.specs.Entries.{numbered};
 ghost use Rattle.posix.specs.Regular.{IsRegular};
 ghost use Rattle.posix.specs.Settle.{IsSettled};
 ghost use Rattle.text.specs.EventTexts.{most_events};
 ghost use Rattle.kernel.specs.Steps.{noted_lines};
 ghost use Rattle.counting.specs.AddLaws.{added_none, added_then};
-ghost use Rattle.counting.specs.Courses.{Adds, AddsGranted, IsCourse, one_denies_memory};
+ghost use Rattle.counting.specs.Courses.{Adds, AddsGranted, IsCourse, denies_memory as denies, one_denies_memory};
 ghost use Rattle.counting.specs.Endings.{ending_of as ending_in};
 
 use crate::ending::Ending;
@@ -47,15 +48,22 @@ fn add_notes(lines: &mut Vec<Line>, pid: Pid, notes: &[Note]) -> Result<(), Allo
     Ok(())
 }
 
-/// Adds the entries of an event. One that tells of no memory is an error, too.
+/// Whether one of the entries tells that the host had no memory for a call.
+fn deny_memory(entries: &[Entry]) -> bool
+    ensures { result ≡ list_any denies entries.now }
+{
+    entries.iter().any(denies_memory)
+}
+
+/// Adds the entries of an event, none of which tells of no memory: one that does is an error, too.
 fn add_entries(lines: &mut Vec<Line>, event: u64, entries: &[Entry]) -> Result<(), AllocError>
     ensures lines { OnOk result (lines.new.items ≡ lines.old.items ++ numbered event entries.now) }
     ensures granted { OnOk result (one_denies_memory (numbered event entries.now) ≡ false) }
 {
+    if deny_memory(entries) {
+        return Err(AllocError);
+    }
     for entry in entries {
-        if denies_memory(entry) {
-            return Err(AllocError);
-        }
         lines.push(Line::new(event, *entry))?;
     }
     Ok(())

@@ -39,13 +39,9 @@ pub fn stands_in(text: &str, line: &[u8]) -> bool
 fn stands_in_any(text: &str, lines: &[Line]) -> bool
     ensures { result ≡ have_text text.now lines.now }
 {
-    for line in lines {
-        let mut room = [0; 128];
-        if stands_in(text, shown(line.entry(), &mut room)) {
-            return true;
-        }
-    }
-    false
+    lines
+        .iter()
+        .any(|line| stands_in(text, shown(line.entry(), &mut [0; 128])))
 }
 
 /// Marks each text that one of the lines has.

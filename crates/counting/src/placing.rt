@@ -1,11 +1,11 @@
 //! Places in a list of events: what stands there, and the ticks and loose events that are put in there.
 
-ghost use Rattle.std.specs.Prelude.{◌≡◌, ◌+◌, ◌-◌, ◌<◌, ◌≤◌, ◌^◌, ◌++◌, List, All, length, map, OnOk, IfOk, take, drop, replicate, slice_get};
+ghost use Rattle.std.specs.Prelude.{◌≡◌, ℕ, ◌+◌, ◌-◌, ◌<◌, ◌≤◌, ◌^◌, ◌∷◌, ◌++◌, List, All, length, map, IsNone, OnOk, IfOk, IfSome, take, drop, replicate, slice_get};
 ghost use Rattle.std.specs.List.Sorted.{IsNonDecreasing};
 ghost use Rattle.posix.specs.declared.event.Event.{Event};
 ghost use Rattle.text.specs.EventTexts.{most_events};
-ghost use Rattle.schedules.specs.Families.{place_of as place_of_spot};
-ghost use Rattle.schedules.specs.Schedules.{scheduled as scheduled_events, given, IsGiven};
+ghost use Rattle.schedules.specs.Families.{RisesFrom, place_of as place_of_spot};
+ghost use Rattle.schedules.specs.Schedules.{from_front, scheduled as scheduled_events};
 
 use posix::Event;
 use schedules::{MOST_LOOSE, place_of, put_at};
@@ -65,40 +65,50 @@ fn push(list: &mut EventList, event: Event, count: u64) -> Result<(), AllocError
     list.push(event, count)
 }
 
-/// Adds a run whose first event has place `start`, with what is put in at each of the spots that lie within it; `used`
-/// spots lie before it. How many lie before its end.
-fn push_run(
+/// The first spot and those behind it, if it lies before the event with place `end`.
+fn first_before(loose: usize, spots: &[u64], end: u64) -> Option<(u64, &[u64])>
+    requires { loose ≤ MOST_LOOSE }
+    ensures some { IfSome result (λ first. (spots.now ≡ first.0 ∷ first.1.now) × (place_of_spot loose first.0 < end)) }
+    ensures none { IsNone result → (low high : ℕ) → RisesFrom loose low high spots.now → RisesFrom loose end high spots.now }
+{
+    let (spot, later) = spots.split_first()?;
+    if place_of(loose, *spot) < end {
+        Some((*spot, later))
+    } else {
+        None
+    }
+}
+
+/// Adds a run whose first event has place `start`, with what is put in at each of the spots that lie within it: at the
+/// first ones. The spots behind its end.
+fn push_run<'s>(
     list: &mut EventList,
     loose: &[Event],
     start: u64,
     run: EventRun,
-    spots: &[u64],
-    used: usize,
-) -> Result<usize, AllocError>
+    spots: &'s [u64],
+) -> Result<&'s [u64], AllocError>
     requires loose { length loose.now ≤ MOST_LOOSE }
-    requires rising { IsNonDecreasing (map (place_of_spot (length loose.now)) spots.now) }
-    requires given { IsGiven (length loose.now) start used spots.now }
-    requires used { used ≤ length spots.now }
-    requires few { start + run.count + length spots.now < 2 ^ 40 }
-    requires len { length list.old ≡ start + used }
-    ensures given { IfOk result (λ more. IsGiven (length loose.now) (start + run.count) more spots.now) }
-    ensures used { IfOk result (λ more. more ≤ length spots.now) }
-    ensures len { IfOk result (λ more. length list.new ≡ start + run.count + more) }
-    ensures list { IfOk result (λ more. (before behind events : List Event) → events ≡ before ++ replicate run.count run.event ++ behind → length before ≡ start
-        → list.old ≡ given loose.now start used events spots.now → list.new ≡ given loose.now (start + run.count) more events spots.now) }
+    requires end { start + run.count < 2 ^ 40 }
+    requires few { length list.old + run.count + length spots.now < 2 ^ 40 }
+    requires rising { (high : ℕ) × RisesFrom (length loose.now) start high spots.now }
+    ensures rising { (high : ℕ) → RisesFrom (length loose.now) start high spots.now → IfOk result (λ rest. RisesFrom (length loose.now) (start + run.count) high rest.now) }
+    ensures len { IfOk result (λ rest. length list.new + length rest.now ≡ length list.old + run.count + length spots.now) }
+    ensures list { (behind : List Event) → IfOk result (λ rest. list.new ++ from_front loose.now (start + run.count) behind rest.now
+        ≡ list.old ++ from_front loose.now start (replicate run.count run.event ++ behind) spots.now) }
 {
     let end = start + run.count();
     let mut done = start;
-    let mut used = used;
-    while used < spots.len() && place_of(loose.len(), spots[used]) < end {
-        let place = place_of(loose.len(), spots[used]);
+    let mut rest = spots;
+    while let Some((spot, later)) = first_before(loose.len(), rest, end) {
+        let place = place_of(loose.len(), spot);
         push(list, run.event(), place - done)?;
-        push(list, put_at(loose, spots[used]), 1)?;
+        push(list, put_at(loose, spot), 1)?;
         done = place;
-        used += 1;
+        rest = later;
     }
     push(list, run.event(), end - done)?;
-    Ok(used)
+    Ok(rest)
 }
 
 /// The events with what is put in at each of the spots, whose places rise and are below their number.
@@ -115,11 +125,11 @@ pub fn scheduled(
     ensures { IfOk result (λ list. list ≡ scheduled_events loose.now events.now spots.now) }
 {
     let mut list = EventList::new(alloc);
-    let mut given = 0;
-    let mut used = 0;
+    let mut start = 0;
+    let mut rest = spots;
     for run in events.runs() {
-        used = push_run(&mut list, loose, given, *run, spots, used)?;
-        given += run.count();
+        rest = push_run(&mut list, loose, start, *run, rest)?;
+        start += run.count();
     }
     Ok(list)
 }

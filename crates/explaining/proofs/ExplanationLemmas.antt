@@ -5,8 +5,8 @@ use Rattle.std.specs.List.{AllByRecursion}
 use Rattle.std.proofs.KnownBytes.{Appends-nil, Appends-trans}
 use Rattle.std.proofs.lemmas.Bool.{cases_Bool, eqb-true}
 use Rattle.std.specs.Io.KnownBytes.{Appends}
-use Rattle.sink.specs.Sinks.{BreaksOff, Gathers, Seen, TakesAll}
-use Rattle.sink.proofs.SinkLemmas.{break_on, gathers_break, gathers_then}
+use Rattle.trace.specs.Sinks.{BreaksOff, Gathers, Seen, TakesAll}
+use Rattle.trace.proofs.SinkLemmas.{break_on, gathers_break, gathers_then}
 use Rattle.trace.specs.Lines.{IsCut, is_one_line}
 use Rattle.explaining.specs.Explanations.{AreOneLine, Explains, IsBegun, IsExplained, OfExplained, Stops, Told, told_line}
 use Rattle.inputs.specs.declared.failure.FileFailure.{FileFailure}

@@ -8,9 +8,8 @@ use crate::picture::put_picture;
 use crate::rows::Rows;
 use crate::svg::put_svg;
 use inputs::FileFailure;
-use sink::Sink;
 use std::alloc::{AllocError, Global};
-use trace::{next_line, read_line};
+use trace::{Sink, next_line, read_line};
 
 /// Adds a row for each line of a trace, up to the first line that is none. The number of that line, if there is one.
 fn read_rows(alloc: Global, rows: &mut Rows, trace: &[u8]) -> Result<Option<u64>, AllocError>

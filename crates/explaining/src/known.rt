@@ -64,10 +64,8 @@ impl Known {
 
     /// Sets what was told of a number.
     fn set(&mut self, pid: Pid, told: Told) -> Result<(), AllocError> {
-        match self.told.insert(pid.number(), told) {
-            Ok(_) => Ok(()),
-            Err(_) => Err(AllocError),
-        }
+        self.told.insert(pid.number(), told)?;
+        Ok(())
     }
 
     /// Whether a process has called sigqueue.
@@ -167,7 +165,8 @@ impl Known {
         Pid::NONE
     }
 
-    /// Gives the children of a process to its heir. Writes which go to which subreaper.
+    /// Gives the children of a process to its heir, but for those that have another parent by now. Writes which go to
+    /// which subreaper.
     fn give_on(
         &mut self,
         pid: Pid,
@@ -178,42 +177,25 @@ impl Known {
         let mut next = first;
         let mut before = ", leaves ";
         for _ in 0..self.children.len() {
-            let Some(place) = next else {
+            let Some(child) = self.child_at(next) else {
                 break;
             };
-            let child = self.child(place);
-            next = self.behind(place);
-            if self.give_on_one(pid, child, heir)? {
-                put_left(text, before, child, heir);
+            next = child.next;
+            if self.parent(child.pid) == pid {
+                self.give(heir, child.pid)?;
+                put_left(text, before, child.pid, heir);
                 before = ", ";
             }
         }
-        if before == ", " {
-            put_heir(text, heir);
+        if before == ", " && heir != Pid::NONE {
+            text.push_with(" to ", heir.number());
         }
         Ok(())
     }
 
-    /// Gives a child to the heir of its parent, unless it has another parent by now; whether it did.
-    fn give_on_one(&mut self, parent: Pid, child: Pid, heir: Pid) -> Result<bool, AllocError> {
-        let is_child = self.parent(child) == parent;
-        if is_child {
-            self.give(heir, child)?;
-        }
-        Ok(is_child)
-    }
-
-    /// The child at a place.
-    fn child(&self, place: usize) -> Pid {
-        match self.children.get(place) {
-            Some(child) => child.pid,
-            None => Pid::NONE,
-        }
-    }
-
-    /// The place of the child behind the one at a place, if there is one.
-    fn behind(&self, place: usize) -> Option<usize> {
-        self.children.get(place)?.next
+    /// The child at a place, if there is one.
+    fn child_at(&self, place: Option<usize>) -> Option<Child> {
+        self.children.get(place?).copied()
     }
 
     /// A process ends. Writes which of its children go to which subreaper, if they go to one.
@@ -233,12 +215,5 @@ impl Known {
 fn put_left(text: &mut Prose, before: &str, child: Pid, heir: Pid) {
     if heir != Pid::NONE {
         text.push_with(before, child.number());
-    }
-}
-
-/// Writes the subreaper behind the children that it gets, if there is one.
-fn put_heir(text: &mut Prose, heir: Pid) {
-    if heir != Pid::NONE {
-        text.push_with(" to ", heir.number());
     }
 }

@@ -3,7 +3,7 @@
 use crate::known::Known;
 use posix::{Bytes, Call, Entry, Pid, Sig, Status};
 use std::alloc::AllocError;
-use wording::{Prose, errno_name, put_byte, put_signal, put_status};
+use wording::{Kind, Prose, name_of, put_byte, put_signal, put_status};
 
 /// Whether a status word is that of an end, of a stop by any signal, or of a continuation.
 fn is_status(status: Status) -> bool {
@@ -33,15 +33,12 @@ fn put_bytes(text: &mut Prose, bytes: &Bytes) {
 
 /// The process that a fork gave; none where it was refused.
 pub fn child_of(value: i64) -> Option<Pid> {
-    match u32::try_from(value) {
-        Ok(number) if number > 0 => Pid::new(number),
-        _ => None,
-    }
+    Pid::new(u32::try_from(value).ok()?).filter(|pid| *pid != Pid::NONE)
 }
 
 /// Writes why a call was refused, if it was.
 fn put_refusal(text: &mut Prose, call: Call, value: i64) {
-    let Some(name) = errno_name(value.saturating_neg()) else {
+    let Some(name) = name_of(Kind::Errno, value.saturating_neg()) else {
         return;
     };
     text.push_str(name);
@@ -76,12 +73,12 @@ fn put_called(
     Ok(())
 }
 
-/// Writes who sent a signal.
-fn put_sender(text: &mut Prose, sender: Pid) {
+/// Writes who sent a signal: the machine, or behind these words a process.
+pub fn put_sender(text: &mut Prose, words: &str, sender: Pid) {
     if sender == Pid::NONE {
         text.push_str(" from the machine");
     } else {
-        text.push_with(" from process ", sender.number());
+        text.push_with(words, sender.number());
     }
 }
 
@@ -140,7 +137,7 @@ pub fn put_meaning(text: &mut Prose, known: &mut Known, entry: &Entry) -> Result
             sender,
         } => {
             put_signal(text, sig);
-            put_sender(text, sender);
+            put_sender(text, " from process ", sender);
             put_notice_of(text, known, pid, sig, value, sender);
         }
         Entry::Discarded { sig, .. } | Entry::Stopped { sig, .. } => put_signal(text, sig),

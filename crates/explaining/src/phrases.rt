@@ -1,7 +1,7 @@
 //! What a row of a picture says of its line: what the line says, with names in place of numbers.
 
 use crate::known::Known;
-use crate::meaning::{put_meaning, put_notice_of};
+use crate::meaning::{put_meaning, put_notice_of, put_sender};
 use posix::{Call, Entry, Pid, Sig, Status, WaitCall};
 use std::alloc::AllocError;
 use wording::{Prose, put_signal};
@@ -24,11 +24,7 @@ fn put_behind(text: &mut Prose, before: &str, words: &[u8]) {
 fn put_handled(text: &mut Prose, known: &Known, pid: Pid, sig: Sig, value: i64, sender: Pid) {
     text.push_str("handle ");
     put_signal(text, sig);
-    if sender == Pid::NONE {
-        text.push_str(" from the machine");
-    } else {
-        text.push_with(" from ", sender.number());
-    }
+    put_sender(text, " from ", sender);
     let len = text.len();
     put_notice_of(text, known, pid, sig, value, sender);
     if text.len() == len && value != 0 {

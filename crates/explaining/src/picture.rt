@@ -6,8 +6,8 @@ ghost use Rattle.explaining.specs.Drawings.{IsCutOff};
 use crate::rows::{Arrow, Cause, Mark, Row, Rows, State, digits};
 use crate::texts::PIECE;
 use inputs::FileFailure;
-use sink::{Sink, put_all};
 use std::alloc::AllocError;
+use trace::{Sink, put_all};
 use wording::Prose;
 
 /// A picture that is written row by row.
@@ -23,21 +23,18 @@ pub struct Picture<'r> {
 
 /// What an arrow is drawn with.
 fn stroke(arrow: Option<Arrow>) -> u8 {
-    match arrow {
-        Some(
-            Arrow {
-                cause: Cause::Look,
-                ..
-            },
-        ) => b'.',
-        _ => b'-',
+    if arrow.is_some_and(|arrow| matches!(arrow.cause, Cause::Look)) {
+        b'.'
+    } else {
+        b'-'
     }
 }
 
 /// The lane at which an arrow points, if there is one.
 fn tip(row: &Row) -> Option<usize> {
-    match row.arrow?.cause {
-        Cause::Birth => Some(row.arrow?.lane),
+    let arrow = row.arrow?;
+    match arrow.cause {
+        Cause::Birth => Some(arrow.lane),
         Cause::News | Cause::Look => Some(row.lane),
     }
 }
@@ -140,20 +137,12 @@ impl<'r> Picture<'r> {
         self.pad(self.rows.margin.saturating_sub(digits(row.event)), b' ');
         self.text.push_number(row.event);
         for lane in 0..self.states.len() {
-            let state = self.state(lane);
-            self.put_cell(row, lane, state);
+            let state = self.states.get(lane).copied();
+            self.put_cell(row, lane, state.unwrap_or(State::Empty));
             self.put_stroke(row, lane);
             self.turn(lane, row.makes(lane));
         }
         self.text.push_str("\n");
-    }
-
-    /// What a lane is.
-    fn state(&self, lane: usize) -> State {
-        match self.states.get(lane) {
-            Some(state) => *state,
-            None => State::Empty,
-        }
     }
 
     /// A lane becomes what a row makes of it.

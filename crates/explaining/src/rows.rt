@@ -144,10 +144,8 @@ pub struct Rows {
 
 /// How many digits a number has.
 pub fn digits(number: u64) -> usize {
-    match number.checked_ilog10() {
-        Some(log) => (log as usize).saturating_add(1),
-        None => 1,
-    }
+    let log = number.checked_ilog10().unwrap_or(0);
+    (log as usize).saturating_add(1)
 }
 
 /// The other process that a line names, and why an arrow is drawn.
@@ -194,10 +192,8 @@ impl Rows {
             ended: None,
             told: None,
         })?;
-        match self.places.insert(pid.number(), place) {
-            Ok(_) => Ok(place),
-            Err(_) => Err(AllocError),
-        }
+        self.places.insert(pid.number(), place)?;
+        Ok(place)
     }
 
     /// The place of the lane of a number, if it has one.
@@ -255,10 +251,8 @@ impl Rows {
             Cause::Birth => Some(self.lane_of(pid)?),
             Cause::News | Cause::Look => self.place_of(pid),
         };
-        match other {
-            Some(other) if other != lane => Ok(Some(Arrow { lane: other, cause })),
-            _ => Ok(None),
-        }
+        let other = other.filter(|other| *other != lane);
+        Ok(other.map(|lane| Arrow { lane, cause }))
     }
 
     /// The next row has an arrow of a line. Whether it tells an end, as the last row so far.
@@ -319,9 +313,6 @@ impl Rows {
 
     /// The column at which a lane begins.
     pub fn column(&self, lane: usize) -> usize {
-        match self.columns.get(lane) {
-            Some(column) => *column,
-            None => 0,
-        }
+        self.columns.get(lane).copied().unwrap_or(0)
     }
 }

@@ -10,8 +10,8 @@ use crate::texts::explain_text;
 use crate::words::{Asked, request, requested};
 use inputs::{FileFailure, ReadFiles, tell};
 use showing::serve_beside;
-use sink::Sink;
 use std::alloc::Global;
+use trace::Sink;
 
 /// Explains a file.
 fn explain_file<'a, F: ReadFiles, O: Sink>(

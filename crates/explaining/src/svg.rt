@@ -6,8 +6,8 @@ ghost use Rattle.explaining.specs.Drawings.{IsCutOff};
 use crate::picture::put_if_full;
 use crate::rows::{Arrow, Cause, Mark, Row, Rows, State, digits};
 use inputs::FileFailure;
-use sink::{Sink, put_all};
 use std::alloc::AllocError;
+use trace::{Sink, put_all};
 use wording::Prose;
 
 /// A place in the picture.
@@ -174,18 +174,10 @@ impl<'r> Svg<'r> {
         }
     }
 
-    /// What a lane is.
-    fn state(&self, lane: usize) -> State {
-        match self.lanes.get(lane) {
-            Some(since) => since.state,
-            None => State::Empty,
-        }
-    }
-
     /// Draws the ends of the lanes that live at a height.
     fn end_lanes(&mut self, height: usize) {
         for lane in 0..self.lanes.len() {
-            if self.state(lane) == State::Lives {
+            if matches!(self.lanes.get(lane), Some(since) if since.state == State::Lives) {
                 let place = self.at(lane, height);
                 put_bar(&mut self.text, place);
             }
@@ -270,11 +262,9 @@ impl<'r> Svg<'r> {
 
     /// How many columns the picture has.
     fn width(&self) -> usize {
-        let mut width = 0;
-        for (place, lane) in self.rows.lanes.iter().enumerate() {
-            width = width.max(self.rows.column(place).saturating_add(lane.reach));
-        }
-        width
+        let lanes = self.rows.lanes.iter().enumerate();
+        let ends = lanes.map(|(place, lane)| self.rows.column(place).saturating_add(lane.reach));
+        ends.max().unwrap_or(0)
     }
 
     /// Writes the beginning of the picture: its size, and a white ground.

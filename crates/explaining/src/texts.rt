@@ -1,16 +1,15 @@
 //! A trace, and behind its lines what they say.
 
 ghost use Rattle.std.specs.Prelude.{◌≡◌, ℕ, ◌++◌, List, [], true, IfErr, OnErr, OnOk};
-ghost use Rattle.sink.specs.Sinks.{BreaksOff, Gathers};
+ghost use Rattle.trace.specs.Sinks.{BreaksOff, Gathers};
 ghost use Rattle.trace.specs.Lines.{is_one_line};
 ghost use Rattle.explaining.specs.Explanations.{Explains, Stops, behind, told_line};
 
 use crate::known::Known;
 use crate::meaning::put_meaning;
 use inputs::{FileFailure, put_both};
-use sink::{Sink, SinkFault, put_all};
 use std::alloc::{AllocError, Global};
-use trace::{next_line, read_line};
+use trace::{Sink, SinkFault, next_line, put_all, read_line};
 use wording::Prose;
 
 /// At least so many bytes are put at once, but for the last ones: a put may be a system call, which costs more than a

@@ -7,7 +7,7 @@ use Rattle.inputs.specs.Reads.{AreRead, Contents}
 use Rattle.exploring.specs.declared.serving.Failure.{Failure}
 use Rattle.exploring.specs.declared.serving.Failure.TheVariants as failure
 use Rattle.counting.specs.Books.{BookView}
-use Rattle.sink.specs.Sinks.{BreaksOff, Seen, TakesAll}
+use Rattle.trace.specs.Sinks.{BreaksOff, Seen, TakesAll}
 use Rattle.exploring.specs.declared.words.Written.{Written}
 use Rattle.exploring.specs.Reports.{IsAsFor}
 use Rattle.exploring.specs.Serving.{IsExplored, Means, answer_of, book_asked, is_told, schedules_of, status_of}

@@ -4,7 +4,7 @@ use Rattle.std.specs.List.{list_any}
 use Rattle.posix.specs.declared.event.Event.{Event}
 use Rattle.posix.specs.States.{World}
 use Rattle.schedules.specs.Families.{Spots, family}
-use Rattle.sink.specs.Sinks.{BreaksOff, Seen, TakesAll}
+use Rattle.trace.specs.Sinks.{BreaksOff, Seen, TakesAll}
 use Rattle.inputs.specs.Reads.{AreRead, AreRefused, Contents, Text}
 use Rattle.inputs.specs.Statuses.{status_of as status_of_input}
 use Rattle.inputs.specs.declared.words.NoRequest.{NoRequest}

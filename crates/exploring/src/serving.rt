@@ -2,7 +2,7 @@
 
 ghost use Rattle.std.specs.Prelude.{◌≡◌, ◌⊎◌, ◌+◌, ◌≤◌, ◌||◌, false, true, Bool, ℕ, List, [], length, Result, MatchResult, IfOk, IfSome, IsNone, None, OnErr, OnOk, Some, map, option_map};
 ghost use Rattle.std.specs.String.{string_bytes};
-ghost use Rattle.sink.specs.Sinks.{BreaksOff, TakesAll};
+ghost use Rattle.trace.specs.Sinks.{BreaksOff, TakesAll};
 ghost use Rattle.posix.specs.declared.event.Event.{Event as EventValue};
 ghost use Rattle.text.specs.declared.fault.TextFault.{TextFault as TextFaultValue};
 ghost use Rattle.text.specs.EventTexts.{event_text, most_events};

@@ -2,7 +2,7 @@
 use Rattle.std.proofs.Common.{ℕ, ◌+◌, ◌%◌, ◌^◌, List, ◌++◌, ap, sym, ◌∙◌, append_assoc, Result, Ok, Err}
 use Rattle.std.specs.Prelude.{OnErr, OnOk}
 use Rattle.std.proofs.KnownBytes.{Appends-trans}
-use Rattle.sink.specs.Sinks.{BreaksOff, Seen, TakesAll}
+use Rattle.trace.specs.Sinks.{BreaksOff, Seen, TakesAll}
 
 takes_then_breaks : (a b c : Seen) (xs ys : List ℕ) → TakesAll a b xs → BreaksOff b c ys → BreaksOff a c (xs ++ ys)
 takes_then_breaks a b c xs ys t u = record {

@@ -3,7 +3,7 @@ use Rattle.std.specs.Prelude.{◌≡◌, ◌⊎◌, ℕ, List, [], ◌∷◌, �
 use Rattle.std.specs.Borrow.{Bor}
 use Rattle.inputs.specs.declared.files.Unread.{Unread as WhyUnread}
 use Rattle.inputs.specs.declared.files.Unread.TheVariants as unread
-use Rattle.sink.specs.Sinks.{BreaksOff, Seen, TakesAll}
+use Rattle.trace.specs.Sinks.{BreaksOff, Seen, TakesAll}
 use Rattle.inputs.specs.Reads.{Text}
 use Rattle.inputs.specs.declared.failure.FileFailure.{FileFailure}
 use Rattle.inputs.specs.declared.failure.FileFailure.TheVariants.{Usage, Unread, Memory, Write}

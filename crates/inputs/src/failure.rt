@@ -1,15 +1,15 @@
 //! Why a program that is given one file fails, and how failures are told.
 
 ghost use Rattle.std.specs.Prelude.{◌≡◌, ◌++◌, OnErr, OnOk};
-ghost use Rattle.sink.specs.Sinks.{BreaksOff, TakesAll};
+ghost use Rattle.trace.specs.Sinks.{BreaksOff, TakesAll};
 ghost use Rattle.inputs.specs.Failures.{Tells, message_of, status_of};
 
 use crate::Unread;
 use crate::words::NoRequest;
 use arrayvec::ArrayString;
-use sink::{Sink, SinkFault, put_all};
 use std::alloc::AllocError;
 use std::fmt::{Display, Write};
+use trace::{Sink, SinkFault, put_all};
 
 /// Why a program that is given one file fails.
 #[derive(Clone, Copy)]

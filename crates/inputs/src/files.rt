@@ -1,14 +1,14 @@
 //! Files of the host.
 
 ghost use Rattle.std.specs.Prelude.{◌≡◌, ℕ, List, Option, IfErr, IfOk, IfSome, OnErr, OnOk};
-ghost use Rattle.sink.specs.Sinks.{BreaksOff, TakesAll};
+ghost use Rattle.trace.specs.Sinks.{BreaksOff, TakesAll};
 ghost use Rattle.inputs.specs.Failures.{IsUnread, message_unread};
 
 use crate::failure::put_both;
-use sink::{Sink, SinkFault, put_all};
 use std::rt::Files;
 use std::{fs, io};
 use thiserror::Error;
+use trace::{Sink, SinkFault, put_all};
 
 /// Why a file isn't read.
 #[derive(Clone, Copy, Debug, Error)]

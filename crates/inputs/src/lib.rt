@@ -17,10 +17,10 @@ ghost use Rattle.inputs.specs.Numbers.{number_of, number_up_to as number_up_to_o
 pub use command_line::{WordsFault, as_texts, read_words};
 pub use failure::{FileFailure, put_both, tell};
 pub use files::{HostFiles, ReadFiles, Unread};
-use sink::Sink;
 use std::alloc::Global;
 use text::{EventList, TextFault, World, read_events, read_world};
 use thiserror::Error;
+use trace::Sink;
 pub use words::{
     NoRequest, command, command_with_file, command_with_flag, is_used, named_file, named_files,
     named_world_and_events, value_of, words_behind,

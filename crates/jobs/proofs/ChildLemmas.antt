@@ -7,7 +7,7 @@ use Rattle.std.proofs.lemmas.Bool.Decides.{nat_tests}
 use Rattle.std.proofs.lemmas.List.Elements.{filter_agree}
 use Rattle.std.proofs.Math.Bool.{and-false}
 use Rattle.posix.specs.Processes.{Process, is_zombie}
-use Rattle.posix.specs.Tables.{IsRising, lookup, at, changed, parent_of, above, first_pid, is_child, children_in, left_of, next_sibling, reparented, adopted, removed}
+use Rattle.posix.specs.Tables.{IsRising, lookup, at, changed, parent_of, above, first_pid, is_child, children_in, left_of, reparented, adopted, removed}
 use Rattle.posix.specs.Waits.{wanted_in}
 use Rattle.posix.proofs.TableLemmas.{changed_id, pid_reparented, remove_above, rising_adopted, rising_filter}
 use Rattle.posix.proofs.MapLemmas.{adopted_changed, lookup_on, at_pid, at_keeps}
@@ -57,17 +57,14 @@ pub none_wanted : (k n options : ℕ) (rs : List Process) → not (is_some (firs
 unfolding wanted_in
 none_wanted k n options rs none = rw (none_at (children_in k rs) none) refl
 
--- and none is given to another
-pub none_adopted : (from to : ℕ) (rs : List Process) → not (is_some (first_pid (children_in from rs))) ≡ true → rs ≡ adopted from to rs
+-- where a process has no child, nobody gets another parent
+pub all_adopted : (from to : ℕ) (rs : List Process) → children_in from rs ≡ [] → adopted from to rs ≡ rs
 unfolding children_in adopted
-none_adopted from to rs none = by rs (none_at (children_in from rs) none)
-  where
-    by : (l : List Process) → children_in from l ≡ [] → l ≡ adopted from to l
-    by [] e = refl
-    by (r ∷ rest) e = elim (is_child from r) as (λ b. cond b (r ∷ children_in from rest) (children_in from rest) ≡ [] → r ∷ rest ≡ cond b (record r { parent = to }) r ∷ adopted from to rest) [
-      | true ↦ λ own. absurd (cc)
-      | false ↦ λ none. ap (λ l. r ∷ l) (by rest none)
-    ] e
+all_adopted from to [] e = refl
+all_adopted from to (r ∷ rs) e = grind (arith, all_adopted from to rs)
+
+pub none_adopted : (from to : ℕ) (rs : List Process) → not (is_some (first_pid (children_in from rs))) ≡ true → rs ≡ adopted from to rs
+none_adopted from to rs none = sym (all_adopted from to rs (none_at (children_in from rs) none))
 
 -- and above 0 its first one, from which on all are left
 pub first_kid : (k : ℕ) (rs : List Process) (pairs : List Pair) (next : Option ℕ) → AreKin rs pairs → IsSome (lookup k rs) → (AreKin rs pairs → IsSome (lookup k rs) → next ≡ first_pid (above 0 (children_in k rs))) → (next ≡ first_pid (children_in k rs)) × (left_of next (children_in k rs) ≡ children_in k rs)
@@ -76,24 +73,15 @@ first_kid k rs pairs next kin there first =
     let is : next ≡ first_pid (children_in k rs) = first kin there ∙ ap first_pid (passing_above (is_child k) rs kin.rising (least_number rs kin.none)) in
     (is, rw (← is) at (at_first rs kin.rising k))
 
--- and of a child the next sibling
-pub sibling_is : (p c : ℕ) (rs : List Process) (i : AtChild rs p c) → first_pid (above c (children_in p rs)) ≡ next_sibling c rs
-unfolding next_sibling
-sibling_is p c rs i = let parent : parent_of c rs ≡ p = rw i.found i.parent in ap (λ n. first_pid (above c (children_in n rs))) (sym parent)
-
--- its list is that of its parent
-pub by_parent : (p : ℕ) (rs : List Process) (pairs : List Pair) (list : Option ℕ) (me : Process) → IsIndex parent_key rs pairs → IsAt p list pairs → lookup p rs ≡ Some me → list ≡ list_of_parent me.parent
-by_parent p rs pairs list me index stands found = at_once p list (list_of_parent me.parent) pairs stands (λ k. index p k ∙ ap (λ o. is_key k (option_and_then parent_key o)) found)
-
 -- there is memory for the list of a parent
 pub list_inside : (sizes : List ℕ) (parent : ℕ) → (parent ≡ 0) ⊎ ((1 ≤ parent) × HasRoom sizes parent) → IfSome (list_of_parent parent) (λ k. (1 ≤ k) × HasRoom sizes k)
 list_inside sizes parent h = cond_both (parent == 0) None (Some parent) (λ o. IfSome o (λ k. (1 ≤ k) × HasRoom sizes k)) (λ e. tt) (λ e. ⊎_elim (λ none. absurd (eqb-false parent 0 e none)) (λ there. there) h)
 
--- so the list in which it stands tells its parent
+-- the list in which a process stands tells its parent
 pub parent_listed : (p : ℕ) (rs : List Process) (pairs : List Pair) (list : Option ℕ) → IsIndex parent_key rs pairs → IsAt p list pairs → IsSome (lookup p rs) → unwrap_or list 0 ≡ parent_of p rs
 parent_listed p rs pairs list index stands here =
     let me = there (lookup p rs) here in
-    ap (λ o. unwrap_or o 0) (by_parent p rs pairs list me.what index stands me.found) ∙ cond_both (me.what.parent == 0) None (Some me.what.parent) (λ o. unwrap_or o 0 ≡ me.what.parent) (λ none. sym (eqb-true me.what.parent 0 none)) (λ some. refl)
+    ap (λ o. unwrap_or o 0) (at_once p list (list_of_parent me.what.parent) pairs stands (λ k. index p k ∙ ap (λ o. is_key k (option_and_then parent_key o)) me.found)) ∙ cond_both (me.what.parent == 0) None (Some me.what.parent) (λ o. unwrap_or o 0 ≡ me.what.parent) (λ none. sym (eqb-true me.what.parent 0 none)) (λ some. refl)
     ∙ sym (ap (λ o. option_map_or (λ (r : Process). r.parent) o 0) me.found)
 
 -- ---- a birth
@@ -131,10 +119,10 @@ unfolding IsRising removed
 first_gone r rs up = rw (eq-eqb r.pid r.pid refl) (remove_above r.pid rs up.0)
 
 -- and those behind it are left
-pub one_left : (from to c : ℕ) (rs ts : List Process) → from ≢ to → IsRising rs → (i : AtChild rs from c) → children_in from ts ≡ left_of (Some c) (children_in from rs) → children_in from (changed c (with_parent to) ts) ≡ left_of (next_sibling c rs) (children_in from rs)
+pub one_left : (from to c : ℕ) (rs ts : List Process) → from ≢ to → IsRising rs → (i : AtChild rs from c) → children_in from ts ≡ left_of (Some c) (children_in from rs) → children_in from (changed c (with_parent to) ts) ≡ left_of (first_pid (above c (children_in from rs))) (children_in from rs)
 unfolding children_in
 one_left from to c rs ts ne up i left =
-    child_moved from to c (λ e. ne (sym e)) ts ∙ ap (removed c) (left ∙ i.left) ∙ ap (λ n. removed n (i.what ∷ left_of (next_sibling c rs) (children_in from rs))) (sym i.named)
+    child_moved from to c (λ e. ne (sym e)) ts ∙ ap (removed c) (left ∙ i.left) ∙ ap (λ n. removed n (i.what ∷ left_of (first_pid (above c (children_in from rs))) (children_in from rs))) (sym i.named)
     ∙ first_gone i.what _ (subst IsRising i.left (rising_filter _ _ (rising_filter (is_child from) rs up)))
 
 -- the child that comes next is as it was
@@ -150,12 +138,6 @@ key_read from to c rs ts heir f up i left read = ap (λ f. anchor_in (snapshot_s
 -- and there is memory for that
 pub key_within : (sizes : List ℕ) (c : ℕ) (rs : List Process) (r : Process) (heir : IndexedFields) → AreWithin sizes rs → lookup c rs ≡ Some r → IfSome (child_key heir r) (λ k. (1 ≤ k) × HasRoom sizes k)
 key_within sizes c rs r heir h e = let w = h c r e in anchor_inside sizes (seen_of r) (Some heir) (w.1.0, w.2)
-
--- where none is left, all have the parent
-pub all_adopted : (from to : ℕ) (ts : List Process) → children_in from ts ≡ [] → adopted from to ts ≡ ts
-unfolding children_in adopted
-all_adopted from to [] e = refl
-all_adopted from to (r ∷ ts) e = grind (arith, all_adopted from to ts)
 
 -- the children of one process stand under another
 pub kin_adopted : (from to : ℕ) → from ≢ to → from ≢ 0 → to ≢ 0 → (rs : List Process) (old new : List Pair) → IsIndex parent_key rs old → ArePairsRekeyed from to old new → IsIndex parent_key (adopted from to rs) new

@@ -7,16 +7,17 @@ use Rattle.std.specs.Option.{IfSome, IsSome}
 use Rattle.std.proofs.lemmas.Bool.{eqb-true, eq-eqb, cases_eq, cases_lt}
 use Rattle.std.proofs.lemmas.List.{length-map}
 use Rattle.posix.specs.Processes.{Process, is_zombie}
-use Rattle.posix.specs.Tables.{IsRising, lookup, at, changed, inserted, removed, adopted, reparented, parent_of, children_in, is_member}
+use Rattle.posix.specs.Tables.{IsRising, lookup, pids, at, changed, inserted, removed, adopted, reparented, parent_of, children_in, is_member}
 use Rattle.posix.specs.Targets.{greatest_pid}
 use Rattle.posix.proofs.TableLemmas.{pid_looked, lookup_changed, remove_none, rising_inserted, rising_removed, rising_adopted, length_inserted, length_removed, pid_reparented, reparented_keeps}
 use Rattle.posix.proofs.MapLemmas.{lookup_map, lookup_back, at_pid, at_keeps}
 use Rattle.posix.proofs.RegularLemmas.{lookup_new, lookup_removed}
-use Rattle.posix.proofs.WalkLemmas.{all_looked, some_looked}
-use Rattle.pidset.specs.Indexes.{ArePairsRekeyed, AreTurned, HaveParents, IsIndex, IndexView, key_of, IsAnchorIndex, IsMoved, IsReplaced}
+use Rattle.posix.proofs.WalkLemmas.{pid_found, some_looked}
+use Rattle.pidset.specs.Indexes.{ArePairsRekeyed, AreTurned, HaveParents, IsIndex, IndexView, anchor_key, key_of, IsAnchorIndex, IsMoved, IsReplaced}
 use Rattle.pidset.specs.Lists.{ListsView}
 use Rattle.pidset.specs.Rows.{Grows, HasRoom}
-use Rattle.pidset.proofs.IndexLemmas.{IsElsewhere, elsewhere_changed, elsewhere_inserted, elsewhere_removed, index_moved, key_removed}
+use Rattle.pidset.proofs.IndexLemmas.{IsElsewhere, elsewhere_changed, elsewhere_inserted, elsewhere_removed, index_moved, key_removed, rises_pids}
+use Rattle.pidset.proofs.NumberLemmas.{few}
 use Rattle.proctable.specs.declared.records.Record.{Record}
 use Rattle.proctable.specs.Records.{process_of, snapshot_of, give_record, with_record}
 use Rattle.proctable.proofs.RecordLemmas.{record_rises}
@@ -27,22 +28,21 @@ use Rattle.jobs.specs.IndexedTables.{AreKin, AreNumbers, AreWithin, HasParent, I
 use Rattle.proctable.specs.declared.snapshot.Snapshot.{Snapshot}
 use Rattle.jobs.proofs.SnapshotLemmas.{is_there, some_read, none_read, snapshot_are}
 use Rattle.jobs.proofs.IndexLemmas.{Fits, Sees, can_move, sees, sees_none, fits, indexes_moved, indexes_unmoved}
-use Rattle.pidset.proofs.AnchorLemmas.{anchors_inserted, anchors_removed, anchors_adopted}
+use Rattle.pidset.proofs.AnchorLemmas.{anchors_apart, anchors_adopted}
 use Rattle.jobs.proofs.ChildLemmas.{kin_adopted, kin_record}
 use Rattle.jobs.proofs.AnchorLemmas.{seen_at, seen_found, key_at, child_is, stance_in, anchors_same, number_within}
 use Rattle.pidset.proofs.ParentLemmas.{no_child, parents_map, parents_inserted, parents_removed, parents_adopted}
-use Rattle.jobs.proofs.NumberLemmas.{absent_changed, least_number, no_more, above_none}
+use Rattle.jobs.proofs.NumberLemmas.{absent_changed}
 use Rattle.jobs.proofs.RoomLemmas.{anchors_room}
 
 -- ---- few enough to be counted
 
+number_range : (rs : List Process) → AreNumbers rs → (p : ℕ) (r : Process) → lookup p rs ≡ Some r → (1 ≤ p) × (p ≤ greatest_pid)
+number_range rs numbers p r e = (elim (cases_eq p 0) [ inl none ↦ let no = numbers p (inl none) in absurd (cc) | inr some ↦ omega (arith, some) ], elim (cases_lt greatest_pid p) [ inl above ↦ let no = numbers p (inr above) in absurd (cc) | inr low ↦ low ])
+
 -- there are no more processes than numbers
 pub size_of : (rs : List Process) → IsRising rs → AreNumbers rs → length rs ≤ greatest_pid
-size_of rs up numbers =
-    let least = all_looked (λ (r : Process). 1 ≤ r.pid) rs up (least_number rs (numbers 0 (inl refl))) in
-    let most = all_looked (λ (r : Process). r.pid ≤ greatest_pid) rs up (λ p r e. elim (cases_lt greatest_pid r.pid) [ inl above ↦ let none = numbers p (inr (rw (← pid_looked p rs r e) above)) in absurd (cc) | inr low ↦ low ]) in
-    let all = no_more 0 greatest_pid rs up (above_none rs least) most (omega arith) in
-    omega (arith, all)
+size_of rs up numbers = subst (λ n. n ≤ greatest_pid) (length-map rs (λ (r : Process). r.pid)) (few greatest_pid (pids rs) (rises_pids rs up) (λ q e. let r = pid_found q rs e in number_range rs numbers q r.0 r.1))
 
 -- ---- where one process changes, comes or goes
 
@@ -182,7 +182,7 @@ kept_inserted n rs new r old now set kin named inside fresh parent is free moved
     let no : false ≡ true = sym (ap is_some fresh) ∙ there in
     absurd (cc) in
     rw is (kept_at n (n + 1) r.pid r.parent (Some (seen_of r)) rs (inserted r rs) old now set kin (elsewhere_inserted r rs) (⊎_elim (λ none. absurd (omega (arith, none, least))) (λ above. absurd (omega (arith, above, most)))) inside (rising_inserted r rs k.rising fresh) (rw (length_inserted r rs, k.count) refl) free (sees r.pid r (inserted r rs) here) moved
-    (anchors_inserted r rs old.anchors.pairs set.pairs apart (rw (key_at r.pid (inserted r rs) (seen_of r) (ap (option_map seen_of) here), here, up) anchor) k.anchors.index) sizes (parents_inserted HasParent r rs fresh (λ some. ⊎_elim (λ first. absurd (some first.0)) (λ there. there) parent) k.anchors.parents)
+    (anchors_apart r.pid rs (inserted r rs) old.anchors.pairs set.pairs (elsewhere_inserted r rs) apart (rw (key_at r.pid (inserted r rs) (seen_of r) (ap (option_map seen_of) here), here, up) anchor) k.anchors.index) sizes (parents_inserted HasParent r rs fresh (λ some. ⊎_elim (λ first. absurd (some first.0)) (λ there. there) parent) k.anchors.parents)
     (index_moved parent_key r.pid rs (inserted r rs) old.children.pairs kin.pairs (elsewhere_inserted r rs) k.children (rw here child)) wide k)
 
 -- where p was read as nobody nothing goes, and else one process less is there
@@ -201,7 +201,7 @@ kept_removed n rs new p f old now set kin read none is moved anchor sizes child 
     let goes = can_leave read k in
     let count = goes.2 in
     rw is (kept_at n (n - 1) p f.parent None rs (removed p rs) old now set kin (elsewhere_removed p rs) (λ out. lookup_removed p rs) (goes.1.1, tt) (rising_removed p rs k.rising) (omega (arith, count)) (fits rs (n - 1) old k.indexes (omega (arith, k.count))) (sees_none p f.parent (removed p rs) (lookup_removed p rs)) moved
-    (anchors_removed p rs old.anchors.pairs set.pairs (no_child p rs none) anchor k.anchors.index) sizes (parents_removed HasParent p rs (no_child p rs none) k.anchors.parents)
+    (anchors_apart p rs (removed p rs) old.anchors.pairs set.pairs (elsewhere_removed p rs) (no_child p rs none) (rw (key_removed (anchor_key (removed p rs)) p rs) anchor) k.anchors.index) sizes (parents_removed HasParent p rs (no_child p rs none) k.anchors.parents)
     (index_moved parent_key p rs (removed p rs) old.children.pairs kin.pairs (elsewhere_removed p rs) k.children (rw (key_removed parent_key p rs) child)) wide k)
 
 pub kept_adopted : (n : ℕ) (rs new : List Process) (from to : ℕ) (old now : Indexes) → from ≢ to → new ≡ adopted from to rs → (AreIndexes rs old → AreIndexes (adopted from to rs) now) → now.members ≡ old.members

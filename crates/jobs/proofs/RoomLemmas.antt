@@ -1,5 +1,5 @@
 -- For which numbers the lists of a table have memory, and what goes with a page.
-use Rattle.std.proofs.Common.{◌≡◌, ℕ, ◌<◌, ◌/◌, refl, ap, sym, ◌∙◌, arith, true, List, [], ◌∷◌, Option, Some, None, slice_index_or, slice_set, ◌≤◌, ◌%◌, ◌==◌, zero, suc}
+use Rattle.std.proofs.Common.{◌≡◌, ℕ, ◌/◌, refl, ap, sym, ◌∙◌, arith, true, List, [], ◌∷◌, Option, Some, None, slice_index_or, slice_set, ◌≤◌, ◌==◌, zero, suc}
 use Rattle.std.specs.Prelude.{option_and_then}
 use Rattle.std.specs.Option.{IfSome}
 use Rattle.std.proofs.lemmas.Bool.{cond_both, eqb-false, eqb-true}
@@ -28,18 +28,11 @@ common_at (m ∷ ms) [] i = grind (arith, nat_tests)
 common_at (m ∷ ms) (n ∷ ns) zero = refl
 common_at (m ∷ ms) (n ∷ ns) (suc i) = common_at ms ns i
 
--- what is below the lesser is below both
-below_both : (i m n : ℕ) → i < lesser m n → (i < m) × (i < n)
-below_both i m n h = (grind (arith, nat_tests, h), grind (arith, nat_tests, h))
-
-below_lesser : (i m n : ℕ) → i < m → i < n → i < lesser m n
-below_lesser i m n low also = grind (arith, nat_tests, low, also)
-
 both_room : (ms ns : List ℕ) (p : ℕ) → HasRoom (common ms ns) p → HasRoom ms p × HasRoom ns p
-both_room ms ns p room = below_both (p % 1024) _ _ (rw (common_at ms ns (p / 1024)) at room)
+both_room ms ns p room = let both = rw (common_at ms ns (p / 1024)) at room in (grind (arith, nat_tests, both), grind (arith, nat_tests, both))
 
 common_room : (ms ns : List ℕ) (p : ℕ) → HasRoom ms p → HasRoom ns p → HasRoom (common ms ns) p
-common_room ms ns p room also = rw (common_at ms ns (p / 1024)) (below_lesser (p % 1024) _ _ room also)
+common_room ms ns p room also = rw (common_at ms ns (p / 1024)) (grind (arith, nat_tests, room, also))
 
 pub members_room : (b : Indexes) → Grows (sizes_in b) b.members.sizes
 members_room b p room = (both_room _ _ p (both_room _ _ p room).0).0

@@ -13,6 +13,7 @@ use posix::Pid;
 use proctable::ProcessTable;
 
 /// The child of a process that is there with the least number above `after`, zombies included.
+#[tactic(auto, using(crate::proofs::ChildLemmas::next_kid))]
 #[inline]
 pub(crate) fn next_child(children: &Lists, parent: Pid, after: Pid) -> Option<Pid>
     ensures { (rs : List Process) → AreKin rs children.now.pairs → IsSome (lookup parent rs) → result ≡ first_pid (above after (children_in parent rs)) }

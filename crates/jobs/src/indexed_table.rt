@@ -190,6 +190,7 @@ impl<K: ProcessTable> IndexedTable<K> {
     }
 
     /// The child of a process that is there with the least number above `after`, zombies included. No slot is read.
+    #[tactic(auto, using(crate::proofs::KeptLemmas::kin_kept))]
     pub fn next_child(&self, parent: Pid, after: Pid) -> Option<Pid>
         requires { IsSome (lookup parent self.now.processes) }
         ensures { result ≡ first_pid (above after (children_in parent self.now.processes)) }

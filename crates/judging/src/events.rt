@@ -13,12 +13,10 @@ fn judge_keys<'a>(line: Line<'a>, consoles: u8) -> Verdict<'a> {
     if count < 3 {
         return refuse(Reason::UnknownWord, 2, Fault::ByteMissing);
     }
-    for place in 2..count {
-        if !is_byte(line.word(place)) {
-            return refuse(Reason::BadNumber, place, Fault::NoByte);
-        }
+    match (2..count).find(|place| !is_byte(line.word(*place))) {
+        Some(place) => refuse(Reason::BadNumber, place, Fault::NoByte),
+        None => Ok(()),
     }
-    Ok(())
 }
 
 /// Judges a line `hangup`.
@@ -39,16 +37,14 @@ fn judge_line(text: &[u8], consoles: u8) -> Verdict<'_> {
     if !line.has_words() {
         return Ok(());
     }
-    let word = line.first();
-    if word == b"key".as_slice() {
-        judge_keys(line, consoles)
-    } else if word == b"hangup".as_slice() {
-        judge_hangup(line, consoles)
-    } else if word == b"step".as_slice() || word == b"tick".as_slice() {
-        judge_number(line, 1, Number::Count)?;
-        judge_end(line, 2)
-    } else {
-        refuse(Reason::UnknownWord, 0, Fault::NoEvent)
+    match line.first() {
+        b"key" => judge_keys(line, consoles),
+        b"hangup" => judge_hangup(line, consoles),
+        b"step" | b"tick" => {
+            judge_number(line, 1, Number::Count)?;
+            judge_end(line, 2)
+        }
+        _ => refuse(Reason::UnknownWord, 0, Fault::NoEvent),
     }
 }
 

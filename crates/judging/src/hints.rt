@@ -107,37 +107,31 @@ const RETURNS: &str =
     "the lines end with a carriage return alone; each has to end with a line feed";
 
 /// Letters that look like others.
-static LOOKALIKES: [(&[u8], &str); 13] = [
-    (b"\xC2\xA0", "this has a no-break space; type a space"),
-    (b"\xE2\x80\xAF", "this has a no-break space; type a space"),
-    (b"\xE2\x80\x8B", "this has a space of no width; delete it"),
-    (b"\xEF\xBB\xBF", "this has a byte order mark; delete it"),
+static LOOKALIKES: [(&[&str], &str); 6] = [
     (
-        b"\xE2\x88\x92",
+        &["\u{A0}", "\u{202F}"],
+        "this has a no-break space; type a space",
+    ),
+    (&["\u{200B}"], "this has a space of no width; delete it"),
+    (&["\u{FEFF}"], "this has a byte order mark; delete it"),
+    (
+        &["\u{2212}"],
         "this has the minus sign of typesetters; type -",
     ),
-    (b"\xE2\x80\x90", DASH),
-    (b"\xE2\x80\x91", DASH),
-    (b"\xE2\x80\x93", DASH),
-    (b"\xE2\x80\x94", DASH),
-    (b"\xE2\x80\x98", QUOTE),
-    (b"\xE2\x80\x99", QUOTE),
-    (b"\xE2\x80\x9C", QUOTE),
-    (b"\xE2\x80\x9D", QUOTE),
+    (
+        &["\u{2010}", "\u{2011}", "\u{2013}", "\u{2014}"],
+        "this has a dash of typesetters; type -",
+    ),
+    (
+        &["\u{2018}", "\u{2019}", "\u{201C}", "\u{201D}"],
+        "this has a quote of typesetters",
+    ),
 ];
-
-const DASH: &str = "this has a dash of typesetters; type -";
-
-const QUOTE: &str = "this has a quote of typesetters";
 
 /// What a table has for a word.
 fn instead(table: &[(&'static str, &'static str)], word: &[u8]) -> Option<&'static str> {
-    for (words, what) in table {
-        if is_listed(words, word) {
-            return Some(what);
-        }
-    }
-    None
+    let (_, what) = table.iter().find(|(words, _)| is_listed(words, word))?;
+    Some(*what)
 }
 
 /// The call that is here in the place of one that others have.
@@ -150,26 +144,21 @@ pub fn other_instruction(word: &[u8]) -> Option<&'static str> {
     instead(&INSTRUCTIONS, word)
 }
 
-/// Whether some bytes stand in others.
-fn is_within(part: &[u8], whole: &[u8]) -> bool {
-    let mut rest = whole;
-    while let [_, more @ ..] = rest {
-        if rest.starts_with(part) {
-            return true;
-        }
-        rest = more;
-    }
-    false
+/// Whether a letter stands in a word.
+fn has_letter(word: &[u8], letter: &str) -> bool {
+    let letter = letter.as_bytes();
+    (0..word.len()).any(|place| word[place..].starts_with(letter))
 }
 
 /// What stands in a word and looks like something else.
 pub fn oddity(word: &[u8]) -> Option<&'static str> {
-    for (letter, what) in &LOOKALIKES {
-        if is_within(letter, word) {
-            return Some(what);
-        }
-    }
-    if !word.is_ascii() {
+    let mut lookalikes = LOOKALIKES.iter();
+    if let Some((_, what)) = lookalikes.find(|(letters, _)| letters
+        .iter()
+        .any(|letter| has_letter(word, letter)))
+    {
+        Some(*what)
+    } else if !word.is_ascii() {
         Some("this has a letter outside ASCII")
     } else if word.iter().any(u8::is_ascii_control) {
         Some("this has a control character")
@@ -192,20 +181,16 @@ fn begins_comment(word: &[u8]) -> bool {
 
 /// Whether another byte follows a carriage return.
 fn has_return(text: &[u8]) -> bool {
-    match text.iter().position(|b| *b == b'\r') {
-        Some(at) => text[at..].iter().any(|b| *b != b'\r'),
-        None => false,
-    }
+    let mut behind = text.iter().skip_while(|b| **b != b'\r');
+    behind.any(|b| *b != b'\r')
 }
 
 /// What a file is that is no text, of which this is the first line, and maybe the only one.
 pub fn no_text(first: &[u8], is_only: bool) -> Option<&'static str> {
-    for (bytes, what) in &BEGINNINGS {
-        if first.starts_with(bytes) {
-            return Some(what);
-        }
-    }
-    if is_only && has_return(first) {
+    let mut beginnings = BEGINNINGS.iter();
+    if let Some((_, what)) = beginnings.find(|(bytes, _)| first.starts_with(bytes)) {
+        Some(*what)
+    } else if is_only && has_return(first) {
         Some(RETURNS)
     } else if first.iter().take(8).any(|b| *b == 0) {
         Some(ZEROS)

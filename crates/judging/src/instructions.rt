@@ -35,12 +35,10 @@ pub static INSTRUCTIONS: [(&str, Operands); 6] = [
 
 /// What stands behind a word that begins an instruction; none where a word begins none.
 pub fn operands_of(word: &[u8]) -> Option<Operands> {
-    for (words, operands) in &INSTRUCTIONS {
-        if is_listed(words, word) {
-            return Some(*operands);
-        }
-    }
-    None
+    let (_, operands) = INSTRUCTIONS
+        .iter()
+        .find(|(words, _)| is_listed(words, word))?;
+    Some(*operands)
 }
 
 /// Whether a word begins an instruction.

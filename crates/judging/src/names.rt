@@ -4,23 +4,11 @@ use crate::instructions::INSTRUCTIONS;
 use posix::Call;
 use std::alloc::{AllocError, Global};
 use text::Words;
-use wording::{Nearest, distance};
+use wording::{distance, nearest_name};
 
 /// Whether a name is near to a word.
 pub fn is_near(alloc: Global, word: &[u8], name: &[u8]) -> Result<bool, AllocError> {
     Ok(distance(alloc, word, name)?.is_some())
-}
-
-/// Offers the words of a list, with blanks between them.
-fn offer_all(
-    nearest: &mut Nearest<'_, 'static>,
-    alloc: Global,
-    list: &'static str,
-) -> Result<(), AllocError> {
-    for name in Words(list.as_bytes()) {
-        nearest.offer(alloc, name)?;
-    }
-    Ok(())
 }
 
 /// The word of a list, with blanks between its words, that is nearest to a word.
@@ -29,9 +17,7 @@ pub fn nearest_in(
     word: &[u8],
     list: &'static str,
 ) -> Result<Option<&'static [u8]>, AllocError> {
-    let mut nearest = Nearest::new(word);
-    offer_all(&mut nearest, alloc, list)?;
-    Ok(nearest.found())
+    nearest_name(alloc, word, Words(list.as_bytes()))
 }
 
 /// The word that begins an instruction or ends a program, and is nearest to a word.
@@ -39,19 +25,17 @@ pub fn nearest_instruction(
     alloc: Global,
     word: &[u8],
 ) -> Result<Option<&'static [u8]>, AllocError> {
-    let mut nearest = Nearest::new(word);
-    for (words, _) in &INSTRUCTIONS {
-        offer_all(&mut nearest, alloc, words)?;
-    }
-    offer_all(&mut nearest, alloc, "end")?;
-    Ok(nearest.found())
+    let first = INSTRUCTIONS
+        .iter()
+        .flat_map(|(words, _)| Words(words.as_bytes()));
+    nearest_name(alloc, word, first.chain(Words(b"end")))
 }
 
 /// The call whose name is nearest to a word.
 pub fn nearest_call(alloc: Global, word: &[u8]) -> Result<Option<&'static [u8]>, AllocError> {
-    let mut nearest = Nearest::new(word);
+    let mut names = Vec::new(alloc);
     for call in &Call::ALL {
-        nearest.offer(alloc, call.name())?;
+        names.push(call.name())?;
     }
-    Ok(nearest.found())
+    nearest_name(alloc, word, names.into_iter())
 }

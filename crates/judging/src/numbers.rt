@@ -20,10 +20,7 @@ impl Number {
     /// Whether a number is in the range.
     fn has(self, number: i64) -> bool {
         let (low, high) = self.range();
-        match u64::try_from(number) {
-            Ok(number) => low <= number && number <= high,
-            Err(_) => false,
-        }
+        u64::try_from(number).is_ok_and(|number| low <= number && number <= high)
     }
 }
 

@@ -34,7 +34,7 @@ pub struct Mistake<'a> {
 pub fn label_line(text: &[u8], name: &[u8], from: u64) -> Option<u64> {
     for (number, line) in (1u64..).zip(Lines(text)).skip(from as usize) {
         let line = Line::new(line);
-        if is_label(line.first(), name) {
+        if line.first().strip_suffix(b":") == Some(name) {
             return Some(number);
         }
         if ends_program(line) {
@@ -42,14 +42,6 @@ pub fn label_line(text: &[u8], name: &[u8], from: u64) -> Option<u64> {
         }
     }
     None
-}
-
-/// Whether a word is a label of this name.
-fn is_label(word: &[u8], name: &[u8]) -> bool {
-    match word {
-        [label @ .., b':'] => label == name,
-        _ => false,
-    }
 }
 
 /// Whether a line ends a program, or begins the next one.
@@ -68,18 +60,12 @@ pub fn program_line(text: &[u8], name: &[u8]) -> Option<u64> {
     Some(number)
 }
 
-/// A word up to its first colon, if it has one.
-fn before_colon(word: &[u8]) -> Option<&[u8]> {
-    let colon = word.iter().position(|b| *b == b':')?;
-    Some(&word[..colon])
-}
-
 /// Whether a line may be meant to define a label.
 fn resembles_label(alloc: Global, line: Line<'_>, name: &[u8]) -> Result<bool, AllocError> {
-    match before_colon(line.first()) {
-        Some(label) => is_near(alloc, name, label),
-        None if line.count() == 1 => is_near(alloc, name, line.first()),
-        None => Ok(false),
+    let word = line.first();
+    match word.iter().position(|b| *b == b':') {
+        Some(colon) => is_near(alloc, name, &word[..colon]),
+        None => Ok(line.count() == 1 && is_near(alloc, name, word)?),
     }
 }
 
@@ -88,23 +74,9 @@ fn resembles(alloc: Global, line: Line<'_>, used: &NameUse<'_>) -> Result<bool, 
     match used.named {
         Named::Label => resembles_label(alloc, line, used.name),
         Named::Program if line.word(1) == used.name => Ok(true),
-        Named::Program if line.first() == b"program".as_slice() => {
-            is_near(alloc, used.name, line.word(1))
+        Named::Program => {
+            Ok(line.first() == b"program".as_slice() && is_near(alloc, used.name, line.word(1))?)
         }
-        Named::Program => Ok(false),
-    }
-}
-
-/// Whether the line with a number may be meant to define a name.
-fn may_define(
-    alloc: Global,
-    text: &[u8],
-    number: u64,
-    used: &NameUse<'_>,
-) -> Result<bool, AllocError> {
-    match line_at(text, number) {
-        Some(line) => resembles(alloc, Line::new(line), used),
-        None => Ok(false),
     }
 }
 
@@ -117,13 +89,7 @@ fn mentions(text: &[u8], name: &[u8]) -> usize {
 
 /// Whether a word is another one with a letter doubled.
 fn doubles(word: &[u8], other: &[u8]) -> bool {
-    for end in 1..=other.len() {
-        let (front, back) = (&other[..end], &other[end - 1..]);
-        if word.strip_prefix(front) == Some(back) {
-            return true;
-        }
-    }
-    false
+    (1..=other.len()).any(|end| word.strip_prefix(&other[..end]) == Some(&other[end - 1..]))
 }
 
 /// Whether of two near names, each in one place alone, the second one is the wrong one.
@@ -161,7 +127,8 @@ fn refused_definition<'a>(
         Named::Program => program_line(text, used.name),
     };
     let below = defined.filter(|line| *line >= refused);
-    if below.is_none() && !may_define(alloc, text, refused, &used)? {
+    let line = Line::new(line_at(text, refused).unwrap_or(&[]));
+    if below.is_none() && !resembles(alloc, line, &used)? {
         return Ok(None);
     }
     let mut refusal = refusal;
@@ -235,11 +202,7 @@ fn nearest_defined<'a>(
             is_used: uses_of(world, used, is.name) > 0,
             distance,
         };
-        let is_better = match best {
-            Some(best) => (near.is_used, near.distance) < (best.is_used, best.distance),
-            None => true,
-        };
-        if is_better {
+        if best.is_none_or(|best| (near.is_used, near.distance) < (best.is_used, best.distance)) {
             best = Some(near);
         }
     }
@@ -254,10 +217,7 @@ fn undefined<'a>(
     used: NameUse<'a>,
 ) -> Result<Mistake<'a>, AllocError> {
     let near = nearest_defined(alloc, world, &used)?;
-    let note = match world.refused {
-        Some((refused, _)) => Some(Note::RefusedToo(refused)),
-        None => None,
-    };
+    let note = world.refused.map(|(refused, _)| Note::RefusedToo(refused));
     let (line, place, fault) = match near {
         Some(near)
             if !near.is_used

@@ -128,11 +128,8 @@ impl<'a> World<'a> {
             return refuse(Reason::UnknownWord, 1, Fault::NoName(Named::Program));
         }
         if let Some(first) = self.programs.iter().find(|known| known.name == name) {
-            return refuse(
-                Reason::NameTwice,
-                1,
-                Fault::Twice(Named::Program, first.line),
-            );
+            let fault = Fault::Twice(Named::Program, first.line);
+            return refuse(Reason::NameTwice, 1, fault);
         }
         self.programs
             .push(Definition { name, line: number })
@@ -147,7 +144,8 @@ impl<'a> World<'a> {
     fn take_inner(&mut self, number: u64, line: Line<'a>) -> Verdict<'a> {
         let word = line.first();
         if word == b"program".as_slice() {
-            return refuse(Reason::UnknownWord, 0, self.within());
+            let fault = self.inside().map_or(Fault::Unsaid, Fault::Within);
+            return refuse(Reason::UnknownWord, 0, fault);
         }
         if word == b"end".as_slice() {
             if line.count() > 1 {
@@ -163,38 +161,20 @@ impl<'a> World<'a> {
         }
     }
 
-    /// A program begins within another one.
-    fn within(&self) -> Fault<'a> {
-        match self.inside() {
-            Some(program) => Fault::Within(program),
-            None => Fault::Unsaid,
-        }
-    }
-
     /// The number of the last program, from 0.
     fn program(&self) -> usize {
         self.programs.len().saturating_sub(1)
     }
 
-    /// The line in which the last program begins.
-    fn first_line(&self) -> u64 {
-        match self.programs.last() {
-            Some(program) => program.line,
-            None => 0,
-        }
-    }
-
     /// Judges a line with a label.
     fn take_label(&mut self, number: u64, line: Line<'a>, name: &'a [u8]) -> Verdict<'a> {
         let program = self.program();
-        for label in &self.labels {
-            if label.program == program && label.is.name == name {
-                return refuse(
-                    Reason::NameTwice,
-                    0,
-                    Fault::Twice(Named::Label, label.is.line),
-                );
-            }
+        let mut labels = self.labels.iter();
+        if let Some(first) = labels.find(|known| known.program == program
+            && known.is.name == name)
+        {
+            let fault = Fault::Twice(Named::Label, first.is.line);
+            return refuse(Reason::NameTwice, 0, fault);
         }
         let is = Definition { name, line: number };
         self.labels
@@ -215,35 +195,32 @@ impl<'a> World<'a> {
             return refuse(Reason::OutOfRange, 0, Fault::ManyInstructions);
         }
         self.instructions = self.instructions.saturating_add(1);
+        self.take_operands(number, line, operands)?;
+        let most = match operands {
+            Operands::Call | Operands::Label | Operands::Register => 2,
+            Operands::Value | Operands::Registers | Operands::RegisterAndLabel => 3,
+        };
+        judge_end(line, most)
+    }
+
+    /// Judges the operands of an instruction.
+    fn take_operands(&mut self, number: u64, line: Line<'a>, operands: Operands) -> Verdict<'a> {
         match operands {
-            Operands::Call => {
-                if !is_call(line.word(1)) {
-                    return refuse(Reason::UnknownWord, 1, Fault::NoCall);
-                }
-                judge_end(line, 2)
-            }
-            Operands::Label => {
-                self.take_name(number, line, 1)?;
-                judge_end(line, 2)
-            }
-            Operands::Register => {
-                judge_register(line, 1)?;
-                judge_end(line, 2)
-            }
+            Operands::Call if is_call(line.word(1)) => Ok(()),
+            Operands::Call => refuse(Reason::UnknownWord, 1, Fault::NoCall),
+            Operands::Label => self.take_name(number, line, 1),
+            Operands::Register => judge_register(line, 1),
             Operands::Value => {
                 judge_register(line, 1)?;
-                self.take_value(number, line)?;
-                judge_end(line, 3)
+                self.take_value(number, line)
             }
             Operands::Registers => {
                 judge_register(line, 1)?;
-                judge_register(line, 2)?;
-                judge_end(line, 3)
+                judge_register(line, 2)
             }
             Operands::RegisterAndLabel => {
                 judge_register(line, 1)?;
-                self.take_name(number, line, 2)?;
-                judge_end(line, 3)
+                self.take_name(number, line, 2)
             }
         }
     }
@@ -280,7 +257,8 @@ impl<'a> World<'a> {
             word => match integer(word) {
                 Ok(_) => Ok(()),
                 Err(Reason::BadNumber) => {
-                    refuse(Reason::BadNumber, 2, Fault::BadValue(self.first_line()))
+                    let program = self.programs.last().map_or(0, |program| program.line);
+                    refuse(Reason::BadNumber, 2, Fault::BadValue(program))
                 }
                 Err(_) => refuse(Reason::OutOfRange, 2, Fault::WideValue),
             },

@@ -1,9 +1,8 @@
 -- Who has just found that it has to wait for a child, and is blocked in that wait, can't act.
-use Rattle.std.proofs.Common.{◌≡◌, ◌≢◌, ℕ, true, false, refl, ap, sym, ◌∙◌, Some, None, Option, is_some}
+use Rattle.std.proofs.Common.{◌≡◌, ℕ, true, false, not, refl, ap, sym, ◌∙◌, Some, None, Option}
 use Rattle.std.proofs.Math.Bool.{and-false}
 use Rattle.posix.specs.declared.process.Blocked.{Blocked}
 use Rattle.posix.specs.declared.process.Blocked.TheVariants as blocked
-use Rattle.posix.specs.SignalNumbers.{KILL}
 use Rattle.posix.specs.declared.waits.WaitCall.{WaitCall}
 use Rattle.posix.specs.Processes.{Process, is_running}
 use Rattle.life.specs.Rechecks.{is_in_wait}
@@ -19,7 +18,7 @@ use Rattle.posix.specs.Step.{enter}
 use Rattle.posix.proofs.SeeLemmas.{can_act_alike}
 use Rattle.posix.proofs.TouchLemmas.{Unseen, sees_unseen}
 use Rattle.posix.proofs.WaitLemmas.{by_wait}
-use Rattle.calls.proofs.ChosenLemmas.{changed_there, no_kill_chosen}
+use Rattle.calls.proofs.ChosenLemmas.{changed_there, none_chosen}
 
 -- ---- a wait blocks in a wait
 
@@ -34,13 +33,15 @@ unseen_enter : (b : Blocked) → Unseen (enter b)
 unfolding enter
 unseen_enter b = record { pid = λ r. refl; parent = λ r. refl; group = λ r. refl; life = λ r. refl; news = λ r. refl }
 
--- who waits, with no signal, can't act
+-- who has to wait in its call, with no signal, can't act
+pub wait_rests : (s : State) (me : Process) → chosen me.life me.signals ≡ None → can_go_on s me me.blocked ≡ false → can_act s me ≡ false
+unfolding can_act
+wait_rests s me none waits = rw (none_chosen me.life me.signals none, waits, none, and-false) (and-false (is_running me.life))
+
+-- nor who waits for a child
 waiter_rests : (s : State) (me : Process) (call : WaitCall) → chosen me.life me.signals ≡ None → is_block (wait_by call s me) ≡ true → can_act s (enter (blocked.Wait call) me) ≡ false
-unfolding can_act enter attempt_again wait_by
-waiter_rests s me call none waits =
-    let other : chosen me.life me.signals ≢ Some KILL = λ k. let no = sym none ∙ k in absurd (cc) in
-    let signalled : is_some (chosen me.life me.signals) ≡ false = ap is_some none in
-    rw (no_kill_chosen me.life me.signals other, waits, signalled, and-false) (and-false (is_running me.life))
+unfolding enter attempt_again wait_by
+waiter_rests s me call none waits = wait_rests s (enter (blocked.Wait call) me) none (ap not waits)
 
 -- nor once it is blocked
 pub blocked_rests : (s : State) (p : ℕ) (me : Process) (call : WaitCall) (b : Blocked) → process s p ≡ Some me → chosen me.life me.signals ≡ None → wait_by call s me ≡ Block b
@@ -63,21 +64,10 @@ blocked_unread s p me call b here waits r e =
 
 -- ---- who waits on
 
--- who has to wait in its call can't act
-pub wait_rests : (s : State) (me : Process) → chosen me.life me.signals ≡ None → can_go_on s me me.blocked ≡ false → can_act s me ≡ false
-unfolding can_act
-wait_rests s me none waits =
-    let other : chosen me.life me.signals ≢ Some KILL = λ k. let no = sym none ∙ k in absurd (cc) in
-    let signalled : is_some (chosen me.life me.signals) ≡ false = ap is_some none in
-    rw (no_kill_chosen me.life me.signals other, waits, signalled, and-false) (and-false (is_running me.life))
-
 -- nor does who waits for a child read
 pub wait_unread : (b : Option Blocked) → is_in_wait b ≡ true → is_in_read b ≡ false
-wait_unread None e = refl
-wait_unread (Some (blocked.Wait call)) e = refl
 wait_unread (Some blocked.Read) e = absurd (cc)
-wait_unread (Some blocked.Pause) e = refl
-wait_unread (Some (blocked.Sigsuspend mask)) e = refl
+wait_unread b e = refl
 
 -- ---- who has a place
 

@@ -1,23 +1,19 @@
--- How many slots settling reads.
-use Rattle.std.proofs.Common.{◌≡◌, ◌≢◌, ℕ, ◌+◌, ◌*◌, ◌≤◌, suc, true, false, cond, subst, ◌||◌, refl, ap, sym, ◌∙◌, arith, List, [], ◌∷◌, length, count_by, Some, None, Option, option_map, filter, slice_get, ◌==◌, is_some}
-use Rattle.std.specs.Option.{IfSome}
-use Rattle.std.proofs.lemmas.Bool.{eqb-true, ne_eqb}
+-- How many slots an event reads: its calls, and what settles it.
+use Rattle.std.proofs.Common.{◌≡◌, ◌≢◌, ℕ, ◌+◌, ◌≤◌, suc, true, false, cond, subst, ◌||◌, refl, ap, sym, ◌∙◌, arith, List, [], ◌∷◌, length, count_by, Some, None, Option, option_map, filter, slice_get, ◌==◌, is_some, zero, not, ◌&&◌, ◌⊎◌, inl, inr}
+use Rattle.std.specs.Option.{IfSome, option_map_or}
+use Rattle.std.proofs.lemmas.Bool.{eqb-true, ne_eqb, both_ways}
 use Rattle.std.proofs.lemmas.List.Sums.{length-filter}
 use Rattle.posix.specs.Processes.{Process}
 use Rattle.posix.specs.States.{State, current_process}
-use Rattle.posix.specs.Consoles.{Console}
+use Rattle.posix.specs.Consoles.{Console, key_signal}
 use Rattle.posix.specs.Regular.{IsRegular}
 use Rattle.life.specs.declared.consoles.Unchecked.{Unchecked}
 use Rattle.life.specs.declared.consoles.Unchecked.TheVariants.{Nothing, In, All}
 use Rattle.life.specs.Foregrounds.{is_unchecked}
 use Rattle.life.specs.Machines.{MachineView}
-use Rattle.life.specs.Rechecks.{NeedNoChild}
 use Rattle.calls.specs.Outcomes.{AreFew, CostsAtMost, CostsWithRechecks, changes_caller_alone, slots_of_brief}
-use Rattle.life.specs.Consoles.{foreground_members, slots_of_key}
-use Rattle.kernel.proofs.CallCountLemmas.{key_slots}
 use Rattle.calls.specs.Counts.{slots_of_checking, slots_of_rechecks}
-use Rattle.calls.proofs.CountLemmas.{rechecks_brief}
-use Rattle.kernel.specs.Counts.{IsAtRest, ReadsAtMost, slots_of_own_step, slots_of_acting, slots_of_blocking, slots_of_event, slots_of_step, slots_of_steps, slots_of_taken, slots_of_trap, after_taken}
+use Rattle.kernel.specs.Counts.{IsAtRest, ReadsAtMost, slots_of_own_step, slots_of_acting, slots_of_blocking, slots_of_event, slots_of_step, slots_of_steps, slots_of_taken, slots_of_trap, after_taken, is_kill, delivers_nothing}
 use Rattle.kernel.specs.Steps.{changes_one, enters, is_followed_by_step, is_held, next_changes_one, next_enters, taken_at_once}
 use Rattle.life.specs.NotedBursts.{StepsTaken}
 use Rattle.posix.specs.declared.event.Event.TheVariants.{Step}
@@ -28,6 +24,55 @@ use Rattle.posix.specs.Execute.{exec_one}
 use Rattle.posix.specs.Step.{code_of}
 use Rattle.std.proofs.lemmas.Option.{same_Some}
 use Rattle.calls.proofs.BriefLemmas.{brief_more}
+use Rattle.std.proofs.Math.Bool.{and-false}
+use Rattle.posix.specs.declared.waits.WaitCall.{WaitCall}
+use Rattle.posix.specs.declared.process.Blocked.{Blocked}
+use Rattle.posix.specs.declared.process.Blocked.TheVariants as blocked
+use Rattle.posix.specs.Calls.{wait_in}
+use Rattle.posix.specs.Waits.{wait_by}
+use Rattle.posix.specs.Settle.{is_block}
+use Rattle.posix.specs.declared.call.Call.TheVariants.{Waitpid, Waitid, Kill, Sigqueue}
+use Rattle.posix.specs.Tables.{members_in}
+use Rattle.life.specs.Consoles.{foreground_members, slots_of_key, slots_of_signal_key}
+
+-- ---- calls of which it is counted how many slots they read, beside those of their caller alone
+
+-- they are waits, and sends, which needn't wait
+pub brief_call : (call : Call) (me : Process) (holds : ℕ → Type 0) → (is_some (wait_in call) ≡ true → holds 6) → ((call ≡ Kill) ⊎ (call ≡ Sigqueue) → ⊥) → IfSome (slots_of_brief call me) holds
+brief_call Waitpid me holds waits done = waits refl
+brief_call Waitid me holds waits done = waits refl
+brief_call Kill me holds waits done = absurd (done (inl refl))
+brief_call Sigqueue me holds waits done = absurd (done (inr refl))
+brief_call call me holds waits done = tt
+
+-- what a wait reads, and who is blocked in it
+pub wait_reads : (call : Call) (me : Process) → is_some (wait_in call) ≡ true → (slots_of_brief call me ≡ Some 6) × (slots_of_blocking call ≡ 1)
+wait_reads Waitpid me e = (refl, refl)
+wait_reads Waitid me e = (refl, refl)
+wait_reads call me e = absurd (cc)
+
+-- where a signal is chosen for who has to wait, it is delivered
+pub nothing_delivered : (s : State) (me : Process) (call : WaitCall) (sig : ℕ) → chosen me.life me.signals ≡ Some sig → is_block (wait_by call s me) ≡ true → delivers_nothing s call me ≡ true → ⊥
+nothing_delivered s me call sig takes waits nothing =
+    let no : (not (is_kill (Some sig)) && false) ≡ true = subst (λ b. (not (is_kill (Some sig)) && (false || not b)) ≡ true) waits (subst (λ o. (not (is_kill o) && (not (is_some o) || not (is_block (wait_by call s me)))) ≡ true) takes nothing) in
+    both_ways _ (and-false (not (is_kill (Some sig)))) no
+
+-- so who is blocked in a call is counted where it waits, and no signal is delivered
+pub acting_blocked : (s : State) (me : Process) (b : Blocked) (holds : ℕ → Type 0) → ((call : WaitCall) → b ≡ blocked.Wait call → delivers_nothing s call me ≡ true → holds 6) → IfSome (slots_of_acting s me (Some b)) holds
+acting_blocked s me (blocked.Wait call) holds h = elim (delivers_nothing s call me) as (λ b. delivers_nothing s call me ≡ b → IfSome (cond b (Some 6) None) holds) [ true ↦ λ e. h call refl e | false ↦ λ e. tt ] refl
+acting_blocked s me b holds h = tt
+
+-- ---- a key
+
+-- a key reads one slot for each member of the foreground process group, at most
+pub key_slots : (console byte : ℕ) (m : MachineView) → slots_of_key console byte m ≤ length (foreground_members console m.state)
+key_slots zero byte m = omega arith
+key_slots (suc k) byte m = by (key_signal byte) (slice_get m.state.consoles k)
+  where
+    by : (sig : Option ℕ) (o : Option Console) → slots_of_signal_key sig o m.state.processes ≤ length (option_map_or (λ c. members_in c.foreground m.state.processes) o [])
+    by None o = omega arith
+    by (Some n) None = omega arith
+    by (Some n) (Some c) = omega arith
 
 -- ---- one more slot
 
@@ -84,6 +129,12 @@ pub settling_none : (n : ℕ) (old new : MachineView) → IsAtRest old → Costs
 unfolding slots_of_rechecks
 settling_none n old new rest costs = rw (costs.to_recheck ∙ rest.none, costs.foregrounds_unchecked ∙ rest.checked, none_unchecked new.state.consoles) (let read = costs.visits in omega (arith, read))
 
+-- and where so many slots are read to recheck, and no foreground process group is unchecked
+pub settling_rechecks : (most k : ℕ) (old new : MachineView) → new.foregrounds_unchecked ≡ Nothing → slots_of_rechecks new.state.processes None new.to_recheck ≤ k → new.visits + k ≤ old.visits + most → ReadsAtMost most old new
+settling_rechecks most k old new checked few read =
+    let none = ap (λ u. count_by (is_unchecked u) new.state.consoles) checked ∙ none_unchecked new.state.consoles in
+    omega (arith, few, read, none)
+
 -- a step that changes one process, or enters a handler, costs as much
 pub own_costs : (s : State) (o : Option Process) (old new : MachineView) → (next_changes_one s o ≡ true → CostsAtMost 2 old new) → (next_enters s o ≡ true → CostsAtMost 3 old new) → IfSome (slots_of_own_step s o) (λ n. CostsAtMost n old new)
 own_costs s o old new one enters = elim (next_changes_one s o) as (λ b. (b ≡ true → CostsAtMost 2 old new) → IfSome (cond b (Some 3) (cond (next_enters s o) (Some 4) None)) (λ n. CostsAtMost n old new)) [
@@ -135,25 +186,6 @@ call_reads call old new me rest none free is own brief = step_reads old new (Som
         subst (λ o. IfSome (slots_of_acting old.state me o) (λ n. CostsWithRechecks (n + 1) old new)) (sym free)
         (subst (λ o. IfSome (cond (is_some o) None (slots_of_trap me (exec_one (code_of old.state me) me.cpu).trap)) (λ n. CostsWithRechecks (n + 1) old new)) (sym none)
         (subst (λ t. IfSome (slots_of_trap me t) (λ n. CostsWithRechecks (n + 1) old new)) (sym is) (more (slots_of_brief call me) brief)))
-
--- and a key
-pub key_reads : (console byte : ℕ) (old new : MachineView) → IsAtRest old → new.visits ≤ old.visits + slots_of_key console byte old → new.foregrounds_unchecked ≡ old.foregrounds_unchecked
-    → NeedNoChild new.state.processes new.to_recheck × (length new.to_recheck ≤ length (foreground_members console old.state)) → ReadsAtMost (3 * length (foreground_members console old.state)) old new
-key_reads console byte old new rest read still h =
-    let slots = key_slots console byte old in
-    let brief = rechecks_brief new.state.processes None new.to_recheck h.0 in
-    let few = h.1 in
-    let none = ap (λ u. count_by (is_unchecked u) new.state.consoles) (still ∙ rest.checked) ∙ none_unchecked new.state.consoles in
-    omega (arith, read, slots, brief, few, none)
-
--- and a hangup
-pub hangup_reads : (console : ℕ) (old new : MachineView) → IsAtRest old → new.visits ≤ old.visits + 2 → new.foregrounds_unchecked ≡ old.foregrounds_unchecked
-    → NeedNoChild new.state.processes new.to_recheck × (length new.to_recheck ≤ 1 + length (foreground_members console old.state)) → ReadsAtMost (4 + 2 * length (foreground_members console old.state)) old new
-hangup_reads console old new rest read still h =
-    let brief = rechecks_brief new.state.processes None new.to_recheck h.0 in
-    let few = h.1 in
-    let none = ap (λ u. count_by (is_unchecked u) new.state.consoles) (still ∙ rest.checked) ∙ none_unchecked new.state.consoles in
-    omega (arith, read, brief, few, none)
 
 -- ---- steps that are given at once
 

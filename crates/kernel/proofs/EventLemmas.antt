@@ -67,9 +67,7 @@ counts_on s t x es n step births ticks =
 -- where one follows it is within the bound
 pub followed_short : (before last n : ℕ) (t : Trap) → before < last → is_followed_by_step before n t ≡ true → (t ≢ trap.Next → n < last) → n < last
 followed_short before last n trap.Next some follows short = omega (arith, some, eqb-true n before follows)
-followed_short before last n (trap.Note z) some follows short = short (λ e. absurd (cc))
-followed_short before last n (trap.Call call) some follows short = short (λ e. absurd (cc))
-followed_short before last n (trap.Fault sig) some follows short = short (λ e. absurd (cc))
+followed_short before last n t some follows short = short (λ e. absurd (cc))
 
 -- ---- events that change and show nothing
 

@@ -12,13 +12,13 @@ use Rattle.posix.specs.States.{State}
 use Rattle.posix.specs.Step.{IsStep, next}
 use Rattle.posix.specs.Runs.{RunsFrom}
 use Rattle.posix.specs.Printing.{print, print_line}
-use Rattle.sink.specs.Sinks.{Seen, TakesAll, Gathers, BreaksOff}
+use Rattle.trace.specs.Sinks.{Seen, TakesAll, Gathers, BreaksOff}
 use Rattle.text.specs.EventTexts.{most_events}
 use Rattle.life.specs.declared.noted_bursts.Note.{Note}
 use Rattle.kernel.specs.Steps.{Bursts, noted_lines}
 use Rattle.kernel.specs.PrintLaws.{print_then, reported_then}
 use Rattle.kernel.specs.Progress.{Shows, Breaks, Prints, WritesTrace, BreaksTrace}
-use Rattle.sink.proofs.SinkLemmas.{gathers_then, gathers_break, break_on, flush_takes, flush_breaks}
+use Rattle.trace.proofs.SinkLemmas.{gathers_then, gathers_break, break_on, flush_takes, flush_breaks}
 
 -- ---- runs
 
@@ -161,15 +161,14 @@ ends_more k es i d lt =
 -- ---- one event
 
 -- a step after a burst
-pub step_after : (before n e p : ℕ) (s started m t : State) (ns : List Note) (es : List Entry) → Bursts started before n p ns m → before ≤ n → started ≡ s → IsStep m Step es t → e ≡ n + 1
-    → RunsFrom (before + 1) s (replicate (e - before) Step) (noted_lines p ns ++ numbered e es) t
-step_after before n e p s started m t ns es b on same step at =
-    let here : e ≡ (before + 1) + length (replicate (n - before) Step) = omega (arith, at, on, length-replicate (n - before) Step) in
-    let count : (n - before) + 1 ≡ e - before = omega (arith, at, on) in
-    let one : RunsFrom ((before + 1) + length (replicate (n - before) Step)) m (Step ∷ []) (numbered e es) t =
-    subst (λ (j : ℕ). RunsFrom j m (Step ∷ []) (numbered e es) t) here (t, es, [], step, sym (append-nil (numbered e es)), (refl, refl)) in
-    subst (λ (l : List Event). RunsFrom (before + 1) s l (noted_lines p ns ++ numbered e es) t) (replicate_more (n - before) Step ∙ ap (λ (k : ℕ). replicate k Step) count)
-    (runs_then (replicate (n - before) Step) (Step ∷ []) (before + 1) s m t (noted_lines p ns) (numbered e es) (subst (λ (u : State). RunsFrom (before + 1) u (replicate (n - before) Step) (noted_lines p ns) m) same b.runs) one)
+pub step_after : {before n p : ℕ} {s m t : State} {ns : List Note} {es : List Entry} → Bursts s before n p ns m → before ≤ n → IsStep m Step es t → RunsFrom (before + 1) s (replicate ((n + 1) - before) Step) (noted_lines p ns ++ numbered (n + 1) es) t
+step_after {before = before} {n = n} {p = p} {s = s} {m = m} {t = t} {ns = ns} {es = es} b on step =
+    let here : n + 1 ≡ (before + 1) + length (replicate (n - before) Step) = omega (arith, on, length-replicate (n - before) Step) in
+    let count : (n - before) + 1 ≡ (n + 1) - before = omega (arith, on) in
+    let one : RunsFrom ((before + 1) + length (replicate (n - before) Step)) m (Step ∷ []) (numbered (n + 1) es) t =
+    subst (λ (j : ℕ). RunsFrom j m (Step ∷ []) (numbered (n + 1) es) t) here (t, es, [], step, sym (append-nil (numbered (n + 1) es)), (refl, refl)) in
+    subst (λ (l : List Event). RunsFrom (before + 1) s l (noted_lines p ns ++ numbered (n + 1) es) t) (replicate_more (n - before) Step ∙ ap (λ (k : ℕ). replicate k Step) count)
+    (runs_then (replicate (n - before) Step) (Step ∷ []) (before + 1) s m t (noted_lines p ns) (numbered (n + 1) es) b.runs one)
 
 -- ---- all that waited is put
 

@@ -59,10 +59,8 @@ slots_of_blocking call = 0
 
 -- an instruction that comes out so: a wait, or a signal that is sent to one process or to nobody
 abbrev pub slots_of_trap : Process → Trap → Option ℕ
-slots_of_trap me trap.Next = None
-slots_of_trap me (trap.Note z) = None
 slots_of_trap me (trap.Call call) = option_map (λ n. n + slots_of_blocking call + 1) (slots_of_brief call me)
-slots_of_trap me (trap.Fault sig) = None
+slots_of_trap me t = None
 
 -- KILL is chosen
 abbrev pub is_kill : Option ℕ → Bool
@@ -77,9 +75,7 @@ delivers_nothing s call me = not (is_kill (chosen me.life me.signals)) && (not (
 abbrev pub slots_of_acting : State → Process → Option Blocked → Option ℕ
 slots_of_acting s me None = if is_some (chosen me.life me.signals) then None else slots_of_trap me (exec_one (code_of s me) me.cpu).trap
 slots_of_acting s me (Some (blocked.Wait call)) = if delivers_nothing s call me then Some 6 else None
-slots_of_acting s me (Some blocked.Read) = None
-slots_of_acting s me (Some blocked.Pause) = None
-slots_of_acting s me (Some (blocked.Sigsuspend mask)) = None
+slots_of_acting s me (Some b) = None
 
 -- a step whose instruction changes the process alone that runs it, or is a machine fault that enters a handler
 abbrev pub slots_of_own_step : State → Option Process → Option ℕ

@@ -11,7 +11,7 @@ use Rattle.text.specs.WorldTexts.{world_text}
 use Rattle.kernel.specs.declared.summary.Summary.{Summary}
 use Rattle.kernel.specs.declared.texts.RunError.{RunError}
 use Rattle.kernel.specs.declared.texts.RunError.TheVariants as error
-use Rattle.sink.specs.Sinks.{Seen, TakesAll, BreaksOff}
+use Rattle.trace.specs.Sinks.{Seen, TakesAll, BreaksOff}
 use Rattle.kernel.specs.Summaries.{summary_of}
 
 -- The texts stand for a world and these events, which have a run of the machine with these lines and

@@ -5,8 +5,8 @@ use Rattle.std.proofs.lemmas.List.Concat.{flat_map-append}
 use Rattle.std.proofs.lemmas.List.Sums.{sum_by-append}
 use Rattle.posix.specs.Entries.{Line, reported, reports_end}
 use Rattle.posix.specs.Printing.{print, print_line}
-use Rattle.sink.specs.Sinks.{Seen, Gathers, BreaksOff}
-use Rattle.sink.proofs.SinkLemmas.{gathers_then, gathers_break}
+use Rattle.trace.specs.Sinks.{Seen, Gathers, BreaksOff}
+use Rattle.trace.proofs.SinkLemmas.{gathers_then, gathers_break}
 use Rattle.kernel.specs.Progress.{Prints}
 
 -- lines after lines print as the one text after the other

@@ -5,7 +5,7 @@ use Rattle.posix.specs.Entries.{Line, reported}
 use Rattle.posix.specs.States.{State}
 use Rattle.posix.specs.Runs.{RunsFrom}
 use Rattle.posix.specs.Printing.{print}
-use Rattle.sink.specs.Sinks.{Seen, TakesAll, Gathers, BreaksOff}
+use Rattle.trace.specs.Sinks.{Seen, TakesAll, Gathers, BreaksOff}
 
 -- The events, numbered from k on, led from old to new, and showed lines of which this holds.
 pub record Shows (k : ℕ) (old : State) (events : List Event) (new : State) (Holds : List Line → Type 0) : Type 0 where

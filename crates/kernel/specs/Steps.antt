@@ -52,10 +52,9 @@ Happens old event entries new = (granted : Bool) × (happens granted old event �
 -- an instruction that changes the process alone that runs it: no machine fault, and no call but one that
 -- changes its caller alone
 abbrev pub changes_one : Trap → Bool
-changes_one trap.Next = true
-changes_one (trap.Note z) = true
 changes_one (trap.Call call) = changes_caller_alone call
 changes_one (trap.Fault sig) = false
+changes_one t = true
 
 -- a signal is chosen for the process, or it is in a call: it runs no instruction next
 abbrev pub is_held : Process → Bool
@@ -68,10 +67,8 @@ next_changes_one s (Some me) = if is_held me then false else changes_one (exec_o
 
 -- an instruction whose machine fault enters a handler: it changes the process alone, too
 abbrev pub enters : Process → Trap → Bool
-enters me trap.Next = false
-enters me (trap.Note z) = false
-enters me (trap.Call call) = false
 enters me (trap.Fault sig) = enters_handler me sig
+enters me t = false
 
 -- the process comes to such an instruction
 abbrev pub next_enters : State → Option Process → Bool
@@ -94,9 +91,7 @@ taken_at_once s before last (Some me) = if is_held me then none_taken before els
 -- a step of its own follows where none was taken, or where a call or a machine fault is next
 abbrev pub is_followed_by_step : ℕ → ℕ → Trap → Bool
 is_followed_by_step before last trap.Next = last == before
-is_followed_by_step before last (trap.Note value) = true
-is_followed_by_step before last (trap.Call call) = true
-is_followed_by_step before last (trap.Fault sig) = true
+is_followed_by_step before last t = true
 
 abbrev pub with_step_behind : ℕ → StepsTaken → ℕ
 with_step_behind before taken = if is_followed_by_step before taken.last taken.trap then taken.last + 1 else taken.last

@@ -1,15 +1,14 @@
 //! The kernel of one world.
 
-ghost use Rattle.std.specs.Prelude.{◌≡◌, ◌+◌, ◌-◌, ◌++◌, ◌^◌, ◌<◌, ◌≤◌, ℕ, List, [], ⊤, Contains, Some, IfOk, IfSome, IsSome, IsTrue, false, min, true, option_map, replicate, slice_get};
+ghost use Rattle.std.specs.Prelude.{◌≡◌, ◌+◌, ◌-◌, ◌++◌, ◌^◌, ◌<◌, ◌≤◌, ℕ, [], ⊤, Contains, Some, IfOk, IfSome, IsSome, IsTrue, false, min, true, option_map, replicate, slice_get};
 ghost use mathlib.Core.Option.{none};
 ghost use Rattle.std.specs.Borrow.{sem, follows_so};
-ghost use Rattle.std.specs.List.{list_all};
 ghost use Rattle.std.specs.Option.{option_copied};
 ghost use Rattle.posix.specs.States.{boot as boot_of, current as current_of, current_process, process};
 ghost use Rattle.posix.specs.Alarms.{has_alarms as has_alarms_in};
 ghost use Rattle.posix.specs.Tables.{next_above};
 ghost use Rattle.posix.specs.declared.entry.Entry.{Entry};
-ghost use Rattle.posix.specs.Entries.{Line, numbered};
+ghost use Rattle.posix.specs.Entries.{numbered};
 ghost use Rattle.posix.specs.NextPid.{is_free};
 ghost use Rattle.posix.specs.Runs.{RunsFrom};
 ghost use Rattle.posix.specs.Outcomes.{silent};
@@ -17,16 +16,16 @@ ghost use Rattle.posix.specs.Step.{IsStep, next as event_next};
 ghost use Rattle.posix.specs.Regular.{IsRegular};
 ghost use Rattle.posix.specs.Settle.{IsSettled};
 ghost use Rattle.text.specs.EventTexts.{most_events};
+ghost use Rattle.kernel.specs.Accounts.{LinesTell};
 ghost use Rattle.kernel.specs.Counts.{CountsOne, slots_of_event, slots_of_steps};
 ghost use Rattle.kernel.specs.Steps.{last_given, noted_lines};
 ghost use Rattle.kernel.specs.Views.{KernelView, looked};
 ghost use Rattle.kernel.specs.contracts.kernel_on.KernelOn.{the_row as kernel_row};
 ghost use Rattle.life.specs.Censuses.{census_of};
 ghost use Rattle.proctable.specs.Records.{snapshot_of, own_of};
-ghost use Rattle.sched.specs.Places.{next_behind};
+ghost use Rattle.pidalloc.specs.Places.{next_behind};
 ghost use Rattle.laws.specs.Agree.{Agree, IsOrderly};
 ghost use Rattle.laws.specs.Lives.{born_by};
-ghost use Rattle.laws.specs.TraceLines.{is_line};
 
 use crate::step::{burst, is_followed_by_step, next, step_behind};
 use arrayvec::ArrayVec;
@@ -198,9 +197,7 @@ impl<K: ProcessTable> KernelOn<K> {
         ensures halted { self.old.state.halted ≡ true → (result.items ≡ []) × (self.new.state ≡ self.old.state) }
         ensures regular { IsRegular self.new.state }
         ensures settled { IsSettled self.new.state }
-        ensures orderly { IsOrderly self.new.state }
-        ensures forms { list_all is_line (numbered self.new.events result.items) ≡ true }
-        ensures agrees { (lines : List Line) → Agree lines self.old.events self.old.state → Agree (lines ++ numbered self.new.events result.items) self.new.events self.new.state }
+        ensures tells { LinesTell self.old.events self.new.events self.old.state self.new.state (numbered self.new.events result.items) }
         ensures no_number_is_given_out_twice { (e : Entry) (n : ℕ) → Contains result.items e → born_by e ≡ Some n → is_free self.old.state.processes n ≡ true }
         ensures visits { IfSome (slots_of_event event self.old.state) (λ n. self.new.visits ≤ self.old.visits + n) }
         ensures no_fewer { self.old.visits ≤ self.new.visits }
@@ -228,9 +225,7 @@ impl<K: ProcessTable> KernelOn<K> {
         ensures runs { RunsFrom (self.old.events + 1) self.old.state (replicate (self.new.events - self.old.events) Event.Step) (noted_lines result notes.new.items ++ numbered self.new.events entries.new.items) self.new.state }
         ensures regular { IsRegular self.new.state }
         ensures settled { IsSettled self.new.state }
-        ensures orderly { IsOrderly self.new.state }
-        ensures forms { list_all is_line (noted_lines result notes.new.items ++ numbered self.new.events entries.new.items) ≡ true }
-        ensures agrees { (lines : List Line) → Agree lines self.old.events self.old.state → Agree (lines ++ (noted_lines result notes.new.items ++ numbered self.new.events entries.new.items)) self.new.events self.new.state }
+        ensures tells { LinesTell self.old.events self.new.events self.old.state self.new.state (noted_lines result notes.new.items ++ numbered self.new.events entries.new.items) }
         ensures no_number_is_given_out_twice { (e : Entry) (n : ℕ) → Contains entries.new.items e → born_by e ≡ Some n → is_free self.old.state.processes n ≡ true }
         ensures visits { IfSome (slots_of_steps self.old.events last self.old.state) (λ n. self.new.visits ≤ self.old.visits + n) }
         ensures no_fewer { self.old.visits ≤ self.new.visits }
@@ -312,9 +307,7 @@ impl<K: ProcessTable> KernelOn<K> {
         ensures halted { self.old.state.halted ≡ true → (entries.new.items ≡ []) × (self.new.state ≡ self.old.state) }
         ensures regular { IsRegular self.new.state }
         ensures settled { IsSettled self.new.state }
-        ensures orderly { IsOrderly self.new.state }
-        ensures forms { list_all is_line (numbered self.new.events entries.new.items) ≡ true }
-        ensures agrees { (lines : List Line) → Agree lines self.old.events self.old.state → Agree (lines ++ numbered self.new.events entries.new.items) self.new.events self.new.state }
+        ensures tells { LinesTell self.old.events self.new.events self.old.state self.new.state (numbered self.new.events entries.new.items) }
         ensures no_number_is_given_out_twice { (e : Entry) (n : ℕ) → Contains entries.new.items e → born_by e ≡ Some n → is_free self.old.state.processes n ≡ true }
         ensures visits { IfSome (slots_of_event event self.old.state) (λ n. self.new.visits ≤ self.old.visits + n) }
         ensures no_fewer { self.old.visits ≤ self.new.visits }

@@ -12,6 +12,6 @@ pub mod texts;
 pub use calls::Entries;
 pub use driver::{Observer, drive, drive_to};
 pub use kernel_on::{Kernel, KernelOn};
-pub use sink::{Sink, SinkFault, WriteSink, put_all};
 pub use summary::Summary;
 pub use texts::{RunError, run, run_on, run_read};
+pub use trace::{Sink, SinkFault, WriteSink, put_all};

@@ -4,7 +4,7 @@ ghost use Rattle.std.specs.Prelude.{◌≡◌, ◌+◌, ◌≤◌, ◌++◌, len
 ghost use Rattle.posix.specs.Entries.{numbered, reported, reports_end as reports_end_of};
 ghost use Rattle.posix.specs.Printing.{print};
 ghost use Rattle.text.specs.EventTexts.{most_events};
-ghost use Rattle.sink.specs.Sinks.{Gathers, BreaksOff};
+ghost use Rattle.trace.specs.Sinks.{Gathers, BreaksOff};
 ghost use Rattle.kernel.specs.Progress.{Prints, WritesTrace, BreaksTrace};
 ghost use Rattle.kernel.specs.Steps.{noted_lines};
 ghost use Rattle.kernel.specs.PrintLaws.{lines_break, prints_none, prints_then};
@@ -14,9 +14,8 @@ use crate::kernel_on::KernelOn;
 use life::Note;
 use posix::{Entry, Pid};
 use proctable::ProcessTable;
-use sink::{LineBuffer, Sink, SinkFault};
 use text::EventList;
-use trace::NoteWords;
+use trace::{LineBuffer, NoteWords, Sink, SinkFault};
 
 /// Whether an entry tells that a wait reported an end.
 fn reports_end(entry: &Entry) -> bool

@@ -12,10 +12,10 @@ use crate::kernel_on::KernelOn;
 use crate::progress::write_trace;
 use crate::summary::Summary;
 use proctable::{ProcessTable, SlabTable};
-use sink::Sink;
 use std::alloc::Global;
 use text::{EventList, TextFault, read_events, read_world};
 use thiserror::Error;
+use trace::Sink;
 use umach::World;
 
 /// Why a run didn't come to its end.

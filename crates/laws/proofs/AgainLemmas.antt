@@ -1,12 +1,11 @@
 -- What a call that begins again changes.
-use Rattle.std.proofs.Common.{◌≡◌, ℕ, Bool, ap, subst, List, [], ◌∷◌, take, inl, inr, ◌⊎◌}
+use Rattle.std.proofs.Common.{rules, ◌≡◌, ℕ, Bool, ap, subst, List, [], ◌∷◌, take, inl, inr, ◌⊎◌}
 use Rattle.posix.specs.declared.call.Call.{Call}
-use Rattle.posix.specs.declared.call.Call.TheVariants.{Read, Write}
+use Rattle.posix.specs.declared.call.Call.TheVariants.{Read}
 use Rattle.posix.specs.declared.process.Blocked.{Blocked}
 use Rattle.posix.specs.SignalNumbers.{TTIN, TTOU}
 use Rattle.posix.specs.Processes.{Process}
 use Rattle.posix.specs.States.{State, change}
-use Rattle.posix.specs.Transfers.{bytes_in}
 use Rattle.posix.specs.Outcomes.{Again, silent}
 use Rattle.posix.specs.Ends.{signalled_group}
 use Rattle.posix.specs.Terminals.{finish_moved}
@@ -37,28 +36,7 @@ signalled_retries s me = record {
     by n (inr writes) = inr (ap (λ k. record s { processes = signalled_group k me.group s.processes }) writes)
 
 signalled_ways : (granted : Bool) (s : State) (me : Process) → Ways (λ o. Unit {0}) (HasSignalledItsGroup s me) granted s me
-signalled_ways granted s me = record {
-  retries = signalled_retries s me;
-  wants_memory = λ call wants none. tt;
-  exits = tt;
-  bears = λ n is. tt;
-  yields = tt;
-  sets_ids = λ call c is. tt;
-  sends = λ call target value n is permitted. tt;
-  sets_action = λ n g is. tt;
-  sets_mask = λ what. tt;
-  tells_pending = tt;
-  returns = tt;
-  sets_alarm = λ n is. tt;
-  executes = λ n program is. tt;
-  moves = λ r group h is goes. tt;
-  leads = λ alone. tt;
-  acquires = λ k c is may. tt;
-  sets_foreground = λ g is. tt;
-  sets_tostop = λ b. tt;
-  writes = λ span fits. signalled_moved s s me Write (bytes_in span me.cpu.memory);
-  marks = λ mark. tt;
-}
+signalled_ways granted s me = search (rules, signalled_retries, signalled_moved)
 
 -- a call that begins again shows nothing
 pub begins_again : (granted : Bool) (s : State) (me : Process) (call : Call) (t : State) → attempt granted s me call ≡ Again t

@@ -1,5 +1,5 @@
 -- After each event of worked runs the lines so far agree with the state, computed.
-use Rattle.std.specs.Prelude.{ℕ, ◌+◌, ◌≡◌, ◌==◌, ◌&&◌, ◌||◌, not, if◌then◌else◌, Bool, true, false, refl, List, [], ◌∷◌, ◌++◌, replicate, Option, Some, None, pos, negsuc, nat_le, count_by}
+use Rattle.std.specs.Prelude.{ℕ, ◌+◌, ◌≡◌, ◌==◌, ◌&&◌, ◌||◌, not, if◌then◌else◌, Bool, true, false, List, [], ◌∷◌, ◌++◌, replicate, Option, Some, None, pos, negsuc, nat_le, count_by}
 use Rattle.std.specs.List.{list_all}
 use Rattle.posix.specs.declared.event.Event.{Event}
 use Rattle.posix.specs.declared.event.Event.TheVariants.{Step, Key}
@@ -7,7 +7,7 @@ use Rattle.posix.specs.declared.instr.Instr.TheVariants.{Set, Jump, JumpIf, Sys}
 use Rattle.posix.specs.declared.instr.Condition.TheVariants.{Zero}
 use Rattle.posix.specs.declared.call.Call.TheVariants.{Exit, Fork, Waitpid, Pause, SchedYield, Sigaction, Setpgid, Setsid, Setctty, Tcsetpgrp}
 use Rattle.posix.specs.declared.process.Life.{Life}
-use Rattle.posix.specs.declared.process.Life.TheVariants.{Running, Stopped, Zombie}
+use Rattle.posix.specs.declared.process.Life.TheVariants.{Zombie}
 use Rattle.posix.specs.declared.process.News.{News}
 use Rattle.posix.specs.declared.process.News.TheVariants as news
 use Rattle.posix.specs.SignalNumbers.{KILL, is_stop_signal}
@@ -34,13 +34,11 @@ news_agree a stops news.Continued = a.may_continue && not stops
 
 abbrev is_nothing : News → Bool
 is_nothing news.Nothing = true
-is_nothing (news.StoppedBy s) = false
-is_nothing news.Continued = false
+is_nothing _ = false
 
 abbrev has_status : ℕ → Life → Bool
-has_status w Running = false
-has_status w Stopped = false
 has_status w (Zombie v) = v == w
+has_status w _ = false
 
 abbrev is_same : Bool → Bool → Bool
 is_same a b = if a then b else not b
@@ -84,30 +82,16 @@ unfoldable lines_too : Unit {0}
 unfolding everything kept_of made_by newest_life is_living parents_from
 lines_too = tt
 
-row_note_and_exit : agree_always note_and_exit (replicate 5 Step) ≡ true
-unfolding lines_too
-row_note_and_exit = refl
+-- these runs agree
+record AgreeingRuns : Type 0 where
+  row_note_and_exit : agree_always note_and_exit (replicate 5 Step) ≡ true
+  row_parent_dies_with_a_zombie_child : agree_always (world 40 1 (program None None (Sys Fork ∷ JumpIf Zero 0 21 ∷ Set 1 (negsuc 0) ∷ Sys Waitpid ∷ Jump 18 ∷ Sys Fork ∷ JumpIf Zero 0 26 ∷ Sys SchedYield ∷ Set 1 (pos 2) ∷ Sys Exit ∷ Set 1 (pos 5) ∷ Sys Exit ∷ []) ∷ [])) (replicate 20 Step) ≡ true
+  row_children_ignored : agree_always (world 40 1 (program None None (Set 1 (pos 17) ∷ Set 2 (pos 1) ∷ Sys Sigaction ∷ Sys Fork ∷ JumpIf Zero 0 26 ∷ Sys Fork ∷ JumpIf Zero 0 26 ∷ Set 1 (negsuc 0) ∷ Set 2 (pos 0) ∷ Sys Waitpid ∷ Sys Exit ∷ []) ∷ [])) (replicate 15 Step) ≡ true
+  row_numbers_wrap_and_are_reused : agree_always (world 4 1 (program None None (Sys Fork ∷ JumpIf Zero 0 28 ∷ Sys Fork ∷ JumpIf Zero 0 29 ∷ Sys Fork ∷ JumpIf Zero 0 28 ∷ Set 1 (pos 3) ∷ Set 2 (pos 0) ∷ Sys Waitpid ∷ Sys Fork ∷ JumpIf Zero 0 28 ∷ Sys Fork ∷ Sys Pause ∷ Sys Exit ∷ []) ∷ [])) (replicate 19 Step) ≡ true
+  row_stop_and_continue : agree_always (stops_its_child 18) (replicate 21 Step) ≡ true
+  row_kill_while_stopped : agree_always (stops_its_child 9) (replicate 18 Step) ≡ true
+  row_shell_ends_with_a_stopped_job : agree_always (world 40 1 (program None None (Sys Fork ∷ JumpIf Zero 0 21 ∷ Set 1 (negsuc 0) ∷ Sys Waitpid ∷ Jump 18 ∷ Sys Setsid ∷ Set 1 (pos 1) ∷ Sys Setctty ∷ Sys Fork ∷ JumpIf Zero 0 35 ∷ Set 1 (pos 3) ∷ Set 2 (pos 3) ∷ Sys Setpgid ∷ Sys Tcsetpgrp ∷ Set 1 (negsuc 0) ∷ Set 2 (pos 2) ∷ Sys Waitpid ∷ Set 1 (pos 0) ∷ Sys Exit ∷ Jump 35 ∷ []) ∷ [])) (replicate 18 Step ++ (Key 1 26 ∷ []) ++ replicate 10 Step) ≡ true
 
-row_parent_dies_with_a_zombie_child : agree_always (world 40 1 (program None None (Sys Fork ∷ JumpIf Zero 0 21 ∷ Set 1 (negsuc 0) ∷ Sys Waitpid ∷ Jump 18 ∷ Sys Fork ∷ JumpIf Zero 0 26 ∷ Sys SchedYield ∷ Set 1 (pos 2) ∷ Sys Exit ∷ Set 1 (pos 5) ∷ Sys Exit ∷ []) ∷ [])) (replicate 20 Step) ≡ true
+agreeing_runs : AgreeingRuns
 unfolding lines_too
-row_parent_dies_with_a_zombie_child = refl
-
-row_children_ignored : agree_always (world 40 1 (program None None (Set 1 (pos 17) ∷ Set 2 (pos 1) ∷ Sys Sigaction ∷ Sys Fork ∷ JumpIf Zero 0 26 ∷ Sys Fork ∷ JumpIf Zero 0 26 ∷ Set 1 (negsuc 0) ∷ Set 2 (pos 0) ∷ Sys Waitpid ∷ Sys Exit ∷ []) ∷ [])) (replicate 15 Step) ≡ true
-unfolding lines_too
-row_children_ignored = refl
-
-row_numbers_wrap_and_are_reused : agree_always (world 4 1 (program None None (Sys Fork ∷ JumpIf Zero 0 28 ∷ Sys Fork ∷ JumpIf Zero 0 29 ∷ Sys Fork ∷ JumpIf Zero 0 28 ∷ Set 1 (pos 3) ∷ Set 2 (pos 0) ∷ Sys Waitpid ∷ Sys Fork ∷ JumpIf Zero 0 28 ∷ Sys Fork ∷ Sys Pause ∷ Sys Exit ∷ []) ∷ [])) (replicate 19 Step) ≡ true
-unfolding lines_too
-row_numbers_wrap_and_are_reused = refl
-
-row_stop_and_continue : agree_always (stops_its_child 18) (replicate 21 Step) ≡ true
-unfolding lines_too
-row_stop_and_continue = refl
-
-row_kill_while_stopped : agree_always (stops_its_child 9) (replicate 18 Step) ≡ true
-unfolding lines_too
-row_kill_while_stopped = refl
-
-row_shell_ends_with_a_stopped_job : agree_always (world 40 1 (program None None (Sys Fork ∷ JumpIf Zero 0 21 ∷ Set 1 (negsuc 0) ∷ Sys Waitpid ∷ Jump 18 ∷ Sys Setsid ∷ Set 1 (pos 1) ∷ Sys Setctty ∷ Sys Fork ∷ JumpIf Zero 0 35 ∷ Set 1 (pos 3) ∷ Set 2 (pos 3) ∷ Sys Setpgid ∷ Sys Tcsetpgrp ∷ Set 1 (negsuc 0) ∷ Set 2 (pos 2) ∷ Sys Waitpid ∷ Set 1 (pos 0) ∷ Sys Exit ∷ Jump 35 ∷ []) ∷ [])) (replicate 18 Step ++ (Key 1 26 ∷ []) ++ replicate 10 Step) ≡ true
-unfolding lines_too
-row_shell_ends_with_a_stopped_job = refl
+agreeing_runs = search

@@ -6,16 +6,15 @@ use Rattle.posix.specs.declared.event.Event.TheVariants.{Step, Tick, Key, Hangup
 use Rattle.posix.specs.declared.entry.Entry.{Entry}
 use Rattle.posix.specs.Processes.{Process, first_process, is_zombie, is_stopped}
 use Rattle.posix.specs.Tables.{lookup}
-use Rattle.posix.specs.States.{State, World, boot, is_in, current_process}
+use Rattle.posix.specs.States.{State, World, boot, is_in}
 use Rattle.posix.specs.Entries.{Line, numbered}
 use Rattle.posix.specs.Runs.{RunsFrom, Runs}
-use Rattle.posix.specs.Outcomes.{Outcome}
 use Rattle.posix.specs.Regular.{IsRegular}
-use Rattle.posix.specs.Step.{IsStep, happens, step, settled}
+use Rattle.posix.specs.Step.{IsStep, happens, settled}
 use Rattle.posix.specs.SignalNumbers.{KILL}
 use Rattle.posix.specs.Generation.{is_pending}
 use Rattle.laws.specs.Lives.{parents_from, newest_life}
-use Rattle.laws.specs.Keeping.{Phase, kept_of}
+use Rattle.laws.specs.Keeping.{kept_of}
 use Rattle.std.specs.List.{AllByRecursion, list_all}
 use Rattle.laws.specs.TraceLines.{is_line}
 use Rattle.laws.specs.Kinds.{AreKinds}
@@ -25,7 +24,7 @@ use Rattle.laws.proofs.FormStays.{first_kinds, step_formed, step_kinds}
 use Rattle.laws.specs.Agree.{AgreeOn, AgreeIn, Agree, AreTurns, IsOrderly, IsTraceOf, phase_between}
 use Rattle.posix.proofs.TableLemmas.{pid_looked}
 use Rattle.posix.proofs.OrderLemmas.{first_in}
-use Rattle.posix.proofs.CountLemmas.{by_next}
+use Rattle.laws.proofs.WokenLemmas.{by_event}
 use Rattle.posix.proofs.DeliveryLemmas.{by_step}
 use Rattle.posix.proofs.RegularLemmas.{regular_first}
 use Rattle.laws.proofs.LawfulLemmas.{laws_none}
@@ -37,19 +36,15 @@ use Rattle.laws.proofs.AgreeStays.{told_act}
 
 -- ---- an event
 
--- a step
-told_step : (granted : Bool) (s : State) → s.halted ≡ false → IsRegular s → AreTurns s → IsTold s (step granted s (current_process s))
-told_step granted s awake i turns = by_step (IsTold s) granted s (told_quiet s s awake (quiet_same s)) (λ p r first e.
+-- what happens at an event
+told_happens : (granted : Bool) (s : State) (event : Event) → s.halted ≡ false → IsRegular s → AreTurns s → IsTold s (happens granted s event)
+unfolding happens
+told_happens granted s Step awake i turns = by_step (IsTold s) granted s (told_quiet s s awake (quiet_same s)) (λ p r first e.
     let named : p ≡ r.pid = sym (pid_looked p s.processes r e) in
     let placed = i.placed p (first_in p s.order first) in
     let same : placed.what ≡ r = let both = sym placed.found ∙ e in cc in
     told_act granted s r awake i.rising (subst (λ n. lookup n s.processes ≡ Some r) named e) (subst (λ n. is_in n s.order ≡ true) named (first_in p s.order first))
     (ap (λ (r : Process). is_zombie r.life) (sym same) ∙ placed.living) turns)
-
--- what happens at an event
-told_happens : (granted : Bool) (s : State) (event : Event) → s.halted ≡ false → IsRegular s → AreTurns s → IsTold s (happens granted s event)
-unfolding happens
-told_happens granted s Step awake i turns = told_step granted s awake i turns
 told_happens granted s Tick awake i turns = told_quiet s _ awake (quiet_tick s)
 told_happens granted s (Key console byte) awake i turns = told_quiet s _ awake (quiet_key s console byte)
 told_happens granted s (Hangup console) awake i turns = told_quiet s _ awake (quiet_hangup s console)
@@ -61,23 +56,17 @@ told_settled granted s event awake i turns =
 
 -- ---- a step of the relation
 
--- numbers that don't fall
-agree_later : (phase : Phase) (lines : List Line) (j k : ℕ) (s : State) → j ≤ k → AgreeIn phase lines j s → AgreeIn phase lines k s
-agree_later phase lines j k s more h = record { laws = h.laws; number = let n = h.number in omega (arith, n, more); records = h.records; born = h.born; counts = h.counts; phase = h.phase }
-
 -- After an event the lines so far and those of the event agree with the state.
 pub step_agrees : (old new : State) (event : Event) (entries : List Entry) → IsStep old event entries new → IsRegular old → AreTurns old
     → (lines : List Line) (k : ℕ) → Agree lines k old → Agree (lines ++ numbered (k + 1) entries) (k + 1) new
 step_agrees old new event entries h i turns lines k a =
-    let later : AgreeIn (phase_between old.halted) lines (k + 1) old = agree_later (phase_between old.halted) lines k (k + 1) old (omega arith) a in
-    subst (λ (o : Outcome). Agree (lines ++ numbered (k + 1) o.entries) (k + 1) o.state) h.comes
-    (by_next (λ o. Agree (lines ++ numbered (k + 1) o.entries) (k + 1) o.state) h.granted old event (λ t. subst (λ ls. Agree ls (k + 1) old) (sym (append-nil lines)) later)
-    (λ t. (told_settled h.granted old event t i turns).agree lines (k + 1) (subst (λ b. AgreeIn (phase_between b) lines (k + 1) old) t later)))
+    let later : AgreeIn (phase_between old.halted) lines (k + 1) old = record { laws = a.laws; number = let n = a.number in omega (arith, n); records = a.records; born = a.born; counts = a.counts; phase = a.phase } in
+    by_event (λ o. Agree (lines ++ numbered (k + 1) o.entries) (k + 1) o.state) old new event entries h (λ t. subst (λ ls. Agree ls (k + 1) old) (sym (append-nil lines)) later)
+    (λ t. (told_settled h.granted old event t i turns).agree lines (k + 1) (subst (λ b. AgreeIn (phase_between b) lines (k + 1) old) t later))
 
 -- who has a place and is stopped has KILL pending, still
 pub step_turns : (old new : State) (event : Event) (entries : List Entry) → IsStep old event entries new → IsRegular old → AreTurns old → AreTurns new
-step_turns old new event entries h i turns =
-    subst (λ (o : Outcome). AreTurns o.state) h.comes (by_next (λ o. AreTurns o.state) h.granted old event (λ t. turns) (λ t. (told_settled h.granted old event t i turns).turns turns))
+step_turns old new event entries h i turns = by_event (λ o. AreTurns o.state) old new event entries h (λ t. turns) (λ t. (told_settled h.granted old event t i turns).turns turns)
 
 -- ---- the start
 

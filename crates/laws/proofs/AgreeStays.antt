@@ -9,7 +9,6 @@ use Rattle.posix.specs.declared.entry.Entry.TheVariants.{Noted, Called, Moved, R
 use Rattle.posix.specs.declared.process.Action.{Action}
 use Rattle.posix.specs.declared.process.Blocked.{Blocked}
 use Rattle.posix.specs.declared.process.Blocked.TheVariants as blocked
-use Rattle.posix.specs.declared.process.Frame.{Frame}
 use Rattle.posix.specs.declared.process.Life.{Life}
 use Rattle.posix.specs.declared.process.Life.TheVariants.{Running, Stopped, Zombie}
 use Rattle.posix.specs.declared.process.PendingSignal.{PendingSignal}
@@ -18,9 +17,9 @@ use Rattle.posix.specs.declared.target.Target.{Target}
 use Rattle.posix.specs.SignalNumbers.{KILL}
 use Rattle.posix.specs.SignalSets.{word_of, set_in}
 use Rattle.posix.specs.Statuses.{exited, killed}
-use Rattle.posix.specs.Processes.{Process, Signals, Credentials, Cpu, is_zombie, is_running, is_stopped, argument}
+use Rattle.posix.specs.Processes.{Process, is_zombie, is_running, is_stopped, argument}
 use Rattle.posix.specs.Tables.{IsRising, lookup, removed, pids}
-use Rattle.posix.specs.States.{Program, State, is_in, change, lose_place, go_last}
+use Rattle.posix.specs.States.{State, is_in, change, lose_place, go_last}
 use Rattle.posix.specs.Execute.{exec_one}
 use Rattle.posix.specs.Outcomes.{Outcome, silent, Attempted, Reply, finish_call, finish_with, finished, written, refusal}
 use Rattle.posix.specs.Generation.{action, is_pending}
@@ -43,7 +42,7 @@ use Rattle.posix.proofs.ReportLemmas.{reporting}
 use Rattle.posix.proofs.WaitLemmas.{IfTold}
 use Rattle.laws.proofs.StatusLemmas.{killed_word, exited_word}
 use Rattle.laws.proofs.NewsLemmas.{end_of, change_of}
-use Rattle.laws.proofs.QuietLemmas.{Quiet, quiet_same, quiet_then, quiet_as, untold_then, Untold, untold_cond, quiet_change, IsRunning, quiet_own, running_own}
+use Rattle.laws.proofs.QuietLemmas.{Quiet, quiet_same, quiet_then, quiet_as, Untold, untold_cond, quiet_change, IsRunning, quiet_own, running_own}
 use Rattle.laws.proofs.QuietOperations.{quiet_group, quiet_signalled, quiet_lose, quiet_last}
 use Rattle.laws.proofs.ToldLines.{is_plain, IsLiving}
 use Rattle.laws.proofs.ToldOutcomes.{IsTold, told_quiet, told_after, told_before, told_plain, told_line, told_end, told_stop, told_marked, told_born, told_reaped, told_news, told_looked_at_end, told_looked_at_news, running_living}
@@ -55,67 +54,14 @@ use Rattle.posix.proofs.DeliveryLemmas.{Deliveries, Turn, by_return, by_turn}
 
 -- ---- changes of the caller
 
-pub untold_written : (i : ℕ) (z : ℤ) → Untold (written i z)
-unfolding written
-untold_written i z = record { pid = λ r. refl; parent = λ r. refl; mark = λ r. refl; life = λ r. refl; news = λ r. refl }
-
-pub untold_enter : (b : Blocked) → Untold (enter b)
-unfolding enter
-untold_enter b = record { pid = λ r. refl; parent = λ r. refl; mark = λ r. refl; life = λ r. refl; news = λ r. refl }
-
-pub untold_returned : (frame : Frame) → Untold (returned frame)
-unfolding returned
-untold_returned frame = record { pid = λ r. refl; parent = λ r. refl; mark = λ r. refl; life = λ r. refl; news = λ r. refl }
-
-pub untold_credentials : (c : Credentials) → Untold (give_credentials c)
-unfolding give_credentials
-untold_credentials c = record { pid = λ r. refl; parent = λ r. refl; mark = λ r. refl; life = λ r. refl; news = λ r. refl }
-
-pub untold_holding : (a : Action) (g : Signals) → Untold (λ r. holding a (give_signals g r))
-unfolding written give_signals
-untold_holding a g = record { pid = λ r. refl; parent = λ r. refl; mark = λ r. refl; life = λ r. refl; news = λ r. refl }
-
-pub untold_masked : (word : ℤ) (g : Signals) → Untold (λ r. written 2 word (give_signals g r))
-unfolding written give_signals
-untold_masked word g = record { pid = λ r. refl; parent = λ r. refl; mark = λ r. refl; life = λ r. refl; news = λ r. refl }
-
 pub untold_handles : (signal : PendingSignal) (address : ℤ) → Untold (handles signal address)
 unfolding handles
-untold_handles signal address = untold_cond (λ r. is_full r.signals) _ _ (record { pid = λ r. refl; parent = λ r. refl; mark = λ r. refl; life = λ r. refl; news = λ r. refl })
-    (record { pid = λ r. refl; parent = λ r. refl; mark = λ r. refl; life = λ r. refl; news = λ r. refl })
-
-pub untold_take_out : (n : ℕ) → Untold (take_out n)
-unfolding take_out
-untold_take_out n = record { pid = λ r. refl; parent = λ r. refl; mark = λ r. refl; life = λ r. refl; news = λ r. refl }
-
-pub untold_set_cpu : (c : Cpu) → Untold (set_cpu c)
-unfolding set_cpu
-untold_set_cpu c = record { pid = λ r. refl; parent = λ r. refl; mark = λ r. refl; life = λ r. refl; news = λ r. refl }
-
-pub untold_executed : (number : ℕ) (program : Program) → Untold (executed number program)
-unfolding executed
-untold_executed number program = record { pid = λ r. refl; parent = λ r. refl; mark = λ r. refl; life = λ r. refl; news = λ r. refl }
-
-pub untold_alarm : (due : Option ℕ) → Untold (with_alarm due)
-unfolding with_alarm
-untold_alarm due = record { pid = λ r. refl; parent = λ r. refl; mark = λ r. refl; life = λ r. refl; news = λ r. refl }
-
-pub untold_out : Untold out_of_call
-unfolding out_of_call
-untold_out = record { pid = λ r. refl; parent = λ r. refl; mark = λ r. refl; life = λ r. refl; news = λ r. refl }
-
-quiet_out : (s : State) (p : ℕ) → Quiet s (change s p out_of_call)
-unfolding out_of_call
-quiet_out s p = quiet_change s p out_of_call untold_out (λ r e. e)
+untold_handles signal address = untold_cond (λ r. is_full r.signals) _ _ (λ r. refl) (λ r. refl)
 
 -- results that are written
-pub untold_finished : (results : List (ℕ × ℤ)) → Untold (finished results)
-unfolding finished
-untold_finished results = record { pid = λ r. refl; parent = λ r. refl; mark = λ r. refl; life = λ r. refl; news = λ r. refl }
-
 quiet_finished : (s : State) (p : ℕ) (results : List (ℕ × ℤ)) → Quiet s (change s p (finished results))
 unfolding finished
-quiet_finished s p results = quiet_change s p (finished results) (untold_finished results) (λ r e. e)
+quiet_finished s p results = quiet_change s p (finished results) (λ r. refl) (λ r e. e)
 
 -- ---- deliveries
 
@@ -129,9 +75,6 @@ record Runs (s : State) (p : ℕ) : Type 0 where
 runs_own : (s : State) (p : ℕ) (f : Process → Process) → Untold f → Runs s p → Runs (change s p f) p
 runs_own s p f u h = record { up = (quiet_own s p f u h.me).rising h.up; me = running_own s p f u h.me; awake = h.awake }
 
-runs_living : (s : State) (p : ℕ) → Runs s p → IsLiving s p
-runs_living s p h = running_living s p h.me
-
 -- a call that is interrupted tells of nothing
 told_interrupted : (s : State) (p : ℕ) (b : Option Blocked) (a : Action) (o : Outcome) → IsLiving s p → IsTold s o → IsTold s (record { state = o.state; entries = interruption p b a ++ o.entries })
 told_interrupted s p None a o me h = h
@@ -140,10 +83,7 @@ told_interrupted s p (Some b) a o me h = cond_both (is_interrupted (Some b) a) (
   where
     silent_call : (b : Blocked) → is_plain (Called p (call_of b) (refusal EINTR)) ≡ true
     silent_call (blocked.Wait wait.Waitpid) = refl
-    silent_call (blocked.Wait wait.Waitid) = refl
-    silent_call blocked.Read = refl
-    silent_call blocked.Pause = refl
-    silent_call (blocked.Sigsuspend mask) = refl
+    silent_call b = refl
 
 -- in such a state, to which a quiet change led
 record IsActing (s : State) (r : Process) (t : State) : Type 0 where
@@ -154,17 +94,18 @@ acts_own : (s : State) (r : Process) (t : State) (f : Process → Process) → U
 acts_own s r t f u b = record { runs = runs_own t r.pid f u b.runs; quiet = quiet_then s t _ b.quiet (quiet_own t r.pid f u b.runs.me) }
 
 told_deliveries : (s : State) (r : Process) → Runs s r.pid → Deliveries (IsTold s) (IsActing s r) r
+unfolding take_out returned
 told_deliveries s r h =
-    let lives = runs_living s r.pid h in
+    let lives = running_living s r.pid h.me in
     record {
-      kills = λ t n b sig. told_after s t _ b.quiet (told_end t r (killed n) b.runs.awake b.runs.up (runs_living t r.pid b.runs) (killed_word n sig));
+      kills = λ t n b sig. told_after s t _ b.quiet (told_end t r (killed n) b.runs.awake b.runs.up (running_living t r.pid b.runs.me) (killed_word n sig));
       interrupts = λ a o told. told_interrupted s r.pid r.blocked a o lives told;
       enters = λ t signal address b comes. acts_own s r t (handles signal address) (untold_handles signal address) b;
       shows_handler = λ t signal address b comes. told_line s _ r.pid _ h.awake lives refl refl (acts_own s r t (handles signal address) (untold_handles signal address) b).quiet;
       discards = λ t n b sig. told_line s t r.pid _ h.awake lives refl refl b.quiet;
-      stops = λ t n b sig stops. told_after s t _ b.quiet (told_stop t r n b.runs.awake (runs_living t r.pid b.runs) stops);
-      takes = λ t n b. acts_own s r t (take_out n) (untold_take_out n) b;
-      returns = λ t frame b is. told_line s _ r.pid _ h.awake lives refl refl (acts_own s r t (returned frame) (untold_returned frame) b).quiet;
+      stops = λ t n b sig stops. told_after s t _ b.quiet (told_stop t r n b.runs.awake (running_living t r.pid b.runs.me) stops);
+      takes = λ t n b. acts_own s r t (take_out n) (λ q. refl) b;
+      returns = λ t frame b is. told_line s _ r.pid _ h.awake lives refl refl (acts_own s r t (returned frame) (λ q. refl) b).quiet;
     }
 
 -- ---- calls
@@ -195,15 +136,12 @@ tells_gives : (s t : State) (me : Process) (call : Call) (z : ℤ) → IsTaking 
 tells_gives s t me call z c q silent =
     told_line s (change t me.pid (finished ((0, z) ∷ []))) me.pid (Called me.pid call z) c.awake (taking_living s me c) refl silent (quiet_then s t _ q (quiet_finished t me.pid ((0, z) ∷ [])))
 
--- and changes nothing else
-tells_plain : (s : State) (me : Process) (call : Call) (z : ℤ) → IsTaking s me → is_plain (Called me.pid call z) ≡ true → TellsIf s (finish_with s me.pid call z)
-tells_plain s me call z c silent = tells_gives s s me call z c (quiet_same s) silent
-
 -- a call that changes its process alone
 tells_answers : (s : State) (me : Process) (call : Call) (reply : Reply) → IsTaking s me → Untold reply.changes → is_plain (Called me.pid call reply.value) ≡ true → TellsIf s (finish_call s me.pid call reply)
+unfolding finished
 tells_answers s me call reply c u silent =
     told_line s (change s me.pid (λ r. finished ((0, reply.value) ∷ []) (reply.changes r))) me.pid (Called me.pid call reply.value) c.awake (taking_living s me c) refl silent
-    (quiet_own s me.pid (λ r. finished ((0, reply.value) ∷ []) (reply.changes r)) (untold_then reply.changes (finished ((0, reply.value) ∷ [])) u (untold_finished ((0, reply.value) ∷ []))) (taking_running s me c))
+    (quiet_own s me.pid (λ r. finished ((0, reply.value) ∷ []) (reply.changes r)) u (taking_running s me c))
 
 -- consoles that change
 quiet_consoles : (s : State) (cs : List Console) → Quiet s (record s { consoles = cs })
@@ -215,24 +153,11 @@ tells_moved s t me call [] i q silent = tells_gives s t me call (pos 0) i q sile
 tells_moved s t me call (b ∷ bs) i q silent =
     told_line s _ me.pid (Moved me.pid call (b ∷ bs)) i.awake (taking_living s me i) refl refl (quiet_then s t _ q (quiet_finished t me.pid ((0, pos (length (b ∷ bs))) ∷ [])))
 
-quiet_bytes : (s : State) (p address : ℕ) (bytes : List ℕ) → Quiet s (change s p (with_bytes address bytes))
-unfolding with_bytes
-quiet_bytes s p address bytes = quiet_change s p (with_bytes address bytes) (record { pid = λ r. refl; parent = λ r. refl; mark = λ r. refl; life = λ r. refl; news = λ r. refl }) (λ r e. e)
-
 -- a signal that is sent
 quiet_sent : (s : State) (me : Process) (target : Target) (signal : Option PendingSignal) → Quiet s (record s { processes = sent me target signal s.processes })
 unfolding sent sent_among
 quiet_sent s me target None = quiet_same s
 quiet_sent s me target (Some signal) = quiet_signalled signal (pids (permitted me (Some signal.sig) (targets me target s.processes))) s
-
--- a process that moves to a group, or to a session
-quiet_moved : (s : State) (p group : ℕ) → Quiet s (change s p (in_group group))
-unfolding in_group
-quiet_moved s p group = quiet_change s p (in_group group) (record { pid = λ r. refl; parent = λ r. refl; mark = λ r. refl; life = λ r. refl; news = λ r. refl }) (λ r e. e)
-
-quiet_session : (s : State) (p : ℕ) → Quiet s (change s p in_session)
-unfolding in_session
-quiet_session s p = quiet_change s p in_session (record { pid = λ r. refl; parent = λ r. refl; mark = λ r. refl; life = λ r. refl; news = λ r. refl }) (λ r e. e)
 
 -- no line of these tells of a birth
 plain_negative : (p n : ℕ) (call : Call) → is_plain (Called p call (negsuc n)) ≡ true
@@ -254,12 +179,12 @@ tells_child s collected me call child status looked taken =
     (told_before s s _ (Looked me.pid child status ∷ []) looked (quiet_finished s me.pid results), told_before s collected _ (Reported me.pid call child status ∷ []) taken (quiet_finished collected me.pid results))
 
 tells_retries : (s : State) (me : Process) → IsTaking s me → Retries (IsTold s) (Quiet s) s me
-unfolding line_taken
+unfolding line_taken with_bytes
 tells_retries s me c =
     let lives = taking_living s me c in
     record {
-      refuses = λ call n fails few. tells_plain s me call (negsuc n) c (plain_negative me.pid n call);
-      gives = λ call n is. tells_plain s me call (pos n) c (plain_given s me call n is);
+      refuses = λ call n fails few. tells_gives s s me call (negsuc n) c (quiet_same s) (plain_negative me.pid n call);
+      gives = λ call n is. tells_gives s s me call (pos n) c (quiet_same s) (plain_given s me call n is);
       finds_nothing = λ call. told_line s _ me.pid _ c.awake lives refl (plain_zero me.pid (call_of_wait call)) (quiet_finished s me.pid (results_of_nothing call));
       tells_end = λ call target options child status e.
           let h = reporting s.processes c.up me.pid me.group target options (found.End child status) child e refl in
@@ -274,12 +199,12 @@ tells_retries s me c =
       reads = λ console span line rest has fits is.
           let bytes = take span.count line in
           let left = change_console s me.session (line_taken span.count) in
-          tells_moved s _ me Read bytes c (quiet_then s left _ (quiet_consoles s _) (quiet_bytes left me.pid span.address bytes)) refl;
+          tells_moved s _ me Read bytes c (quiet_then s left _ (quiet_consoles s _) (quiet_change left me.pid (with_bytes span.address bytes) (λ r. refl) (λ r e. e))) refl;
       begins_again = λ n is. quiet_group n me.group s;
     }
 
 tells_ways : (granted : Bool) (s : State) (me : Process) → IsTaking s me → Ways (IsTold s) (Quiet s) granted s me
-unfolding acquired with_foreground with_tostop
+unfolding acquired with_foreground with_tostop give_credentials give_signals written with_alarm executed in_group in_session
 tells_ways granted s me c =
     let lives = taking_living s me c in
     record {
@@ -290,16 +215,16 @@ tells_ways granted s me c =
           let new = new_number s n is in
           told_before s (born s me n) _ (Called me.pid Fork (pos n) ∷ []) (told_born s me n c.awake c.found c.runs new.least new.fresh) (quiet_finished (born s me n) me.pid ((0, pos n) ∷ []));
       yields = tells_gives s (go_last s me.pid) me SchedYield (pos 0) c (quiet_last s me.pid c.place) refl;
-      sets_ids = λ call new is. tells_answers s me call _ c (untold_credentials new) (plain_zero me.pid call);
+      sets_ids = λ call new is. let same : Untold (give_credentials new) = λ r. refl in tells_answers s me call _ c same (plain_zero me.pid call);
       sends = λ call target value n is permitted. tells_gives s _ me call (pos 0) c (quiet_sent s me target (message me.pid value n)) (plain_zero me.pid call);
-      sets_action = λ n g is. tells_answers s me Sigaction _ c (untold_holding (action me.signals n) g) refl;
-      sets_mask = λ what. tells_answers s me Sigprocmask _ c (untold_masked (word_of me.signals.mask) (set_mask what (set_in (argument me 2)) me.signals)) refl;
-      tells_pending = tells_answers s me Sigpending _ c (untold_written 1 (word_of (pending_set me.signals))) refl;
+      sets_action = λ n g is. let same : Untold (λ r. holding (action me.signals n) (give_signals g r)) = λ r. refl in tells_answers s me Sigaction _ c same refl;
+      sets_mask = λ what. let same : Untold (λ r. written 2 (word_of me.signals.mask) (give_signals (set_mask what (set_in (argument me 2)) me.signals) r)) = λ r. refl in tells_answers s me Sigprocmask _ c same refl;
+      tells_pending = let same : Untold (written 1 (word_of (pending_set me.signals))) = λ r. refl in tells_answers s me Sigpending _ c same refl;
       returns = by_return _ (IsActing s me) me (told_deliveries s me (runs_taking s me c)) s (record { runs = runs_taking s me c; quiet = quiet_same s });
-      sets_alarm = λ n is. tells_answers s me Alarm _ c (untold_alarm (due_in s.ticks n)) refl;
-      executes = λ n program is. told_line s _ me.pid (Called me.pid Exec (pos 0)) c.awake lives refl refl (quiet_own s me.pid (executed n program) (untold_executed n program) (taking_running s me c));
-      moves = λ r group h is goes. tells_gives s _ me Setpgid (pos 0) c (quiet_moved s r.pid h) refl;
-      leads = λ alone. tells_gives s _ me Setsid (pos me.pid) c (quiet_session s me.pid) refl;
+      sets_alarm = λ n is. let same : Untold (with_alarm (due_in s.ticks n)) = λ r. refl in tells_answers s me Alarm _ c same refl;
+      executes = λ n program is. told_line s _ me.pid (Called me.pid Exec (pos 0)) c.awake lives refl refl (quiet_own s me.pid (executed n program) (λ r. refl) (taking_running s me c));
+      moves = λ r group h is goes. tells_gives s _ me Setpgid (pos 0) c (quiet_change s r.pid (in_group h) (λ q. refl) (λ q e. e)) refl;
+      leads = λ alone. tells_gives s _ me Setsid (pos me.pid) c (quiet_change s me.pid in_session (λ r. refl) (λ r e. e)) refl;
       acquires = λ k console is may. tells_gives s _ me Setctty (pos 0) c (quiet_consoles s _) refl;
       sets_foreground = λ g is. tells_gives s _ me Tcsetpgrp (pos 0) c (quiet_consoles s _) refl;
       sets_tostop = λ b. tells_gives s _ me Settostop (pos 0) c (quiet_consoles s _) refl;
@@ -316,18 +241,19 @@ runs_or_stopped Stopped z h = let no = h refl in absurd (cc)
 runs_or_stopped (Zombie w) z h = absurd (cc)
 
 told_turn : (granted : Bool) (s : State) (r : Process) → IsTaking s r → Turn (IsTold s) (Quiet s) (IsActing s r) granted s r
+unfolding enter out_of_call set_cpu
 told_turn granted s r c =
     let cpu = (exec_one (code_of s r) r.cpu).cpu in
-    let moves_on = quiet_own s r.pid (set_cpu cpu) (untold_set_cpu cpu) (taking_running s r c) in
+    let moves_on = quiet_own s r.pid (set_cpu cpu) (λ q. refl) (taking_running s r c) in
     record {
       here = record { runs = runs_taking s r c; quiet = quiet_same s };
       deliveries = told_deliveries s r (runs_taking s r c);
       calls = tells_ways granted s r c;
       enters_call = λ b.
           let t = change s r.pid (enter b) in
-          told_quiet s (lose_place t r.pid) c.awake (quiet_then s t _ (quiet_own s r.pid (enter b) (untold_enter b) (taking_running s r c)) (quiet_lose t r.pid));
+          told_quiet s (lose_place t r.pid) c.awake (quiet_then s t _ (quiet_own s r.pid (enter b) (λ q. refl) (taking_running s r c)) (quiet_lose t r.pid));
       begins_again = λ t h. told_quiet s t c.awake h;
-      leaves_call = λ t h. told_quiet s (change t r.pid out_of_call) c.awake (quiet_then s t _ h (quiet_out t r.pid));
+      leaves_call = λ t h. told_quiet s (change t r.pid out_of_call) c.awake (quiet_then s t _ h (quiet_change t r.pid out_of_call (λ q. refl) (λ q e. e)));
       waits = told_quiet s (lose_place s r.pid) c.awake (quiet_lose s r.pid);
       runs = told_quiet s _ c.awake moves_on;
       notes = λ z is. told_line s _ r.pid (Noted r.pid z) c.awake (taking_living s r c) refl refl moves_on;

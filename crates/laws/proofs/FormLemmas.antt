@@ -1,20 +1,18 @@
 -- What serves the forms of what calls show: their results, and bytes that are moved.
-use Rattle.std.proofs.Common.{◌≡◌, ℕ, ◌+◌, ◌≤◌, ◌<◌, Bool, true, false, cond, ◌&&◌, ◌==◌, refl, ap, sym, ◌∙◌, arith, subst, List, [], ◌∷◌, map, take, drop, length, Some, ℤ, pos, negsuc, Ok, Err, nat_le}
+use Rattle.std.proofs.Common.{◌≡◌, ℕ, ◌+◌, ◌≤◌, ◌<◌, true, ◌&&◌, ◌==◌, refl, arith, subst, List, [], ◌∷◌, map, take, drop, length, Some, ℤ, pos, negsuc, Ok}
 use Rattle.std.specs.Prelude.{slice_set}
 use Rattle.std.specs.List.{list_all}
-use Rattle.std.proofs.lemmas.Bool.{and_parts, leb-true, eqb-true}
+use Rattle.std.proofs.lemmas.Bool.{cases_Bool, and_parts, eqb-true}
 use Rattle.std.proofs.lemmas.List.{length-map, length-take}
 use Rattle.std.proofs.lemmas.Bool.Decides.{nat_tests}
 use Rattle.posix.specs.declared.call.Call.{Call}
 use Rattle.posix.specs.declared.entry.Entry.TheVariants.{Called, Moved}
-use Rattle.posix.specs.declared.errno.Errno.TheVariants.{EFAULT, EINVAL}
 use Rattle.posix.specs.declared.span.Span.{Span}
-use Rattle.posix.specs.SignalNumbers.{is_realtime}
 use Rattle.posix.specs.Processes.{Process}
 use Rattle.posix.specs.Tables.{lookup}
 use Rattle.posix.specs.States.{State, change}
 use Rattle.posix.specs.Consoles.{Console}
-use Rattle.posix.specs.Transfers.{span_at, span_in, bytes_in, stored, low_byte}
+use Rattle.posix.specs.Transfers.{span_in, bytes_in, stored, low_byte}
 use Rattle.posix.specs.Outcomes.{Outcome, Attempted, Reply, finish_call, finish_with, finished}
 use Rattle.posix.specs.GroupCalls.{is_group_of}
 use Rattle.posix.specs.Regular.{IsRegular}
@@ -22,14 +20,11 @@ use Rattle.posix.specs.Terminals.{finish_moved, with_bytes}
 use Rattle.laws.specs.TraceLines.{is_number, is_result, is_entry, moves_bytes}
 use Rattle.posix.specs.Ranges.{is_i64, is_id}
 use Rattle.laws.specs.Kinds.{is_byte, is_console, IsKind, AreKinds}
-use Rattle.posix.specs.Ends.{signalled_group}
 use Rattle.posix.proofs.WalkLemmas.{some_looked}
 use Rattle.posix.proofs.AttemptLemmas.{Meets}
-use Rattle.laws.proofs.QuietLemmas.{Untold}
-use Rattle.laws.proofs.AgreeStays.{untold_finished}
 use Rattle.laws.proofs.KindLemmas.{and_both, all_set, small_i64}
 use Rattle.laws.proofs.KindChanges.{KeepsKind, are_results, kind_finished}
-use Rattle.laws.proofs.KindStates.{kinds_as, kinds_change, kinds_group}
+use Rattle.laws.proofs.KindStates.{kinds_change}
 
 -- what an outcome shows has a form, and its state is of its kinds
 pub record IsFormed (o : Outcome) : Type 0 where
@@ -52,9 +47,9 @@ saying_kind s me c = c.kinds.records me.pid me c.found
 pub number_there : (s : State) (p : ℕ) (r : Process) → IsRegular s → AreKinds s → lookup p s.processes ≡ Some r → is_number r.pid ≡ true
 number_there s p r i k e =
     let b = i.bounded p r e in
-    let low : nat_le 1 r.pid ≡ true = let l = b.least in grind (arith, nat_tests, l) in
-    let high : nat_le r.pid 2147483647 ≡ true = let l : r.pid ≤ 2147483647 = omega (arith, b.pid, k.world.pidmax) in grind (arith, nat_tests, l) in
-    and_both (nat_le 1 r.pid) (nat_le r.pid 2147483647) low high
+    let low = b.least in
+    let high : r.pid ≤ 2147483647 = omega (arith, b.pid, k.world.pidmax) in
+    grind (arith, nat_tests, cases_Bool, low, high)
 
 pub saying_number : (s : State) (me : Process) → IsSaying s me → is_number me.pid ≡ true
 saying_number s me c = number_there s me.pid me c.regular c.kinds c.found
@@ -69,26 +64,22 @@ pub form_called : (p : ℕ) (call : Call) (z : ℤ) → is_number p ≡ true →
 form_called p call z n k r = and_both (is_entry (Called p call z)) true (and_both (is_number p && is_i64 z) (is_result call z) (and_both (is_number p) (is_i64 z) n k) r) refl
 
 pub kinds_finished : (s : State) (p : ℕ) (ws : List (ℕ × ℤ)) → are_results ws ≡ true → AreKinds s → AreKinds (change s p (finished ws))
-kinds_finished s p ws k h = kinds_change s p (finished ws) (untold_finished ws).pid (kind_finished ws k) h
+unfolding finished
+kinds_finished s p ws k h = kinds_change s p (finished ws) (λ r. refl) (kind_finished ws k) h
 
 -- of a call from a state in which p is there to another
 pub form_gives : (s t : State) (me : Process) (call : Call) (z : ℤ) → IsSaying s me → AreKinds t → is_i64 z ≡ true → is_result call z ≡ true → FormsIf (finish_with t me.pid call z)
 form_gives s t me call z c h k r = record { entries = form_called me.pid call z (saying_number s me c) k r; kinds = kinds_finished t me.pid ((0, z) ∷ []) (and_both (is_i64 z) true k refl) h }
 
-pub form_plain : (s : State) (me : Process) (call : Call) (z : ℤ) → IsSaying s me → is_i64 z ≡ true → is_result call z ≡ true → FormsIf (finish_with s me.pid call z)
-form_plain s me call z c k r = form_gives s s me call z c c.kinds k r
-
-pub form_answers : (s : State) (me : Process) (call : Call) (reply : Reply) → IsSaying s me → Untold reply.changes → KeepsKind reply.changes → is_i64 reply.value ≡ true → is_result call reply.value ≡ true → FormsIf (finish_call s me.pid call reply)
-form_answers s me call reply c u keeps k r = record {
+pub form_answers : (s : State) (me : Process) (call : Call) (reply : Reply) → IsSaying s me → KeepsKind reply.changes → ((r : Process) → (reply.changes r).pid ≡ r.pid) → is_i64 reply.value ≡ true → is_result call reply.value ≡ true → FormsIf (finish_call s me.pid call reply)
+unfolding finished
+form_answers s me call reply c keeps pid k r = record {
   entries = form_called me.pid call reply.value (saying_number s me c) k r;
-  kinds = kinds_change s me.pid (λ r. finished ((0, reply.value) ∷ []) (reply.changes r)) (λ r. (untold_finished ((0, reply.value) ∷ [])).pid (reply.changes r) ∙ u.pid r)
+  kinds = kinds_change s me.pid (λ r. finished ((0, reply.value) ∷ []) (reply.changes r)) pid
       (λ r h. kind_finished ((0, reply.value) ∷ []) (and_both (is_i64 reply.value) true k refl) (reply.changes r) (keeps r h)) c.kinds;
 }
 
 -- ---- groups and consoles
-
-pub kinds_again : (s : State) (n group : ℕ) → is_realtime n ≡ false → AreKinds s → AreKinds (record s { processes = signalled_group n group s.processes })
-kinds_again s n group standard h = kinds_as s _ refl refl (kinds_group n group s.processes standard h.records) h
 
 pub with_consoles : (s : State) (cs : List Console) → list_all is_console cs ≡ true → AreKinds s → AreKinds (record s { consoles = cs })
 with_consoles s cs k h = record { world = h.world; records = h.records; consoles = k }
@@ -106,25 +97,11 @@ group_kind s session g i k e =
 -- at most 16 bytes are moved
 pub span_few : (a z : ℤ) (span : Span) → span_in a z ≡ Ok span → span.count ≤ 16
 span_few a (negsuc n) span e = absurd (cc)
-span_few a (pos n) span e = by (nat_le n 16) refl e
-  where
-    count : (a : ℤ) → span_at a n ≡ Ok span → span.count ≡ n
-    count (negsuc m) e = absurd (cc)
-    count (pos m) e = one (nat_le m 256 && nat_le (m + n) 256) e
-      where
-        one : (b : Bool) → cond b (Ok (record { address = m; count = n })) (Err EFAULT) ≡ Ok span → span.count ≡ n
-        one true e = let same : record { address = m; count = n } ≡ span = cc in sym (ap (λ (x : Span). x.count) same)
-        one false e = absurd (cc)
-
-    by : (b : Bool) → nat_le n 16 ≡ b → cond b (span_at a n) (Err EINVAL) ≡ Ok span → span.count ≤ 16
-    by true t e = let l = leb-true n 16 t in let c = count a e in omega (arith, l, c)
-    by false t e = absurd (cc)
+span_few (negsuc m) (pos n) span e = grind (arith, nat_tests, e)
+span_few (pos m) (pos n) span e = grind (arith, nat_tests, cases_Bool, e)
 
 form_bytes : (p : ℕ) (call : Call) (bytes : List ℕ) → is_number p ≡ true → moves_bytes call ≡ true → 1 ≤ length bytes → length bytes ≤ 16 → list_all is_byte bytes ≡ true → list_all is_entry (Moved p call bytes ∷ []) ≡ true
-form_bytes p call bytes n m low high all =
-    let a : nat_le 1 (length bytes) ≡ true = grind (arith, nat_tests, low) in
-    let b : nat_le (length bytes) 16 ≡ true = grind (arith, nat_tests, high) in
-    and_both (is_entry (Moved p call bytes)) true (and_both _ (list_all is_byte bytes) (and_both _ (nat_le (length bytes) 16) (and_both _ (nat_le 1 (length bytes)) (and_both (is_number p) (moves_bytes call) n m) a) b) all) refl
+form_bytes p call bytes n m low high all = grind (arith, nat_tests, cases_Bool, n, m, low, high, all)
 
 pub form_moved : (s t : State) (me : Process) (call : Call) (bytes : List ℕ) → IsSaying s me → AreKinds t → moves_bytes call ≡ true → is_result call (pos 0) ≡ true → length bytes ≤ 16 → list_all is_byte bytes ≡ true → FormsIf (finish_moved t me.pid call bytes)
 form_moved s t me call [] i h m r few all = form_gives s t me call (pos 0) i h refl r
@@ -141,13 +118,9 @@ stored_kind address (b ∷ bs) memory k h =
     let small : b < 256 = let x = p.0 in grind (arith, nat_tests, x) in
     stored_kind (address + 1) bs (slice_set memory address (pos b)) p.1 (all_set is_i64 memory address (pos b) h (small_i64 b (omega (arith, small))))
 
-kind_bytes : (address : ℕ) (bytes : List ℕ) → list_all is_byte bytes ≡ true → KeepsKind (with_bytes address bytes)
+pub kind_bytes : (address : ℕ) (bytes : List ℕ) → list_all is_byte bytes ≡ true → KeepsKind (with_bytes address bytes)
 unfolding with_bytes
 kind_bytes address bytes k r h = record { pid = h.pid; parent = h.parent; credentials = h.credentials; signals = h.signals; life = h.life; news = h.news; cpu = record { registers = h.cpu.registers; memory = stored_kind address bytes r.cpu.memory k h.cpu.memory } }
-
-pub kinds_bytes : (s : State) (p address : ℕ) (bytes : List ℕ) → list_all is_byte bytes ≡ true → AreKinds s → AreKinds (change s p (with_bytes address bytes))
-unfolding with_bytes
-kinds_bytes s p address bytes k h = kinds_change s p (with_bytes address bytes) (λ r. refl) (kind_bytes address bytes k) h
 
 pub take_at_most : {A : Type 0} (n : ℕ) (xs : List A) → length (take n xs) ≤ n
 take_at_most n xs = let l = length-take n xs in omega (arith, l)

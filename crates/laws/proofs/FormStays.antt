@@ -1,16 +1,16 @@
 -- What an event shows has a form, and it keeps the kinds of a state.
-use Rattle.std.proofs.Common.{◌≡◌, ℕ, ◌+◌, ◌≤◌, Bool, true, false, cond, ◌&&◌, refl, ap, sym, ◌∙◌, arith, subst, List, [], ◌∷◌, ◌++◌, filter, Option, Some, None, ◌==◌, ℤ, pos, inl, inr, ◌⊎◌, take, Ok, nat_le, negsuc, slice_get, ◌-◌, ◌<◌}
+use Rattle.std.proofs.Common.{rules, ◌≡◌, ℕ, ◌+◌, ◌≤◌, Bool, true, false, cond, ◌&&◌, refl, ap, sym, ◌∙◌, arith, subst, List, [], ◌∷◌, ◌++◌, filter, Option, Some, None, ◌==◌, ℤ, pos, inl, inr, ◌⊎◌, take, Ok, nat_le, negsuc, slice_get, ◌-◌, ◌<◌}
 use Rattle.std.specs.Int.{cast_unsigned, w64, int_wrapping_div}
-use Rattle.std.proofs.lemmas.Bool.{eqb-false, cond_both, leb-true, and_parts, or_cases}
+use Rattle.std.proofs.lemmas.Bool.{cases_Bool, eqb-false, cond_both, leb-true, and_parts}
 use Rattle.posix.specs.declared.call.Call.{Call}
-use Rattle.posix.specs.declared.call.Call.TheVariants.{Exit, Fork, SchedYield, Getpid, Getppid, Getuid, Geteuid, Getgid, Getegid, Setuid, Seteuid, Setgid, Setegid, Kill, Sigqueue, Sigaction, Sigprocmask, Sigpending, Sigreturn, Alarm, Exec, Getpgid, Getsid, Setpgid, Setsid, Setctty, Tcgetpgrp, Tcsetpgrp, Settostop, Read, Write, Subreaper}
+use Rattle.posix.specs.declared.call.Call.TheVariants.{Exit, Fork, SchedYield, Getpid, Getppid, Getuid, Geteuid, Getgid, Getegid, Kill, Sigqueue, Sigaction, Sigprocmask, Sigpending, Sigreturn, Alarm, Exec, Getpgid, Getsid, Setpgid, Setsid, Setctty, Tcgetpgrp, Tcsetpgrp, Settostop, Read, Write, Subreaper}
 use Rattle.posix.specs.declared.instr.Trap.{Trap}
 use Rattle.posix.specs.declared.instr.Trap.TheVariants as trap
 use Rattle.posix.specs.declared.event.Event.{Event}
 use Rattle.posix.specs.declared.event.Event.TheVariants.{Step, Tick, Key, Hangup}
 use Rattle.posix.specs.declared.errno.Errno.TheVariants.{EAGAIN, EINTR}
 use Rattle.posix.specs.declared.entry.Entry.{Entry}
-use Rattle.posix.specs.declared.entry.Entry.TheVariants.{Noted, Called, Reported, Looked, NoMemory, Handled, Discarded, Returned}
+use Rattle.posix.specs.declared.entry.Entry.TheVariants.{Noted, Called, Reported, Looked, NoMemory, Handled, Discarded, Returned, Stopped as StoppedLine, Ended}
 use Rattle.posix.specs.declared.process.Action.{Action}
 use Rattle.posix.specs.declared.process.Blocked.{Blocked}
 use Rattle.posix.specs.declared.process.Blocked.TheVariants as blocked
@@ -19,13 +19,13 @@ use Rattle.posix.specs.declared.process.Report.TheVariants as found
 use Rattle.posix.specs.declared.process.Sending.{Sending}
 use Rattle.posix.specs.declared.process.Sending.TheVariants as sends
 use Rattle.posix.specs.declared.target.Target.{Target}
-use Rattle.posix.specs.SignalNumbers.{TTIN, TTOU, is_signal, is_stop_signal, is_standard, is_realtime}
+use Rattle.posix.specs.SignalNumbers.{TTIN, TTOU, is_signal, is_stop_signal, is_realtime}
 use Rattle.posix.specs.SignalSets.{has, word_of, set_in}
 use Rattle.posix.specs.Statuses.{exited, killed, stopped, continued, is_end_word}
-use Rattle.posix.specs.Processes.{Process, Signals, Credentials, Cpu, argument, zero_registers, zero_memory, first_process, default_actions, nothing_pending}
+use Rattle.posix.specs.Processes.{Process, Signals, Cpu, argument, zero_registers, zero_memory, first_process, default_actions, nothing_pending}
 use Rattle.posix.specs.Tables.{IsRising, lookup, removed, pids}
-use Rattle.posix.specs.States.{Program, State, change, go_last, current_process, next_pid, World, boot}
-use Rattle.posix.specs.Outcomes.{Outcome, silent, refusal, no_memory}
+use Rattle.posix.specs.States.{Program, State, change, go_last, next_pid, World, boot}
+use Rattle.posix.specs.Outcomes.{Outcome, silent, refusal, no_memory, finished, written}
 use Rattle.posix.specs.Credentials.{may}
 use Rattle.posix.specs.Generation.{action, has_sig}
 use Rattle.posix.specs.Choice.{first_carried, carried_by, from_kernel}
@@ -39,31 +39,30 @@ use Rattle.posix.specs.Calls.{call_of_wait}
 use Rattle.posix.specs.Waits.{results_of, results_of_nothing, news_told}
 use Rattle.posix.specs.Delivery.{call_of, interruption, take_out, stop_process}
 use Rattle.posix.specs.Sends.{is_target, sent, sent_by, sent_among, permitted, targets, sending, has_full_queue, is_queuer, queuers, queued_for, queuers_among, sending_granted, message}
-use Rattle.posix.specs.SignalCalls.{action_in, pending_set}
+use Rattle.posix.specs.SignalCalls.{action_in, pending_set, give_credentials, give_signals}
 use Rattle.posix.specs.Programs.{executed}
 use Rattle.posix.specs.GroupCalls.{in_group, in_session}
-use Rattle.posix.specs.Alarms.{ticks_left, due_in}
-use Rattle.posix.specs.Step.{act, enter, set_cpu, out_of_call, code_of, IsStep, next, happens, step, instructions}
+use Rattle.posix.specs.Alarms.{ticks_left, due_in, with_alarm}
+use Rattle.posix.specs.Step.{act, enter, set_cpu, out_of_call, code_of, IsStep, next, happens, instructions}
 use Rattle.std.specs.Prelude.{slice_set, ◌*◌, ◌%◌, bit_and, bit_or, bit_xor, int_div, int_rem, unsigned_abs, slice_index_or, unwrap_or}
 use Rattle.std.specs.List.{AllByRecursion, list_all, list_any}
 use Rattle.posix.proofs.TableLemmas.{rising_changed, rising_filter, none_found, pid_looked}
 use Rattle.posix.proofs.WalkLemmas.{all_looked, any_filter, in_filter}
-use Rattle.laws.proofs.ToldLines.{pid_child, marked_pid, told_pid}
+use Rattle.laws.proofs.ToldLines.{pid_child}
 use Rattle.posix.specs.declared.ids.Ids.{Ids}
-use Rattle.laws.specs.Kinds.{are_ids, is_carried, is_pending_kind, is_queued_kind, is_console, is_news_kind, is_life, is_byte, AreSignals, AreCredentials, IsCpu, IsKind, AreKinds}
+use Rattle.laws.specs.Kinds.{are_ids, is_carried, is_pending_kind, is_queued_kind, is_console, is_news_kind, is_life, is_byte, AreSignals, IsCpu, IsKind, AreKinds}
 use Rattle.posix.specs.Ranges.{is_own_id, is_id, is_instruction, is_program, IsWorld, IsEvent, is_i64}
 use Rattle.std.proofs.lemmas.Bool.Decides.{nat_tests}
 use Rattle.posix.specs.declared.instr.Instr.{Instr}
 use Rattle.posix.specs.declared.instr.Instr.TheVariants as instr
 use Rattle.posix.specs.declared.instr.Operator.{Operator}
 use Rattle.posix.specs.declared.instr.Operator.TheVariants.{Add, Sub, Mul, Div, Rem, And, Or, Xor}
-use Rattle.posix.specs.declared.entry.Entry.TheVariants.{Stopped as StoppedLine, Ended}
 use Rattle.posix.specs.declared.process.Carried.{Carried}
 use Rattle.posix.specs.Execute.{Executed, execute, execute_fetched, exec_one, fetched, computed, register, set_register, move_on, put_result, load_from, store_at, address_of, is_zero, passes, jump}
 use Rattle.posix.specs.Regular.{IsRegular, IsAhead}
 use Rattle.posix.specs.Entries.{line, numbered}
 use Rattle.posix.specs.Notices.{stopped_by, signalled_all}
-use Rattle.posix.specs.Consoles.{unused_console}
+use Rattle.posix.specs.Consoles.{unused_console, Console, acquired, with_foreground, with_tostop, line_taken}
 use Rattle.laws.specs.TraceLines.{is_number, is_result, asks_memory, is_entry, is_line}
 use Rattle.posix.proofs.CountLemmas.{by_next}
 use Rattle.posix.proofs.NextLemmas.{new_number}
@@ -71,45 +70,31 @@ use Rattle.laws.proofs.StatusLemmas.{killed_word, exited_word}
 use Rattle.laws.proofs.NewsLemmas.{end_of, change_of, IsNewsOf}
 use Rattle.posix.proofs.ReportLemmas.{reporting}
 use Rattle.posix.proofs.WaitLemmas.{IfTold}
-use Rattle.laws.proofs.AgreeStays.{untold_written, untold_enter, untold_returned, untold_credentials, untold_holding, untold_masked, untold_handles, untold_take_out, untold_set_cpu, untold_executed, untold_alarm, untold_out}
+use Rattle.laws.proofs.QuietLemmas.{untold_pid}
+use Rattle.laws.proofs.AgreeStays.{untold_handles}
 use Rattle.laws.proofs.KindLemmas.{and_both, all_get, all_set, all_found, all_take, all_same, small_i64, id_i64, cast_i64, rem_i64}
-use Rattle.laws.proofs.KindChanges.{kind_finished, KeepsKind, HasRoom, kind_argument, kind_stopped, kind_take_out, kind_written, kind_set_cpu, kind_child, kind_action, kind_handles, kind_frame, kind_returned, kind_enter, kind_out, kind_told, kind_alarm, kind_grouped, kind_led, kind_credentials, kind_give, kind_holding, kind_set_action, kind_mask, CredentialsIf, kind_setuid, kind_seteuid, kind_setgid, kind_setegid, kind_executed}
-use Rattle.laws.proofs.KindStates.{AllKind, IsThereWithRoom, kinds_changed, kinds_removed, kinds_inserted, kinds_stop_told, kinds_signalled, kinds_queued, kinds_as, kinds_change, kinds_end, end_small, kind_terminal, kind_consoles, kind_foreground, kind_taken, kinds_key, kinds_hangup, kinds_tick, kinds_settled}
+use Rattle.laws.proofs.KindChanges.{kind_finished, KeepsKind, HasRoom, kind_argument, kind_stopped, kind_take_out, kind_written, kind_set_cpu, kind_child, kind_action, kind_handles, kind_frame, kind_returned, kind_enter, kind_out, kind_told, kind_alarm, kind_grouped, kind_led, kind_credentials, kind_with, kind_holding, kind_set_action, kind_mask, kind_ids_set, kind_executed}
+use Rattle.laws.proofs.KindStates.{AllKind, IsThereWithRoom, kinds_changed, kinds_removed, kinds_inserted, kinds_told_of_change, kinds_group, kinds_signalled, kinds_queued, kinds_as, kinds_change, kinds_end, end_small, kind_terminal, kind_consoles, kind_foreground, kind_taken, kinds_key, kinds_hangup, kinds_tick, kinds_settled}
 use Rattle.posix.specs.declared.span.Span.{Span}
-use Rattle.posix.specs.Consoles.{Console, acquired, with_foreground, with_tostop, line_taken}
 use Rattle.posix.specs.Transfers.{span_in, bytes_in}
 use Rattle.posix.specs.Terminals.{terminal, change_console, finish_moved, with_bytes}
-use Rattle.posix.proofs.AttemptLemmas.{Retries, Ways, Gives, SetsIds, Sends, may_fail, may_want_memory, named_there}
+use Rattle.posix.proofs.AttemptLemmas.{Retries, Ways, Gives, Sends, may_fail, may_want_memory, named_there}
 use Rattle.posix.proofs.DeliveryLemmas.{Comes, Deliveries, by_return, by_act, by_step}
-use Rattle.laws.proofs.FormLemmas.{IsFormed, FormsIf, IsSaying, saying_kind, number_there, saying_number, group_there, form_called, kinds_finished, form_gives, form_plain, form_answers, kinds_again, with_consoles, group_kind, span_few, form_moved, kinds_bytes, take_at_most, bytes_kind, bytes_few}
+use Rattle.laws.proofs.FormLemmas.{IsFormed, FormsIf, IsSaying, saying_kind, number_there, saying_number, group_there, form_called, kinds_finished, form_gives, form_answers, with_consoles, group_kind, span_few, form_moved, kind_bytes, take_at_most, bytes_kind, bytes_few}
+
+-- a signal that stops is small
+stop_few : (s : ℕ) → is_stop_signal s ≡ true → s ≤ 22
+stop_few s h = leb-true s 22 (and_parts (nat_le 19 s) (nat_le s 22) h).1
 
 -- news of a stop or of a continue have a word
 news_few : (r : Process) (w : ℕ) → IsKind r → IsNewsOf r w → w ≤ 65535
-news_few r w k (inl x) = let stops = subst (λ n. is_news_kind n ≡ true) x.1 k.news in let few = stop_few x.0 stops in let is : w ≡ stopped x.0 = x.2 in omega (arith, few, is)
-  where
-    stop_few : (s : ℕ) → is_stop_signal s ≡ true → s ≤ 22
-    stop_few s h = leb-true s 22 (and_parts (nat_le 19 s) (nat_le s 22) h).1
+news_few r w k (inl x) = let few = stop_few x.0 (subst (λ n. is_news_kind n ≡ true) x.1 k.news) in let is : w ≡ stopped x.0 = x.2 in omega (arith, few, is)
 news_few r w k (inr x) = let is : w ≡ continued = x.1 in omega (arith, is)
 
 -- the first process
 first_kind : IsKind first_process
 unfolding default_actions nothing_pending zero_registers zero_memory
-first_kind = record {
-  pid = refl;
-  parent = refl;
-  credentials = record { user = refl; group = refl };
-  signals = record { pending = refl; queue = refl; few = refl; actions = refl; frames = refl };
-  life = refl;
-  news = refl;
-  cpu = record { registers = all_same is_i64 8 (pos 0) refl; memory = all_same is_i64 256 (pos 0) refl };
-}
-
--- a signal is at most 64
-signal_few : (n : ℕ) → is_signal n ≡ true → n ≤ 64
-signal_few n h = elim (or_cases (is_standard n) (is_realtime n) h) [
-  | inl one ↦ let l = leb-true n 31 (and_parts (nat_le 1 n) (nat_le n 31) one).1 in omega (arith, l)
-  | inr one ↦ leb-true n 64 (and_parts (nat_le 34 n) (nat_le n 64) one).1
-]
+first_kind = search (rules, all_same)
 
 -- ---- ends and deliveries
 
@@ -140,22 +125,16 @@ form_interrupted p (Some b) a es n h = cond_both (is_interrupted (Some b) a) (Ca
   where
     of : (b : Blocked) → is_result (call_of b) (refusal EINTR) ≡ true
     of (blocked.Wait wait.Waitpid) = refl
-    of (blocked.Wait wait.Waitid) = refl
-    of blocked.Read = refl
-    of blocked.Pause = refl
-    of (blocked.Sigsuspend mask) = refl
+    of b = refl
 
 signal_i64 : (s : ℕ) → is_signal s ≡ true → is_i64 (pos s) ≡ true
 signal_i64 s h = let l = end_small s (killed_word s h) in small_i64 s (omega (arith, l))
 
-form_discard : (t : State) (r : Process) (n : ℕ) → IsOld t r → is_signal n ≡ true → IsFormed (record { state = t; entries = Discarded r.pid n ∷ [] })
-form_discard t r n h sig = record { entries = one_formed (Discarded r.pid n) (and_both (is_number r.pid) (is_signal n) h.number sig); kinds = h.kinds }
-
-form_stop : (t : State) (r : Process) (n : ℕ) → IsOld t r → is_signal n ≡ true → is_stop_signal n ≡ true → IsFormed (stop_process t r n)
+form_stop : (t : State) (r : Process) (n : ℕ) → IsOld t r → is_stop_signal n ≡ true → IsFormed (stop_process t r n)
 unfolding stop_process stopped_by
-form_stop t r n h sig stops = record {
+form_stop t r n h stops = record {
   entries = one_formed (StoppedLine r.pid n) (and_both (is_number r.pid) (is_stop_signal n) h.number stops);
-  kinds = kinds_as t _ refl refl (kinds_stop_told n r _ (signal_few n sig) h.kind (kinds_changed r.pid (stopped_by n) (λ r. refl) (kind_stopped n stops) t.processes h.kinds.records)) h.kinds;
+  kinds = kinds_as t _ refl refl (kinds_told_of_change (stopped n) r _ (let few = stop_few n stops in omega (arith, few)) h.kind (kinds_changed r.pid (stopped_by n) (λ r. refl) (kind_stopped n stops) t.processes h.kinds.records)) h.kinds;
 }
 
 -- what the first queued signal of a number came with
@@ -188,14 +167,13 @@ old_change : (t : State) (r : Process) (f : Process → Process) → ((q : Proce
 old_change t r f same keeps h = record { up = rising_changed r.pid f same t.processes h.up; kinds = kinds_change t r.pid f same keeps h.kinds; kind = h.kind; number = h.number }
 
 old_handles : (t : State) (r : Process) (signal : PendingSignal) (address : ℤ) → IsOld t r → Comes r signal → IsOld (change t r.pid (handles signal address)) r
-old_handles t r signal address h comes = old_change t r (handles signal address) (untold_handles signal address).pid (kind_handles signal address (signal_i64 signal.sig comes.number) (kind_comes r signal h.kind comes)) h
+old_handles t r signal address h comes = old_change t r (handles signal address) (untold_pid (handles signal address) (untold_handles signal address)) (kind_handles signal address (signal_i64 signal.sig comes.number) (kind_comes r signal h.kind comes)) h
 
 form_handler : (r : Process) (signal : PendingSignal) → is_number r.pid ≡ true → is_signal signal.sig ≡ true → is_carried signal.carried ≡ true → is_entry (Handled r.pid signal.sig signal.carried.value signal.carried.sender) ≡ true
-form_handler r signal number sig carried =
-    let p = and_parts (is_i64 signal.carried.value) (is_id signal.carried.sender) carried in
-    and_both _ (is_id signal.carried.sender) (and_both _ (is_i64 signal.carried.value) (and_both (is_number r.pid) (is_signal signal.sig) number sig) p.0) p.1
+form_handler r signal number sig carried = grind (arith, cases_Bool, number, sig, carried)
 
 form_deliveries : (r : Process) → is_number r.pid ≡ true → Deliveries IsFormed (λ t. IsOld t r) r
+unfolding take_out returned
 form_deliveries r number = record {
   kills = λ t n h sig. form_end t r (killed n) h (killed_word n sig);
   interrupts = λ a o formed. record { entries = form_interrupted r.pid r.blocked a o.entries number formed.entries; kinds = formed.kinds };
@@ -204,12 +182,12 @@ form_deliveries r number = record {
     entries = one_formed (Handled r.pid signal.sig signal.carried.value signal.carried.sender) (form_handler r signal number comes.number (kind_comes r signal h.kind comes));
     kinds = (old_handles t r signal address h comes).kinds;
   };
-  discards = λ t n h sig. form_discard t r n h sig;
-  stops = λ t n h sig stops. form_stop t r n h sig stops;
-  takes = λ t n h. old_change t r (take_out n) (untold_take_out n).pid (kind_take_out n) h;
+  discards = λ t n h sig. record { entries = one_formed (Discarded r.pid n) (and_both (is_number r.pid) (is_signal n) number sig); kinds = h.kinds };
+  stops = λ t n h sig stops. form_stop t r n h stops;
+  takes = λ t n h. old_change t r (take_out n) (λ q. refl) (kind_take_out n) h;
   returns = λ t frame h is. record {
     entries = one_formed (Returned r.pid) number;
-    kinds = kinds_change t r.pid (returned frame) (untold_returned frame).pid (kind_returned frame (kind_frame r.signals frame h.kind.signals is)) h.kinds;
+    kinds = kinds_change t r.pid (returned frame) (λ q. refl) (kind_returned frame (kind_frame r.signals frame h.kind.signals is)) h.kinds;
   };
 }
 
@@ -258,11 +236,7 @@ form_told s collected me call child w c k n few =
 -- where a send is permitted, nobody is full for whom the signal would be queued
 queued_room : (granted : Bool) (qs : List Process) (other : Sending) → queued_for granted qs other ≡ sends.Permitted → list_any has_full_queue qs ≡ false
 queued_room granted [] other e = refl
-queued_room granted (q ∷ qs) other e = by (list_any has_full_queue (q ∷ qs)) e
-  where
-    by : (b : Bool) → cond b sends.QueueFull (cond granted other sends.NoMemory) ≡ sends.Permitted → b ≡ false
-    by true e = absurd (cc)
-    by false e = refl
+queued_room granted (q ∷ qs) other e = grind (arith, cases_Bool, e)
 
 permitted_room : (granted : Bool) (s : State) (me : Process) (target : Target) (n : ℕ) → sending_granted granted me target (Some n) s.processes ≡ sends.Permitted
     → (p : ℕ) (r : Process) → lookup p (permitted me (Some n) (targets me target s.processes)) ≡ Some r → HasRoom n r
@@ -290,9 +264,11 @@ unfolding permitted targets
 permitted_rising me n target rs up = rising_filter (may me (Some n)) _ (rising_filter (is_target me target) rs up)
 
 -- a signal that is sent
-kinds_sent_one : (granted : Bool) (s : State) (me : Process) (target : Target) (value : ℤ) (n : ℕ) → is_i64 value ≡ true → IsSaying s me → sending_granted granted me target (Some n) s.processes ≡ sends.Permitted
-    → AreKinds (record s { processes = signalled_all (sent_by me.pid value n) (pids (permitted me (Some n) (targets me target s.processes))) s.processes })
-kinds_sent_one granted s me target value n z c e = kinds_as s _ refl refl (by (is_realtime n) refl) c.kinds
+kinds_sent : (granted : Bool) (s : State) (me : Process) (target : Target) (value : ℤ) (n : Option ℕ) → is_i64 value ≡ true → IsSaying s me → sending_granted granted me target n s.processes ≡ sends.Permitted
+    → AreKinds (record s { processes = sent me target (message me.pid value n) s.processes })
+unfolding sent sent_among
+kinds_sent granted s me target value None z c e = c.kinds
+kinds_sent granted s me target value (Some n) z c e = kinds_as s _ refl refl (by (is_realtime n) refl) c.kinds
   where
     carried : is_carried (sent_by me.pid value n).carried ≡ true
     carried = and_both (is_i64 value) (is_id me.pid) z (saying_kind s me c).pid
@@ -301,12 +277,6 @@ kinds_sent_one granted s me target value n z c e = kinds_as s _ refl refl (by (i
     by true real = kinds_queued (sent_by me.pid value n) carried real (permitted me (Some n) (targets me target s.processes)) s.processes
         (permitted_rising me n target s.processes c.regular.rising) (permitted_there granted s me target n c.regular.rising e) c.kinds.records
     by false standard = kinds_signalled (sent_by me.pid value n) carried standard (pids (permitted me (Some n) (targets me target s.processes))) s.processes c.kinds.records
-
-kinds_sent : (granted : Bool) (s : State) (me : Process) (target : Target) (value : ℤ) (n : Option ℕ) → is_i64 value ≡ true → IsSaying s me → sending_granted granted me target n s.processes ≡ sends.Permitted
-    → AreKinds (record s { processes = sent me target (message me.pid value n) s.processes })
-unfolding sent sent_among
-kinds_sent granted s me target value None z c e = c.kinds
-kinds_sent granted s me target value (Some n) z c e = kinds_sent_one granted s me target value n z c e
 
 -- what a call gives that changes nothing else
 record IsGiven (call : Call) (n : ℕ) : Type 0 where
@@ -327,17 +297,6 @@ kind_marked : (mark : Bool) → KeepsKind (marked_as mark)
 unfolding marked_as
 kind_marked mark r h = kind_finished ((0, pos 0) ∷ []) refl (record r { is_subreaper = mark })
     (record { pid = h.pid; parent = h.parent; credentials = h.credentials; signals = h.signals; life = h.life; news = h.news; cpu = h.cpu })
-
-kinds_moved : (s : State) (p group : ℕ) → AreKinds s → AreKinds (change s p (in_group group))
-unfolding in_group
-kinds_moved s p group h = kinds_change s p (in_group group) (λ r. refl) (kind_grouped group) h
-
-kinds_led : (s : State) (p : ℕ) → AreKinds s → AreKinds (change s p in_session)
-unfolding in_session
-kinds_led s p h = kinds_change s p in_session (λ r. refl) kind_led h
-
-kinds_last : (s : State) (p : ℕ) → AreKinds s → AreKinds (go_last s p)
-kinds_last s p h = kinds_as s (go_last s p) refl refl h.records h
 
 given_id : (call : Call) (m n : ℕ) → n ≡ m → is_id m ≡ true → ((k : ℕ) → is_result call (pos k) ≡ true) → IsGiven call n
 given_id call m n same id result = record { word = id_i64 n (subst (λ k. is_id k ≡ true) (sym same) id); result = result n }
@@ -369,9 +328,10 @@ negative_result Subreaper n fails = absurd (cc)
 negative_result call n fails = refl
 
 form_retries : (s : State) (me : Process) → IsSaying s me → Retries IsFormed AreKinds s me
+unfolding news_told with_bytes
 form_retries s me c = record {
-  refuses = λ call n fails few. form_plain s me call (negsuc n) c (grind (arith, nat_tests, few)) (negative_result call n fails);
-  gives = λ call n is. let g = form_given s me c call n is in form_plain s me call (pos n) c g.word g.result;
+  refuses = λ call n fails few. form_gives s s me call (negsuc n) c c.kinds (grind (arith, nat_tests, few)) (negative_result call n fails);
+  gives = λ call n is. let g = form_given s me c call n is in form_gives s s me call (pos n) c c.kinds g.word g.result;
   finds_nothing = λ call. record { entries = form_called me.pid (call_of_wait call) (pos 0) (saying_number s me c) refl (zero call); kinds = kinds_finished s me.pid (results_of_nothing call) (zeros call) c.kinds };
   tells_end = λ call target options child status e.
       let h = reporting s.processes c.regular.rising me.pid me.group target options (found.End child status) child e refl in
@@ -380,10 +340,10 @@ form_retries s me c = record {
       form_told s (record s { processes = removed child s.processes }) me call child status c (kinds_as s _ refl refl (kinds_removed child s.processes c.kinds.records) c.kinds) (number child h.what h.found) (omega (arith, small));
   tells_change = λ call target options child status e.
       let h = reporting s.processes c.regular.rising me.pid me.group target options (found.Change child status) child e refl in
-      form_told s (change s child news_told) me call child status c (kinds_change s child news_told told_pid kind_told c.kinds) (number child h.what h.found)
+      form_told s (change s child news_told) me call child status c (kinds_change s child news_told (λ q. refl) kind_told c.kinds) (number child h.what h.found)
       (news_few h.what status (c.kinds.records child h.what h.found) (change_of options h.what child status h.says).1);
   reads = reads;
-  begins_again = λ n is. kinds_again s n me.group (standard n is) c.kinds;
+  begins_again = λ n is. kinds_as s _ refl refl (kinds_group n me.group s.processes (standard n is) c.kinds.records) c.kinds;
 }
   where
     zero : (call : WaitCall) → is_result (call_of_wait call) (pos 0) ≡ true
@@ -412,10 +372,10 @@ form_retries s me c = record {
         let kinds = with_consoles s _ (kind_consoles me.session (line_taken span.count) (λ d k. kind_taken span.count d k) s.consoles c.kinds.consoles) c.kinds in
         let few = span_few (argument me 1) (argument me 2) span fits in
         let most = take_at_most span.count line in
-        form_moved s (change left me.pid (with_bytes span.address bytes)) me Read bytes c (kinds_bytes left me.pid span.address bytes all kinds) refl refl (omega (arith, few, most)) all
+        form_moved s (change left me.pid (with_bytes span.address bytes)) me Read bytes c (kinds_change left me.pid (with_bytes span.address bytes) (λ q. refl) (kind_bytes span.address bytes all) kinds) refl refl (omega (arith, few, most)) all
 
 form_ways : (granted : Bool) (s : State) (me : Process) → IsSaying s me → Ways IsFormed AreKinds granted s me
-unfolding acquired with_tostop
+unfolding acquired with_tostop give_credentials give_signals written with_alarm executed marked_as finished in_group in_session
 form_ways granted s me c =
     let kind = saying_kind s me c in
     record {
@@ -423,23 +383,23 @@ form_ways granted s me c =
       wants_memory = λ call wants none. form_no_memory s me call c (asks call wants);
       exits = form_end s me (exited (argument me 1)) (old_saying s me c) (exited_word (argument me 1));
       bears = λ n is. let id = born_id s me n c is in form_gives s (born s me n) me Fork (pos n) c (kinds_born s me n c is) (id_i64 n id) id;
-      yields = form_gives s (go_last s me.pid) me SchedYield (pos 0) c (kinds_last s me.pid c.kinds) refl refl;
-      sets_ids = λ call new is. let k = ids_set call new is in form_answers s me call _ c (untold_credentials new) (kind_credentials new k.0) refl k.1;
+      yields = form_gives s (go_last s me.pid) me SchedYield (pos 0) c (kinds_as s (go_last s me.pid) refl refl c.kinds.records c.kinds) refl refl;
+      sets_ids = λ call new is. let k = kind_ids_set me call new kind.credentials is in form_answers s me call _ c (kind_credentials new k.0) (λ r. refl) refl k.1;
       sends = λ call target value n is permitted. let k = sends_value call value is in form_gives s _ me call (pos 0) c (kinds_sent granted s me target value n k.0 c permitted) refl k.1;
-      sets_action = λ n g is. form_answers s me Sigaction _ c (untold_holding (action me.signals n) g) (kind_holding (action me.signals n) g (kind_action me.signals n kind.signals) (signals_set n g is)) refl refl;
+      sets_action = λ n g is. form_answers s me Sigaction _ c (kind_holding (action me.signals n) g (kind_action me.signals n kind.signals) (signals_set n g is)) (λ r. refl) refl refl;
       sets_mask = λ what.
           let g = set_mask what (set_in (argument me 2)) me.signals in
-          form_answers s me Sigprocmask _ c (untold_masked (word_of me.signals.mask) g)
-          (λ r h. kind_written 2 (word_of me.signals.mask) (cast_i64 me.signals.mask) _ (kind_give g (kind_mask what (set_in (argument me 2)) me.signals kind.signals) r h)) refl refl;
-      tells_pending = form_answers s me Sigpending _ c (untold_written 1 _) (kind_written 1 _ (cast_i64 (pending_set me.signals))) refl refl;
+          form_answers s me Sigprocmask _ c
+          (λ r h. kind_written 2 (word_of me.signals.mask) (cast_i64 me.signals.mask) _ (kind_with r g (kind_mask what (set_in (argument me 2)) me.signals kind.signals) h)) (λ r. refl) refl refl;
+      tells_pending = form_answers s me Sigpending _ c (kind_written 1 _ (cast_i64 (pending_set me.signals))) (λ r. refl) refl refl;
       returns = by_return IsFormed (λ t. IsOld t me) me (form_deliveries me (saying_number s me c)) s (old_saying s me c);
-      sets_alarm = λ n is. form_answers s me Alarm _ c (untold_alarm (due_in s.ticks n)) (kind_alarm (due_in s.ticks n)) (left me.alarm (c.regular.alarms me.pid me c.found)) refl;
+      sets_alarm = λ n is. form_answers s me Alarm _ c (kind_alarm (due_in s.ticks n)) (λ r. refl) (left me.alarm (c.regular.alarms me.pid me c.found)) refl;
       executes = λ n program is. record {
         entries = form_called me.pid Exec (pos 0) (saying_number s me c) refl refl;
-        kinds = kinds_change s me.pid (executed n program) (untold_executed n program).pid (kind_executed n program (all_found is_program s.world.programs n program c.kinds.world.programs is)) c.kinds;
+        kinds = kinds_change s me.pid (executed n program) (λ q. refl) (kind_executed n program (all_found is_program s.world.programs n program c.kinds.world.programs is)) c.kinds;
       };
-      moves = λ r group h is goes. form_gives s _ me Setpgid (pos 0) c (kinds_moved s r.pid h c.kinds) refl refl;
-      leads = λ alone. form_gives s _ me Setsid (pos me.pid) c (kinds_led s me.pid c.kinds) (id_i64 me.pid kind.pid) refl;
+      moves = λ r group h is goes. form_gives s _ me Setpgid (pos 0) c (kinds_change s r.pid (in_group h) (λ q. refl) (kind_grouped h) c.kinds) refl refl;
+      leads = λ alone. form_gives s _ me Setsid (pos me.pid) c (kinds_change s me.pid in_session (λ r. refl) kind_led c.kinds) (id_i64 me.pid kind.pid) refl;
       acquires = λ k console is may.
           let old = all_found is_console s.consoles k console c.kinds.consoles is in
           let own = acquired me.session me.group console in
@@ -452,16 +412,9 @@ form_ways granted s me c =
           let few = span_few (argument me 1) (argument me 2) span fits in
           let count = bytes_few span me.cpu.memory in
           form_moved s s me Write (bytes_in span me.cpu.memory) c c.kinds refl refl (omega (arith, few, count)) (bytes_kind span me.cpu.memory);
-      marks = λ mark. record { entries = and_both (is_number me.pid) true (saying_number s me c) refl; kinds = kinds_change s me.pid (marked_as mark) (marked_pid mark) (kind_marked mark) c.kinds };
+      marks = λ mark. record { entries = and_both (is_number me.pid) true (saying_number s me c) refl; kinds = kinds_change s me.pid (marked_as mark) (λ q. refl) (kind_marked mark) c.kinds };
     }
   where
-    ids_set : (call : Call) (new : Credentials) → SetsIds me call new → AreCredentials new × (is_result call (pos 0) ≡ true)
-    ids_set Setuid new is = (subst CredentialsIf is (kind_setuid me.credentials (argument me 1) (saying_kind s me c).credentials), refl)
-    ids_set Seteuid new is = (subst CredentialsIf is (kind_seteuid me.credentials (argument me 1) (saying_kind s me c).credentials), refl)
-    ids_set Setgid new is = (subst CredentialsIf is (kind_setgid me.credentials (argument me 1) (saying_kind s me c).credentials), refl)
-    ids_set Setegid new is = (subst CredentialsIf is (kind_setegid me.credentials (argument me 1) (saying_kind s me c).credentials), refl)
-    ids_set call new is = absurd (is)
-
     sends_value : (call : Call) (value : ℤ) → Sends me call value → (is_i64 value ≡ true) × (is_result call (pos 0) ≡ true)
     sends_value Kill value is = (rw is refl, refl)
     sends_value Sigqueue value is = (subst (λ z. is_i64 z ≡ true) (sym is) (kind_argument me 3 (saying_kind s me c)), refl)
@@ -479,10 +432,8 @@ form_ways granted s me c =
 
 -- what a note shows
 abbrev IsNote : Trap → Type 0
-IsNote trap.Next = Unit {0}
 IsNote (trap.Note z) = is_i64 z ≡ true
-IsNote (trap.Call call) = Unit {0}
-IsNote (trap.Fault sig) = Unit {0}
+IsNote _ = Unit {0}
 
 record IsRun (x : Executed) : Type 0 where
   cpu : IsCpu x.cpu
@@ -542,11 +493,7 @@ fetched_kind program c z None e k h = record { cpu = h; note = tt }
 fetched_kind program c z (Some i) e k h = execute_kind c i (at z e) h
   where
     at : (z : ℤ) → fetched program z ≡ Some i → is_instruction i ≡ true
-    at (pos n) e = by (nat_le 16 n) e
-      where
-        by : (b : Bool) → cond b (slice_get program (n - 16)) None ≡ Some i → is_instruction i ≡ true
-        by true e = all_found is_instruction program (n - 16) i k e
-        by false e = absurd (cc)
+    at (pos n) e = elim (nat_le 16 n) as (λ b. cond b (slice_get program (n - 16)) None ≡ Some i → is_instruction i ≡ true) [ true ↦ λ e. all_found is_instruction program (n - 16) i k e | false ↦ λ e. absurd (cc) ] e
     at (negsuc n) e = absurd (cc)
 
 exec_kind : (program : List Instr) (c : Cpu) → list_all is_instruction program ≡ true → IsCpu c → IsRun (exec_one program c)
@@ -571,29 +518,27 @@ silent_formed : (t : State) → AreKinds t → IsFormed (silent t)
 silent_formed t h = record { entries = refl; kinds = h }
 
 form_act : (granted : Bool) (s : State) (r : Process) → IsSaying s r → IsFormed (act granted s r)
+unfolding set_cpu enter out_of_call
 form_act granted s r c =
     let cpu = (exec_one (code_of s r) r.cpu).cpu in
     let run = exec_kind (code_of s r) r.cpu (code_kind s r c.kinds) (saying_kind s r c).cpu in
-    let moves_on = kinds_change s r.pid (set_cpu cpu) (untold_set_cpu cpu).pid (kind_set_cpu cpu run.cpu) c.kinds in
+    let moves_on = kinds_change s r.pid (set_cpu cpu) (λ q. refl) (kind_set_cpu cpu run.cpu) c.kinds in
     by_act IsFormed AreKinds (λ t. IsOld t r) granted s r (record {
       here = old_saying s r c;
       deliveries = form_deliveries r (saying_number s r c);
       calls = form_ways granted s r c;
-      enters_call = λ b. silent_formed _ (kinds_placed (change s r.pid (enter b)) _ (kinds_change s r.pid (enter b) (untold_enter b).pid (kind_enter b) c.kinds));
+      enters_call = λ b. silent_formed _ (kinds_placed (change s r.pid (enter b)) _ (kinds_change s r.pid (enter b) (λ q. refl) (kind_enter b) c.kinds));
       begins_again = λ t h. silent_formed t h;
-      leaves_call = λ t h. silent_formed _ (kinds_change t r.pid out_of_call untold_out.pid kind_out h);
+      leaves_call = λ t h. silent_formed _ (kinds_change t r.pid out_of_call (λ q. refl) kind_out h);
       waits = silent_formed _ (kinds_placed s _ c.kinds);
       runs = silent_formed _ moves_on;
       notes = λ z is. record { entries = one_formed (Noted r.pid z) (and_both (is_number r.pid) (is_i64 z) (saying_number s r c) (subst IsNote is run.note)); kinds = moves_on };
     })
 
-form_step : (granted : Bool) (s : State) → IsRegular s → AreKinds s → IsFormed (step granted s (current_process s))
-form_step granted s i k =
-    by_step IsFormed granted s (silent_formed s k) (λ p r first e. form_act granted s r (record { regular = i; kinds = k; found = ap (λ n. lookup n s.processes) (pid_looked p s.processes r e) ∙ e }))
-
 form_happens : (granted : Bool) (s : State) (event : Event) → IsEvent event → IsRegular s → AreKinds s → IsFormed (happens granted s event)
 unfolding happens
-form_happens granted s Step b i k = form_step granted s i k
+form_happens granted s Step b i k =
+    by_step IsFormed granted s (silent_formed s k) (λ p r first e. form_act granted s r (record { regular = i; kinds = k; found = ap (λ n. lookup n s.processes) (pid_looked p s.processes r e) ∙ e }))
 form_happens granted s Tick b i k = silent_formed _ (kinds_tick s k)
 form_happens granted s (Key console byte) b i k = silent_formed _ (kinds_key s console byte b k)
 form_happens granted s (Hangup console) b i k = silent_formed _ (kinds_hangup s console k)
@@ -609,9 +554,9 @@ lines_formed : (k : ℕ) (es : List Entry) → 1 ≤ k → k ≤ 1000000000000 �
 lines_formed k [] low high h = refl
 lines_formed k (e ∷ es) low high h =
     let p = and_parts (is_entry e) (list_all is_entry es) h in
-    let a : nat_le 1 k ≡ true = grind (arith, nat_tests, low) in
-    let b : nat_le k 1000000000000 ≡ true = grind (arith, nat_tests, high) in
-    and_both (is_line (line k e)) (list_all is_line (numbered k es)) (and_both _ (is_entry e) (and_both (nat_le 1 k) (nat_le k 1000000000000) a b) p.0) (lines_formed k es low high p.1)
+    let first = p.0 in
+    let rest = lines_formed k es low high p.1 in
+    grind (arith, nat_tests, cases_Bool, low, high, first, rest)
 
 -- Each line of an event has a form, with all numbers within their ranges.
 pub step_formed : (old new : State) (event : Event) (entries : List Entry) → IsStep old event entries new → IsRegular old → AreKinds old → IsEvent event → (k : ℕ) → k < 1000000000000 → list_all is_line (numbered (k + 1) entries) ≡ true

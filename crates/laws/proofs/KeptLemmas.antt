@@ -2,13 +2,13 @@
 use mathlib.Core.Path.{fun_ext}
 use Rattle.std.proofs.Common.{◌≡◌, ℕ, Bool, true, false, cond, not, ◌&&◌, ◌||◌, if◌then◌else◌, ◌==◌, List, [], ◌∷◌, ◌++◌, Option, Some, None, option_map, is_some, unwrap_or, append_assoc, append-nil, refl, ap, sym, ◌∙◌, arith}
 use Rattle.std.specs.List.{list_any}
-use Rattle.std.proofs.Math.Bool.{or-false}
+use Rattle.std.proofs.Math.Bool.{and-true, or-false}
 use Rattle.std.proofs.lemmas.Bool.{cases_Bool}
 use Rattle.std.proofs.lemmas.List.Folds.{list_any-append}
 use Rattle.posix.specs.Entries.{Line, process_of}
 use Rattle.posix.specs.declared.entry.Entry.{Entry}
 use Rattle.posix.specs.declared.waits.WaitCall.{WaitCall}
-use Rattle.posix.specs.declared.entry.Entry.TheVariants.{Noted, Called, Moved, Reported, Looked, NoMemory, Marked, Handled, Discarded, Stopped, Returned, Ended, Halted}
+use Rattle.posix.specs.declared.entry.Entry.TheVariants.{Called, Reported, Marked, Stopped, Ended}
 use Rattle.posix.specs.Statuses.{is_end_word, is_continued_word}
 use Rattle.laws.specs.Lives.{LastOf, last_where, newest_life, life_after, LifeSoFar, the_end, EndOf, or_later, parent_of, parents_from, parent_after, forebear_in, mark_in, mark_of, has_mark, last_mark, begins, is_just, born_by, last_stop, reports, reports_in, stop_in, end_in, is_change_word}
 use Rattle.laws.specs.Keeping.{Alive, Dead, Kept, NeverBorn, Lives, Died, kept_of, kept_of_life, kept_since, alive_since, kept_after, made_by, heir_told, heir_of, forebear_kept, newborn, after_report, after_stop, after_mark, ended_with, given_on, moved_from}
@@ -28,19 +28,12 @@ last_where_more test (y ∷ ys) x = grind (arith, last_where_more test ys x)
 -- a number that isn't born stays so, but by a birth
 pub unborn_stays : (heir : ℕ) (entry : Entry) (c : ℕ) → is_just c (born_by entry) ≡ false → made_by heir entry c NeverBorn ≡ NeverBorn
 unfolding made_by
-unborn_stays heir (Noted p z) c h = refl
 unborn_stays heir (Called p call z) c h = rw h refl
 unborn_stays heir (Reported p call d w) c h = grind (arith, cases_Bool)
-unborn_stays heir (Looked p d w) c h = refl
-unborn_stays heir (Moved p call bytes) c h = refl
-unborn_stays heir (NoMemory p call) c h = refl
 unborn_stays heir (Marked p mark) c h = grind (arith, cases_Bool)
-unborn_stays heir (Handled p s value sender) c h = refl
-unborn_stays heir (Discarded p s) c h = refl
 unborn_stays heir (Stopped p s) c h = grind (arith, cases_Bool)
-unborn_stays heir (Returned p) c h = refl
 unborn_stays heir (Ended p w) c h = grind (arith, cases_Bool)
-unborn_stays heir Halted c h = refl
+unborn_stays heir entry c h = refl
 
 -- whether one passes of a list with one more
 any_more : {A : Type 0} (test : A → Bool) (xs : List A) (x : A) → list_any test (xs ++ x ∷ []) ≡ (list_any test xs || test x)
@@ -130,19 +123,9 @@ told_parent heir _ parent = parent
 
 parent_then : (lines : List Line) (entry : Entry) (c : ℕ) → is_just c (born_by entry) ≡ false
     → parent_after lines (parent_of lines) entry c ≡ told_parent (heir_told (kept_of lines) entry) entry (parent_of lines c)
-parent_then lines (Noted p z) c h = refl
 parent_then lines (Called p call z) c h = rw h refl
-parent_then lines (Reported p call d w) c h = refl
-parent_then lines (Looked p d w) c h = refl
-parent_then lines (Moved p call bytes) c h = refl
-parent_then lines (NoMemory p call) c h = refl
-parent_then lines (Marked p mark) c h = refl
-parent_then lines (Handled p s value sender) c h = refl
-parent_then lines (Discarded p s) c h = refl
-parent_then lines (Stopped p s) c h = refl
-parent_then lines (Returned p) c h = refl
 parent_then lines (Ended p w) c h = ap (λ heir. moved_from p heir (parent_of lines c)) (heir_said lines p)
-parent_then lines Halted c h = refl
+parent_then lines entry c h = refl
 
 parent_more : (lines : List Line) (l : Line) (c : ℕ) → is_just c (born_by l.entry) ≡ false
     → parent_of (lines ++ l ∷ []) c ≡ told_parent (heir_told (kept_of lines) l.entry) l.entry (parent_of lines c)
@@ -155,18 +138,7 @@ or_zero (Some n) = n
 -- that of one who is born is who forked it
 parent_born : (lines : List Line) (entry : Entry) (c : ℕ) → is_just c (born_by entry) ≡ true → parent_after lines (parent_of lines) entry c ≡ or_zero (process_of entry)
 parent_born lines (Called p call z) c h = rw h refl
-parent_born lines (Noted p z) c h = cc
-parent_born lines (Reported p call d w) c h = cc
-parent_born lines (Looked p d w) c h = cc
-parent_born lines (Moved p call bytes) c h = cc
-parent_born lines (NoMemory p call) c h = cc
-parent_born lines (Marked p mark) c h = cc
-parent_born lines (Handled p s value sender) c h = cc
-parent_born lines (Discarded p s) c h = cc
-parent_born lines (Stopped p s) c h = cc
-parent_born lines (Returned p) c h = cc
-parent_born lines (Ended p w) c h = cc
-parent_born lines Halted c h = cc
+parent_born lines entry c h = cc
 
 -- ---- its last stop
 
@@ -179,18 +151,13 @@ abbrev nothing : Option ℕ
 nothing = None
 
 no_stop : (b : Bool) → nothing ≡ (if b then None else nothing)
-no_stop true = refl
-no_stop false = refl
+no_stop b = grind (arith, cases_Bool)
 
 either : (a b : Bool) (o : Option ℕ) → (if a || b then None else o) ≡ (if b then None else if a then None else o)
-either true true o = refl
-either true false o = refl
-either false true o = refl
-either false false o = refl
+either a b o = grind (arith, cases_Bool)
 
 neither : (a b : Bool) → not (a || b) ≡ (not a && not b)
-neither true b = refl
-neither false b = refl
+neither a b = grind (arith, cases_Bool)
 
 alive_if : (old parent c : ℕ) (was mark : Bool) (l : Line) (t : Bool) (o : Option (LastOf Line))
     → alive_since parent mark c (cond t (Some (record { it = l; after = [] })) (option_map (longer l) o))
@@ -229,12 +196,8 @@ parent_in NeverBorn = 0
 parent_in (Lives a) = a.parent
 parent_in (Died d) = d.parent
 
-pub and_true : (b : Bool) → (b && true) ≡ b
-and_true true = refl
-and_true false = refl
-
 alive_same : (parent : ℕ) (a : Alive) → Lives (record { parent = parent; is_marked = a.is_marked; has_stopped = a.has_stopped; stop = a.stop; may_continue = a.may_continue && true }) ≡ Lives (record a { parent = parent })
-alive_same parent a = ap (λ (b : Bool). Lives (record { parent = parent; is_marked = a.is_marked; has_stopped = a.has_stopped; stop = a.stop; may_continue = b })) (and_true a.may_continue)
+alive_same parent a = ap (λ (b : Bool). Lives (record { parent = parent; is_marked = a.is_marked; has_stopped = a.has_stopped; stop = a.stop; may_continue = b })) (and-true a.may_continue)
 
 dead_same : (parent : ℕ) (d : Dead) → Died (record { parent = parent; status = d.status; reported = d.reported || false }) ≡ Died (record d { parent = parent })
 dead_same parent d = ap (λ (b : Bool). Died (record { parent = parent; status = d.status; reported = b })) (or-false d.reported)
@@ -247,32 +210,27 @@ plain_told entry c (Lives a) m s b r e = rw (m, s, b, r) (alive_same a.parent a)
 plain_told entry c (Died d) m s b r e = rw e (dead_same d.parent d)
 
 told_reported : (p : ℕ) (call : WaitCall) (d w c : ℕ) (t : Bool) (k : Kept) → (d == c) ≡ t → told_kept_by None (Reported p call d w) c (parent_in k) k ≡ (if t then after_report w k else k)
-told_reported p call d w c true NeverBorn h = refl
-told_reported p call d w c false NeverBorn h = refl
-told_reported p call d w c true (Lives a) h = rw h refl
+told_reported p call d w c t NeverBorn h = grind (arith, cases_Bool)
+told_reported p call d w c true k h = rw h refl
 told_reported p call d w c false (Lives a) h = rw h (alive_same a.parent a)
-told_reported p call d w c true (Died x) h = rw h refl
 told_reported p call d w c false (Died x) h = rw h (dead_same x.parent x)
 
 told_marked : (p c : ℕ) (mark t : Bool) (k : Kept) → (p == c) ≡ t → told_kept_by None (Marked p mark) c (parent_in k) k ≡ (if t then after_mark mark k else k)
-told_marked p c mark true NeverBorn h = refl
-told_marked p c mark false NeverBorn h = refl
+told_marked p c mark t NeverBorn h = grind (arith, cases_Bool)
 told_marked p c mark true (Lives a) h = rw h (alive_same a.parent (record a { is_marked = mark }))
 told_marked p c mark false (Lives a) h = rw h (alive_same a.parent a)
 told_marked p c mark true (Died x) h = dead_same x.parent x
 told_marked p c mark false (Died x) h = dead_same x.parent x
 
 told_stopped : (p s c : ℕ) (t : Bool) (k : Kept) → (p == c) ≡ t → told_kept_by None (Stopped p s) c (parent_in k) k ≡ (if t then after_stop s k else k)
-told_stopped p s c true NeverBorn h = refl
-told_stopped p s c false NeverBorn h = refl
+told_stopped p s c t NeverBorn h = grind (arith, cases_Bool)
 told_stopped p s c true (Lives a) h = rw h refl
 told_stopped p s c false (Lives a) h = rw h (alive_same a.parent a)
 told_stopped p s c true (Died x) h = dead_same x.parent x
 told_stopped p s c false (Died x) h = dead_same x.parent x
 
 told_ended : (heir p w c : ℕ) (t : Bool) (k : Kept) → told_kept_by (if t then Some w else None) (Ended p w) c (moved_from p heir (parent_in k)) k ≡ (if t then ended_with w (given_on p heir k) else given_on p heir k)
-told_ended heir p w c true NeverBorn = refl
-told_ended heir p w c false NeverBorn = refl
+told_ended heir p w c t NeverBorn = grind (arith, cases_Bool)
 told_ended heir p w c true (Lives a) = refl
 told_ended heir p w c false (Lives a) = alive_same (moved_from p heir a.parent) a
 told_ended heir p w c true (Died x) = dead_same (moved_from p heir x.parent) x
@@ -280,19 +238,12 @@ told_ended heir p w c false (Died x) = dead_same (moved_from p heir x.parent) x
 
 pub told_is_kept : (heir : ℕ) (entry : Entry) (c : ℕ) (k : Kept) → is_just c (born_by entry) ≡ false → told_kept_by (end_in c entry) entry c (told_parent heir entry (parent_in k)) k ≡ made_by heir entry c k
 unfolding made_by
-told_is_kept heir (Noted p z) c k h = plain_told (Noted p z) c k refl refl refl refl refl
 told_is_kept heir (Called p call z) c k h = rw h (plain_told (Called p call z) c k refl refl refl refl refl)
 told_is_kept heir (Reported p call d w) c k h = told_reported p call d w c (d == c) k refl
-told_is_kept heir (Looked p d w) c k h = plain_told (Looked p d w) c k refl refl refl refl refl
-told_is_kept heir (Moved p call bytes) c k h = plain_told (Moved p call bytes) c k refl refl refl refl refl
-told_is_kept heir (NoMemory p call) c k h = plain_told (NoMemory p call) c k refl refl refl refl refl
 told_is_kept heir (Marked p mark) c k h = told_marked p c mark (p == c) k refl
-told_is_kept heir (Handled p s value sender) c k h = plain_told (Handled p s value sender) c k refl refl refl refl refl
-told_is_kept heir (Discarded p s) c k h = plain_told (Discarded p s) c k refl refl refl refl refl
 told_is_kept heir (Stopped p s) c k h = told_stopped p s c (p == c) k refl
-told_is_kept heir (Returned p) c k h = plain_told (Returned p) c k refl refl refl refl refl
 told_is_kept heir (Ended p w) c k h = told_ended heir p w c (p == c) k
-told_is_kept heir Halted c k h = plain_told Halted c k refl refl refl refl refl
+told_is_kept heir entry c k h = plain_told entry c k refl refl refl refl refl
 
 mark_of_stop : (c parent : ℕ) (mark : Bool) (o : Option (LastOf Line)) → (alive_since parent mark c o).is_marked ≡ mark
 mark_of_stop c parent mark None = refl
@@ -335,18 +286,7 @@ life_told lines l c (Some x) h =
 pub begun : (heir : ℕ) (entry : Entry) (c : ℕ) (k : Kept) → is_just c (born_by entry) ≡ true → newborn (or_zero (process_of entry)) ≡ made_by heir entry c k
 unfolding made_by
 begun heir (Called p call z) c k h = rw h refl
-begun heir (Noted p z) c k h = cc
-begun heir (Reported p call d w) c k h = cc
-begun heir (Looked p d w) c k h = cc
-begun heir (Moved p call bytes) c k h = cc
-begun heir (NoMemory p call) c k h = cc
-begun heir (Marked p mark) c k h = cc
-begun heir (Handled p s value sender) c k h = cc
-begun heir (Discarded p s) c k h = cc
-begun heir (Stopped p s) c k h = cc
-begun heir (Returned p) c k h = cc
-begun heir (Ended p w) c k h = cc
-begun heir Halted c k h = cc
+begun heir entry c k h = cc
 
 told_if : (lines : List Line) (l : Line) (c : ℕ) (life : Option LifeSoFar) (t : Bool) → begins c l ≡ t
     → kept_of_life (lines ++ l ∷ []) c (cond t (Some (record { since = [] })) (option_map (lived l) life)) ≡ made_by (heir_told (kept_of lines) l.entry) l.entry c (kept_of_life lines c life)

@@ -1,9 +1,9 @@
 -- What each change of a record keeps of its kinds.
-use Rattle.std.proofs.Common.{◌≡◌, ℕ, zero, suc, ◌+◌, ◌-◌, ◌<◌, ◌≤◌, Bool, true, false, cond, not, ◌&&◌, ◌||◌, ◌==◌, refl, ap, ◌∙◌, arith, subst, List, [], ◌∷◌, ◌++◌, filter, length, Option, Some, None, ℤ, pos, negsuc, nat_le, Result, Ok, Err}
+use Rattle.std.proofs.Common.{rules, ◌≡◌, ℕ, zero, suc, ◌+◌, ◌-◌, ◌<◌, ◌≤◌, Bool, true, false, cond, not, ◌&&◌, ◌||◌, ◌==◌, refl, ap, ◌∙◌, arith, subst, List, [], ◌∷◌, ◌++◌, filter, length, Option, Some, None, ℤ, pos, negsuc, nat_le, Result, Ok, Err}
 use Rattle.std.specs.Prelude.{slice_set}
 use Rattle.std.specs.Int.{w64, cast_signed}
 use Rattle.std.specs.List.{list_all}
-use Rattle.std.proofs.lemmas.Bool.{cond_both, and_parts, leb-true, leb-false, le-leb}
+use Rattle.std.proofs.lemmas.Bool.{cases_Bool, cond_both, and_parts, leb-true, leb-false, le-leb}
 use Rattle.std.proofs.lemmas.List.{length-append}
 use Rattle.std.proofs.lemmas.Bool.Decides.{nat_tests}
 use Rattle.posix.specs.declared.ids.Ids.{Ids}
@@ -11,6 +11,8 @@ use Rattle.posix.specs.declared.errno.Errno.{Errno}
 use Rattle.posix.specs.declared.errno.Errno.TheVariants.{EINTR, EINVAL}
 use Rattle.posix.specs.declared.how.How.{How}
 use Rattle.posix.specs.declared.how.How.TheVariants as how
+use Rattle.posix.specs.declared.call.Call.{Call}
+use Rattle.posix.specs.declared.call.Call.TheVariants.{Setuid, Seteuid, Setgid, Setegid}
 use Rattle.posix.specs.declared.process.Action.{Action}
 use Rattle.posix.specs.declared.process.Blocked.{Blocked}
 use Rattle.posix.specs.declared.process.Blocked.TheVariants as blocked
@@ -41,8 +43,10 @@ use Rattle.posix.specs.Waits.{news_told}
 use Rattle.posix.specs.Delivery.{take_out}
 use Rattle.posix.specs.SignalCalls.{give_credentials, give_signals, handler_word, handler_in, action_in, holding}
 use Rattle.posix.specs.Step.{set_cpu, waiting_signals, enter, out_of_call}
-use Rattle.posix.specs.Ranges.{is_i64, is_id, is_own_id, is_program}
+use Rattle.posix.specs.Ranges.{is_i64, is_id, is_own_id, is_instruction, is_program}
 use Rattle.posix.specs.Statuses.{is_end_word}
+use Rattle.posix.proofs.AttemptLemmas.{SetsIds}
+use Rattle.laws.specs.TraceLines.{is_result}
 use Rattle.laws.specs.Kinds.{are_ids, is_carried, is_pending_kind, is_queued_kind, is_handler, is_action, is_frame, AreSignals, IsCpu, AreCredentials, IsKind}
 use Rattle.laws.proofs.KindLemmas.{and_both, all_set, all_get, all_found, all_append, all_take, all_map, all_same, small_i64, id_i64, cast_i64}
 
@@ -76,26 +80,16 @@ left_passing stays (m ∷ ms) h =
     cond_both (stays m) (m ∷ filter stays ms) (filter stays ms) (IsLeft (m ∷ ms)) (λ t. (and_both (is_queued_kind m) (list_all is_queued_kind (filter stays ms)) p.0 l.0, omega (arith, l.1))) (λ t. (l.0, omega (arith, l.1)))
 
 kind_left : (rest : List PendingSignal) (g : Signals) → IsLeft g.queue rest → AreSignals g → AreSignals (with_queue rest g)
-kind_left rest g l h = record {
-  pending = h.pending;
-  queue = l.0;
-  few = let few = leb-true (length g.queue) most_queued h.few in le-leb (length rest) most_queued (omega (arith, l.1, few));
-  actions = h.actions;
-  frames = h.frames;
-}
+kind_left rest g l h = let few = leb-true (length g.queue) most_queued h.few in let less : nat_le (length rest) most_queued ≡ true = le-leb (length rest) most_queued (omega (arith, l.1, few)) in search rules
 
 -- a real-time signal that is queued behind the others, where there is room
 kind_queued : (signal : PendingSignal) (g : Signals) → is_realtime signal.sig ≡ true → is_carried signal.carried ≡ true → nat_le most_queued (length g.queue) ≡ false → AreSignals g → AreSignals (with_queue (g.queue ++ signal ∷ []) g)
-kind_queued signal g real k room h = record {
-  pending = h.pending;
-  queue = all_append is_queued_kind g.queue (signal ∷ []) h.queue (and_both (is_queued_kind signal) true (and_both (is_realtime signal.sig) (is_carried signal.carried) real k) refl);
-  few =
-      let below = leb-false most_queued (length g.queue) room in
-      let longer = length-append g.queue (signal ∷ []) in
-      le-leb (length (g.queue ++ signal ∷ [])) most_queued (omega (arith, below, longer));
-  actions = h.actions;
-  frames = h.frames;
-}
+kind_queued signal g real k room h =
+    let below = leb-false most_queued (length g.queue) room in
+    let longer = length-append g.queue (signal ∷ []) in
+    let few : nat_le (length (g.queue ++ signal ∷ [])) most_queued ≡ true = le-leb (length (g.queue ++ signal ∷ [])) most_queued (omega (arith, below, longer)) in
+    let queue = all_append is_queued_kind g.queue (signal ∷ []) h.queue (and_both (is_queued_kind signal) true (and_both (is_realtime signal.sig) (is_carried signal.carried) real k) refl) in
+    search (rules, few, queue)
 
 kind_made : (signal : PendingSignal) (g : Signals) → is_carried signal.carried ≡ true → (is_realtime signal.sig ≡ true → nat_le most_queued (length g.queue) ≡ false) → AreSignals g → AreSignals (make_pending signal g)
 kind_made signal g k room h =
@@ -117,7 +111,7 @@ queue_discards : (s : ℕ) (g : Signals) → (after_discards s g).queue ≡ g.qu
 unfolding without_stops
 queue_discards s g = cond_both (s == CONT) _ _ (λ (x : Signals). x.queue ≡ g.queue) (λ t. refl) (λ t. cond_both (is_stop_signal s) _ _ (λ (x : Signals). x.queue ≡ g.queue) (λ u. refl) (λ u. refl))
 
-kind_with : (r : Process) (g : Signals) → AreSignals g → IsKind r → IsKind (record r { signals = g })
+pub kind_with : (r : Process) (g : Signals) → AreSignals g → IsKind r → IsKind (record r { signals = g })
 kind_with r g k h = record { pid = h.pid; parent = h.parent; credentials = h.credentials; signals = k; life = h.life; news = h.news; cpu = h.cpu }
 
 -- where the signal would be queued for the process, its queue isn't full
@@ -140,10 +134,7 @@ kind_signalled signal k r room h =
     (λ u. kind_made signal x k (λ real. ap (λ (q : List PendingSignal). nat_le most_queued (length q)) (queue_discards signal.sig g) ∙ below _ _ _ (has_full_queue r) real t u room) kept) (λ u. kept))) h
   where
     below : (real none keeps full : Bool) → real ≡ true → none ≡ false → keeps ≡ true → ((real && (not none && keeps)) && full) ≡ false → full ≡ false
-    below true false true full a b c e = e
-    below true false false full a b c e = absurd (cc)
-    below true true keeps full a b c e = absurd (cc)
-    below false none keeps full a b c e = absurd (cc)
+    below real none keeps full a b c e = grind (arith, cases_Bool, a, b, c, e)
 
 -- a standard signal
 pub kind_standard : (signal : PendingSignal) → is_carried signal.carried ≡ true → is_realtime signal.sig ≡ false → KeepsKind (signalled signal)
@@ -239,15 +230,7 @@ kind_argument r i h = all_get is_i64 r.cpu.registers i (pos 0) h.cpu.registers r
 -- the child of one whose parts are of their kinds
 pub kind_child : (birth : ℕ) (me : Process) (n : ℕ) → is_id n ≡ true → IsKind me → IsKind (child_of birth me n)
 unfolding child_of finished
-kind_child birth me n k h = record {
-  pid = k;
-  parent = h.pid;
-  credentials = h.credentials;
-  signals = record { pending = nothing_kind; queue = refl; few = refl; actions = h.signals.actions; frames = h.signals.frames };
-  life = h.life;
-  news = refl;
-  cpu = kind_move_on _ (kind_register me.cpu 0 (pos 0) refl h.cpu);
-}
+kind_child birth me n k h = search (rules, nothing_kind, kind_move_on, kind_register)
 
 -- ---- handlers
 
@@ -296,23 +279,13 @@ kind_frame g frame h e = all_found is_frame g.frames (length g.frames - 1) frame
 
 pub kind_returned : (frame : Frame) → is_frame frame ≡ true → KeepsKind (returned frame)
 unfolding returned
-kind_returned frame k r h = record {
-  pid = h.pid;
-  parent = h.parent;
-  credentials = h.credentials;
-  signals = record { pending = h.signals.pending; queue = h.signals.queue; few = h.signals.few; actions = h.signals.actions; frames = all_take is_frame (length r.signals.frames - 1) r.signals.frames h.signals.frames };
-  life = h.life;
-  news = h.news;
-  cpu = record { registers = k; memory = h.cpu.memory };
-}
+kind_returned frame k r h = search (rules, all_take)
 
 -- ---- calls
 
 kind_waiting : (b : Blocked) (z : ℤ) (g : Signals) → AreSignals g → AreSignals (waiting_signals b z g)
-kind_waiting (blocked.Wait call) z g h = h
-kind_waiting blocked.Read z g h = h
-kind_waiting blocked.Pause z g h = h
 kind_waiting (blocked.Sigsuspend earlier) z g h = record { pending = h.pending; queue = h.queue; few = h.few; actions = h.actions; frames = h.frames }
+kind_waiting b z g h = h
 
 pub kind_enter : (b : Blocked) → KeepsKind (enter b)
 unfolding enter
@@ -342,18 +315,15 @@ pub kind_credentials : (c : Credentials) → AreCredentials c → KeepsKind (giv
 unfolding give_credentials
 kind_credentials c k r h = record { pid = h.pid; parent = h.parent; credentials = k; signals = h.signals; life = h.life; news = h.news; cpu = h.cpu }
 
-pub kind_give : (g : Signals) → AreSignals g → KeepsKind (give_signals g)
-unfolding give_signals
-kind_give g k r h = kind_with r g k h
-
 kind_word : (x : Handler) → is_handler x ≡ true → is_i64 (handler_word x) ≡ true
 kind_word handler.Default h = refl
 kind_word handler.Ignore h = refl
 kind_word (handler.At address) h = h
 
 pub kind_holding : (a : Action) (g : Signals) → is_action a ≡ true → AreSignals g → KeepsKind (λ r. holding a (give_signals g r))
+unfolding give_signals
 kind_holding a g k s r h =
-    kind_written 4 (cast_signed w64 a.flags.0) (cast_i64 a.flags.0) _ (kind_written 3 (word_of a.mask) (cast_i64 a.mask) _ (kind_written 2 (handler_word a.handler) (kind_word a.handler k) _ (kind_give g s r h)))
+    kind_written 4 (cast_signed w64 a.flags.0) (cast_i64 a.flags.0) _ (kind_written 3 (word_of a.mask) (cast_i64 a.mask) _ (kind_written 2 (handler_word a.handler) (kind_word a.handler k) _ (kind_with r g s h)))
 
 -- the handler that a register holds
 kind_handler : (z : ℤ) → is_i64 z ≡ true → is_handler (handler_in z) ≡ true
@@ -371,28 +341,20 @@ kind_given n a g k s =
 
 pub kind_set_action : (n : ℕ) (me : Process) (g h : Signals) → IsKind me → AreSignals g → set_action n (action_in me) g ≡ Ok h → AreSignals h
 unfolding set_action
-kind_set_action n me g h k s e = by (n == KILL || n == STOP) e
-  where
-    by : (b : Bool) → cond b (Err EINVAL) (Ok (give_action n (action_in me) g)) ≡ Ok h → AreSignals h
-    by true e = absurd (cc)
-    by false e =
-        let same : give_action n (action_in me) g ≡ h = cc in
-        subst AreSignals same (kind_given n (action_in me) g (kind_handler (argument me 2) (kind_argument me 2 k)) s)
+kind_set_action n me g h k s e = elim (n == KILL || n == STOP) as (λ b. cond b (Err EINVAL) (Ok (give_action n (action_in me) g)) ≡ Ok h → AreSignals h) [
+  | true ↦ λ e. absurd (cc)
+  | false ↦ λ e. let same : give_action n (action_in me) g ≡ h = cc in subst AreSignals same (kind_given n (action_in me) g (kind_handler (argument me 2) (kind_argument me 2 k)) s)
+] e
 
 pub kind_mask : (what : How) (set : ℕ) (g : Signals) → AreSignals g → AreSignals (set_mask what set g)
 unfolding set_mask
 kind_mask how.Block set g h = record { pending = h.pending; queue = h.queue; few = h.few; actions = h.actions; frames = h.frames }
-kind_mask how.Unblock set g h = record { pending = h.pending; queue = h.queue; few = h.few; actions = h.actions; frames = h.frames }
-kind_mask how.Set set g h = record { pending = h.pending; queue = h.queue; few = h.few; actions = h.actions; frames = h.frames }
+kind_mask what set g h = record { pending = h.pending; queue = h.queue; few = h.few; actions = h.actions; frames = h.frames }
 
 -- ---- ids
 
 kind_id_in : (z : ℤ) (n : ℕ) → id_in z ≡ Some n → is_id n ≡ true
-kind_id_in (pos m) n e = by (nat_le m 2147483647) refl e
-  where
-    by : (b : Bool) → nat_le m 2147483647 ≡ b → cond b (Some m) None ≡ Some n → is_id n ≡ true
-    by true t h = let same : m ≡ n = cc in subst (λ k. is_id k ≡ true) same t
-    by false t h = absurd (cc)
+kind_id_in (pos m) n e = grind (arith, nat_tests, e)
 kind_id_in (negsuc m) n e = absurd (cc)
 
 -- ids that a result gives
@@ -405,10 +367,7 @@ ids_either true x y h k = h
 ids_either false x y h k = k
 
 kind_effective : (ids : Ids ℕ) (n : ℕ) → is_id n ≡ true → are_ids ids ≡ true → are_ids (record ids { effective = n }) ≡ true
-kind_effective ids n k h =
-    let p = and_parts (is_id ids.real) (is_id ids.effective && is_id ids.saved) h in
-    let q = and_parts (is_id ids.effective) (is_id ids.saved) p.1 in
-    and_both (is_id ids.real) _ p.0 (and_both (is_id n) (is_id ids.saved) k q.1)
+kind_effective ids n k h = grind (arith, cases_Bool, k, h)
 
 kind_all_ids : (privileged : Bool) (ids : Ids ℕ) (z : ℤ) (o : Option ℕ) → id_in z ≡ o → are_ids ids ≡ true → IdsIf (all_ids_set privileged ids o)
 kind_all_ids privileged ids z None e h = tt
@@ -421,7 +380,7 @@ kind_effective_id privileged ids z None e h = tt
 kind_effective_id privileged ids z (Some n) e h = ids_either (privileged || is_own ids n) _ _ (kind_effective ids n (kind_id_in z n e) h) tt
 
 -- credentials that a result gives
-abbrev pub CredentialsIf : Result Credentials Errno → Type 0
+abbrev CredentialsIf : Result Credentials Errno → Type 0
 CredentialsIf (Ok c) = AreCredentials c
 CredentialsIf (Err why) = Unit {0}
 
@@ -433,37 +392,24 @@ kind_group : (c : Credentials) (o : Result (Ids ℕ) Errno) → AreCredentials c
 kind_group c (Ok ids) h k = record { user = h.user; group = k }
 kind_group c (Err why) h k = tt
 
-pub kind_setuid : (c : Credentials) (z : ℤ) → AreCredentials c → CredentialsIf (setuid c z)
-unfolding setuid
-kind_setuid c z h = kind_user c _ h (kind_all_ids (is_privileged c) c.user z (id_in z) refl h.user)
-
-pub kind_seteuid : (c : Credentials) (z : ℤ) → AreCredentials c → CredentialsIf (seteuid c z)
-unfolding seteuid
-kind_seteuid c z h = kind_user c _ h (kind_effective_id (is_privileged c) c.user z (id_in z) refl h.user)
-
-pub kind_setgid : (c : Credentials) (z : ℤ) → AreCredentials c → CredentialsIf (setgid c z)
-unfolding setgid
-kind_setgid c z h = kind_group c _ h (kind_all_ids (is_privileged c) c.group z (id_in z) refl h.group)
-
-pub kind_setegid : (c : Credentials) (z : ℤ) → AreCredentials c → CredentialsIf (setegid c z)
-unfolding setegid
-kind_setegid c z h = kind_group c _ h (kind_effective_id (is_privileged c) c.group z (id_in z) refl h.group)
+-- a call that sets ids answers 0
+pub kind_ids_set : (me : Process) (call : Call) (new : Credentials) → AreCredentials me.credentials → SetsIds me call new → AreCredentials new × (is_result call (pos 0) ≡ true)
+unfolding setuid seteuid setgid setegid
+kind_ids_set me Setuid new h is = (subst CredentialsIf is (kind_user me.credentials _ h (kind_all_ids (is_privileged me.credentials) me.credentials.user (argument me 1) (id_in (argument me 1)) refl h.user)), refl)
+kind_ids_set me Seteuid new h is = (subst CredentialsIf is (kind_user me.credentials _ h (kind_effective_id (is_privileged me.credentials) me.credentials.user (argument me 1) (id_in (argument me 1)) refl h.user)), refl)
+kind_ids_set me Setgid new h is = (subst CredentialsIf is (kind_group me.credentials _ h (kind_all_ids (is_privileged me.credentials) me.credentials.group (argument me 1) (id_in (argument me 1)) refl h.group)), refl)
+kind_ids_set me Setegid new h is = (subst CredentialsIf is (kind_group me.credentials _ h (kind_effective_id (is_privileged me.credentials) me.credentials.group (argument me 1) (id_in (argument me 1)) refl h.group)), refl)
+kind_ids_set me call new h is = absurd (is)
 
 -- ---- exec
 
 kind_ids_on_exec : (own : Option ℕ) (ids : Ids ℕ) → is_own_id own ≡ true → are_ids ids ≡ true → are_ids (ids_on_exec own ids) ≡ true
-kind_ids_on_exec None ids k h =
-    let p = and_parts (is_id ids.real) (is_id ids.effective && is_id ids.saved) h in
-    let q = and_parts (is_id ids.effective) (is_id ids.saved) p.1 in
-    and_both (is_id ids.real) _ p.0 (and_both (is_id ids.effective) (is_id ids.effective) q.0 q.0)
-kind_ids_on_exec (Some n) ids k h =
-    let p = and_parts (is_id ids.real) (is_id ids.effective && is_id ids.saved) h in
-    and_both (is_id ids.real) _ p.0 (and_both (is_id n) (is_id n) k k)
+kind_ids_on_exec None ids k h = grind (arith, cases_Bool, h)
+kind_ids_on_exec (Some n) ids k h = grind (arith, cases_Bool, k, h)
 
 kind_action_on_exec : (x : Handler) → is_handler (handler_on_exec x) ≡ true
 kind_action_on_exec handler.Default = refl
-kind_action_on_exec handler.Ignore = refl
-kind_action_on_exec (handler.At address) = refl
+kind_action_on_exec x = refl
 
 kind_fresh : IsCpu fresh_cpu
 unfolding zero_registers zero_memory
@@ -472,20 +418,7 @@ kind_fresh = record { registers = all_same is_i64 8 (pos 0) refl; memory = all_s
 pub kind_executed : (number : ℕ) (program : Program) → is_program program ≡ true → KeepsKind (executed number program)
 unfolding executed
 kind_executed number program k r h =
-    let p = and_parts (is_own_id program.setuid) _ k in
-    let q = and_parts (is_own_id program.setgid) _ p.1 in
-    record {
-      pid = h.pid;
-      parent = h.parent;
-      credentials = record { user = kind_ids_on_exec program.setuid r.credentials.user p.0 h.credentials.user; group = kind_ids_on_exec program.setgid r.credentials.group q.0 h.credentials.group };
-      signals = record {
-        pending = h.signals.pending;
-        queue = h.signals.queue;
-        few = h.signals.few;
-        actions = all_map is_action is_action action_on_exec (λ a t. kind_action_on_exec a.handler) r.signals.actions h.signals.actions;
-        frames = refl;
-      };
-      life = h.life;
-      news = h.news;
-      cpu = kind_register _ 2 (argument r 3) (kind_argument r 3 h) (kind_register fresh_cpu 1 (argument r 2) (kind_argument r 2 h) kind_fresh);
-    }
+    let p = and_parts (is_own_id program.setuid) (is_own_id program.setgid && list_all is_instruction program.instructions) k in
+    let q = and_parts (is_own_id program.setgid) (list_all is_instruction program.instructions) p.1 in
+    let actions = all_map is_action is_action action_on_exec (λ a t. kind_action_on_exec a.handler) r.signals.actions h.signals.actions in
+    search (rules, kind_ids_on_exec, kind_register, kind_argument, kind_fresh, p.0, q.0, actions)

@@ -1,21 +1,21 @@
 -- States keep the kinds of their parts.
-use Rattle.std.proofs.Common.{Bool, ◌≡◌, ◌≢◌, ℕ, zero, suc, ◌+◌, ◌-◌, ◌%◌, ◌≤◌, ◌<◌, true, false, cond, not, ◌&&◌, ◌==◌, refl, ap, sym, ◌∙◌, arith, subst, List, [], ◌∷◌, ◌++◌, map, filter, length, Option, Some, None, pos, nat_le, nat_lt, inl, inr}
+use Rattle.std.proofs.Common.{◌≡◌, ◌≢◌, ℕ, zero, suc, ◌+◌, ◌-◌, ◌≤◌, ◌<◌, true, false, cond, not, ◌&&◌, ◌==◌, refl, ap, sym, ◌∙◌, arith, subst, List, [], ◌∷◌, ◌++◌, map, length, Option, Some, None, pos, nat_le, nat_lt, inl, inr}
 use Rattle.std.specs.List.{list_all, AllByRecursion}
-use Rattle.std.proofs.lemmas.Bool.{cond_both, and_parts, leb-true, eqb-true, ne_eqb, or_cases, cases_eq}
+use Rattle.std.proofs.lemmas.Bool.{cases_Bool, cond_both, and_parts, eqb-true, ne_eqb, cases_eq}
 use Rattle.std.proofs.lemmas.Bool.Decides.{nat_tests}
 use Rattle.posix.specs.declared.process.Effect.{Effect}
 use Rattle.posix.specs.declared.process.Effect.TheVariants as effect
 use Rattle.posix.specs.declared.process.Life.{Life}
 use Rattle.posix.specs.declared.process.Life.TheVariants.{Running, Stopped, Zombie}
 use Rattle.posix.specs.declared.process.PendingSignal.{PendingSignal}
-use Rattle.posix.specs.SignalNumbers.{CONT, HUP, is_signal, is_standard, is_realtime}
-use Rattle.posix.specs.Statuses.{continued, stopped, is_end_word, is_exit_word}
-use Rattle.posix.specs.Processes.{Process, is_zombie}
-use Rattle.posix.specs.Tables.{IsRising, lookup, at, changed, inserted, removed, is_child, children_in, reparented, adopted, pids, members_in}
+use Rattle.posix.specs.SignalNumbers.{CONT, HUP, is_realtime}
+use Rattle.posix.specs.Statuses.{continued, is_end_word}
+use Rattle.posix.specs.Processes.{Process}
+use Rattle.posix.specs.Tables.{IsRising, lookup, at, changed, inserted, removed, reparented, adopted, pids, members_in}
 use Rattle.posix.specs.Outcomes.{Outcome}
 use Rattle.posix.specs.States.{State, change, current}
 use Rattle.posix.proofs.NoticeLemmas.{only_notice, only_told}
-use Rattle.laws.proofs.QuietOperations.{quiet_hung_up}
+use Rattle.laws.proofs.QuietOperations.{quiet_hung_up, each_zombie}
 use Rattle.posix.specs.Consoles.{Console, console_of, console_at, with_console, changed_at, changed_console, edit, finish_line, erased, with_byte, key_signal, signal_typed, is_told, disconnected, keyed_by, keyed, flushed, has_room, lines_left, line_taken, released, with_foreground, most_edited}
 use Rattle.posix.specs.Generation.{effect_of, signalled}
 use Rattle.posix.specs.Choice.{from_kernel}
@@ -31,10 +31,9 @@ use Rattle.posix.specs.Step.{signalled_from, key_on, key, hangup_on, hangup, rot
 use Rattle.posix.specs.Terminals.{terminal}
 use Rattle.posix.specs.Ranges.{is_i64, is_id, IsWorld}
 use Rattle.laws.specs.Kinds.{is_byte, is_carried, is_console, IsKind, AreKinds}
-use Rattle.posix.proofs.TableLemmas.{pid_looked, pid_reparented, lookup_changed, rising_filter}
+use Rattle.posix.proofs.TableLemmas.{pid_looked, pid_reparented, lookup_changed}
 use Rattle.posix.proofs.MapLemmas.{at_pid, lookup_back}
 use Rattle.posix.proofs.RegularLemmas.{lookup_left, lookup_inserted, lookup_new}
-use Rattle.posix.proofs.WalkLemmas.{all_looked, in_filter}
 use Rattle.posix.proofs.TouchLemmas.{unseen_signalled, unseen_noticed, unseen_ring}
 use Rattle.posix.proofs.ChangeLemmas.{unseen_noticed_of_change}
 use Rattle.posix.proofs.RealtimeLemmas.{generated_alone, key_standard}
@@ -78,14 +77,11 @@ kinds_inserted new rs fresh k h p r e = elim (cases_eq p new.pid) [
 pub carried_child : (child status : ℕ) → is_id child ≡ true → status < 9223372036854775808 → is_carried (child_signal child status).carried ≡ true
 carried_child child status k l = and_both (is_i64 (pos status)) (is_id child) (small_i64 status l) k
 
-kinds_told_of_change : (status : ℕ) (r : Process) (rs : List Process) → status < 9223372036854775808 → IsKind r → AllKind rs → AllKind (told_of_change status r rs)
+pub kinds_told_of_change : (status : ℕ) (r : Process) (rs : List Process) → status < 9223372036854775808 → IsKind r → AllKind rs → AllKind (told_of_change status r rs)
 unfolding told_of_change
 kinds_told_of_change status r rs l k h =
     let signal = child_signal r.pid status in
     kinds_changed r.parent (noticed_of_change signal) (unseen_noticed_of_change signal).pid (kind_noticed_of_change signal (carried_child r.pid status k.pid l) refl) rs h
-
-pub kinds_stop_told : (n : ℕ) (r : Process) (rs : List Process) → n ≤ 64 → IsKind r → AllKind rs → AllKind (told_of_change (stopped n) r rs)
-kinds_stop_told n r rs few k h = kinds_told_of_change (stopped n) r rs (omega (arith, few)) k h
 
 -- for one, where there is room
 kinds_generated : (signal : PendingSignal) → is_carried signal.carried ≡ true → (p : ℕ) (rs : List Process) → ((r : Process) → lookup p rs ≡ Some r → HasRoom signal.sig r) → AllKind rs → AllKind (generated_for signal (lookup p rs) rs)
@@ -149,13 +145,7 @@ kinds_hup_and_cont (g ∷ gs) rs h = kinds_hup_and_cont gs (hup_and_cont g rs) (
 
 -- the word of an end is small
 pub end_small : (w : ℕ) → is_end_word w ≡ true → w ≤ 65280
-end_small w h = elim (or_cases (is_exit_word w) (is_signal w) h) [
-  | inl exits ↦ leb-true w 65280 (and_parts (w % 256 == 0) (nat_le w 65280) exits).1
-  | inr kills ↦ elim (or_cases (is_standard w) (is_realtime w) kills) [
-    | inl one ↦ let l = leb-true w 31 (and_parts (nat_le 1 w) (nat_le w 31) one).1 in omega (arith, l)
-    | inr one ↦ let l = leb-true w 64 (and_parts (nat_le 34 w) (nat_le w 64) one).1 in omega (arith, l)
-  ]
-]
+end_small w h = grind (arith, nat_tests, cases_Bool, h)
 
 kinds_notice : (s : State) (parent child status : ℕ) → is_id child ≡ true → status < 9223372036854775808 → AllKind s.processes → AllKind (notice_of_end s parent child status).processes
 unfolding notice_of_end
@@ -178,16 +168,6 @@ unfolding tell_of_all
 kinds_told s heir [] ks h = h
 kinds_told s heir (z ∷ zs) ks h = kinds_told (notice_of_end s heir z.pid (status_of z.life)) heir zs ks.1 (kinds_notice s heir z.pid (status_of z.life) ks.0.pid (status_kind z ks.0) h)
 
-zombies_kind : (s : State) (p : ℕ) → IsRising s.processes → AllKind s.processes → AllByRecursion IsKind (zombies_of p s.processes)
-unfolding zombies_of children_in
-zombies_kind s p up h =
-    let kids = filter (is_child p) s.processes in
-    let kids_up = rising_filter (is_child p) s.processes up in
-    all_looked IsKind (filter (λ r. is_zombie r.life) kids) (rising_filter _ kids kids_up) (λ c z e.
-    let a = in_filter (λ r. is_zombie r.life) kids kids_up c z e in
-    let b = in_filter (is_child p) s.processes up c z a.found in
-    h c z b.found)
-
 kinds_departed : (s : State) (p heir w : ℕ) → is_id heir ≡ true → is_end_word w ≡ true → AllKind s.processes → AllKind (leave_children_and_die s p heir w).processes
 unfolding adopted made_zombie
 kinds_departed s p heir w k word h = kinds_map (reparented p heir) (pid_reparented p heir) (kind_reparented p heir k) _ (kinds_changed p (made_zombie w) (λ r. refl) (kind_made_zombie w word) s.processes h)
@@ -201,11 +181,8 @@ pub kinds_change : (s : State) (p : ℕ) (f : Process → Process) → ((r : Pro
 kinds_change s p f pid keeps h = kinds_as s (change s p f) refl refl (kinds_changed p f pid keeps s.processes h.records) h
 
 -- consoles
-kind_found : (session : ℕ) (cs : List Console) (c : Console) → list_all is_console cs ≡ true → console_of session cs ≡ Some c → is_console c ≡ true
-kind_found session cs c h e = let o = place_of session cs c e in all_found is_console cs o.place c h o.found
-
 pub kind_terminal : (s : State) (me : Process) (c : Console) → AreKinds s → terminal s me ≡ Some c → is_console c ≡ true
-kind_terminal s me c h e = kind_found me.session s.consoles c h.consoles e
+kind_terminal s me c h e = let o = place_of me.session s.consoles c e in all_found is_console s.consoles o.place c h.consoles o.found
 
 pub kind_consoles : (session : ℕ) (f : Console → Console) → ((c : Console) → is_console c ≡ true → is_console (f c) ≡ true) → (cs : List Console) → list_all is_console cs ≡ true → list_all is_console (changed_console session f cs) ≡ true
 unfolding changed_console
@@ -235,15 +212,6 @@ kind_heir s p h = of (heir_inherits s.processes p)
     of (inl first) = rw first refl
     of {n} (inr k) = subst (λ m. is_id m ≡ true) (pid_looked n s.processes k.1.what k.1.found) (h n k.1.what k.1.found).pid
 
-kinds_gone : (s : State) (p heir parent w : ℕ) → IsRising s.processes → is_id heir ≡ true → is_id p ≡ true → is_end_word w ≡ true → AreKinds s
-    → AllKind (notice_of_end (hup_and_cont_orphans s.processes (tell_of_all (leave_children_and_die s p heir w) heir (zombies_of p s.processes))) parent p w).processes
-kinds_gone s p heir parent w up kh k word h =
-    let gone = leave_children_and_die s p heir w in
-    let told = tell_of_all gone heir (zombies_of p s.processes) in
-    let small = end_small w word in
-    kinds_notice (hup_and_cont_orphans s.processes told) parent p w k (omega (arith, small))
-    (kinds_hup_and_cont (newly_orphaned s.processes told.processes) told.processes (kinds_told gone heir (zombies_of p s.processes) (zombies_kind s p up h.records) (kinds_departed s p heir w kh word h.records)))
-
 -- an end
 pub kinds_end : (s : State) (r : Process) (w : ℕ) → IsRising s.processes → is_id r.pid ≡ true → is_end_word w ≡ true → AreKinds s → AreKinds (end_process s r w).state
 unfolding end_process ended
@@ -251,21 +219,21 @@ kinds_end s r w up k word h =
     let t = hang_up s r in
     let kt = kinds_hung_up s r h in
     cond_both (r.pid == 1) _ _ (λ (o : Outcome). AreKinds o.state) (λ e. kinds_as t (halt t w) refl refl (kinds_changed 1 (ended w) (λ r. refl) (kind_ended w word) t.processes kt.records) kt)
-    (λ e. kinds_gone_state t (up_hung s r up) kt)
+    (λ e. kinds_gone_state t ((quiet_hung_up s r).rising up) kt)
   where
-    up_hung : (s : State) (r : Process) → IsRising s.processes → IsRising (hang_up s r).processes
-    up_hung s r up = (quiet_hung_up s r).rising up
-
     kinds_gone_state : (t : State) → IsRising t.processes → AreKinds t → AreKinds (notice_of_end (hup_and_cont_orphans t.processes (tell_of_all (leave_children_and_die t r.pid (heir_in t.processes r.pid) w) (heir_in t.processes r.pid) (zombies_of r.pid t.processes))) r.parent r.pid w)
     kinds_gone_state t up kt =
         let heir = heir_in t.processes r.pid in
         let gone = leave_children_and_die t r.pid heir w in
         let told = tell_of_all gone heir (zombies_of r.pid t.processes) in
         let given = hup_and_cont_orphans t.processes told in
+        let small = end_small w word in
+        let departed = kinds_departed t r.pid heir w (kind_heir t r.pid kt.records) word kt.records in
+        let notices = kinds_told gone heir (zombies_of r.pid t.processes) (each_zombie IsKind r.pid t.processes up (λ c z found child dead. kt.records c z found)) departed in
         let only_a = only_told gone heir (zombies_of r.pid t.processes) in
         let only_b = only_notice given r.parent r.pid w in
         kinds_as t _ (ap (λ (u : State). u.world) only_b ∙ ap (λ (u : State). u.world) only_a) (ap (λ (u : State). u.consoles) only_b ∙ ap (λ (u : State). u.consoles) only_a)
-        (kinds_gone t r.pid heir r.parent w up (kind_heir t r.pid kt.records) k word kt) kt
+        (kinds_notice given r.parent r.pid w k (omega (arith, small)) (kinds_hup_and_cont (newly_orphaned t.processes told.processes) told.processes notices)) kt
 
 -- ---- consoles and keys
 
@@ -283,10 +251,7 @@ kind_line line c k h =
     and_both (is_id c.foreground) _ p.0 (and_both _ _ lines refl)
 
 kind_edited : (c : Console) (bytes : List ℕ) → list_all is_byte bytes ≡ true → is_console c ≡ true → is_console (record c { edited = bytes }) ≡ true
-kind_edited c bytes k h =
-    let p = and_parts (is_id c.foreground) (list_all (list_all is_byte) c.lines && list_all is_byte c.edited) h in
-    let q = and_parts (list_all (list_all is_byte) c.lines) (list_all is_byte c.edited) p.1 in
-    and_both (is_id c.foreground) _ p.0 (and_both (list_all (list_all is_byte) c.lines) (list_all is_byte bytes) q.0 k)
+kind_edited c bytes k h = grind (arith, cases_Bool, k, h)
 
 kind_edit : (byte : ℕ) (c : Console) → is_byte byte ≡ true → is_console c ≡ true → is_console (edit byte c) ≡ true
 unfolding edit erased
@@ -325,30 +290,27 @@ kinds_from (Some n) group rs standard h = kinds_group n group rs (standard n ref
 
 standard_typed : (byte : ℕ) (c : Console) (n : ℕ) → signal_typed byte c ≡ Some n → is_realtime n ≡ false
 unfolding signal_typed
-standard_typed byte c n e = by c.hung_up e
-  where
-    by : (b : Bool) → cond b None (key_signal byte) ≡ Some n → is_realtime n ≡ false
-    by true e = cc
-    by false e = (key_standard byte n e).0
+standard_typed byte c n e = elim c.hung_up as (λ b. cond b None (key_signal byte) ≡ Some n → is_realtime n ≡ false) [ true ↦ λ e. absurd (cc) | false ↦ λ e. (key_standard byte n e).0 ] e
 
 kind_disconnected : (c : Console) → is_console c ≡ true → is_console (disconnected c) ≡ true
 unfolding disconnected flushed
 kind_disconnected c h = cond_both c.hung_up c (record (flushed c) { hung_up = not (c.session == 0) }) (λ d. is_console d ≡ true) (λ e. h) (λ e. and_both (is_id c.foreground) _ (and_parts (is_id c.foreground) _ h).0 refl)
 
+-- one console changes
+kinds_put : (f : Console → Console) → ((c : Console) → is_console c ≡ true → is_console (f c) ≡ true) → (n : ℕ) (c : Console) (cs : List Console) → console_at n cs ≡ Some c → list_all is_console cs ≡ true → list_all is_console (with_console n (f c) cs) ≡ true
+kinds_put f keeps zero c cs e h = absurd (cc)
+kinds_put f keeps (suc i) c cs e h = all_set is_console cs i (f c) h (keeps c (all_found is_console cs i c h e))
+
 pub kinds_hangup : (s : State) (console : ℕ) → AreKinds s → AreKinds (hangup s console)
 unfolding hangup
 kinds_hangup s console h = on (console_at console s.consoles) refl
   where
-    put : (n : ℕ) (c : Console) → console_at n s.consoles ≡ Some c → list_all is_console (with_console n (disconnected c) s.consoles) ≡ true
-    put zero c e = absurd (cc)
-    put (suc i) c e = all_set is_console s.consoles i (disconnected c) h.consoles (kind_disconnected c (all_found is_console s.consoles i c h.consoles e))
-
     on : (o : Option Console) → console_at console s.consoles ≡ o → AreKinds (hangup_on s console o)
     on None e = h
     on (Some c) e = record {
       world = h.world;
       records = cond_both (is_told c) (signalled_all (record { sig = HUP; carried = from_kernel }) (c.session ∷ []) s.processes) s.processes AllKind (λ t. kinds_signalled (record { sig = HUP; carried = from_kernel }) refl refl (c.session ∷ []) s.processes h.records) (λ t. h.records);
-      consoles = put console c e;
+      consoles = kinds_put disconnected kind_disconnected console c s.consoles e h.consoles;
     }
 
 pub kinds_key : (s : State) (console byte : ℕ) → byte < 256 → AreKinds s → AreKinds (key s console byte)
@@ -358,13 +320,9 @@ kinds_key s console byte small h = on (console_at console s.consoles) refl
     k : is_byte byte ≡ true
     k = grind (arith, nat_tests, small)
 
-    put : (n : ℕ) (c : Console) → console_at n s.consoles ≡ Some c → list_all is_console (with_console n (keyed byte c) s.consoles) ≡ true
-    put zero c e = absurd (cc)
-    put (suc i) c e = all_set is_console s.consoles i (keyed byte c) h.consoles (kind_keyed byte c k (all_found is_console s.consoles i c h.consoles e))
-
     on : (o : Option Console) → console_at console s.consoles ≡ o → AreKinds (key_on s console byte o)
     on None e = h
-    on (Some c) e = record { world = h.world; records = kinds_from (signal_typed byte c) c.foreground s.processes (standard_typed byte c) h.records; consoles = put console c e }
+    on (Some c) e = record { world = h.world; records = kinds_from (signal_typed byte c) c.foreground s.processes (standard_typed byte c) h.records; consoles = kinds_put (keyed byte) (λ d. kind_keyed byte d k) console c s.consoles e h.consoles }
 
 -- ---- ticks, and to settle
 
@@ -374,11 +332,7 @@ kinds_pass s h = kinds_as s (pass_time s) refl refl (kinds_map (ring_at (s.ticks
 
 pub kinds_tick : (s : State) → AreKinds s → AreKinds (tick s)
 unfolding tick
-kinds_tick s h = by (current s)
-  where
-    by : (c : Option ℕ) → AreKinds (rotate (pass_time s) c)
-    by None = kinds_pass s h
-    by (Some p) = let k = kinds_pass s h in kinds_as (pass_time s) _ refl refl k.records k
+kinds_tick s h = let k = kinds_pass s h in elim (current s) as (λ c. AreKinds (rotate (pass_time s) c)) [ None ↦ k | Some p ↦ kinds_as (pass_time s) _ refl refl k.records k ]
 
 pub kinds_settled : (s : State) → AreKinds s → AreKinds (settle s)
 unfolding settle give_places clear_foregrounds

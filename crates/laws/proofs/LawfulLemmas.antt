@@ -1,5 +1,5 @@
 -- The laws of a trace that is one line longer.
-use Rattle.std.proofs.Common.{◌≡◌, zero, suc, Bool, true, ◌&&◌, List, [], ◌∷◌, ◌++◌, refl}
+use Rattle.std.proofs.Common.{rules, ◌≡◌, zero, suc, Bool, true, ◌&&◌, List, [], ◌∷◌, ◌++◌, refl}
 use Rattle.std.proofs.lemmas.Bool.{and_parts}
 use Rattle.posix.specs.Entries.{Line}
 use Rattle.laws.specs.Lives.{Everywhere, Laws, laws, numbers_rise, within_life, begins_apart, reports_due, halts_last}
@@ -29,23 +29,11 @@ laws_more lines l h t =
     let q = and_parts (numbers_rise lines l && within_life lines l && begins_apart lines l) (reports_due lines l) p.0 in
     let r = and_parts (numbers_rise lines l && within_life lines l) (begins_apart lines l) q.0 in
     let s = and_parts (numbers_rise lines l) (within_life lines l) r.0 in
-    record {
-      numbers = everywhere_more numbers_rise lines l h.numbers s.0;
-      lives = everywhere_more within_life lines l h.lives s.1;
-      births = everywhere_more begins_apart lines l h.births r.1;
-      reports = everywhere_more reports_due lines l h.reports q.1;
-      halts = everywhere_more halts_last lines l h.halts p.1;
-    }
+    search (rules, everywhere_more, s.0, s.1, r.1, q.1, p.1)
 
 -- the laws hold of the first lines of a trace
 pub laws_first : (lines rest : List Line) → Laws (lines ++ rest) → Laws lines
-laws_first lines rest h = record {
-  numbers = everywhere_first numbers_rise lines rest h.numbers;
-  lives = everywhere_first within_life lines rest h.lives;
-  births = everywhere_first begins_apart lines rest h.births;
-  reports = everywhere_first reports_due lines rest h.reports;
-  halts = everywhere_first halts_last lines rest h.halts;
-}
+laws_first lines rest h = search (rules, everywhere_first)
 
 -- the laws hold of each line
 pub laws_at : (before : List Line) (l : Line) (after : List Line) → Laws (before ++ l ∷ after) → laws before l ≡ true
@@ -63,4 +51,4 @@ no_law : (law : List Line → Line → Bool) → Everywhere law []
 no_law law i l e = cc
 
 pub laws_none : Laws []
-laws_none = record { numbers = no_law numbers_rise; lives = no_law within_life; births = no_law begins_apart; reports = no_law reports_due; halts = no_law halts_last }
+laws_none = search (rules, no_law)

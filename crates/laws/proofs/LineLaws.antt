@@ -1,7 +1,7 @@
 -- What the laws of a trace say of its lines.
-use Rattle.std.proofs.Common.{◌≡◌, ◌≤◌, ◌<◌, inl, inr, ℕ, ◌%◌, ◌/◌, Bool, true, false, cond, ◌&&◌, ◌||◌, not, if◌then◌else◌, ◌==◌, List, [], ◌∷◌, ◌++◌, append_assoc, append-nil, Option, Some, None, is_some, is_none, refl, ap, sym, ◌∙◌, arith, subst}
+use Rattle.std.proofs.Common.{◌≡◌, ◌≤◌, ◌<◌, inl, inr, ℕ, ◌%◌, ◌/◌, Bool, true, false, cond, ◌&&◌, ◌||◌, not, ◌==◌, List, [], ◌∷◌, ◌++◌, append_assoc, append-nil, Option, Some, None, is_some, is_none, refl, ap, sym, ◌∙◌, arith, subst}
 use Rattle.std.specs.List.{list_any}
-use Rattle.std.proofs.lemmas.Bool.{eqb-true, eq-eqb, and_parts, or_parts, leb-true, ltb-true, not-true, true_from_ne_false, false_from_ne_true}
+use Rattle.std.proofs.lemmas.Bool.{cases_Bool, eqb-true, eq-eqb, and_parts, or_parts, leb-true, ltb-true, not-true, true_from_ne_false, false_from_ne_true}
 use Rattle.std.proofs.lemmas.List.Folds.{list_any-append}
 use Rattle.std.proofs.lemmas.Option.{cond_some}
 use Rattle.posix.specs.declared.entry.Entry.{Entry}
@@ -10,7 +10,7 @@ use Rattle.posix.specs.declared.waits.WaitCall.{WaitCall}
 use Rattle.posix.specs.Statuses.{continued, is_end_word, is_stopped_word, is_continued_word}
 use Rattle.posix.specs.Entries.{Line, line, process_of}
 use Rattle.laws.specs.Lives.{LastOf, last_where, or_this, LifeSoFar, life_after, newest_life, EndOf, the_end, or_later, parent_of, parent_in, parent_in_life, end_in, reports_in, reports, reports_or_looks_in, reports_or_looks, begins, born_by, is_just, is_change_word, none_or, is_halt, is_due, is_due_to, end_report, is_living, Everywhere, Laws, numbers_rise, within_life, begins_apart, report_law, reports_due, halts_last, last_line, was_halt, ends_first, number_from, ends, stops, stop_in, last_stop, stop_report, continue_report, has_ended, IsOfEnd, IsOfStop, IsTold}
-use Rattle.laws.specs.Keeping.{Dead, Kept, NeverBorn, Lives, Died, kept_of, made_by, heir_told, lives_now, word_fault, stop_fault, report_fault}
+use Rattle.laws.specs.Keeping.{Dead, Kept, NeverBorn, Lives, Died, kept_of, made_by, heir_told, lives_now, word_fault, report_fault}
 use Rattle.laws.proofs.KeptLemmas.{last_where_more, told_is_kept, unborn_stays, begun, kept_more}
 use Rattle.laws.proofs.TestLemmas.{living_kept, report_tested}
 use Rattle.laws.proofs.LawfulLemmas.{everywhere_at, laws_first}
@@ -132,19 +132,8 @@ record IsUnreported (p w : ℕ) (k : Kept) : Type 0 where
 
 end_due : (p w : ℕ) (k : Kept) → is_end_word w ≡ true → is_none (word_fault p w k) ≡ true → IsUnreported p w k
 end_due p w NeverBorn word h = absurd (cc)
-end_due p w (Lives a) word h = absurd (none (a.parent == p) (is_end_word w) _ word h)
-  where
-    none : (same e : Bool) (o : Option ℕ) → e ≡ true → is_none (cond (not same) (Some 5) (cond e (Some 3) o)) ≡ true → ⊥
-    none true true o word h = cc
-    none true false o word h = cc
-    none false e o word h = cc
-end_due p w (Died d) word h = record { dead = d; is = refl; reported = of (d.parent == p) (is_end_word w) d.reported _ _ word h }
-  where
-    of : (same e told : Bool) (o n : Option ℕ) → e ≡ true → is_none (cond (not same) (Some 5) (cond e (cond told (Some 4) o) n)) ≡ true → told ≡ false
-    of true true true o n word h = absurd (cc)
-    of true true false o n word h = refl
-    of true false told o n word h = absurd (cc)
-    of false e told o n word h = absurd (cc)
+end_due p w (Lives a) word h = absurd (grind (arith, cases_Bool, word, h))
+end_due p w (Died d) word h = record { dead = d; is = refl; reported = grind (arith, cases_Bool, word, h) }
 
 -- an end that was reported stays so, until a birth
 abbrev IsReported : Kept → Type 0
@@ -158,11 +147,7 @@ reported_stays heir c l (Lives a) none h = absurd (h)
 reported_stays heir c l (Died d) none h = subst IsReported (told_is_kept heir l.entry c (Died d) none) (rw h refl)
 
 reported_made : (heir p : ℕ) (call : WaitCall) (c w : ℕ) (k : Kept) → is_end_word w ≡ true → IsUnreported p w k → IsReported (made_by heir (Reported p call c w) c k)
-reported_made heir p call c w k word h = subst (λ k. IsReported (made_by heir (Reported p call c w) c k)) (sym h.is) (subst IsReported (told_is_kept heir (Reported p call c w) c (Died h.dead) refl) (rw (eq-eqb c c refl, word) (or_true h.dead.reported)))
-  where
-    or_true : (b : Bool) → (b || true) ≡ true
-    or_true true = refl
-    or_true false = refl
+reported_made heir p call c w k word h = subst (λ k. IsReported (made_by heir (Reported p call c w) c k)) (sym h.is) (subst IsReported (told_is_kept heir (Reported p call c w) c (Died h.dead) refl) (rw (eq-eqb c c refl, word) (grind (arith, cases_Bool))))
 
 reported_once : (p w : ℕ) (k : Kept) → IsReported k → IsUnreported p w k → ⊥
 reported_once p w k h u = let told : u.dead.reported ≡ true = subst IsReported u.is h in let no : false ≡ true = sym u.reported ∙ told in cc
@@ -185,16 +170,12 @@ continue_left (Died d) = false
 stop_stays : (heir : ℕ) (c : ℕ) (l : Line) (k : Kept) → stops c l ≡ false → stop_left k ≡ None → stop_left (made_by heir l.entry c k) ≡ None
 stop_stays heir c l k none h = by (is_just c (born_by l.entry)) refl k h (end_in c l.entry) refl
   where
-    either : (b : Bool) (o : Option ℕ) → o ≡ None → (if b then None else o) ≡ None
-    either true o e = refl
-    either false o e = e
-
     by : (b : Bool) → is_just c (born_by l.entry) ≡ b → (k : Kept) → stop_left k ≡ None → (o : Option ℕ) → end_in c l.entry ≡ o → stop_left (made_by heir l.entry c k) ≡ None
     by true born k h o is = ap stop_left (sym (begun heir l.entry c k born))
     by false born NeverBorn h o is = ap stop_left (unborn_stays heir l.entry c born)
     by false born (Died d) h o is = ap stop_left (sym (told_is_kept heir l.entry c (Died d) born))
     by false born (Lives a) h (Some w) is = ap stop_left (sym (told_is_kept heir l.entry c (Lives a) born)) ∙ rw is refl
-    by false born (Lives a) h None is = ap stop_left (sym (told_is_kept heir l.entry c (Lives a) born)) ∙ rw (is, none) (either (reports_in c is_change_word l.entry) a.stop h)
+    by false born (Lives a) h None is = ap stop_left (sym (told_is_kept heir l.entry c (Lives a) born)) ∙ rw (is, none) (grind (arith, cases_Bool, h))
 
 continue_stays : (heir : ℕ) (c : ℕ) (l : Line) (k : Kept) → stops c l ≡ false → continue_left k ≡ false → continue_left (made_by heir l.entry c k) ≡ false
 continue_stays heir c l k none h = by (is_just c (born_by l.entry)) refl k h (end_in c l.entry) refl
@@ -216,11 +197,7 @@ stop_told heir p call c w (Died d) word = rw (eq-eqb c c refl) refl
 continue_told : (heir p : ℕ) (call : WaitCall) (c w : ℕ) (k : Kept) → is_continued_word w ≡ true → continue_left (made_by heir (Reported p call c w) c k) ≡ false
 unfolding made_by
 continue_told heir p call c w NeverBorn word = rw (eq-eqb c c refl) refl
-continue_told heir p call c w (Lives a) word = rw (eq-eqb c c refl, word) (and_none a.may_continue)
-  where
-    and_none : (b : Bool) → (b && not true) ≡ false
-    and_none true = refl
-    and_none false = refl
+continue_told heir p call c w (Lives a) word = rw (eq-eqb c c refl, word) (grind (arith, cases_Bool))
 continue_told heir p call c w (Died d) word = rw (eq-eqb c c refl) refl
 
 -- the words are apart
@@ -233,41 +210,16 @@ stop_no_end w h = false_from_ne_true (is_end_word w) (λ e.
 -- where none is left none is due
 stop_once : (p w : ℕ) (k : Kept) → is_stopped_word w ≡ true → stop_left k ≡ None → is_none (word_fault p w k) ≡ true → ⊥
 stop_once p w NeverBorn word h due = cc
-stop_once p w (Died d) word h due = of (d.parent == p) (is_end_word w) (is_change_word w) _ (stop_no_end w word) (rw word refl) due
-  where
-    of : (same e change : Bool) (o : Option ℕ) → e ≡ false → change ≡ true → is_none (cond (not same) (Some 5) (cond e o (cond change (Some 3) (Some 6)))) ≡ true → ⊥
-    of true true change o x y due = cc
-    of true false true o x y due = cc
-    of true false false o x y due = cc
-    of false e change o x y due = cc
-stop_once p w (Lives a) word h due = of (a.parent == p) (is_end_word w) (is_stopped_word w) a.has_stopped a.stop _ word h due
-  where
-    of : (same e stop has : Bool) (left : Option ℕ) (o : Option ℕ) → stop ≡ true → left ≡ None
-        → is_none (cond (not same) (Some 5) (cond e (Some 3) (cond stop (cond has (stop_fault w left) (Some 3)) o))) ≡ true → ⊥
-    of true true stop has left o x y due = cc
-    of true false true true None o x y due = cc
-    of true false true true (Some s) o x y due = cc
-    of true false true false left o x y due = cc
-    of true false false has left o x y due = cc
-    of false e stop has left o x y due = cc
+stop_once p w (Died d) word h due = let end = stop_no_end w word in grind (arith, cases_Bool, end, word, due)
+stop_once p w (Lives a) word h due = grind (arith, cases_Bool, word, h, due)
 
 continue_once : (p w : ℕ) (k : Kept) → is_continued_word w ≡ true → continue_left k ≡ false → is_none (word_fault p w k) ≡ true → ⊥
 continue_once p w k word h due = all k h (subst (λ v. is_none (word_fault p v k) ≡ true) (eqb-true w continued word) due)
   where
-    of : (same has may : Bool) → may ≡ false → is_none {T = ℕ} (cond (not same) (Some 5) (cond (not has) (Some 3) (cond may None (Some 4)))) ≡ true → ⊥
-    of true true true h due = cc
-    of true true false h due = cc
-    of true false may h due = cc
-    of false has may h due = cc
-
-    ended : (same : Bool) → is_none {T = ℕ} (cond (not same) (Some 5) (Some 3)) ≡ true → ⊥
-    ended true due = cc
-    ended false due = cc
-
     all : (k : Kept) → continue_left k ≡ false → is_none (word_fault p continued k) ≡ true → ⊥
     all NeverBorn h due = cc
-    all (Lives a) h due = of (a.parent == p) a.has_stopped a.may_continue h due
-    all (Died d) h due = ended (d.parent == p) due
+    all (Lives a) h due = grind (arith, cases_Bool, h, due)
+    all (Died d) h due = grind (arith, cases_Bool, due)
 
 -- ---- the laws, in words of lines
 
@@ -349,35 +301,21 @@ numbers_never_fall before between after a b h = rises before between after a b h
 
 -- `halt` comes right after the end of process 1, and nothing after it.
 pub halt_is_last : (before after : List Line) (l : Line) → Laws (before ++ l ∷ after) → is_halt l.entry ≡ true → (ends_first (last_line before) ≡ true) × (after ≡ [])
-halt_is_last before after l h halts = (first (is_halt l.entry) (was_halt (last_line before)) (ends_first (last_line before)) halts (everywhere_at halts_last before l after h.halts), rest after h.halts)
+halt_is_last before after l h halts = (let law = everywhere_at halts_last before l after h.halts in grind (arith, cases_Bool, halts, law), rest after h.halts)
   where
-    first : (b was ends : Bool) → b ≡ true → (not was && cond b ends (not ends)) ≡ true → ends ≡ true
-    first true false ends t e = e
-    first true true ends t e = absurd (cc)
-    first false was ends t e = absurd (cc)
-
-    none : (was b : Bool) → was ≡ true → (not was && b) ≡ true → ⊥
-    none true b t e = cc
-    none false b t e = cc
-
     rest : (after : List Line) → Everywhere halts_last (before ++ l ∷ after) → after ≡ []
     rest [] h = refl
     rest (x ∷ xs) h =
         let was : was_halt (last_line (before ++ l ∷ [])) ≡ true = ap was_halt (last_where_more (λ l. true) before l) ∙ halts in
-        absurd (none (was_halt (last_line (before ++ l ∷ []))) _ was (everywhere_at halts_last (before ++ l ∷ []) x xs (subst (Everywhere halts_last) (sym (append_assoc before (l ∷ []) (x ∷ xs))) h)))
+        let law = everywhere_at halts_last (before ++ l ∷ []) x xs (subst (Everywhere halts_last) (sym (append_assoc before (l ∷ []) (x ∷ xs))) h) in
+        absurd (grind (arith, cases_Bool, was, law))
 
 -- After the end of process 1 comes `halt`, if anything does.
 pub first_end_halts : (before after : List Line) (a b : Line) → Laws (before ++ a ∷ b ∷ after) → ends 1 a ≡ true → is_halt b.entry ≡ true
 first_end_halts before after a b h ended =
     let first : ends_first (last_line (before ++ a ∷ [])) ≡ true = ap ends_first (last_where_more (λ l. true) before a) ∙ ended in
-    of (is_halt b.entry) (was_halt (last_line (before ++ a ∷ []))) (ends_first (last_line (before ++ a ∷ []))) first
-    (everywhere_at halts_last (before ++ a ∷ []) b after (subst (Everywhere halts_last) (sym (append_assoc before (a ∷ []) (b ∷ after))) h.halts))
-  where
-    of : (b was first : Bool) → first ≡ true → (not was && cond b first (not first)) ≡ true → b ≡ true
-    of true was first t e = refl
-    of false false true t e = absurd (cc)
-    of false true first t e = absurd (cc)
-    of false was false t e = absurd (cc)
+    let law = everywhere_at halts_last (before ++ a ∷ []) b after (subst (Everywhere halts_last) (sym (append_assoc before (a ∷ []) (b ∷ after))) h.halts) in
+    grind (arith, cases_Bool, first, law)
 
 -- ---- whose end is reported
 
@@ -390,12 +328,7 @@ record IsLast (test : Line → Bool) (xs : List Line) (f : LastOf Line) : Type 0
 
 none_last : (test : Line → Bool) (xs : List Line) → last_where test xs ≡ None → list_any test xs ≡ false
 none_last test [] h = refl
-none_last test (x ∷ xs) h = of (last_where test xs) refl (test x) refl h (none_last test xs)
-  where
-    of : (o : Option (LastOf Line)) → last_where test xs ≡ o → (b : Bool) → test x ≡ b → or_this o b x xs ≡ None → (last_where test xs ≡ None → list_any test xs ≡ false) → (test x || list_any test xs) ≡ false
-    of (Some f) is b t h rest = absurd (cc)
-    of None is true t h rest = absurd (cc)
-    of None is false t h rest = rw t (rest is)
+none_last test (x ∷ xs) h = grind (arith, cases_Bool, none_last test xs, h)
 
 is_last : (test : Line → Bool) (xs : List Line) (f : LastOf Line) → last_where test xs ≡ Some f → IsLast test xs f
 is_last test [] f h = absurd (cc)
@@ -515,11 +448,7 @@ goes_on c w since test asks due = let both = and_parts (not (has_ended c since))
 
 none_ended : (c : ℕ) (ls : List Line) → has_ended c ls ≡ false → list_any (ends c) ls ≡ false
 none_ended c [] h = refl
-none_ended c (l ∷ ls) h = of (end_in c l.entry) refl h (none_ended c ls)
-  where
-    of : (o : Option ℕ) → end_in c l.entry ≡ o → is_some (or_later o ls (the_end c ls)) ≡ false → (has_ended c ls ≡ false → list_any (ends c) ls ≡ false) → (is_some (end_in c l.entry) || list_any (ends c) ls) ≡ false
-    of None is h rest = rw is (rest h)
-    of (Some w) is h rest = absurd (cc)
+none_ended c (l ∷ ls) h = grind (arith, cases_Bool, none_ended c ls, h)
 
 -- the last stop of a life that goes on
 of_stop : (before : List Line) (p c w s : ℕ) (told : ℕ → Bool) (d : IsDueTo before p c w) (stop : LastOf Line) → has_ended c d.life.since ≡ false → last_stop c d.life.since ≡ Some stop → stop_in c stop.it.entry ≡ Some s
@@ -576,10 +505,4 @@ continue_is_told before after l p c w h told word =
 
 -- A word that is told is one of an end, a stop or a continue.
 pub status_is_told : (before after : List Line) (l : Line) (p c w : ℕ) → Laws (before ++ l ∷ after) → IsTold p c w l.entry → (is_end_word w || is_change_word w) ≡ true
-status_is_told before after l p c w h told = of (is_end_word w) (is_stopped_word w) (is_continued_word w) _ _ _ (told_to before after l p c w h told).due
-  where
-    of : (end stop continue a b d : Bool) → cond end a (cond stop b (cond continue d false)) ≡ true → (end || (stop || continue)) ≡ true
-    of true stop continue a b d h = refl
-    of false true continue a b d h = refl
-    of false false true a b d h = refl
-    of false false false a b d h = absurd (cc)
+status_is_told before after l p c w h told = let due = (told_to before after l p c w h told).due in grind (arith, cases_Bool, due)

@@ -7,7 +7,7 @@ use Rattle.posix.specs.declared.call.Call.TheVariants.{Fork, Kill, Sigqueue}
 use Rattle.posix.specs.declared.instr.Trap.{Trap}
 use Rattle.posix.specs.declared.instr.Trap.TheVariants as trap
 use Rattle.posix.specs.declared.event.Event.{Event}
-use Rattle.posix.specs.declared.event.Event.TheVariants.{Step, Tick, Key, Hangup}
+use Rattle.posix.specs.declared.event.Event.TheVariants.{Step}
 use Rattle.posix.specs.declared.entry.Entry.{Entry}
 use Rattle.posix.specs.declared.entry.Entry.TheVariants.{NoMemory}
 use Rattle.posix.specs.declared.process.Blocked.{Blocked}
@@ -56,11 +56,7 @@ granted_fork false s me (Some n) = inr refl
 granted_queued : (granted : Bool) (qs : List Process) (other : Sending) → (queued_for granted qs other ≡ queued_for true qs other) ⊎ (queued_for granted qs other ≡ sends.NoMemory)
 granted_queued true qs other = inl refl
 granted_queued false [] other = inl refl
-granted_queued false (q ∷ qs) other = by (list_any has_full_queue (q ∷ qs))
-  where
-    by : (b : Bool) → (cond b sends.QueueFull sends.NoMemory ≡ cond b sends.QueueFull other) ⊎ (cond b sends.QueueFull sends.NoMemory ≡ sends.NoMemory)
-    by true = inl refl
-    by false = inr refl
+granted_queued false (q ∷ qs) other = elim (list_any has_full_queue (q ∷ qs)) as (λ b. (cond b sends.QueueFull sends.NoMemory ≡ cond b sends.QueueFull other) ⊎ (cond b sends.QueueFull sends.NoMemory ≡ sends.NoMemory)) [ true ↦ inl refl | false ↦ inr refl ]
 
 -- a signal that is sent
 granted_send : (granted : Bool) (s : State) (me : Process) (call : Call) (target : Target) (value : ℤ) (sig : Result (Option ℕ) Errno)
@@ -89,18 +85,16 @@ granted_trap granted s r c (trap.Call call) = elim (granted_attempt granted s r 
 ]
 granted_trap granted s r c t = inl refl
 
--- a signal that is chosen, or else what happens
-granted_or : (s : State) (r : Process) (n : Option ℕ) (o all : Outcome) → AsGranted o all → AsGranted (deliver_or s r n o) (deliver_or s r n all)
-granted_or s r None o all h = h
-granted_or s r (Some n) o all h = inl refl
-
 -- a turn in a call, or in none
 granted_in : (granted : Bool) (s : State) (r : Process) (b : Option Blocked) → AsGranted (act_in granted s r b) (act_in true s r b)
 unfolding act_in
 granted_in granted s r (Some b) = inl refl
 granted_in granted s r None =
     let done = exec_one (code_of s r) r.cpu in
-    granted_or s r (chosen r.life r.signals) _ _ (granted_trap granted s r done.cpu done.trap)
+    elim (chosen r.life r.signals) as (λ n. AsGranted (deliver_or s r n (after_trap granted s r done.cpu done.trap)) (deliver_or s r n (after_trap true s r done.cpu done.trap))) [
+      | None ↦ granted_trap granted s r done.cpu done.trap
+      | Some n ↦ inl refl
+    ]
 
 -- a step
 granted_step : (granted : Bool) (s : State) (o : Option Process) → AsGranted (step granted s o) (step true s o)
@@ -114,20 +108,13 @@ granted_step granted s (Some r) =
 granted_happens : (granted : Bool) (s : State) (event : Event) → AsGranted (happens granted s event) (happens true s event)
 unfolding happens
 granted_happens granted s Step = granted_step granted s (current_process s)
-granted_happens granted s Tick = inl refl
-granted_happens granted s (Key console byte) = inl refl
-granted_happens granted s (Hangup console) = inl refl
-
--- to settle shows nothing
-granted_settled : (o all : Outcome) → AsGranted o all → AsGranted (settled o) (settled all)
-granted_settled o all (inl same) = inl (ap settled same)
-granted_settled o all (inr none) = inr none
+granted_happens granted s event = inl refl
 
 -- any event, after a halt too
 granted_next : (granted : Bool) (s : State) (event : Event) → AsGranted (next granted s event) (next true s event)
 unfolding next
 granted_next granted s event =
-    granted_either s.halted (silent s) _ (silent s) _ (inl refl) (granted_settled _ _ (granted_happens granted s event))
+    granted_either s.halted (silent s) _ (silent s) _ (inl refl) (elim (granted_happens granted s event) [ inl same ↦ inl (ap settled same) | inr none ↦ inr none ])
 
 -- an event for which all is granted is fixed
 step_granted : (old new : State) (event : Event) (entries : List Entry) → IsStep old event entries new → EntriesGrantAll entries

@@ -1,8 +1,9 @@
 -- Lines that agree with a state, and one line more.
-use Rattle.std.proofs.Common.{◌≡◌, ℕ, ◌+◌, ◌≤◌, Bool, true, false, cond, not, List, [], ◌∷◌, ◌++◌, length, Option, Some, None, is_some, is_none, refl, ap, sym, ◌∙◌, arith, subst, nat_lt}
+use Rattle.std.proofs.Common.{◌≡◌, ℕ, ◌+◌, ◌≤◌, Bool, true, false, cond, List, [], ◌∷◌, ◌++◌, length, Option, Some, None, is_some, is_none, refl, ap, sym, ◌∙◌, arith, subst}
 use Rattle.std.specs.Prelude.{count_by}
 use Rattle.std.proofs.lemmas.List.Sums.{length-filter, sum_by-append}
 use Rattle.std.proofs.lemmas.List.Filters.{length-filter_both}
+use Rattle.std.proofs.lemmas.Bool.{cases_Bool}
 use Rattle.std.proofs.lemmas.Bool.Decides.{nat_tests}
 use Rattle.posix.specs.declared.entry.Entry.{Entry}
 use Rattle.posix.specs.Processes.{Process, is_zombie, is_living}
@@ -20,14 +21,10 @@ use Rattle.laws.proofs.LawfulLemmas.{laws_more}
 -- the living and the zombies are all
 pub counted_all : (rs : List Process) → count_by is_living rs + count_by (λ r. is_zombie r.life) rs ≡ length rs
 counted_all rs =
-    let two = length-filter_both is_living (λ (r : Process). is_zombie r.life) (λ r. twice (is_zombie r.life)) rs in
+    let two = length-filter_both is_living (λ (r : Process). is_zombie r.life) (λ r. grind (arith, cases_Bool)) rs in
     let one = length-filter is_living rs in
     let other = length-filter (λ (r : Process). is_zombie r.life) rs in
     omega (arith, one, other, two)
-  where
-    twice : (b : Bool) → b ≡ not (not b)
-    twice true = refl
-    twice false = refl
 
 -- one more is counted by itself
 pub counted_more : {A : Type 0} (t : A → Bool) (xs : List A) (x : A) → count_by t (xs ++ x ∷ []) ≡ count_by t xs + count_by t (x ∷ [])
@@ -65,11 +62,7 @@ unless_none : (a b : Option ℕ) → a ≡ None → b ≡ None → unless_fault 
 unless_none a b h k = rw (h, k) refl
 
 number_rises : (n last k : ℕ) → last ≤ k → n ≡ k → number_fault last n ≡ None
-number_rises n last k h e = rw e (rises (nat_lt k last) refl)
-  where
-    rises : (b : Bool) → nat_lt k last ≡ b → cond {A = Option ℕ} b (Some 1) None ≡ None
-    rises true t = absurd (grind (arith, t, h, nat_tests))
-    rises false t = refl
+number_rises n last k h e = grind (arith, nat_tests, h, e)
 
 -- What one line more has to come with, so that the lines agree with the next state.
 pub record Says (phase : Phase) (lines : List Line) (entry : Entry) (s t : State) : Type 0 where

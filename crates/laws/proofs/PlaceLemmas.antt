@@ -11,18 +11,16 @@ use Rattle.posix.specs.Terminals.{waits_to_read}
 use Rattle.posix.specs.Attempts.{attempt_again}
 use Rattle.posix.specs.States.{State, process, is_in, without, has_place, current}
 use Rattle.posix.specs.Regular.{IsRegular, IsDistinct}
-use Rattle.posix.specs.Outcomes.{Outcome}
 use Rattle.posix.specs.Settle.{give_places, clear_foregrounds, settle, can_go_on, can_act}
-use Rattle.posix.specs.Step.{IsStep, next, happens}
+use Rattle.posix.specs.Step.{IsStep, happens}
 use Rattle.posix.proofs.MemberLemmas.{in_append, in_first, in_last, in_rest, still_out}
 use Rattle.posix.proofs.OrderLemmas.{first_in}
 use Rattle.posix.proofs.ActLemmas.{Turned}
-use Rattle.posix.proofs.CountLemmas.{by_next}
 use Rattle.posix.proofs.WakeLemmas.{act_has_place}
 use Rattle.posix.proofs.SeeLemmas.{can_act_order, block_read}
 use Rattle.laws.specs.Stamps.{Move, Lose, GoLast, Place, Leads}
 use Rattle.laws.proofs.TurnLemmas.{FirstTurned, turned_first}
-use Rattle.laws.proofs.WokenLemmas.{given_places, order_settled, distinct_given, all_wake}
+use Rattle.laws.proofs.WokenLemmas.{by_event, given_places, order_settled, distinct_given, all_wake}
 use Rattle.laws.proofs.RegularStays.{happens_regular}
 
 -- ---- who is given a place can act
@@ -57,17 +55,12 @@ acts_settled s i q out there =
           rw w.found (can_act_order (clear_foregrounds s) (s.order ++ given_places s) w.what ∙ w.acts)
     ]
 
--- the same of any event
-acts_next : (granted : Bool) (s : State) (event : Event) → IsRegular s → (q : ℕ) → is_in q s.order ≡ false → is_in q (next granted s event).state.order ≡ true → CanAct (next granted s event).state q
-acts_next granted s event i q out =
-    by_next (λ o. is_in q o.state.order ≡ true → CanAct o.state q) granted s event (λ h there. let no = sym out ∙ there in absurd (cc))
-    (λ h there. acts_settled (happens granted s event).state (happens_regular granted s event i h) q (none_before granted s event q out) there)
-
 -- who is given a place by an event can act after it
 pub given_can_act : (old new : State) (event : Event) (entries : List Entry) → IsStep old event entries new → IsRegular old
     → (q : ℕ) → has_place old q ≡ false → has_place new q ≡ true → IsSomeAnd (process new q) (λ r. can_act new r ≡ true)
-given_can_act old new event entries h i q out there =
-    subst (λ (o : Outcome). is_in q o.state.order ≡ true → CanAct o.state q) h.comes (acts_next h.granted old event i q out) there
+given_can_act old new event entries h i q out =
+    by_event (λ o. is_in q o.state.order ≡ true → CanAct o.state q) old new event entries h (λ t there. let no = sym out ∙ there in absurd (cc))
+    (λ t there. acts_settled (happens h.granted old event).state (happens_regular h.granted old event i t) q (none_before h.granted old event q out) there)
 
 -- ---- readers
 
@@ -112,11 +105,7 @@ leads_turned old mid new moves (inr (p, first, inr (inl less))) h = (Lose p ∷ 
 leads_turned old mid new moves (inr (p, first, inr (inr last))) h = (GoLast p ∷ moves, (first, subst (λ o. Leads (slice_get old 0) o moves new) last h))
 
 -- moves lead from the order before an event to that after it
-leads_next : (granted : Bool) (s : State) (event : Event) → IsRegular s → (moves : List Move) × Leads (current s) s.order moves (next granted s event).state.order
-leads_next granted s event i =
-    by_next (λ o. (moves : List Move) × Leads (current s) s.order moves o.state.order) granted s event (λ h. ([], refl))
-    (λ h. leads_turned s.order _ _ _ (turned_first granted s event) (leads_settled (current s) (happens granted s event).state (happens_regular granted s event i h)))
-
--- the same in the relation
 pub order_moves : (old new : State) (event : Event) (entries : List Entry) → IsStep old event entries new → IsRegular old → (moves : List Move) × Leads (current old) old.order moves new.order
-order_moves old new event entries h i = subst (λ (o : Outcome). (moves : List Move) × Leads (current old) old.order moves o.state.order) h.comes (leads_next h.granted old event i)
+order_moves old new event entries h i =
+    by_event (λ o. (moves : List Move) × Leads (current old) old.order moves o.state.order) old new event entries h (λ t. ([], refl))
+    (λ t. leads_turned old.order _ _ _ (turned_first h.granted old event) (leads_settled (current old) (happens h.granted old event).state (happens_regular h.granted old event i t)))

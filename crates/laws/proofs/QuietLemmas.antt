@@ -1,9 +1,10 @@
 -- Changes of a state that no line tells of, and that agree with all lines that the state agreed with.
-use Rattle.std.proofs.Common.{◌≡◌, ◌≢◌, ℕ, suc, ◌+◌, Bool, true, false, cond, ◌==◌, List, [], ◌∷◌, map, filter, length, Option, Some, None, option_map, refl, ap, sym, ◌∙◌, arith, subst, inl, inr, ◌⊎◌}
+use Rattle.std.proofs.Common.{rules, ◌≡◌, ◌≢◌, ℕ, suc, ◌+◌, Bool, true, false, cond, ◌==◌, List, [], ◌∷◌, map, filter, length, Option, Some, None, option_map, refl, ap, sym, ◌∙◌, arith, subst, inl, inr, ◌⊎◌}
 use Rattle.std.proofs.lemmas.Bool.{eqb-true, eq-eqb, cases_eq, cond_both}
 use Rattle.std.proofs.lemmas.List.{length-map}
 use Rattle.posix.specs.declared.process.Life.{Life}
-use Rattle.posix.specs.declared.process.Life.TheVariants.{Running, Stopped, Zombie}
+use Rattle.posix.specs.declared.process.Life.TheVariants.{Running}
+use Rattle.posix.specs.declared.process.News.{News}
 use Rattle.posix.specs.SignalNumbers.{KILL}
 use Rattle.posix.specs.Processes.{Process, is_zombie, is_running, is_stopped}
 use Rattle.posix.specs.Tables.{IsRising, lookup, at, changed, removed}
@@ -33,14 +34,7 @@ quiet_same s = record { records = λ k p h. h; total = refl; births = refl; halt
 
 -- one after another
 pub quiet_then : (s t u : State) → Quiet s t → Quiet t u → Quiet s u
-quiet_then s t u a b = record {
-  records = λ k p h. b.records k p (a.records k p h);
-  total = b.total ∙ a.total;
-  births = b.births ∙ a.births;
-  halted = b.halted ∙ a.halted;
-  rising = λ h. b.rising (a.rising h);
-  turns = λ h. b.turns (a.turns h);
-}
+quiet_then s t u a b = search rules
 
 -- only records, places and counts matter
 pub quiet_as : (s t : State) → t.processes ≡ s.processes → t.order ≡ s.order → t.births ≡ s.births → t.dropped ≡ s.dropped → t.halted ≡ s.halted → Quiet s t
@@ -64,26 +58,38 @@ quiet_order s order h = record {
   births = refl;
   halted = refl;
   rising = λ a. a;
-  turns = λ a. record { turns = λ p r e f stops. pending p r e f stops (is_pending r.signals KILL) refl a };
+  turns = λ a. record { turns = λ p r e f stops. elim (is_pending r.signals KILL) as (λ b. is_pending r.signals KILL ≡ b → is_pending r.signals KILL ≡ true) [ true ↦ λ t. t | false ↦ λ t. a.turns p r (h p r e f stops t) f stops ] refl };
 }
-  where
-    pending : (p : ℕ) (r : Process) → is_in p order ≡ true → lookup p s.processes ≡ Some r → is_stopped r.life ≡ true → (b : Bool) → is_pending r.signals KILL ≡ b → AreTurns s → is_pending r.signals KILL ≡ true
-    pending p r e f stops true t a = t
-    pending p r e f stops false t a = a.turns p r (h p r e f stops t) f stops
 
 -- ---- a record that goes on to agree
 
--- where number, parent, mark, life and news stay
-pub agree_told : (k : Kept) (r q : Process) → q.pid ≡ r.pid → q.parent ≡ r.parent → q.is_subreaper ≡ r.is_subreaper → q.life ≡ r.life → q.news ≡ r.news → AgreeOn k (Some r) → AgreeOn k (Some q)
-agree_told NeverBorn r q i p m l n h = h
-agree_told (Lives a) r q i p m l n h = record {
-  living = ap is_zombie l ∙ h.living;
-  parent = p ∙ h.parent;
-  mark = m ∙ h.mark;
-  news = rw (l, n) h.news;
-  stopped = λ e. h.stopped (sym (ap is_stopped l) ∙ e);
+-- what lines tell of a process: its number, parent, mark, life and news
+abbrev pub ToldOf : Type 0
+ToldOf = ℕ × ℕ × Bool × Life × News
+
+abbrev pub told_of : Process → ToldOf
+told_of r = (r.pid, r.parent, r.is_subreaper, r.life, r.news)
+
+-- where it stays
+agree_told : (k : Kept) (r q : Process) → told_of q ≡ told_of r → AgreeOn k (Some r) → AgreeOn k (Some q)
+agree_told NeverBorn r q same h = h
+agree_told (Lives a) r q same h =
+    let l = ap (λ (t : ToldOf). t.3) same in
+    let n = ap (λ (t : ToldOf). t.4) same in
+    record {
+      living = ap is_zombie l ∙ h.living;
+      parent = ap (λ (t : ToldOf). t.1) same ∙ h.parent;
+      mark = ap (λ (t : ToldOf). t.2) same ∙ h.mark;
+      news = rw (l, n) h.news;
+      stopped = λ e. h.stopped (sym (ap is_stopped l) ∙ e);
+    }
+agree_told (Died d) r q same h = record {
+  life = ap (λ (t : ToldOf). t.3) same ∙ h.life;
+  parent = ap (λ (t : ToldOf). t.1) same ∙ h.parent;
+  reported = h.reported;
+  news = λ other. ap (λ (t : ToldOf). t.4) same ∙ h.news (λ e. other (ap (λ (t : ToldOf). t.0) same ∙ e));
+  word = h.word;
 }
-agree_told (Died d) r q i p m l n h = record { life = l ∙ h.life; parent = p ∙ h.parent; reported = h.reported; news = λ other. n ∙ h.news (λ e. other (i ∙ e)); word = h.word }
 
 -- where one that is stopped is continued
 pub agree_resumed : (k : Kept) (r : Process) → is_stopped r.life ≡ true → AgreeOn k (Some r) → AgreeOn k (Some (resumed r))
@@ -172,36 +178,22 @@ quiet_dropped s c r up found dead = record {
 -- ---- changes that nobody tells of
 
 -- a change that keeps what lines tell of
-pub record Untold (f : Process → Process) : Type 0 where
-  pub pid : (r : Process) → (f r).pid ≡ r.pid
-  pub parent : (r : Process) → (f r).parent ≡ r.parent
-  pub mark : (r : Process) → (f r).is_subreaper ≡ r.is_subreaper
-  pub life : (r : Process) → (f r).life ≡ r.life
-  pub news : (r : Process) → (f r).news ≡ r.news
+abbrev pub Untold : (Process → Process) → Type 0
+Untold f = (r : Process) → told_of (f r) ≡ told_of r
+
+pub untold_pid : (f : Process → Process) → Untold f → (r : Process) → (f r).pid ≡ r.pid
+untold_pid f u r = ap (λ (t : ToldOf). t.0) (u r)
+
+pub untold_life : (f : Process → Process) → Untold f → (r : Process) → (f r).life ≡ r.life
+untold_life f u r = ap (λ (t : ToldOf). t.3) (u r)
 
 -- KILL stays pending
 abbrev pub KeepsKill : (Process → Process) → Type 0
 KeepsKill f = (r : Process) → is_pending r.signals KILL ≡ true → is_pending (f r).signals KILL ≡ true
 
--- two such changes are one
-pub untold_then : (f g : Process → Process) → Untold f → Untold g → Untold (λ r. g (f r))
-untold_then f g h k = record {
-  pid = λ r. k.pid (f r) ∙ h.pid r;
-  parent = λ r. k.parent (f r) ∙ h.parent r;
-  mark = λ r. k.mark (f r) ∙ h.mark r;
-  life = λ r. k.life (f r) ∙ h.life r;
-  news = λ r. k.news (f r) ∙ h.news r;
-}
-
 -- one of two, as a test says
 pub untold_cond : (t : Process → Bool) (f g : Process → Process) → Untold f → Untold g → Untold (λ r. cond (t r) (f r) (g r))
-untold_cond t f g h k = record {
-  pid = λ r. cond_both (t r) (f r) (g r) (λ q. q.pid ≡ r.pid) (λ e. h.pid r) (λ e. k.pid r);
-  parent = λ r. cond_both (t r) (f r) (g r) (λ q. q.parent ≡ r.parent) (λ e. h.parent r) (λ e. k.parent r);
-  mark = λ r. cond_both (t r) (f r) (g r) (λ q. q.is_subreaper ≡ r.is_subreaper) (λ e. h.mark r) (λ e. k.mark r);
-  life = λ r. cond_both (t r) (f r) (g r) (λ q. q.life ≡ r.life) (λ e. h.life r) (λ e. k.life r);
-  news = λ r. cond_both (t r) (f r) (g r) (λ q. q.news ≡ r.news) (λ e. h.news r) (λ e. k.news r);
-}
+untold_cond t f g h k r = cond_both (t r) (f r) (g r) (λ q. told_of q ≡ told_of r) (λ e. h r) (λ e. k r)
 
 pub kill_cond : (t : Process → Bool) (f g : Process → Process) → KeepsKill f → KeepsKill g → KeepsKill (λ r. cond (t r) (f r) (g r))
 kill_cond t f g h k r e = cond_both (t r) (f r) (g r) (λ q. is_pending q.signals KILL ≡ true) (λ u. h r e) (λ u. k r e)
@@ -212,27 +204,27 @@ quiet_change s p f u keeps = by (lookup p s.processes) refl
   where
     by : (o : Option Process) → lookup p s.processes ≡ o → Quiet s (change s p f)
     by None e = subst (λ rs. Quiet s (record s { processes = rs })) (sym (changed_absent p f s.processes e)) (quiet_same s)
-    by (Some me) e = quiet_at s p f u.pid me e (λ k h. agree_told k me (f me) (u.pid me) (u.parent me) (u.mark me) (u.life me) (u.news me) h) (λ stops waits. keeps me (waits (sym (ap is_stopped (u.life me)) ∙ stops)))
+    by (Some me) e = quiet_at s p f (untold_pid f u) me e (λ k h. agree_told k me (f me) (u me) h) (λ stops waits. keeps me (waits (sym (ap is_stopped (untold_life f u me)) ∙ stops)))
 
 -- and of each process
 pub quiet_map : (s : State) (g : Process → Process) → Untold g → KeepsKill g → Quiet s (record s { processes = map g s.processes })
 quiet_map s g u keeps = record {
-  records = λ k p h. subst (AgreeOn k) (sym (lookup_map g u.pid p s.processes)) (each k (lookup p s.processes) h);
+  records = λ k p h. subst (AgreeOn k) (sym (lookup_map g (untold_pid g u) p s.processes)) (each k (lookup p s.processes) h);
   total = ap (λ n. n + s.dropped) (length-map s.processes g);
   births = refl;
   halted = refl;
-  rising = λ up. rising_map g u.pid s.processes up;
+  rising = λ up. rising_map g (untold_pid g u) s.processes up;
   turns = λ a. record {
     turns = λ p r e found stops.
-        let b = lookup_back g u.pid p s.processes r found in
-        let stopped = sym (ap is_stopped (u.life b.what)) ∙ ap (λ (r : Process). is_stopped r.life) (sym b.is) ∙ stops in
+        let b = lookup_back g (untold_pid g u) p s.processes r found in
+        let stopped = sym (ap is_stopped (untold_life g u b.what)) ∙ ap (λ (r : Process). is_stopped r.life) (sym b.is) ∙ stops in
         ap (λ (r : Process). is_pending r.signals KILL) b.is ∙ keeps b.what (a.turns p b.what e b.found stopped);
   };
 }
   where
     each : (k : Kept) (o : Option Process) → AgreeOn k o → AgreeOn k (option_map g o)
     each k None h = h
-    each k (Some r) h = agree_told k r (g r) (u.pid r) (u.parent r) (u.mark r) (u.life r) (u.news r) h
+    each k (Some r) h = agree_told k r (g r) (u r) h
 
 -- ---- changes of who runs
 
@@ -245,19 +237,18 @@ pub record IsRunning (s : State) (p : ℕ) : Type 0 where
 -- and then isn't stopped
 pub runs_on : (l : Life) → is_running l ≡ true → is_stopped l ≡ true → ⊥
 runs_on Running r s = cc
-runs_on Stopped r s = cc
-runs_on (Zombie w) r s = cc
+runs_on l r s = cc
 
 -- such a change of who runs, whatever it does to its signals
 pub quiet_own : (s : State) (p : ℕ) (f : Process → Process) → Untold f → IsRunning s p → Quiet s (change s p f)
 quiet_own s p f u me =
-    quiet_at s p f u.pid me.what me.found (λ k h. agree_told k me.what (f me.what) (u.pid me.what) (u.parent me.what) (u.mark me.what) (u.life me.what) (u.news me.what) h)
-    (λ stops waits. absurd (runs_on me.what.life me.runs (sym (ap is_stopped (u.life me.what)) ∙ stops)))
+    quiet_at s p f (untold_pid f u) me.what me.found (λ k h. agree_told k me.what (f me.what) (u me.what) h)
+    (λ stops waits. absurd (runs_on me.what.life me.runs (sym (ap is_stopped (untold_life f u me.what)) ∙ stops)))
 
 -- after which it runs
 pub running_own : (s : State) (p : ℕ) (f : Process → Process) → Untold f → IsRunning s p → IsRunning (change s p f) p
 running_own s p f u me = record {
   what = f me.what;
-  found = lookup_changed p p f u.pid s.processes ∙ rw (eq-eqb p p refl, me.found) refl;
-  runs = ap is_running (u.life me.what) ∙ me.runs;
+  found = lookup_changed p p f (untold_pid f u) s.processes ∙ rw (eq-eqb p p refl, me.found) refl;
+  runs = ap is_running (untold_life f u me.what) ∙ me.runs;
 }

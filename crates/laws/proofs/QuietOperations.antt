@@ -11,43 +11,27 @@ use Rattle.posix.specs.declared.process.PendingSignal.{PendingSignal}
 use Rattle.posix.specs.SignalNumbers.{KILL, CONT, STOP, TSTP, TTIN, TTOU, HUP, is_realtime, is_stop_signal}
 use Rattle.posix.specs.Statuses.{continued}
 use Rattle.posix.specs.Processes.{Process, Signals, is_zombie, is_running, is_stopped, is_living}
-use Rattle.posix.specs.Tables.{IsRising, lookup, changed, pids, members_in}
+use Rattle.posix.specs.Tables.{IsRising, lookup, changed, is_child, children_in, pids, members_in}
 use Rattle.posix.specs.States.{State, change, is_in, without, lose_place, go_last, current}
 use Rattle.posix.specs.Consoles.{Console, console_at, console_of, signal_typed, is_told}
 use Rattle.posix.specs.Generation.{has_sig, is_pending, with_pending, with_queue, make_pending, gets_no_signals, keeps, without_stops, after_discards, generated, effect_of, signalled}
 use Rattle.posix.specs.Choice.{from_kernel, chosen}
 use Rattle.posix.specs.Notices.{child_signal, ignores_children, noticed, ignores_stops, noticed_of_change, told_of_change, resumed, acted_upon, generated_for, signalled_all}
-use Rattle.posix.specs.Ends.{signalled_members, signalled_group, hup_and_cont, hup_and_cont_all, hung_up, hang_up, is_dropping, drop_child, notice_of_end, tell_of_all, status_of}
+use Rattle.posix.specs.Ends.{signalled_members, signalled_group, hup_and_cont, hup_and_cont_all, hung_up, hang_up, is_dropping, drop_child, notice_of_end, zombies_of, tell_of_all, status_of}
 use Rattle.posix.specs.Alarms.{is_due, with_alarm, rung, ring_at, ring_all, pass_time}
 use Rattle.posix.specs.Settle.{can_go_on, can_act, wakes, give_places, clear_foregrounds, settle}
 use Rattle.posix.specs.Step.{signalled_from, key_on, key, with_leader_told, hangup_on, hangup, rotate, tick}
 use Rattle.posix.proofs.MemberLemmas.{in_append, is_other, in_last}
-use Rattle.posix.proofs.TableLemmas.{Above, lookup_changed}
-use Rattle.posix.proofs.WalkLemmas.{in_filter, pid_found}
-use Rattle.posix.proofs.TouchLemmas.{Unseen, unseen_signalled, unseen_ring, unseen_noticed}
-use Rattle.posix.proofs.ChangeLemmas.{unseen_noticed_of_change, continued_stopped, lookup_signalled}
+use Rattle.posix.proofs.TableLemmas.{Above, lookup_changed, rising_filter}
+use Rattle.posix.proofs.WalkLemmas.{all_looked, in_filter, pid_found}
+use Rattle.posix.proofs.ChangeLemmas.{continued_stopped, lookup_signalled}
 use Rattle.posix.proofs.OrphanLemmas.{lasting_notice}
 use Rattle.posix.proofs.OrderLemmas.{first_in}
-use Rattle.laws.proofs.QuietLemmas.{Quiet, quiet_same, quiet_then, quiet_as, quiet_order, quiet_at, agree_resumed, quiet_dropped, Untold, KeepsKill, kill_cond, quiet_change, quiet_map, runs_on}
+use Rattle.laws.proofs.QuietLemmas.{Quiet, quiet_same, quiet_then, quiet_as, quiet_order, quiet_at, agree_resumed, quiet_dropped, Untold, untold_cond, untold_pid, untold_life, KeepsKill, kill_cond, quiet_change, quiet_map, runs_on}
 
--- the mark stays
-abbrev KeepsMark : (Process → Process) → Type 0
-KeepsMark f = (r : Process) → (f r).is_subreaper ≡ r.is_subreaper
-
--- what a parent doesn't see no line tells of, where the mark stays
-pub untold : (f : Process → Process) → Unseen f → KeepsMark f → Untold f
-untold f u m = record { pid = u.pid; parent = u.parent; mark = m; life = u.life; news = u.news }
-
-mark_signalled : (signal : PendingSignal) → KeepsMark (signalled signal)
+untold_signalled : (signal : PendingSignal) → Untold (signalled signal)
 unfolding signalled
-mark_signalled signal r = refl
-
-mark_cond : (t : Process → Bool) (f g : Process → Process) → KeepsMark f → KeepsMark g → KeepsMark (λ r. cond (t r) (f r) (g r))
-mark_cond t f g h k r = cond_both (t r) (f r) (g r) (λ q. q.is_subreaper ≡ r.is_subreaper) (λ e. h r) (λ e. k r)
-
-mark_rung : KeepsMark rung
-unfolding rung with_alarm signalled
-mark_rung r = refl
+untold_signalled signal r = refl
 
 -- ---- KILL stays pending
 
@@ -88,16 +72,13 @@ kill_signalled signal r e =
     cond_both (gets_no_signals r.pid r.life g signal.sig) g (cond (keeps g signal.sig) (make_pending signal h) h) (λ x. is_pending x KILL ≡ true) (λ t. e)
     (λ t. cond_both (keeps g signal.sig) (make_pending signal h) h (λ x. is_pending x KILL ≡ true) (λ u. kill_made signal h kept) (λ u. kept))
 
-kill_same : KeepsKill (λ r. r)
-kill_same r e = e
-
 -- ---- signals
 
 quiet_noticed_of_change : (s : State) (p : ℕ) (signal : PendingSignal) → Quiet s (change s p (noticed_of_change signal))
 unfolding noticed_of_change
 quiet_noticed_of_change s p signal =
-    quiet_change s p (noticed_of_change signal) (untold (noticed_of_change signal) (unseen_noticed_of_change signal) (mark_cond (λ r. ignores_stops r.signals) (λ r. r) (signalled signal) (λ r. refl) (mark_signalled signal)))
-    (kill_cond (λ r. ignores_stops r.signals) (λ r. r) (signalled signal) kill_same (kill_signalled signal))
+    quiet_change s p (noticed_of_change signal) (untold_cond (λ r. ignores_stops r.signals) (λ r. r) (signalled signal) (λ r. refl) (untold_signalled signal))
+    (kill_cond (λ r. ignores_stops r.signals) (λ r. r) (signalled signal) (λ r e. e) (kill_signalled signal))
 
 -- a parent's notice of a change
 pub quiet_told_of_change : (status : ℕ) (r : Process) (s : State) → Quiet s (record s { processes = told_of_change status r s.processes })
@@ -115,7 +96,7 @@ unfolding signalled
 quiet_generated signal p s = by (lookup p s.processes) refl
   where
     told : (r : Process) → Quiet s (change s r.pid (signalled signal))
-    told r = quiet_change s r.pid (signalled signal) (untold (signalled signal) (unseen_signalled signal) (mark_signalled signal)) (kill_signalled signal)
+    told r = quiet_change s r.pid (signalled signal) (untold_signalled signal) (kill_signalled signal)
 
     acts : (r : Process) → lookup p s.processes ≡ Some r → (w : Effect) → effect_of r.pid r.life signal r.signals ≡ w → Quiet s (record s { processes = acted_upon w r (changed r.pid (signalled signal) s.processes) })
     acts r e effect.Nothing w = told r
@@ -185,9 +166,9 @@ unfolding notice_of_end noticed
 quiet_notice s parent child status up gone =
     let signal = child_signal child status in
     let told = change s parent (noticed signal) in
-    let u = untold (noticed signal) (unseen_noticed signal) (mark_cond (λ r. ignores_children r.signals) (λ r. r) (signalled signal) (λ r. refl) (mark_signalled signal)) in
-    let one : Quiet s told = quiet_change s parent (noticed signal) u (kill_cond (λ r. ignores_children r.signals) (λ r. r) (signalled signal) kill_same (kill_signalled signal)) in
-    let there = gone_changed parent child (noticed signal) u.pid (λ r. ap is_zombie (u.life r)) s.processes gone in
+    let u : Untold (noticed signal) = untold_cond (λ r. ignores_children r.signals) (λ r. r) (signalled signal) (λ r. refl) (untold_signalled signal) in
+    let one : Quiet s told = quiet_change s parent (noticed signal) u (kill_cond (λ r. ignores_children r.signals) (λ r. r) (signalled signal) (λ r e. e) (kill_signalled signal)) in
+    let there = gone_changed parent child (noticed signal) (untold_pid (noticed signal) u) (λ r. ap is_zombie (untold_life (noticed signal) u r)) s.processes gone in
     cond_both (is_dropping parent s.processes) (drop_child told child) told (Quiet s) (λ e. quiet_then s told _ one (quiet_dropped told child there.what (one.rising up) there.found there.dead)) (λ e. one)
 
 -- another one stays
@@ -203,6 +184,17 @@ AllGone rs zs = AllByRecursion (λ (z : Process). IsGone rs z.pid) zs
 pub still_gone : (n : ℕ) (rs ts : List Process) → ((c : ℕ) → n < c → IsGone rs c → IsGone ts c) → (zs : List Process) → Above n zs → AllGone rs zs → AllGone ts zs
 still_gone n rs ts h [] up k = tt
 still_gone n rs ts h (z ∷ zs) up k = (h z.pid up.0 k.0, still_gone n rs ts h zs up.1 k.1)
+
+-- what holds of each zombie among the children of a process
+pub each_zombie : (M : Process → Type 0) (p : ℕ) (rs : List Process) → IsRising rs → ((c : ℕ) (z : Process) → lookup c rs ≡ Some z → is_child p z ≡ true → is_zombie z.life ≡ true → M z) → AllByRecursion M (zombies_of p rs)
+unfolding zombies_of children_in
+each_zombie M p rs up each =
+    let kids = filter (is_child p) rs in
+    let kids_up = rising_filter (is_child p) rs up in
+    all_looked M (filter (λ r. is_zombie r.life) kids) (rising_filter _ kids kids_up) (λ c z e.
+    let a = in_filter (λ r. is_zombie r.life) kids kids_up c z e in
+    let b = in_filter (is_child p) rs up c z a.found in
+    each c z b.found b.passes a.passes)
 
 -- notices of several ends
 pub quiet_told : (s : State) (heir : ℕ) (zs : List Process) → IsRising s.processes → IsRising zs → AllGone s.processes zs → Quiet s (tell_of_all s heir zs)
@@ -228,20 +220,19 @@ quiet_last s p first = quiet_order s (without p s.order ++ p ∷ []) (λ q r e f
 -- ---- events
 
 pub quiet_pass : (s : State) → Quiet s (pass_time s)
-unfolding ring_all rung with_alarm
+unfolding ring_all rung with_alarm signalled
 quiet_pass s =
     let now = s.ticks + 1 in
-    let rings = quiet_map s (ring_at now) (untold (ring_at now) (unseen_ring now) (mark_cond (λ r. is_due now r.alarm) rung (λ r. r) mark_rung (λ r. refl))) (kill_cond (λ r. is_due now r.alarm) rung (λ r. r) (λ r e. kill_signalled _ r e) kill_same) in
+    let rings = quiet_map s (ring_at now) (untold_cond (λ r. is_due now r.alarm) rung (λ r. r) (λ r. refl) (λ r. refl)) (kill_cond (λ r. is_due now r.alarm) rung (λ r. r) (λ r e. kill_signalled _ r e) (λ r e. e)) in
     let t = record s { processes = ring_all now s.processes } in
     quiet_then s t (pass_time s) rings (quiet_as t (pass_time s) refl refl refl refl refl)
 
-pub quiet_rotate : (s : State) (c : Option ℕ) → current s ≡ c → Quiet s (rotate (pass_time s) c)
-quiet_rotate s None e = quiet_pass s
-quiet_rotate s (Some p) e = quiet_then s (pass_time s) _ (quiet_pass s) (quiet_last (pass_time s) p (first_in p s.order e))
-
 pub quiet_tick : (s : State) → Quiet s (tick s)
 unfolding tick
-quiet_tick s = quiet_rotate s (current s) refl
+quiet_tick s = elim (current s) as (λ c. current s ≡ c → Quiet s (rotate (pass_time s) c)) [
+  | None ↦ λ e. quiet_pass s
+  | Some p ↦ λ e. quiet_then s (pass_time s) _ (quiet_pass s) (quiet_last (pass_time s) p (first_in p s.order e))
+] refl
 
 pub quiet_key : (s : State) (console byte : ℕ) → Quiet s (key s console byte)
 unfolding key
@@ -284,13 +275,10 @@ quiet_given s up = quiet_order s (s.order ++ pids (filter (wakes s) s.processes)
       let w = pid_found q (filter (wakes s) s.processes) new in
       let a = in_filter (wakes s) s.processes up q w.0 w.1 in
       let same : w.0 ≡ r = let both : Some w.0 ≡ Some r = sym a.found ∙ f in cc in
-      let dying : is_pending r.signals KILL ≡ true = act_runs s r (subst (λ (t : Process). can_act s t ≡ true) same (and_parts _ _ a.passes).1) stops in
-      absurd (not_both (is_pending r.signals KILL) none dying)
+      let dying : is_pending r.signals KILL ≡ true = act_runs s r (subst (λ (t : Process). can_act s t ≡ true) same (and_parts (not (is_in w.0.pid s.order)) (can_act s w.0) a.passes).1) stops in
+      let no : false ≡ true = sym none ∙ dying in
+      absurd (cc)
 ])
-  where
-    not_both : (b : Bool) → b ≡ false → b ≡ true → ⊥
-    not_both true none dying = cc
-    not_both false none dying = cc
 
 pub quiet_settle : (s : State) → IsRising s.processes → Quiet s (settle s)
 unfolding settle clear_foregrounds

@@ -1,23 +1,21 @@
 -- What the entries of an event tell: what a refused call changes, and that who is born has a free number.
-use Rattle.std.proofs.Common.{◌≡◌, ◌≢◌, ℕ, zero, suc, Bool, true, false, refl, ap, sym, ◌∙◌, arith, subst, List, [], ◌∷◌, ◌++◌, take, Option, Some, None, ◌==◌, Contains, pos, negsuc, ℤ}
+use Rattle.std.proofs.Common.{rules, ◌≡◌, ◌≢◌, ℕ, zero, suc, Bool, true, false, refl, ap, sym, ◌∙◌, arith, subst, List, [], ◌∷◌, ◌++◌, Option, Some, None, ◌==◌, Contains, pos, negsuc, ℤ}
 use Rattle.std.proofs.lemmas.Bool.{cond_both}
-use Rattle.posix.specs.Transfers.{bytes_in}
 use Rattle.posix.specs.Terminals.{finish_moved}
 use Rattle.std.specs.List.{AllByRecursion}
 use Rattle.posix.specs.declared.call.Call.{Call}
-use Rattle.posix.specs.declared.call.Call.TheVariants.{Fork, Read, Write}
+use Rattle.posix.specs.declared.call.Call.TheVariants.{Fork}
 use Rattle.posix.specs.declared.event.Event.{Event}
-use Rattle.posix.specs.declared.event.Event.TheVariants.{Step, Tick, Key, Hangup}
+use Rattle.posix.specs.declared.event.Event.TheVariants.{Step}
 use Rattle.posix.specs.declared.errno.Errno.TheVariants.{EINTR, EAGAIN}
 use Rattle.posix.specs.declared.entry.Entry.{Entry}
-use Rattle.posix.specs.declared.entry.Entry.TheVariants.{Noted, Called, Moved, Reported, Looked, NoMemory, Marked, Handled, Discarded, Stopped, Returned, Ended, Halted}
+use Rattle.posix.specs.declared.entry.Entry.TheVariants.{Called, NoMemory}
 use Rattle.posix.specs.declared.process.Action.{Action}
 use Rattle.posix.specs.declared.process.Blocked.{Blocked}
-use Rattle.posix.specs.Statuses.{exited, killed}
-use Rattle.posix.specs.Processes.{Process, Credentials, argument}
+use Rattle.posix.specs.Processes.{Process, Credentials}
 use Rattle.posix.specs.Tables.{IsRising}
-use Rattle.posix.specs.States.{State, is_in, current, current_process}
-use Rattle.posix.specs.Outcomes.{Outcome, Attempted, Done, finish, finished, refusal}
+use Rattle.posix.specs.States.{State, current, next_pid}
+use Rattle.posix.specs.Outcomes.{Outcome, Attempted, Done, silent, finish, finished, refusal}
 use Rattle.posix.specs.Handlers.{is_interrupted}
 use Rattle.posix.specs.Ends.{end_process}
 use Rattle.posix.specs.declared.waits.WaitCall.{WaitCall}
@@ -26,10 +24,10 @@ use Rattle.posix.specs.Waits.{gives_nothing}
 use Rattle.posix.specs.Delivery.{call_of, interruption, stop_process}
 use Rattle.posix.specs.Attempts.{attempt, attempt_again}
 use Rattle.posix.specs.Settle.{IsSettled, settle}
-use Rattle.posix.specs.Step.{IsStep, next, happens, step, act}
+use Rattle.posix.specs.Step.{IsStep, next, happens, act}
 use Rattle.posix.proofs.TableLemmas.{pid_looked}
 use Rattle.posix.proofs.OrderLemmas.{first_in}
-use Rattle.posix.proofs.CountLemmas.{by_next}
+use Rattle.laws.proofs.WokenLemmas.{by_event}
 use Rattle.posix.proofs.TouchLemmas.{Unseen}
 use Rattle.posix.proofs.UnseenLemmas.{settle_unseen}
 use Rattle.posix.specs.NextPid.{is_free}
@@ -50,28 +48,18 @@ abbrev GivesFree : State → Call → ℕ → Type 0
 GivesFree s Fork n = is_free s.processes n ≡ true
 GivesFree s _ n = Unit {0}
 
--- of other calls nothing is asked
-gives_other : (s : State) (call : Call) (n : ℕ) → is_fork call ≡ false → GivesFree s call n
-gives_other s Fork n other = absurd (cc)
-gives_other s call n other = tt
+-- of what no fork does nothing is asked
+not_forked : (s : State) (P : Call → Type 0) → (P Fork → ⊥) → (call : Call) (n : ℕ) → P call → GivesFree s call n
+not_forked s P never Fork n is = absurd (never is)
+not_forked s P never call n is = tt
 
 -- where the entry tells that a call of p was refused, by a result that counts, this is all that changed; and who is born has
 -- a free number
 abbrev Explained : Terms → State → ℕ → State → Entry → Type 0
-Explained C s p new (Noted q value) = Unit {0}
 Explained C s p new (Called q call (pos n)) = GivesFree s call n
 Explained C s p new (Called q call (negsuc n)) = C.counts n → (q ≡ p) × (new ≡ finish s p ((0, negsuc n) ∷ []))
-Explained C s p new (Moved q call bytes) = Unit {0}
-Explained C s p new (Reported q call child status) = Unit {0}
-Explained C s p new (Looked q child status) = Unit {0}
 Explained C s p new (NoMemory q call) = C.wanting × (q ≡ p) × (new ≡ finish s p ((0, refusal EAGAIN) ∷ []))
-Explained C s p new (Marked q mark) = Unit {0}
-Explained C s p new (Handled q sig value sender) = Unit {0}
-Explained C s p new (Discarded q sig) = Unit {0}
-Explained C s p new (Stopped q sig) = Unit {0}
-Explained C s p new (Returned q) = Unit {0}
-Explained C s p new (Ended q status) = Unit {0}
-Explained C s p new Halted = Unit {0}
+Explained C s p new _ = Unit {0}
 
 -- all negative results; and there is no want of memory
 abbrev Any : Terms
@@ -91,34 +79,15 @@ ExplainedIf C s p = Meets (ExplainedBy C s p) (λ t. Unit {0})
 
 -- bytes that are moved
 explained_moved : (C : Terms) (s t : State) (p : ℕ) (call : Call) (bytes : List ℕ) → is_fork call ≡ false → ExplainedIf C s p (finish_moved t p call bytes)
-explained_moved C s t p call [] other = (gives_other s call 0 other, tt)
+explained_moved C s t p call [] other = (not_forked s (λ call. is_fork call ≡ false) (λ e. cc) call 0 other, tt)
 explained_moved C s t p call (b ∷ bs) other = (tt, tt)
 
 -- ---- calls
 
--- what is given without a birth tells of none
-gives_free : (s : State) (me : Process) (call : Call) (n : ℕ) → Gives s me call n → GivesFree s call n
-gives_free s me Fork n is = absurd (is)
-gives_free s me call n is = tt
-
-sets_free : (s : State) (me : Process) (call : Call) (c : Credentials) → SetsIds me call c → GivesFree s call 0
-sets_free s me Fork c is = absurd (is)
-sets_free s me call c is = tt
-
-sends_free : (s : State) (me : Process) (call : Call) (value : ℤ) → Sends me call value → GivesFree s call 0
-sends_free s me Fork value is = absurd (is)
-sends_free s me call value is = tt
-
 explained_retries : (C : Terms) (s : State) (me : Process) → Retries (ExplainedBy C s me.pid) (λ t. Unit {0}) s me
-explained_retries C s me = record {
-  refuses = λ call n fails few. (λ counts. (refl, refl), tt);
-  gives = λ call n is. (gives_free s me call n is, tt);
-  finds_nothing = nothing;
-  tells_end = λ call target options child status is. ((tt, tt), (tt, tt));
-  tells_change = λ call target options child status is. ((tt, tt), (tt, tt));
-  reads = λ c span line rest has fits is. explained_moved C s _ me.pid Read (take span.count line) refl;
-  begins_again = λ n is. tt;
-}
+explained_retries C s me =
+    let gives = λ (call : Call) (n : ℕ) (is : Gives s me call n). not_forked s (λ call. Gives s me call n) (λ is. is) call n is in
+    search (rules, gives, nothing, explained_moved)
   where
     nothing : (call : WaitCall) → ExplainedIf C s me.pid (gives_nothing s me.pid call)
     nothing wait.Waitpid = (tt, tt)
@@ -140,40 +109,15 @@ explained_interrupted granted s p (Some b) a o h =
 -- nor does a signal that acts
 explained_deliveries : (granted : Bool) (s : State) (r : Process) → Deliveries (ExplainedBy (NotInterrupted granted) s r.pid) (λ t. Unit {0}) r
 unfolding stop_process
-explained_deliveries granted s r = record {
-  kills = λ t n b sig. explained_end (NotInterrupted granted) s t r (killed n);
-  interrupts = λ a o h. explained_interrupted granted s r.pid r.blocked a o h;
-  enters = λ t signal address b comes. tt;
-  shows_handler = λ t signal address b comes. (tt, tt);
-  discards = λ t n b sig. (tt, tt);
-  stops = λ t n b sig stops. (tt, tt);
-  takes = λ t n b. tt;
-  returns = λ t frame b is. (tt, tt);
-}
+explained_deliveries granted s r = search (rules, explained_end, explained_interrupted)
 
 explained_ways : (granted : Bool) (s : State) (me : Process) → Ways (ExplainedBy (NotInterrupted granted) s me.pid) (λ t. Unit {0}) granted s me
-explained_ways granted s me = record {
-  retries = explained_retries (NotInterrupted granted) s me;
-  wants_memory = λ call wants none. ((none, refl, refl), tt);
-  exits = explained_end (NotInterrupted granted) s s me (exited (argument me 1));
-  bears = λ n is. ((new_number s n is).free, tt);
-  yields = (tt, tt);
-  sets_ids = λ call c is. (sets_free s me call c is, tt);
-  sends = λ call target value n is permitted. (sends_free s me call value is, tt);
-  sets_action = λ n g is. (tt, tt);
-  sets_mask = λ what. (tt, tt);
-  tells_pending = (tt, tt);
-  returns = by_return _ (λ t. Unit {0}) me (explained_deliveries granted s me) s tt;
-  sets_alarm = λ n is. (tt, tt);
-  executes = λ n program is. (tt, tt);
-  moves = λ r group h is goes. (tt, tt);
-  leads = λ alone. (tt, tt);
-  acquires = λ k c is may. (tt, tt);
-  sets_foreground = λ g is. (tt, tt);
-  sets_tostop = λ b. (tt, tt);
-  writes = λ span fits. explained_moved (NotInterrupted granted) s s me.pid Write (bytes_in span me.cpu.memory) refl;
-  marks = λ mark. (tt, tt);
-}
+explained_ways granted s me =
+    let bears = λ (n : ℕ) (is : next_pid s ≡ Some n). (new_number s n is).free in
+    let sets_ids = λ (call : Call) (c : Credentials) (is : SetsIds me call c). not_forked s (λ call. SetsIds me call c) (λ is. is) call 0 is in
+    let sends = λ (call : Call) (value : ℤ) (is : Sends me call value). not_forked s (λ call. Sends me call value) (λ is. is) call 0 is in
+    let returns = by_return (ExplainedBy (NotInterrupted granted) s me.pid) (λ t. Unit {0}) me (explained_deliveries granted s me) s tt in
+    search (rules, explained_retries, explained_end, explained_moved, bears, sets_ids, sends, returns)
 
 -- ---- an entry among others
 
@@ -213,73 +157,31 @@ again_no_memory s me b o is p called c =
 
 -- a turn
 explained_act : (granted : Bool) (s : State) (r : Process) → ExplainedBy (NotInterrupted granted) s r.pid (act granted s r)
-explained_act granted s r = by_act (ExplainedBy (NotInterrupted granted) s r.pid) (λ t. Unit {0}) (λ t. Unit {0}) granted s r (record {
-  here = tt;
-  deliveries = explained_deliveries granted s r;
-  calls = explained_ways granted s r;
-  enters_call = λ b. tt;
-  begins_again = λ t h. tt;
-  leaves_call = λ t h. tt;
-  waits = tt;
-  runs = tt;
-  notes = λ z is. (tt, tt);
-})
+explained_act granted s r = by_act (ExplainedBy (NotInterrupted granted) s r.pid) (λ t. Unit {0}) (λ t. Unit {0}) granted s r (search (rules, explained_deliveries, explained_ways))
 
--- the same of p by the name that the entry gives; and p is current
-abbrev Told : Bool → State → State → Entry → Type 0
-Told granted s new (Noted q value) = Unit {0}
-Told granted s new (Called q call (pos n)) = GivesFree s call n
-Told granted s new (Called q call (negsuc n)) = n ≢ 3 → (current s ≡ Some q) × (new ≡ finish s q ((0, negsuc n) ∷ []))
-Told granted s new (Moved q call bytes) = Unit {0}
-Told granted s new (Reported q call child status) = Unit {0}
-Told granted s new (Looked q child status) = Unit {0}
-Told granted s new (NoMemory q call) = (granted ≡ false) × (current s ≡ Some q) × (new ≡ finish s q ((0, refusal EAGAIN) ∷ []))
-Told granted s new (Marked q mark) = Unit {0}
-Told granted s new (Handled q sig value sender) = Unit {0}
-Told granted s new (Discarded q sig) = Unit {0}
-Told granted s new (Stopped q sig) = Unit {0}
-Told granted s new (Returned q) = Unit {0}
-Told granted s new (Ended q status) = Unit {0}
-Told granted s new Halted = Unit {0}
-
--- an entry of the current process
-told : (granted : Bool) (s : State) (p : ℕ) (new : State) (e : Entry) → current s ≡ Some p → Explained (NotInterrupted granted) s p new e → Told granted s new e
-told granted s p new (Noted q value) first h = tt
-told granted s p new (Called q call (pos n)) first h = h
-told granted s p new (Called q call (negsuc n)) first h = λ other. (first ∙ ap Some (sym (h other).0), (h other).1 ∙ ap (λ m. finish s m ((0, negsuc n) ∷ [])) (sym (h other).0))
-told granted s p new (Moved q call bytes) first h = tt
-told granted s p new (Reported q call child status) first h = tt
-told granted s p new (Looked q child status) first h = tt
-told granted s p new (NoMemory q call) first h = (h.0, first ∙ ap Some (sym h.1), h.2 ∙ ap (λ m. finish s m ((0, refusal EAGAIN) ∷ [])) (sym h.1))
-told granted s p new (Marked q mark) first h = tt
-told granted s p new (Handled q sig value sender) first h = tt
-told granted s p new (Discarded q sig) first h = tt
-told granted s p new (Stopped q sig) first h = tt
-told granted s p new (Returned q) first h = tt
-told granted s p new (Ended q status) first h = tt
-told granted s p new Halted first h = tt
-
--- all entries of the current process
-told_all : (granted : Bool) (s : State) (p : ℕ) (new : State) (es : List Entry) → current s ≡ Some p → AllByRecursion (Explained (NotInterrupted granted) s p new) es → AllByRecursion (Told granted s new) es
-told_all granted s p new [] first h = tt
-told_all granted s p new (e ∷ es) first h = (told granted s p new e first h.0, told_all granted s p new es first h.1)
+-- what an entry tells of the current process
+record Told (granted : Bool) (s new : State) (e : Entry) : Type 0 where
+  who : ℕ
+  first : current s ≡ Some who
+  tells : Explained (NotInterrupted granted) s who new e
 
 -- the same of all entries of an outcome
 abbrev ToldBy : Bool → State → Outcome → Type 0
-ToldBy granted s o = AllByRecursion (Told granted s o.state) o.entries
+ToldBy granted s o = (e : Entry) → Contains o.entries e → Told granted s o.state e
 
--- a step
-told_step : (granted : Bool) (s : State) → ToldBy granted s (step granted s (current_process s))
-told_step granted s = by_step (ToldBy granted s) granted s tt
-    (λ p r first e. told_all granted s r.pid (act granted s r).state (act granted s r).entries (first ∙ ap Some (sym (pid_looked p s.processes r e))) (explained_act granted s r))
+-- there is none
+told_none : (granted : Bool) (s t : State) → ToldBy granted s (silent t)
+told_none granted s t e c = let l = c.1 in absurd (omega arith)
 
 -- an event
 told_happens : (granted : Bool) (s : State) (event : Event) → ToldBy granted s (happens granted s event)
 unfolding happens
-told_happens granted s Step = told_step granted s
-told_happens granted s Tick = tt
-told_happens granted s (Key console byte) = tt
-told_happens granted s (Hangup console) = tt
+told_happens granted s Step = by_step (ToldBy granted s) granted s (told_none granted s s) (λ p r first f e c. record {
+  who = r.pid;
+  first = first ∙ ap Some (sym (pid_looked p s.processes r f));
+  tells = all_contains (Explained (NotInterrupted granted) s r.pid (act granted s r).state) (act granted s r).entries (explained_act granted s r) e c;
+})
+told_happens granted s event = told_none granted s _
 
 -- the state before all are asked, and what an entry tells of it
 record Unsettled (granted : Bool) (s new : State) (e : Entry) : Type 0 where
@@ -288,28 +190,23 @@ record Unsettled (granted : Bool) (s new : State) (e : Entry) : Type 0 where
   tells : Told granted s mid e
 
 -- an entry that an event shows
-unsettled : (granted : Bool) (s : State) (event : Event) (e : Entry) → Contains (next granted s event).entries e → Unsettled granted s (next granted s event).state e
-unsettled granted s event e =
-    by_next (λ o. Contains o.entries e → Unsettled granted s o.state e) granted s event (λ h c. let l = c.1 in absurd (omega arith))
-    (λ h c. record { mid = (happens granted s event).state; is = refl; tells = all_contains (Told granted s (happens granted s event).state) _ (told_happens granted s event) e c })
-
--- the same in the relation
-unsettled_step : (old new : State) (event : Event) (entries : List Entry) (h : IsStep old event entries new) (e : Entry) → Contains entries e → Unsettled h.granted old new e
-unsettled_step old new event entries h e c =
-    subst (λ (o : Outcome). Contains o.entries e → Unsettled h.granted old o.state e) h.comes (unsettled h.granted old event e) c
+unsettled : (old new : State) (event : Event) (entries : List Entry) (h : IsStep old event entries new) (e : Entry) → Contains entries e → Unsettled h.granted old new e
+unsettled old new event entries h e =
+    by_event (λ o. Contains o.entries e → Unsettled h.granted old o.state e) old new event entries h (λ t c. let l = c.1 in absurd (omega arith))
+    (λ t c. record { mid = (happens h.granted old event).state; is = refl; tells = told_happens h.granted old event e c })
 
 -- where memory was wanting, it wasn't granted
 pub memory_refused : (granted : Bool) (s : State) (event : Event) (p : ℕ) (call : Call) → Contains (next granted s event).entries (NoMemory p call) → granted ≡ false
-memory_refused granted s event p call c = (unsettled granted s event (NoMemory p call) c).tells.0
+memory_refused granted s event p call c = (unsettled s (next granted s event).state event (next granted s event).entries (record { granted = granted; comes = refl }) (NoMemory p call) c).tells.tells.0
 
 -- The number of each birth is borne by no record before it, as that of a process, a group or a session.
 pub birth_free : (old new : State) (event : Event) (entries : List Entry) → IsStep old event entries new → (e : Entry) (n : ℕ) → Contains entries e → born_by e ≡ Some n → is_free old.processes n ≡ true
-birth_free old new event entries h e n c born = let u = unsettled_step old new event entries h e c in by u.mid e u.tells born
+birth_free old new event entries h e n c born = let u = unsettled old new event entries h e c in by u.tells.who u.mid e u.tells.tells born
   where
-    by : (mid : State) (e : Entry) → Told h.granted old mid e → born_by e ≡ Some n → is_free old.processes n ≡ true
-    by mid (Called q Fork (pos zero)) t b = absurd (cc)
-    by mid (Called q Fork (pos (suc m))) t b = let same : suc m ≡ n = cc in subst (λ k. is_free old.processes k ≡ true) same t
-    by mid e t b = absurd (cc)
+    by : (p : ℕ) (mid : State) (e : Entry) → Explained (NotInterrupted h.granted) old p mid e → born_by e ≡ Some n → is_free old.processes n ≡ true
+    by p mid (Called q Fork (pos zero)) t b = absurd (cc)
+    by p mid (Called q Fork (pos (suc m))) t b = let same : suc m ≡ n = cc in subst (λ k. is_free old.processes k ≡ true) same t
+    by p mid e t b = absurd (cc)
 
 -- ---- nobody wakes by a refusal
 
@@ -318,22 +215,23 @@ unseen_finished : (ws : List (ℕ × ℤ)) → Unseen (finished ws)
 unfolding finished
 unseen_finished ws = record { pid = λ r. refl; parent = λ r. refl; group = λ r. refl; life = λ r. refl; news = λ r. refl }
 
--- to settle does nothing then
-settle_finished : (s : State) (p : ℕ) (ws : List (ℕ × ℤ)) → IsRising s.processes → IsSettled s → is_in p s.order ≡ true → settle (finish s p ws) ≡ finish s p ws
+-- to settle does nothing then, where the call is the current process's
+finished_alone : {granted : Bool} {e : Entry} (old new : State) (p : ℕ) (ws : List (ℕ × ℤ)) → IsRising old.processes → IsSettled old → (u : Unsettled granted old new e)
+    → (p ≡ u.tells.who) × (u.mid ≡ finish old u.tells.who ws) → new ≡ finish old p ws
 unfolding finished
-settle_finished s p ws = settle_unseen s p (finished ws) (unseen_finished ws) (λ r. refl)
+finished_alone old new p ws up still u t =
+    u.is ∙ ap settle (t.1 ∙ ap (λ m. finish old m ws) (sym t.0)) ∙ settle_unseen old p (finished ws) (unseen_finished ws) (λ r. refl) up still (first_in p old.order (u.tells.first ∙ ap Some (sym t.0)))
 
 -- a negative result of an event
 pub event_refused : (old new : State) (event : Event) (entries : List Entry) → IsStep old event entries new → IsRising old.processes → IsSettled old
     → (p n : ℕ) (call : Call) → n ≢ 3 → Contains entries (Called p call (negsuc n)) → new ≡ finish old p ((0, negsuc n) ∷ [])
 event_refused old new event entries h up still p n call other c =
-    let u = unsettled_step old new event entries h (Called p call (negsuc n)) c in
-    let t = u.tells other in
-    u.is ∙ ap settle t.1 ∙ settle_finished old p ((0, negsuc n) ∷ []) up still (first_in p old.order t.0)
+    let u = unsettled old new event entries h (Called p call (negsuc n)) c in
+    finished_alone old new p ((0, negsuc n) ∷ []) up still u (u.tells.tells other)
 
 -- no memory in an event
 pub event_no_memory : (old new : State) (event : Event) (entries : List Entry) → IsStep old event entries new → IsRising old.processes → IsSettled old
     → (p : ℕ) (call : Call) → Contains entries (NoMemory p call) → new ≡ finish old p ((0, refusal EAGAIN) ∷ [])
 event_no_memory old new event entries h up still p call c =
-    let u = unsettled_step old new event entries h (NoMemory p call) c in
-    u.is ∙ ap settle u.tells.2 ∙ settle_finished old p ((0, refusal EAGAIN) ∷ []) up still (first_in p old.order u.tells.1)
+    let u = unsettled old new event entries h (NoMemory p call) c in
+    finished_alone old new p ((0, refusal EAGAIN) ∷ []) up still u (u.tells.tells.1, u.tells.tells.2)

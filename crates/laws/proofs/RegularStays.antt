@@ -1,24 +1,22 @@
 -- Each event keeps a state regular.
-use Rattle.std.proofs.Common.{◌≡◌, ◌≢◌, ◌<◌, arith, ℕ, ◌+◌, ◌≤◌, Bool, true, false, not, refl, ap, sym, ◌∙◌, subst, List, [], ◌∷◌, ◌++◌, filter, take, length, is_some, cond, Option, Some, None, ◌==◌, ℤ, pos, inl, inr, nat_le, negsuc}
+use Rattle.std.proofs.Common.{◌≡◌, ◌≢◌, ◌<◌, arith, ℕ, ◌+◌, ◌≤◌, Bool, true, false, not, refl, ap, sym, ◌∙◌, subst, List, [], ◌∷◌, ◌++◌, take, length, is_some, Option, Some, None, ◌==◌, ℤ, pos, inl, inr, negsuc}
 use Rattle.std.specs.List.{AllByRecursion}
-use Rattle.std.proofs.lemmas.Bool.{eqb-true, eqb-false, cond_both, and_parts, or_cases, or_from, false_from_ne_true, leb-true}
+use Rattle.std.proofs.lemmas.Bool.{eqb-true, eqb-false, cond_both, and_parts, or_cases, or_from, false_from_ne_true}
+use Rattle.std.proofs.lemmas.Bool.Decides.{nat_tests}
 use Rattle.posix.specs.declared.call.Call.{Call}
 use Rattle.posix.specs.declared.call.Call.TheVariants.{Fork, SchedYield, Sigaction, Sigprocmask, Sigpending, Alarm, Setpgid, Setsid, Setctty, Tcsetpgrp, Settostop, Read, Write}
 use Rattle.posix.specs.declared.event.Event.{Event}
 use Rattle.posix.specs.declared.event.Event.TheVariants.{Step, Tick, Key, Hangup}
 use Rattle.posix.specs.declared.errno.Errno.TheVariants.{EAGAIN}
 use Rattle.posix.specs.declared.entry.Entry.{Entry}
-use Rattle.posix.specs.declared.process.Action.{Action}
-use Rattle.posix.specs.declared.process.Blocked.{Blocked}
-use Rattle.posix.specs.declared.process.Frame.{Frame}
 use Rattle.posix.specs.declared.process.PendingSignal.{PendingSignal}
 use Rattle.posix.specs.declared.process.Report.TheVariants as found
 use Rattle.posix.specs.declared.target.Target.{Target}
 use Rattle.posix.specs.SignalSets.{word_of, set_in}
 use Rattle.posix.specs.Statuses.{exited, killed}
-use Rattle.posix.specs.Processes.{Process, Signals, Credentials, is_zombie, argument}
-use Rattle.posix.specs.Tables.{IsRising, lookup, removed, is_child, children_in, pids}
-use Rattle.posix.specs.States.{State, is_in, change, go_last, current, current_process, next_pid}
+use Rattle.posix.specs.Processes.{Process, is_zombie, argument}
+use Rattle.posix.specs.Tables.{IsRising, lookup, removed, pids}
+use Rattle.posix.specs.States.{State, is_in, change, go_last, current, next_pid}
 use Rattle.posix.specs.Outcomes.{Outcome, Reply, finished, finish_call, plain, written, refusal}
 use Rattle.posix.specs.Generation.{action}
 use Rattle.posix.specs.Notices.{noticed, child_signal}
@@ -28,80 +26,61 @@ use Rattle.posix.specs.Births.{born, child_of}
 use Rattle.posix.specs.Heirs.{heir_in}
 use Rattle.posix.specs.Subreapers.{marked_as}
 use Rattle.posix.proofs.HeirLemmas.{heir_inherits}
-use Rattle.posix.specs.Ends.{leave_children_and_die, is_dropping, drop_child, notice_of_end, zombies_of, tell_of_all, status_of, hup_and_cont_orphans, hang_up, end_with_heir, end_process}
+use Rattle.posix.specs.Ends.{leave_children_and_die, is_dropping, drop_child, notice_of_end, zombies_of, tell_of_all, status_of, hup_and_cont_orphans, hang_up, end_process}
 use Rattle.posix.specs.Waits.{results_of, results_of_nothing, news_told}
 use Rattle.posix.specs.Delivery.{take_out}
 use Rattle.posix.specs.Sends.{sent, sent_among, permitted, targets, message}
 use Rattle.posix.specs.SignalCalls.{give_credentials, give_signals, holding, pending_set}
 use Rattle.posix.specs.Programs.{executed}
 use Rattle.posix.specs.Alarms.{most_ticks, due_in, ticks_in, pass_time}
-use Rattle.posix.specs.Regular.{IsRegular, IsPlaced, CanInherit, IsDistinct}
+use Rattle.posix.specs.Regular.{IsRegular, IsAhead, CanInherit, IsDistinct}
 use Rattle.posix.specs.Settle.{give_places, clear_foregrounds, settle}
-use Rattle.posix.specs.Step.{IsStep, next, happens, step, tick, rotate, act, enter, set_cpu, out_of_call}
-use Rattle.posix.proofs.TableLemmas.{pid_looked, rising_filter}
+use Rattle.posix.specs.Step.{IsStep, happens, tick, rotate, act, enter, set_cpu, out_of_call}
+use Rattle.posix.proofs.TableLemmas.{pid_looked}
 use Rattle.posix.proofs.MemberLemmas.{in_append, in_first, apart_rest}
 use Rattle.posix.proofs.RegularLemmas.{Keeps, keeps_none, keeps_then, keeps_set_cpu, keeps_news_told, keeps_handles, keeps_take_out, keeps_noticed, keeps_with_alarm, due_ahead, placed_least, regular_as, regular_change, regular_lose, regular_depart, regular_halt, regular_inserted, regular_removed, regular_pass}
 use Rattle.posix.proofs.ChangeLemmas.{regular_stop, regular_signalled}
 use Rattle.posix.proofs.HupAndContLemmas.{regular_hup_and_cont_orphans}
 use Rattle.posix.proofs.GroupLemmas.{regular_move, regular_session, keeps_executed}
 use Rattle.posix.proofs.OrderLemmas.{regular_last, first_in}
-use Rattle.posix.proofs.WalkLemmas.{all_looked, in_filter}
 use Rattle.posix.proofs.ReportLemmas.{reported, not_first}
 use Rattle.posix.proofs.NextLemmas.{new_number}
 use Rattle.posix.proofs.SettleLemmas.{wakes_placed}
-use Rattle.posix.proofs.CountLemmas.{by_next}
 use Rattle.posix.specs.Consoles.{Console, console_of, acquired, with_foreground, with_tostop, line_taken}
 use Rattle.posix.specs.Transfers.{bytes_in}
 use Rattle.posix.specs.Terminals.{terminal, change_console, may_acquire, finish_moved, with_bytes}
 use Rattle.posix.proofs.ConsoleLemmas.{consoles_acquired, regular_consoles, regular_change_console, regular_signalled_group, regular_cleared, regular_hung_up, regular_key, regular_hangup}
-use Rattle.laws.proofs.QuietOperations.{IsGone, AllGone, gone_changed, gone_noticed, still_gone}
+use Rattle.laws.proofs.QuietOperations.{IsGone, AllGone, each_zombie, gone_changed, gone_noticed, still_gone}
 use Rattle.laws.proofs.ToldLines.{IsLiving}
 use Rattle.laws.proofs.ToldOutcomes.{gone_departed, children_gone, zombies_rise, not_among, gone_told, gone_hup_and_cont, living_hung_up}
-use Rattle.laws.proofs.WokenLemmas.{given_places, distinct_given, all_wake}
+use Rattle.laws.proofs.WokenLemmas.{by_event, given_places, distinct_given, all_wake}
 use Rattle.posix.proofs.AttemptLemmas.{Meets, Retries, Ways, named_there}
 use Rattle.posix.proofs.DeliveryLemmas.{Deliveries, by_return, by_act, by_step}
 
 -- ---- changes that keep
 
--- one more result
-keeps_written : {now : ℕ} (i : ℕ) (z : ℤ) → Keeps now (written i z)
-unfolding written
-keeps_written i z = record { pid = λ r. refl; parent = λ r. refl; group = λ r. refl; session = λ r. refl; zombie = λ r. refl; alarm = λ r h. h }
+-- what of a process is regular or not
+abbrev Seen : Type 0
+Seen = ℕ × ℕ × ℕ × ℕ × Bool × Option ℕ
 
--- a call that is entered
-keeps_enter : {now : ℕ} (b : Blocked) → Keeps now (enter b)
-unfolding enter
-keeps_enter b = record { pid = λ r. refl; parent = λ r. refl; group = λ r. refl; session = λ r. refl; zombie = λ r. refl; alarm = λ r h. h }
+abbrev seen_of : Process → Seen
+seen_of r = (r.pid, r.parent, r.group, r.session, is_zombie r.life, r.alarm)
 
--- a call that is left
-keeps_out : {now : ℕ} → Keeps now out_of_call
-unfolding out_of_call
-keeps_out = record { pid = λ r. refl; parent = λ r. refl; group = λ r. refl; session = λ r. refl; zombie = λ r. refl; alarm = λ r h. h }
-
--- a handler that has returned
-keeps_returned : {now : ℕ} (frame : Frame) → Keeps now (returned frame)
-unfolding returned
-keeps_returned frame = record { pid = λ r. refl; parent = λ r. refl; group = λ r. refl; session = λ r. refl; zombie = λ r. refl; alarm = λ r h. h }
-
--- new ids
-keeps_credentials : {now : ℕ} (c : Credentials) → Keeps now (give_credentials c)
-unfolding give_credentials
-keeps_credentials c = record { pid = λ r. refl; parent = λ r. refl; group = λ r. refl; session = λ r. refl; zombie = λ r. refl; alarm = λ r h. h }
-
--- an action that is told, after the signals were changed
-keeps_holding : {now : ℕ} (a : Action) (g : Signals) → Keeps now (λ r. holding a (give_signals g r))
-unfolding written give_signals
-keeps_holding a g = record { pid = λ r. refl; parent = λ r. refl; group = λ r. refl; session = λ r. refl; zombie = λ r. refl; alarm = λ r h. h }
-
--- a word that is told, after the signals were changed
-keeps_masked : {now : ℕ} (word : ℤ) (g : Signals) → Keeps now (λ r. written 2 word (give_signals g r))
-unfolding written give_signals
-keeps_masked word g = record { pid = λ r. refl; parent = λ r. refl; group = λ r. refl; session = λ r. refl; zombie = λ r. refl; alarm = λ r h. h }
+-- it stays
+keeps_seen : {now : ℕ} (f : Process → Process) → ((r : Process) → seen_of (f r) ≡ seen_of r) → Keeps now f
+keeps_seen {now} f same = record {
+  pid = λ r. ap (λ (t : Seen). t.0) (same r);
+  parent = λ r. ap (λ (t : Seen). t.1) (same r);
+  group = λ r. ap (λ (t : Seen). t.2) (same r);
+  session = λ r. ap (λ (t : Seen). t.3) (same r);
+  zombie = λ r. ap (λ (t : Seen). t.4) (same r);
+  alarm = λ r h. subst (λ (t : Seen). IsAhead now t.5) (sym (same r)) h;
+}
 
 -- results that are written
 keeps_finished : {now : ℕ} (results : List (ℕ × ℤ)) → Keeps now (finished results)
 unfolding finished
-keeps_finished results = record { pid = λ r. refl; parent = λ r. refl; group = λ r. refl; session = λ r. refl; zombie = λ r. refl; alarm = λ r h. h }
+keeps_finished results = keeps_seen (finished results) (λ r. refl)
 
 -- ---- ends
 
@@ -132,15 +111,9 @@ regular_told s heir (z ∷ zs) up others gone i =
 
 -- no child of a process is process 1
 children_others : (s : State) → IsRegular s → (p : ℕ) → 1 ≤ p → AllOthers (zombies_of p s.processes)
-unfolding zombies_of children_in
-children_others s i p least =
-    let kids = filter (is_child p) s.processes in
-    let up = rising_filter (is_child p) s.processes i.rising in
-    all_looked _ (filter (λ r. is_zombie r.life) kids) (rising_filter _ kids up) (λ c z e.
-    let a = in_filter (λ r. is_zombie r.life) kids up c z e in
-    let b = in_filter (is_child p) s.processes i.rising c z a.found in
-    let named : z.pid ≡ c = pid_looked c s.processes z b.found in
-    subst (λ n. n ≢ 1) (sym named) (not_first s i p c true least (record { what = z; found = b.found; parent = eqb-true _ _ b.passes; dead = a.passes })))
+children_others s i p least = each_zombie _ p s.processes i.rising (λ c z found child dead.
+    let named : z.pid ≡ c = pid_looked c s.processes z found in
+    subst (λ n. n ≢ 1) (sym named) (not_first s i p c true least (record { what = z; found = found; parent = eqb-true _ _ child; dead = dead })))
 
 -- the end of a process other than process 1
 regular_gone : (s : State) (p parent heir w : ℕ) → 1 ≤ p → p ≢ 1 → IsLiving s p → CanInherit s.processes p heir → IsRegular s
@@ -153,19 +126,16 @@ regular_gone s p parent heir w least other me inherits i =
     let here = gone_hup_and_cont (newly_orphaned s.processes told.processes) told p still.rising (gone_told gone heir zs p (not_among s p p i.rising me) (gone_departed s p heir w me)) in
     regular_noticed (hup_and_cont_orphans s.processes told) parent p w (regular_hup_and_cont_orphans s.processes told still) other here
 
--- an end, of process 1 too
-regular_ends : (s : State) (r : Process) (status : ℕ) → 1 ≤ r.pid → IsLiving s r.pid → IsRegular s → IsRegular (end_with_heir s r (heir_in s.processes r.pid) status).state
-regular_ends s r status least me i =
-    cond_both (r.pid == 1) _ _ (λ (o : Outcome). IsRegular o.state) (λ e. regular_halt status s i)
-    (λ e. regular_gone s r.pid r.parent (heir_in s.processes r.pid) status least (eqb-false _ _ e) me (heir_inherits s.processes r.pid) i)
-
--- its session's terminal is hung up before
+-- an end, of process 1 too: its session's terminal is hung up before
 regular_end : (s : State) (r : Process) (status : ℕ) → is_in r.pid s.order ≡ true → IsRegular s → IsRegular (end_process s r status).state
 unfolding end_process
 regular_end s r status place i =
     let there = i.placed r.pid place in
-    let me : IsLiving s r.pid = record { what = there.what; found = there.found; lives = there.living } in
-    regular_ends (hang_up s r) r status (placed_least s i r.pid there) (living_hung_up s r r.pid i.rising me) (regular_hung_up s r i)
+    let t = hang_up s r in
+    let me : IsLiving t r.pid = living_hung_up s r r.pid i.rising (record { what = there.what; found = there.found; lives = there.living }) in
+    let still = regular_hung_up s r i in
+    cond_both (r.pid == 1) _ _ (λ (o : Outcome). IsRegular o.state) (λ e. regular_halt status t still)
+    (λ e. regular_gone t r.pid r.parent (heir_in t.processes r.pid) status (placed_least s i r.pid there) (eqb-false _ _ e) me (heir_inherits t.processes r.pid) still)
 
 -- ---- deliveries
 
@@ -178,6 +148,7 @@ acts_change : (r : Process) (t : State) (f : Process → Process) → Keeps t.ti
 acts_change r t f k b = record { regular = regular_change r.pid f t k b.regular; place = b.place }
 
 regular_deliveries : (r : Process) → Deliveries (λ o. IsRegular o.state) (IsActing r) r
+unfolding returned
 regular_deliveries r = record {
   kills = λ t n b sig. regular_end t r (killed n) b.place b.regular;
   interrupts = λ a o h. h;
@@ -186,7 +157,7 @@ regular_deliveries r = record {
   discards = λ t n b sig. b.regular;
   stops = λ t n b sig stops. let there = b.regular.placed r.pid b.place in regular_stop t r there.what n there.found there.living b.regular;
   takes = λ t n b. acts_change r t (take_out n) (keeps_take_out n) b;
-  returns = λ t frame b is. (acts_change r t (returned frame) (keeps_returned frame) b).regular;
+  returns = λ t frame b is. (acts_change r t (returned frame) (keeps_seen (returned frame) (λ r. refl)) b).regular;
 }
 
 -- ---- calls
@@ -206,18 +177,10 @@ record IsCaller (s : State) (me : Process) : Type 0 where
   found : lookup me.pid s.processes ≡ Some me
   place : is_in me.pid s.order ≡ true
 
--- it is placed
-placed_caller : (s : State) (me : Process) → IsCaller s me → IsPlaced s.processes me.pid
-placed_caller s me c = c.regular.placed me.pid c.place
-
--- its number is one from 1 on
-least_caller : (s : State) (me : Process) → IsCaller s me → 1 ≤ me.pid
-least_caller s me c = placed_least s c.regular me.pid (placed_caller s me c)
-
 -- it is no zombie
 caller_lives : (s : State) (me : Process) → IsCaller s me → is_zombie me.life ≡ false
 caller_lives s me c =
-    let p = placed_caller s me c in
+    let p = c.regular.placed me.pid c.place in
     let same : p.what ≡ me = let both = sym p.found ∙ c.found in cc in
     ap (λ (r : Process). is_zombie r.life) (sym same) ∙ p.living
 
@@ -235,11 +198,7 @@ regular_sent s me target (Some signal) i = regular_signalled signal (pids (permi
 
 -- an alarm is asked for by few ticks
 few_ticks : (z : ℤ) (n : ℕ) → ticks_in z ≡ Some n → n ≤ most_ticks
-few_ticks (pos m) n e = by (nat_le m most_ticks) refl e
-  where
-    by : (b : Bool) → nat_le m most_ticks ≡ b → cond b (Some m) None ≡ Some n → n ≤ most_ticks
-    by true t e = let same : m ≡ n = cc in subst (λ k. k ≤ most_ticks) same (leb-true m most_ticks t)
-    by false t e = absurd (cc)
+few_ticks (pos m) n e = grind (arith, nat_tests, e)
 few_ticks (negsuc m) n e = absurd (cc)
 
 -- who may acquire a terminal has none
@@ -250,23 +209,13 @@ none_yet s me c e = none (terminal s me) (and_parts _ _ (and_parts _ _ e).1).0
     none None k = refl
     none (Some d) k = absurd (cc)
 
--- bytes that are put into words
-keeps_bytes : {now : ℕ} (address : ℕ) (bytes : List ℕ) → Keeps now (with_bytes address bytes)
-unfolding with_bytes
-keeps_bytes address bytes = record { pid = λ r. refl; parent = λ r. refl; group = λ r. refl; session = λ r. refl; zombie = λ r. refl; alarm = λ r h. h }
-
 -- bytes that are moved
 regular_bytes : (s : State) (p : ℕ) (call : Call) (bytes : List ℕ) → IsRegular s → Meets (λ o. IsRegular o.state) IsRegular (finish_moved s p call bytes)
 regular_bytes s p call [] i = regular_gives s p call (pos 0) i
 regular_bytes s p call (b ∷ bs) i = regular_change p (finished ((0, pos (length (b ∷ bs))) ∷ [])) s (keeps_finished _) i
 
--- the mark, and results that are written
-keeps_marked : {now : ℕ} (mark : Bool) → Keeps now (marked_as mark)
-unfolding marked_as finished
-keeps_marked mark = record { pid = λ r. refl; parent = λ r. refl; group = λ r. refl; session = λ r. refl; zombie = λ r. refl; alarm = λ r h. h }
-
 regular_retries : (s : State) (me : Process) → IsCaller s me → Retries (λ o. IsRegular o.state) IsRegular s me
-unfolding line_taken
+unfolding line_taken with_bytes
 regular_retries s me c =
     let gives = λ (results : List (ℕ × ℤ)) (t : State). regular_change me.pid _ t (keeps_finished results) in
     record {
@@ -275,30 +224,30 @@ regular_retries s me c =
       finds_nothing = λ call. gives (results_of_nothing call) s c.regular;
       tells_end = λ call target options child status e.
           let h = reported s.processes c.regular.rising me.pid me.group target options (found.End child status) child e refl in
-          let gone = regular_removed child h.what s c.regular (not_first s c.regular me.pid child true (least_caller s me c) h) h.found h.dead in
+          let gone = regular_removed child h.what s c.regular (not_first s c.regular me.pid child true (placed_least s c.regular me.pid (c.regular.placed me.pid c.place)) h) h.found h.dead in
           (gives (results_of call child status) s c.regular, gives (results_of call child status) (record s { processes = removed child s.processes }) gone);
       tells_change = λ call target options child status e.
           (gives (results_of call child status) s c.regular, gives (results_of call child status) (change s child news_told) (regular_change child news_told s keeps_news_told c.regular));
       reads = λ console span line rest has fits is.
           let left = change_console s me.session (line_taken span.count) in
           let bytes = take span.count line in
-          regular_bytes _ me.pid Read bytes (regular_change me.pid (with_bytes span.address bytes) left (keeps_bytes span.address bytes) (regular_change_console me.session (line_taken span.count) s (λ c. refl) c.regular));
+          regular_bytes _ me.pid Read bytes (regular_change me.pid (with_bytes span.address bytes) left (keeps_seen (with_bytes span.address bytes) (λ r. refl)) (regular_change_console me.session (line_taken span.count) s (λ c. refl) c.regular));
       begins_again = λ n is. regular_signalled_group n me.group s c.regular;
     }
 
 regular_ways : (granted : Bool) (s : State) (me : Process) → IsCaller s me → Ways (λ o. IsRegular o.state) IsRegular granted s me
-unfolding acquired with_foreground with_tostop
+unfolding acquired with_foreground with_tostop give_credentials give_signals written marked_as finished
 regular_ways granted s me c = record {
   retries = regular_retries s me c;
   wants_memory = λ call wants none. regular_change me.pid (finished ((0, refusal EAGAIN) ∷ [])) s (keeps_finished ((0, refusal EAGAIN) ∷ [])) c.regular;
   exits = regular_end s me (exited (argument me 1)) c.place c.regular;
   bears = λ n is. regular_gives (born s me n) me.pid Fork (pos n) (regular_born s me n c is);
   yields = regular_gives (go_last s me.pid) me.pid SchedYield (pos 0) (regular_last me.pid s c.regular c.place);
-  sets_ids = λ call new is. regular_answers s me.pid call _ (keeps_credentials new) c.regular;
+  sets_ids = λ call new is. regular_answers s me.pid call _ (keeps_seen (give_credentials new) (λ r. refl)) c.regular;
   sends = λ call target value n is permitted. regular_gives _ me.pid call (pos 0) (regular_sent s me target (message me.pid value n) c.regular);
-  sets_action = λ n g is. regular_answers s me.pid Sigaction _ (keeps_holding (action me.signals n) g) c.regular;
-  sets_mask = λ what. regular_answers s me.pid Sigprocmask _ (keeps_masked (word_of me.signals.mask) (set_mask what (set_in (argument me 2)) me.signals)) c.regular;
-  tells_pending = regular_answers s me.pid Sigpending _ (keeps_written 1 (word_of (pending_set me.signals))) c.regular;
+  sets_action = λ n g is. regular_answers s me.pid Sigaction _ (keeps_seen (λ r. holding (action me.signals n) (give_signals g r)) (λ r. refl)) c.regular;
+  sets_mask = λ what. regular_answers s me.pid Sigprocmask _ (keeps_seen (λ r. written 2 (word_of me.signals.mask) (give_signals (set_mask what (set_in (argument me 2)) me.signals) r)) (λ r. refl)) c.regular;
+  tells_pending = regular_answers s me.pid Sigpending _ (keeps_seen (written 1 (word_of (pending_set me.signals))) (λ r. refl)) c.regular;
   returns = by_return _ (IsActing me) me (regular_deliveries me) s (record { regular = c.regular; place = c.place });
   sets_alarm = λ n is. regular_answers s me.pid Alarm _ (keeps_with_alarm (due_in s.ticks n) (due_ahead s.ticks n (few_ticks (argument me 1) n is))) c.regular;
   executes = λ n program is. regular_change me.pid (executed n program) s (keeps_executed n program) c.regular;
@@ -310,19 +259,20 @@ regular_ways granted s me c = record {
   sets_foreground = λ g is. regular_gives _ me.pid Tcsetpgrp (pos 0) (regular_change_console me.session (with_foreground g) s (λ c. refl) c.regular);
   sets_tostop = λ b. regular_gives _ me.pid Settostop (pos 0) (regular_change_console me.session (with_tostop b) s (λ c. refl) c.regular);
   writes = λ span fits. regular_bytes s me.pid Write (bytes_in span me.cpu.memory) c.regular;
-  marks = λ mark. regular_change me.pid (marked_as mark) s (keeps_marked mark) c.regular;
+  marks = λ mark. regular_change me.pid (marked_as mark) s (keeps_seen (marked_as mark) (λ r. refl)) c.regular;
 }
 
 -- ---- a turn
 
 regular_act : (granted : Bool) (s : State) (r : Process) → IsCaller s r → IsRegular (act granted s r).state
+unfolding enter out_of_call
 regular_act granted s r c = by_act (λ o. IsRegular o.state) IsRegular (IsActing r) granted s r (record {
   here = record { regular = c.regular; place = c.place };
   deliveries = regular_deliveries r;
   calls = regular_ways granted s r c;
-  enters_call = λ b. regular_lose r.pid (change s r.pid (enter b)) (regular_change r.pid (enter b) s (keeps_enter b) c.regular);
+  enters_call = λ b. regular_lose r.pid (change s r.pid (enter b)) (regular_change r.pid (enter b) s (keeps_seen (enter b) (λ r. refl)) c.regular);
   begins_again = λ t h. h;
-  leaves_call = λ t h. regular_change r.pid out_of_call t keeps_out h;
+  leaves_call = λ t h. regular_change r.pid out_of_call t (keeps_seen out_of_call (λ r. refl)) h;
   waits = regular_lose r.pid s c.regular;
   runs = regular_change r.pid (set_cpu _) s (keeps_set_cpu _) c.regular;
   notes = λ z is. regular_change r.pid (set_cpu _) s (keeps_set_cpu _) c.regular;
@@ -330,22 +280,16 @@ regular_act granted s r c = by_act (λ o. IsRegular o.state) IsRegular (IsActing
 
 -- ---- an event
 
--- a step
-regular_step : (granted : Bool) (s : State) → IsRegular s → IsRegular (step granted s (current_process s)).state
-regular_step granted s i = by_step (λ o. IsRegular o.state) granted s i (λ p r first e.
-    let named : p ≡ r.pid = sym (pid_looked p s.processes r e) in
-    regular_act granted s r (record { regular = i; found = subst (λ n. lookup n s.processes ≡ Some r) named e; place = subst (λ n. is_in n s.order ≡ true) named (first_in p s.order first) }))
-
--- a tick
-regular_tick : (s : State) (c : Option ℕ) → IsRegular s → current s ≡ c → IsRegular (rotate (pass_time s) c)
-regular_tick s None i e = regular_pass s i
-regular_tick s (Some p) i e = regular_last p (pass_time s) (regular_pass s i) (first_in p s.order e)
-
 -- what happens at an event
 pub happens_regular : (granted : Bool) (s : State) (event : Event) → IsRegular s → s.halted ≡ false → IsRegular (happens granted s event).state
 unfolding happens tick
-happens_regular granted s Step i awake = regular_step granted s i
-happens_regular granted s Tick i awake = regular_tick s (current s) i refl
+happens_regular granted s Step i awake = by_step (λ o. IsRegular o.state) granted s i (λ p r first e.
+    let named : p ≡ r.pid = sym (pid_looked p s.processes r e) in
+    regular_act granted s r (record { regular = i; found = subst (λ n. lookup n s.processes ≡ Some r) named e; place = subst (λ n. is_in n s.order ≡ true) named (first_in p s.order first) }))
+happens_regular granted s Tick i awake = elim (current s) as (λ c. current s ≡ c → IsRegular (rotate (pass_time s) c)) [
+  | None ↦ λ e. regular_pass s i
+  | Some p ↦ λ e. regular_last p (pass_time s) (regular_pass s i) (first_in p s.order e)
+] refl
 happens_regular granted s (Key console byte) i awake = regular_key s console byte i
 happens_regular granted s (Hangup console) i awake = regular_hangup s console i
 
@@ -381,9 +325,5 @@ regular_settled s i = record {
 -- ---- steps and runs
 
 -- an event, after a halt too
-next_regular : (granted : Bool) (s : State) (event : Event) → IsRegular s → IsRegular (next granted s event).state
-next_regular granted s event i = by_next (λ o. IsRegular o.state) granted s event (λ h. i) (λ h. regular_settled _ (happens_regular granted s event i h))
-
--- a step of the relation
 pub step_regular : (old new : State) (event : Event) (entries : List Entry) → IsStep old event entries new → IsRegular old → IsRegular new
-step_regular old new event entries h i = subst (λ (o : Outcome). IsRegular o.state) h.comes (next_regular h.granted old event i)
+step_regular old new event entries h i = by_event (λ o. IsRegular o.state) old new event entries h (λ t. i) (λ t. regular_settled _ (happens_regular h.granted old event i t))

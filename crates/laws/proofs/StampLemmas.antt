@@ -68,13 +68,11 @@ rising_without p order stamps rising = AllPairs-filter (λ q r. IsBelow (stamps 
 
 -- p has no stamp, and the others have one where they had
 is_some_without : (p q : ℕ) (stamps : Stamps) → is_some (without_stamp p stamps q) ≡ (not (q == p) && is_some (stamps q))
-is_some_without p q stamps =
-    elim (q == p) as (λ b. is_some (cond b None (stamps q)) ≡ (not b && is_some (stamps q))) [ true ↦ refl | false ↦ refl ]
+is_some_without p q stamps = grind (arith, cases_Bool)
 
 -- p has a stamp, and the others have one where they had
 is_some_with : (p n q : ℕ) (stamps : Stamps) → is_some (with_stamp p n stamps q) ≡ cond (q == p) true (is_some (stamps q))
-is_some_with p n q stamps =
-    elim (q == p) as (λ b. is_some (cond b (Some n) (stamps q)) ≡ cond b true (is_some (stamps q))) [ true ↦ refl | false ↦ refl ]
+is_some_with p n q stamps = grind (arith, cases_Bool)
 
 -- p loses its place and its stamp
 pub losing_keeps_order : (p : ℕ) (order : List ℕ) (stamps : Stamps) → IsRisingOrder order stamps

@@ -6,7 +6,7 @@ use Rattle.std.proofs.lemmas.Bool.{cases_Bool}
 use Rattle.std.proofs.lemmas.Bool.Decides.{nat_tests}
 use Rattle.posix.specs.Entries.{Line, process_of}
 use Rattle.posix.specs.declared.entry.Entry.{Entry}
-use Rattle.posix.specs.declared.entry.Entry.TheVariants.{Noted, Called, Moved, Reported, Looked, NoMemory, Marked, Handled, Discarded, Stopped, Returned, Ended, Halted}
+use Rattle.posix.specs.declared.entry.Entry.TheVariants.{Reported, Looked, Halted}
 use Rattle.posix.specs.Statuses.{is_end_word, is_stopped_word, is_continued_word}
 use Rattle.laws.specs.Lives.{LastOf, newest_life, is_living, LifeSoFar, the_end, EndOf, is_unended, parent_of, is_just, born_by, laws, last_line, last_stop, has_mark, number_from, none_or, is_halt, ends_first, was_halt, within_life, halts_last, begins_apart, report_law, is_due, is_due_to, reports, stop_in, end_in, stop_report, continue_report, is_change_word}
 use Rattle.laws.specs.Keeping.{Going, FirstEnded, Over, kept_of, kept_of_life, kept_since, alive_since, lives_now, fault_of, unless_fault, number_fault, place_fault, process_fault, birth_fault, report_fault, word_fault, fault_of_living, fault_of_ended, stop_fault, last_number, phase_of}
@@ -40,41 +40,24 @@ birth_tested lines (Some c) = rw (living_kept lines c) grind (arith, cases_Bool)
 process_tested : (lines : List Line) (p : ℕ) → is_none (process_fault (kept_of lines) (Some p)) ≡ is_living lines p
 process_tested lines p = rw (living_kept lines p) grind (arith, cases_Bool)
 
--- the tests of a report, over what they ask
-ended_asked : (same e so st reported : Bool) → is_none {T = ℕ} (cond (not same) (Some 5) (cond e (cond reported (Some 4) (cond st None (Some 6))) (cond so (Some 3) (Some 6)))) ≡ (same && (e && (st && not reported)))
-ended_asked false e so st reported = refl
-ended_asked true true so st true = grind (arith, cases_Bool)
-ended_asked true true so true false = refl
-ended_asked true true so false false = refl
-ended_asked true false true st reported = refl
-ended_asked true false false st reported = refl
-
+-- the tests of a report
 ended_tested : (p w parent status : ℕ) (reported : Bool)
     → is_none (fault_of_ended p w (record { parent = parent; status = status; reported = reported })) ≡ (parent == p && (is_end_word w && (status == w && not reported)))
-ended_tested p w parent status reported = ended_asked (parent == p) (is_end_word w) (is_change_word w) (status == w) reported
+ended_tested p w parent status reported = grind (arith, cases_Bool)
 
 stop_tested : (w : ℕ) (found : Option ℕ) (any : Bool) → is_none (stop_fault w (if any then None else found)) ≡ (is_just (w / 256) found && not any)
-stop_tested w None true = refl
-stop_tested w None false = refl
-stop_tested w (Some s) true = grind (arith, cases_Bool)
-stop_tested w (Some s) false = grind (arith, cases_Bool)
+stop_tested w None any = grind (arith, cases_Bool)
+stop_tested w (Some s) any = grind (arith, cases_Bool)
 
 living_asked : (same e s co has may stop_due : Bool) (f : Option ℕ) → is_none f ≡ stop_due
     → is_none {T = ℕ} (cond (not same) (Some 5) (cond e (Some 3) (cond s (cond has f (Some 3)) (cond co (cond (not has) (Some 3) (cond may None (Some 4))) (Some 6)))))
     ≡ (same && cond e false (cond s (has && stop_due) (cond co (has && may) false)))
-living_asked false e s co has may stop_due f h = refl
-living_asked true true s co has may stop_due f h = refl
-living_asked true false true co true may stop_due f h = h
-living_asked true false true co false may stop_due f h = refl
-living_asked true false false true true true stop_due f h = refl
-living_asked true false false true true false stop_due f h = refl
-living_asked true false false true false may stop_due f h = refl
-living_asked true false false false has may stop_due f h = refl
+living_asked same e s co has may stop_due f h = grind (arith, cases_Bool, h)
 
 living_tested : (p c w parent : ℕ) (mark : Bool) (stop : Option (LastOf Line))
     → is_none (fault_of_living p w (alive_since parent mark c stop))
     ≡ (parent == p && (if is_end_word w then false else if is_stopped_word w then stop_report c w stop else if is_continued_word w then continue_report c stop else false))
-living_tested p c w parent mark None = living_asked (parent == p) (is_end_word w) (is_stopped_word w) (is_continued_word w) false false false (Some 4) refl
+living_tested p c w parent mark None = grind (arith, cases_Bool)
 living_tested p c w parent mark (Some stop) =
     let any = list_any (reports c is_change_word) stop.after in
     living_asked (parent == p) (is_end_word w) (is_stopped_word w) (is_continued_word w) true (not (list_any (reports c is_continued_word) stop.after)) (is_just (w / 256) (stop_in c stop.it.entry) && not any)
@@ -100,39 +83,15 @@ word_tested lines p c w (Some x) = word_tested_as lines p c w x (the_end c x.sin
 
 pub report_tested : (lines : List Line) (entry : Entry) → is_none (report_fault (kept_of lines) entry) ≡ report_law lines entry
 unfolding kept_of
-report_tested lines (Noted p z) = refl
-report_tested lines (Called p call z) = refl
 report_tested lines (Reported p call c w) = word_tested lines p c w (newest_life lines c)
 report_tested lines (Looked p c w) = word_tested lines p c w (newest_life lines c)
-report_tested lines (Moved p call bytes) = refl
-report_tested lines (NoMemory p call) = refl
-report_tested lines (Marked p mark) = refl
-report_tested lines (Handled p s value sender) = refl
-report_tested lines (Discarded p s) = refl
-report_tested lines (Stopped p s) = refl
-report_tested lines (Returned p) = refl
-report_tested lines (Ended p w) = refl
-report_tested lines Halted = refl
+report_tested lines entry = refl
 
 halt_alone : (entry : Entry) → is_halt entry ≡ is_none (process_of entry)
-halt_alone (Noted p z) = refl
-halt_alone (Called p call z) = refl
-halt_alone (Reported p call c w) = refl
-halt_alone (Looked p c w) = refl
-halt_alone (Moved p call bytes) = refl
-halt_alone (NoMemory p call) = refl
-halt_alone (Marked p mark) = refl
-halt_alone (Handled p s value sender) = refl
-halt_alone (Discarded p s) = refl
-halt_alone (Stopped p s) = refl
-halt_alone (Returned p) = refl
-halt_alone (Ended p w) = refl
 halt_alone Halted = refl
+halt_alone entry = refl
 
--- where a line may stand, after `halt`, after `end 1`, and else
-after_halt : (lines : List Line) (a b : Bool) → false ≡ (a && (not true && b))
-after_halt lines a b = grind (arith, cases_Bool)
-
+-- where a line may stand, after `end 1`, and after any other but `halt`
 after_first : (lines : List Line) (o : Option ℕ) → is_none {T = ℕ} (if is_none o then None else Some 7) ≡ (none_or (is_living lines) o && (not false && (if is_none o then true else not true)))
 after_first lines None = refl
 after_first lines (Some p) = grind (arith, cases_Bool)
@@ -144,7 +103,7 @@ after_other lines (Some p) = process_tested lines p ∙ grind (arith, cases_Bool
 place_asked : (lines : List Line) (over first : Bool) (entry : Entry)
     → is_none (place_fault (kept_of lines) (if over then Over else if first then FirstEnded else Going) entry)
     ≡ (none_or (is_living lines) (process_of entry) && (not over && (if is_halt entry then first else not first)))
-place_asked lines true first entry = after_halt lines (none_or (is_living lines) (process_of entry)) (if is_halt entry then first else not first)
+place_asked lines true first entry = grind (arith, cases_Bool)
 place_asked lines false true entry = rw (halt_alone entry) (after_first lines (process_of entry))
 place_asked lines false false entry = rw (halt_alone entry) (after_other lines (process_of entry))
 

@@ -1,13 +1,14 @@
 -- What lines tell of: births, ends, stops and reports; and lines that tell of nothing.
 use Rattle.std.proofs.Common.{◌≡◌, ◌≢◌, ℕ, zero, suc, ◌+◌, ◌/◌, ◌≤◌, Bool, true, false, cond, ◌==◌, List, [], ◌∷◌, ◌++◌, length, Option, Some, None, option_map, option_and_then, is_none, refl, ap, sym, ◌∙◌, arith, subst, pos, inl, inr}
-use Rattle.std.proofs.lemmas.Bool.{eqb-true, eqb-false, eq-eqb, ne_eqb}
+use Rattle.std.proofs.Math.Bool.{and-true}
+use Rattle.std.proofs.lemmas.Bool.{eqb-true, eqb-false, eq-eqb, ne_eqb, true_from_ne_false}
 use mathlib.Core.Path.{fun_ext}
 use Rattle.posix.specs.declared.entry.Entry.{Entry}
 use Rattle.posix.specs.declared.waits.WaitCall.{WaitCall}
-use Rattle.posix.specs.declared.entry.Entry.TheVariants.{Noted, Called, Moved, Reported, Looked, NoMemory, Marked, Handled, Discarded, Stopped, Returned, Ended, Halted}
+use Rattle.posix.specs.declared.entry.Entry.TheVariants.{Called, Reported, Looked, Marked, Stopped, Ended, Halted}
 use Rattle.posix.specs.declared.call.Call.TheVariants.{Fork}
 use Rattle.posix.specs.declared.process.Life.{Life}
-use Rattle.posix.specs.declared.process.Life.TheVariants.{Running, Stopped as Halting, Zombie}
+use Rattle.posix.specs.declared.process.Life.TheVariants.{Running, Zombie}
 use Rattle.posix.specs.declared.process.News.TheVariants as news
 use Rattle.posix.specs.SignalNumbers.{is_stop_signal}
 use Rattle.posix.specs.Statuses.{stopped, continued, tells_end, is_end_word}
@@ -23,9 +24,8 @@ use Rattle.posix.specs.Ends.{ended, made_zombie, halt, leave_children_and_die}
 use Rattle.posix.specs.Notices.{stopped_by}
 use Rattle.posix.specs.Waits.{news_told}
 use Rattle.laws.specs.Lives.{LastOf, LifeSoFar, EndOf, newest_life, the_end, last_stop, has_mark, parent_of, born_by}
-use Rattle.laws.specs.Keeping.{Alive, Kept, NeverBorn, Lives, Died, Phase, Going, FirstEnded, Over, kept_of, kept_of_life, kept_since, alive_since, kept_after, made_by, heir_of, forebear_kept, newborn, after_report, after_stop, after_mark, ended_with, given_on, moved_from, lives_now, place_fault, report_fault, word_fault, phase_after}
+use Rattle.laws.specs.Keeping.{Kept, NeverBorn, Lives, Died, Phase, Going, FirstEnded, Over, kept_of, kept_of_life, kept_since, alive_since, kept_after, made_by, heir_of, forebear_kept, newborn, after_report, after_stop, after_mark, ended_with, given_on, moved_from, lives_now, place_fault, report_fault, word_fault, phase_after}
 use Rattle.laws.specs.Agree.{NewsAgree, AgreeOn, AgreeIn}
-use Rattle.laws.proofs.KeptLemmas.{and_true}
 use Rattle.laws.proofs.NextLineLemmas.{lives_kept, free_kept, agree_says}
 use Rattle.posix.proofs.TableLemmas.{lookup_changed, pid_looked, pid_reparented, reparented_keeps, length_inserted}
 use Rattle.posix.proofs.MapLemmas.{lookup_map}
@@ -38,19 +38,14 @@ use Rattle.laws.proofs.QuietLemmas.{runs_on, length_changed, one_removed}
 -- ---- lines that tell of nothing
 
 abbrev pub is_plain : Entry → Bool
-is_plain (Noted p z) = true
 is_plain (Called p call z) = is_none (born_by (Called p call z))
-is_plain (Moved p call bytes) = true
 is_plain (Reported p call c w) = false
 is_plain (Looked p c w) = false
-is_plain (NoMemory p call) = true
 is_plain (Marked p mark) = false
-is_plain (Handled p s value sender) = true
-is_plain (Discarded p s) = true
 is_plain (Stopped p s) = false
-is_plain (Returned p) = true
 is_plain (Ended p w) = false
 is_plain Halted = false
+is_plain _ = true
 
 record TellsNothing (kept : ℕ → Kept) (e : Entry) : Type 0 where
   born : born_by e ≡ None
@@ -61,7 +56,6 @@ record TellsNothing (kept : ℕ → Kept) (e : Entry) : Type 0 where
 
 tells_nothing : (kept : ℕ → Kept) (e : Entry) → is_plain e ≡ true → TellsNothing kept e
 unfolding made_by
-tells_nothing kept (Noted p z) h = record { born = refl; same = λ c. refl; report = refl; ends = refl; going = refl }
 tells_nothing kept (Called p call z) h =
     let none = is_none_none (born_by (Called p call z)) h in
     record { born = none; same = λ c. rw none refl; report = refl; ends = refl; going = refl }
@@ -69,17 +63,13 @@ tells_nothing kept (Called p call z) h =
     is_none_none : (o : Option ℕ) → is_none o ≡ true → o ≡ None
     is_none_none None h = refl
     is_none_none (Some n) h = absurd (cc)
-tells_nothing kept (Moved p call bytes) h = record { born = refl; same = λ c. refl; report = refl; ends = refl; going = refl }
 tells_nothing kept (Reported p call c w) h = absurd (cc)
 tells_nothing kept (Looked p c w) h = absurd (cc)
-tells_nothing kept (NoMemory p call) h = record { born = refl; same = λ c. refl; report = refl; ends = refl; going = refl }
 tells_nothing kept (Marked p mark) h = absurd (cc)
-tells_nothing kept (Handled p s value sender) h = record { born = refl; same = λ c. refl; report = refl; ends = refl; going = refl }
-tells_nothing kept (Discarded p s) h = record { born = refl; same = λ c. refl; report = refl; ends = refl; going = refl }
 tells_nothing kept (Stopped p s) h = absurd (cc)
-tells_nothing kept (Returned p) h = record { born = refl; same = λ c. refl; report = refl; ends = refl; going = refl }
 tells_nothing kept (Ended p w) h = absurd (cc)
 tells_nothing kept Halted h = absurd (cc)
+tells_nothing kept e h = record { born = refl; same = λ c. refl; report = refl; ends = refl; going = refl }
 
 -- p is there and lives
 pub record IsLiving (s : State) (p : ℕ) : Type 0 where
@@ -221,14 +211,6 @@ given_same NeverBorn = refl
 given_same (Lives a) = ap (λ n. Lives (record a { parent = n })) (moved_same a.parent)
 given_same (Died d) = ap (λ n. Died (record d { parent = n })) (moved_same d.parent)
 
-ended_pid : (w : ℕ) (r : Process) → (ended w r).pid ≡ r.pid
-unfolding ended
-ended_pid w r = refl
-
-stopped_pid : (n : ℕ) (r : Process) → (stopped_by n r).pid ≡ r.pid
-unfolding stopped_by
-stopped_pid n r = refl
-
 agree_first : (w : ℕ) (k : Kept) (r : Process) → r.pid ≡ 1 → is_end_word w ≡ true → is_zombie r.life ≡ false → AgreeOn k (Some r) → AgreeOn (ended_with w k) (Some (ended w r))
 unfolding ended
 agree_first w NeverBorn r one word lives h = h
@@ -238,7 +220,7 @@ agree_first w (Died d) r one word lives h = let no : true ≡ false = sym (ap is
 -- the end of process 1, and the halt
 pub agree_halted : (lines : List Line) (k : ℕ) (s : State) (w : ℕ) → AgreeIn Going lines k s → IsLiving s 1 → is_end_word w ≡ true
     → AgreeIn Over ((lines ++ line k (Ended 1 w) ∷ []) ++ line k Halted ∷ []) k (halt s w)
-unfolding made_by
+unfolding made_by ended
 agree_halted lines k s w h me word =
     let kept = kept_of lines in
     let t = change s 1 (ended w) in
@@ -247,7 +229,7 @@ agree_halted lines k s w h me word =
       place = may_say kept 1 (Ended 1 w) (in_life Going lines k s 1 h me) refl;
       birth = refl;
       report = refl;
-      records = λ c. rw (given_same (kept_of lines c)) (changed_agree lines s 1 (ended_with w) (ended w) me.what me.found (ended_pid w) (agree_first w (kept_of lines 1) me.what (pid_looked 1 s.processes me.what me.found) word me.lives) h.records c (1 == c) refl);
+      records = λ c. rw (given_same (kept_of lines c)) (changed_agree lines s 1 (ended_with w) (ended w) me.what me.found (λ r. refl) (agree_first w (kept_of lines 1) me.what (pid_looked 1 s.processes me.what me.found) word me.lives) h.records c (1 == c) refl);
       births = omega arith;
       total = omega (arith, l);
     }) in
@@ -262,7 +244,7 @@ agree_stops n (Lives a) r word lives h = record { living = refl; parent = h.pare
 agree_stops n (Died d) r word lives h = let no : true ≡ false = sym (ap is_zombie h.life) ∙ lives in absurd (cc)
 
 pub agree_stopped : (lines : List Line) (k : ℕ) (s : State) (p n : ℕ) → AgreeIn Going lines k s → IsLiving s p → is_stop_signal n ≡ true → AgreeIn Going (lines ++ line k (Stopped p n) ∷ []) k (change s p (stopped_by n))
-unfolding made_by
+unfolding made_by stopped_by
 agree_stopped lines k s p n h me word =
     let kept = kept_of lines in
     let l = length_changed p (stopped_by n) s.processes in
@@ -270,7 +252,7 @@ agree_stopped lines k s p n h me word =
       place = may_say kept p (Stopped p n) (in_life Going lines k s p h me) refl;
       birth = refl;
       report = refl;
-      records = λ c. changed_agree lines s p (after_stop n) (stopped_by n) me.what me.found (stopped_pid n) (agree_stops n (kept_of lines p) me.what word me.lives) h.records c (p == c) refl;
+      records = λ c. changed_agree lines s p (after_stop n) (stopped_by n) me.what me.found (λ r. refl) (agree_stops n (kept_of lines p) me.what word me.lives) h.records c (p == c) refl;
       births = omega arith;
       total = omega (arith, l);
     })
@@ -283,13 +265,9 @@ agree_marks mark NeverBorn r lives h = h
 agree_marks mark (Lives a) r lives h = record { living = h.living; parent = h.parent; mark = refl; news = h.news; stopped = h.stopped }
 agree_marks mark (Died d) r lives h = let no : true ≡ false = sym (ap is_zombie h.life) ∙ lives in absurd (cc)
 
-pub marked_pid : (mark : Bool) (r : Process) → (marked_as mark r).pid ≡ r.pid
-unfolding marked_as finished
-marked_pid mark r = refl
-
 -- a process becomes a subreaper, or is none any more
 pub agree_marked : (lines : List Line) (k : ℕ) (s : State) (p : ℕ) (mark : Bool) → AgreeIn Going lines k s → IsLiving s p → AgreeIn Going (lines ++ line k (Marked p mark) ∷ []) k (change s p (marked_as mark))
-unfolding made_by
+unfolding made_by marked_as finished
 agree_marked lines k s p mark h me =
     let kept = kept_of lines in
     let l = length_changed p (marked_as mark) s.processes in
@@ -297,7 +275,7 @@ agree_marked lines k s p mark h me =
       place = may_say kept p (Marked p mark) (in_life Going lines k s p h me) refl;
       birth = refl;
       report = refl;
-      records = λ c. changed_agree lines s p (after_mark mark) (marked_as mark) me.what me.found (marked_pid mark) (agree_marks mark (kept_of lines p) me.what me.lives) h.records c (p == c) refl;
+      records = λ c. changed_agree lines s p (after_mark mark) (marked_as mark) me.what me.found (λ r. refl) (agree_marks mark (kept_of lines p) me.what me.lives) h.records c (p == c) refl;
       births = omega arith;
       total = omega (arith, l);
     })
@@ -305,7 +283,7 @@ agree_marked lines k s p mark h me =
 -- ---- reports
 
 -- the tests of a report of an end
-end_passes : (p w : ℕ) (k : Kept) (r : Process) → r.life ≡ Zombie w → r.parent ≡ p → AgreeOn k (Some r) → word_fault p w k ≡ None
+pub end_passes : (p w : ℕ) (k : Kept) (r : Process) → r.life ≡ Zombie w → r.parent ≡ p → AgreeOn k (Some r) → word_fault p w k ≡ None
 end_passes p w NeverBorn r life parent h = absurd (h)
 end_passes p w (Lives a) r life parent h = let no : true ≡ false = sym (ap is_zombie life) ∙ h.living in absurd (cc)
 end_passes p w (Died d) r life parent h =
@@ -351,10 +329,10 @@ agree_reaped lines k s p call c w r h me up found parent life =
 -- ---- news
 
 -- what a report of a stop or a continue comes to
-record ToldAs (p w : ℕ) (k : Kept) (r : Process) : Type 0 where
-  passes : word_fault p w k ≡ None
-  after : AgreeOn (after_report w k) (Some (news_told r))
-  tells : tells_end w ≡ false
+pub record ToldAs (p w : ℕ) (k : Kept) (r : Process) : Type 0 where
+  pub passes : word_fault p w k ≡ None
+  pub after : AgreeOn (after_report w k) (Some (news_told r))
+  pub tells : tells_end w ≡ false
 
 -- who never stopped has no stop or continue to report
 abbrev IsSound : Kept → Type 0
@@ -378,23 +356,6 @@ sound_kept lines c = of (newest_life lines c)
     of None = tt
     of (Some x) = since (parent_of lines c) x.since (the_end c x.since)
 
-stop_passes : (p s : ℕ) (a : Alive) → IsSound (Lives a) → (a.parent == p) ≡ true → a.stop ≡ Some s → is_stop_signal s ≡ true → word_fault p (stopped s) (Lives a) ≡ None
-stop_passes p s a sound mine last signal = by a.has_stopped refl
-  where
-    by : (b : Bool) → a.has_stopped ≡ b → word_fault p (stopped s) (Lives a) ≡ None
-    by true t =
-        let w = stop_word s signal in
-        let same : (s == stopped s / 256) ≡ true = eq-eqb s _ (sym w.signal) in
-        rw (mine, w.end, w.stop, t, last, same) refl
-    by false t = let none = sym last ∙ (sound t).0 in absurd (cc)
-
-continue_passes : (p : ℕ) (a : Alive) → IsSound (Lives a) → (a.parent == p) ≡ true → a.may_continue ≡ true → word_fault p continued (Lives a) ≡ None
-continue_passes p a sound mine may = by a.has_stopped refl
-  where
-    by : (b : Bool) → a.has_stopped ≡ b → word_fault p continued (Lives a) ≡ None
-    by true t = rw (mine, t, may) refl
-    by false t = let no = sym may ∙ (sound t).1 in absurd (cc)
-
 stop_told : (p s : ℕ) (k : Kept) (r : Process) → IsSound k → is_zombie r.life ≡ false → r.parent ≡ p → r.news ≡ news.StoppedBy s → AgreeOn k (Some r) → ToldAs p (stopped s) k r
 unfolding news_told
 stop_told p s NeverBorn r sound lives parent is h = absurd (h)
@@ -403,8 +364,11 @@ stop_told p s (Lives a) r sound lives parent is h =
     let w = stop_word s n.1 in
     let mine : (a.parent == p) ≡ true = eq-eqb a.parent p (sym h.parent ∙ parent) in
     record {
-      passes = stop_passes p s a sound mine n.0 n.1;
-      after = record { living = h.living; parent = h.parent; mark = h.mark; news = tt; stopped = λ e. rw w.continue (and_true a.may_continue ∙ h.stopped e) };
+      passes =
+          let stops = true_from_ne_false a.has_stopped (λ t. let none : Some s ≡ None = sym n.0 ∙ (sound t).0 in cc) in
+          let same : (s == stopped s / 256) ≡ true = eq-eqb s _ (sym w.signal) in
+          rw (mine, w.end, w.stop, stops, n.0, same) refl;
+      after = record { living = h.living; parent = h.parent; mark = h.mark; news = tt; stopped = λ e. rw w.continue (and-true a.may_continue ∙ h.stopped e) };
       tells = w.tells;
     }
 stop_told p s (Died d) r sound lives parent is h = let no : true ≡ false = sym (ap is_zombie h.life) ∙ lives in absurd (cc)
@@ -416,20 +380,16 @@ continue_told p (Lives a) r sound lives parent is h =
     let n : (a.may_continue ≡ true) × (is_stopped r.life ≡ false) = subst (NewsAgree a (is_stopped r.life)) is h.news in
     let mine : (a.parent == p) ≡ true = eq-eqb a.parent p (sym h.parent ∙ parent) in
     record {
-      passes = continue_passes p a sound mine n.0;
+      passes = let stops = true_from_ne_false a.has_stopped (λ t. let no : true ≡ false = sym n.0 ∙ (sound t).1 in cc) in rw (mine, stops, n.0) refl;
       after = record { living = h.living; parent = h.parent; mark = h.mark; news = tt; stopped = λ e. let no = sym n.1 ∙ e in absurd (cc) };
       tells = refl;
     }
 continue_told p (Died d) r sound lives parent is h = let no : true ≡ false = sym (ap is_zombie h.life) ∙ lives in absurd (cc)
 
-pub told_pid : (r : Process) → (news_told r).pid ≡ r.pid
-unfolding news_told
-told_pid r = refl
-
 -- a wait reports a child's news, which are none from then on
-agree_news : (lines : List Line) (k : ℕ) (s : State) (p : ℕ) (call : WaitCall) (c w : ℕ) (r : Process) → AgreeIn Going lines k s → IsLiving s p → lookup c s.processes ≡ Some r → ToldAs p w (kept_of lines c) r
+pub agree_news : (lines : List Line) (k : ℕ) (s : State) (p : ℕ) (call : WaitCall) (c w : ℕ) (r : Process) → AgreeIn Going lines k s → IsLiving s p → lookup c s.processes ≡ Some r → ToldAs p w (kept_of lines c) r
     → AgreeIn Going (lines ++ line k (Reported p call c w) ∷ []) k (change s c news_told)
-unfolding made_by
+unfolding made_by news_told
 agree_news lines k s p call c w r h me found told =
     let kept = kept_of lines in
     let l = length_changed c news_told s.processes in
@@ -437,25 +397,20 @@ agree_news lines k s p call c w r h me found told =
       place = may_say kept p (Reported p call c w) (in_life Going lines k s p h me) refl;
       birth = refl;
       report = told.passes;
-      records = λ q. changed_agree lines s c (after_report w) news_told r found told_pid (λ agrees. told.after) h.records q (c == q) refl;
+      records = λ q. changed_agree lines s c (after_report w) news_told r found (λ r. refl) (λ agrees. told.after) h.records q (c == q) refl;
       births = omega arith;
       total = rw told.tells (omega (arith, l));
     })
 
 -- news that a living child has tell of its last stop, or of its continue
-news_are_told : (lines : List Line) (p c w : ℕ) (r : Process) → AgreeOn (kept_of lines c) (Some r) → r.parent ≡ p → is_zombie r.life ≡ false → IsNewsOf r w → ToldAs p w (kept_of lines c) r
+pub news_are_told : (lines : List Line) (p c w : ℕ) (r : Process) → AgreeOn (kept_of lines c) (Some r) → r.parent ≡ p → is_zombie r.life ≡ false → IsNewsOf r w → ToldAs p w (kept_of lines c) r
 news_are_told lines p c w r agrees parent lives (inl x) = subst (λ v. ToldAs p v (kept_of lines c) r) (sym x.2) (stop_told p x.0 (kept_of lines c) r (sound_kept lines c) lives parent x.1 agrees)
 news_are_told lines p c w r agrees parent lives (inr x) = subst (λ v. ToldAs p v (kept_of lines c) r) (sym x.1) (continue_told p (kept_of lines c) r (sound_kept lines c) lives parent x.0 agrees)
-
-pub agree_reported : (lines : List Line) (k : ℕ) (s : State) (p : ℕ) (call : WaitCall) (c w : ℕ) (r : Process) → AgreeIn Going lines k s → IsLiving s p → lookup c s.processes ≡ Some r → r.parent ≡ p → is_zombie r.life ≡ false → IsNewsOf r w
-    → AgreeIn Going (lines ++ line k (Reported p call c w) ∷ []) k (change s c news_told)
-agree_reported lines k s p call c w r h me found parent lives what =
-    agree_news lines k s p call c w r h me found (news_are_told lines p c w r (subst (AgreeOn (kept_of lines c)) found (h.records c)) parent lives what)
 
 -- ---- looks
 
 -- A look tells what a report would, and changes nothing.
-agree_look : (lines : List Line) (k : ℕ) (s : State) (p c w : ℕ) → AgreeIn Going lines k s → IsLiving s p → word_fault p w (kept_of lines c) ≡ None → AgreeIn Going (lines ++ line k (Looked p c w) ∷ []) k s
+pub agree_look : (lines : List Line) (k : ℕ) (s : State) (p c w : ℕ) → AgreeIn Going lines k s → IsLiving s p → word_fault p w (kept_of lines c) ≡ None → AgreeIn Going (lines ++ line k (Looked p c w) ∷ []) k s
 unfolding made_by
 agree_look lines k s p c w h me passes =
     agree_says Going lines k (Looked p c w) s s h (record {
@@ -467,18 +422,6 @@ agree_look lines k s p c w h me passes =
       total = omega arith;
     })
 
--- at the end of a child
-pub agree_looked_at_end : (lines : List Line) (k : ℕ) (s : State) (p c w : ℕ) (r : Process) → AgreeIn Going lines k s → IsLiving s p → lookup c s.processes ≡ Some r → r.parent ≡ p → r.life ≡ Zombie w
-    → AgreeIn Going (lines ++ line k (Looked p c w) ∷ []) k s
-agree_looked_at_end lines k s p c w r h me found parent life =
-    agree_look lines k s p c w h me (end_passes p w (kept_of lines c) r life parent (subst (AgreeOn (kept_of lines c)) found (h.records c)))
-
--- at its news
-pub agree_looked_at_news : (lines : List Line) (k : ℕ) (s : State) (p c w : ℕ) (r : Process) → AgreeIn Going lines k s → IsLiving s p → lookup c s.processes ≡ Some r → r.parent ≡ p → is_zombie r.life ≡ false → IsNewsOf r w
-    → AgreeIn Going (lines ++ line k (Looked p c w) ∷ []) k s
-agree_looked_at_news lines k s p c w r h me found parent lives what =
-    agree_look lines k s p c w h me (news_are_told lines p c w r (subst (AgreeOn (kept_of lines c)) found (h.records c)) parent lives what).passes
-
 -- ---- births
 
 pub pid_child : (birth : ℕ) (me : Process) (n : ℕ) → (child_of birth me n).pid ≡ n
@@ -489,15 +432,15 @@ pub life_child : (birth : ℕ) (me : Process) (n : ℕ) → is_stopped (child_of
 unfolding child_of finished
 life_child birth me n = refl
 
+-- who runs lives
+pub running_lives : (l : Life) → is_running l ≡ true → is_zombie l ≡ false
+running_lives Running r = refl
+running_lives l r = absurd (cc)
+
 -- a child of who runs
 agree_child : (birth : ℕ) (me : Process) (n : ℕ) → is_running me.life ≡ true → AgreeOn (newborn me.pid) (Some (child_of birth me n))
 unfolding child_of finished
 agree_child birth me n runs = record { living = running_lives me.life runs; parent = refl; mark = refl; news = tt; stopped = λ e. absurd (runs_on me.life runs e) }
-  where
-    running_lives : (l : Life) → is_running l ≡ true → is_zombie l ≡ false
-    running_lives Running r = refl
-    running_lives Halting r = absurd (cc)
-    running_lives (Zombie w) r = absurd (cc)
 
 -- a birth
 pub agree_born : (lines : List Line) (k : ℕ) (s : State) (me : Process) (n : ℕ) → AgreeIn Going lines k s → IsLiving s me.pid → is_running me.life ≡ true → 1 ≤ n → lookup n s.processes ≡ None

@@ -5,8 +5,7 @@ use Rattle.posix.specs.declared.call.Call.TheVariants.{Fork}
 use Rattle.posix.specs.declared.entry.Entry.{Entry}
 use Rattle.posix.specs.declared.waits.WaitCall.{WaitCall}
 use Rattle.posix.specs.declared.entry.Entry.TheVariants.{Called, Reported, Marked, Looked, Stopped, Ended, Halted}
-use Rattle.posix.specs.declared.process.Life.{Life}
-use Rattle.posix.specs.declared.process.Life.TheVariants.{Running, Stopped as Halting, Zombie}
+use Rattle.posix.specs.declared.process.Life.TheVariants.{Zombie}
 use Rattle.posix.specs.SignalNumbers.{KILL, HUP, is_stop_signal}
 use Rattle.posix.specs.Statuses.{stopped, is_end_word}
 use Rattle.posix.specs.Processes.{Process, is_zombie, is_stopped, is_running}
@@ -21,23 +20,22 @@ use Rattle.posix.specs.Births.{child_of, born}
 use Rattle.posix.specs.Groups.{newly_orphaned}
 use Rattle.posix.specs.Heirs.{heir_in}
 use Rattle.posix.specs.Subreapers.{marked_as}
-use Rattle.posix.specs.Ends.{ended, made_zombie, halt, leave_children_and_die, zombies_of, tell_of_all, hup_and_cont_orphans, hup_and_cont_all, notice_of_end, signalled_members, signalled_group, hung_up, hang_up, end_with_heir, end_process}
+use Rattle.posix.specs.Ends.{ended, made_zombie, halt, leave_children_and_die, zombies_of, tell_of_all, hup_and_cont_orphans, hup_and_cont_all, notice_of_end, signalled_members, signalled_group, hung_up, hang_up, end_process}
 use Rattle.posix.specs.Notices.{stopped_by}
 use Rattle.posix.specs.Delivery.{stop_process}
 use Rattle.posix.specs.Waits.{news_told}
 use Rattle.laws.specs.Keeping.{Phase, Going, Over, kept_of}
-use Rattle.laws.specs.Agree.{AgreeIn, AreTurns, phase_between}
+use Rattle.laws.specs.Agree.{AgreeIn, AgreeOn, AreTurns, phase_between}
 use Rattle.posix.proofs.MemberLemmas.{is_other}
 use Rattle.posix.proofs.TableLemmas.{lookup_changed, pid_looked, rising_changed, rising_adopted, rising_filter, reparented_keeps}
-use Rattle.posix.proofs.WalkLemmas.{all_looked, in_filter}
 use Rattle.posix.proofs.RegularLemmas.{lookup_left, lookup_inserted, lookup_new}
 use Rattle.posix.proofs.HupAndContLemmas.{lasts_members, lasts_hup_and_cont_all, still_there}
 use Rattle.posix.proofs.OrphanLemmas.{lasting_told, not_told}
 use Rattle.laws.proofs.NextLineLemmas.{counted_all}
 use Rattle.laws.proofs.QuietLemmas.{Quiet, quiet_then, turns_changed, IsRunning, runs_on}
-use Rattle.laws.proofs.QuietOperations.{quiet_hup_and_cont, quiet_hung_up, IsGone, AllGone, quiet_notice, quiet_told, quiet_told_of_change}
+use Rattle.laws.proofs.QuietOperations.{each_zombie, quiet_hup_and_cont, quiet_hung_up, IsGone, AllGone, quiet_notice, quiet_told, quiet_told_of_change}
 use Rattle.laws.proofs.NewsLemmas.{IsNewsOf}
-use Rattle.laws.proofs.ToldLines.{is_plain, IsLiving, agree_plain, departed, agree_ended, agree_halted, agree_stopped, agree_marked, agree_reaped, agree_reported, agree_looked_at_end, agree_looked_at_news, agree_born, pid_child, life_child}
+use Rattle.laws.proofs.ToldLines.{is_plain, IsLiving, agree_plain, departed, agree_ended, agree_halted, agree_stopped, agree_marked, agree_reaped, end_passes, news_are_told, agree_news, agree_look, running_lives, agree_born, pid_child, life_child}
 
 -- ---- quiet changes
 
@@ -118,15 +116,9 @@ gone_before s p heir w c g = by (c == p) refl
 
 -- zombies among the children are gone
 pub children_gone : (s : State) (p heir w : ℕ) → IsRising s.processes → AllGone (leave_children_and_die s p heir w).processes (zombies_of p s.processes)
-unfolding zombies_of children_in
-children_gone s p heir w up =
-    let kids = filter (is_child p) s.processes in
-    let kids_up = rising_filter (is_child p) s.processes up in
-    all_looked _ (filter (λ r. is_zombie r.life) kids) (rising_filter _ kids kids_up) (λ c z e.
-    let a = in_filter (λ r. is_zombie r.life) kids kids_up c z e in
-    let b = in_filter (is_child p) s.processes up c z a.found in
-    let here : z.pid ≡ c = pid_looked c s.processes z b.found in
-    gone_before s p heir w z.pid (record { what = z; found = ap (λ n. lookup n s.processes) here ∙ b.found; dead = a.passes }))
+children_gone s p heir w up = each_zombie _ p s.processes up (λ c z found child dead.
+    let here : z.pid ≡ c = pid_looked c s.processes z found in
+    gone_before s p heir w z.pid (record { what = z; found = ap (λ n. lookup n s.processes) here ∙ found; dead = dead }))
 
 pub zombies_rise : (s : State) (p : ℕ) → IsRising s.processes → IsRising (zombies_of p s.processes)
 unfolding zombies_of children_in
@@ -195,10 +187,6 @@ told_halt s w me word = record {
   };
 }
 
--- it goes on to be there
-pub living_quiet : (s t : State) (p : ℕ) → ((r : Process) → lookup p s.processes ≡ Some r → (q : Process) × (lookup p t.processes ≡ Some q) × (is_zombie q.life ≡ is_zombie r.life)) → IsLiving s p → IsLiving t p
-living_quiet s t p h me = let x = h me.what me.found in record { what = x.0; found = x.1; lives = x.2 ∙ me.lives }
-
 -- signals leave who lives living
 living_group : (n group : ℕ) (rs : List Process) (p : ℕ) (r : Process) → IsRising rs → lookup p rs ≡ Some r → (q : Process) × (lookup p (signalled_group n group rs) ≡ Some q) × (is_zombie q.life ≡ is_zombie r.life)
 living_group n group rs p r up e =
@@ -211,22 +199,19 @@ living_hung_up s r p up me = cond_both (not (r.pid == 1) && r.session == r.pid) 
   where
     of : (c : Option Console) → IsLiving (hung_up s r.session c) p
     of None = me
-    of (Some c) = living_quiet s (hung_up s r.session (Some c)) p (λ r e. living_group HUP c.foreground s.processes p r up e) me
-
-halted_hung_up : (s : State) (r : Process) → s.halted ≡ false → (hang_up s r).halted ≡ false
-halted_hung_up s r awake = (quiet_hung_up s r).halted ∙ awake
-
-told_heir : (s : State) (r : Process) (w : ℕ) → s.halted ≡ false → IsRising s.processes → IsLiving s r.pid → is_end_word w ≡ true → IsTold s (end_with_heir s r (heir_in s.processes r.pid) w)
-told_heir s r w awake up me word = cond_both (r.pid == 1) _ _ (IsTold s)
-    (λ t. let first = eqb-true r.pid 1 t in subst (λ n. IsTold s (record { state = halt s w; entries = Ended n w ∷ Halted ∷ [] })) (sym first) (told_halt s w (subst (IsLiving s) first me) word))
-    (λ t. told_gone s r.pid r.parent w awake up me (eqb-false r.pid 1 t) word)
+    of (Some c) = let x = living_group HUP c.foreground s.processes p me.what up me.found in record { what = x.0; found = x.1; lives = x.2 ∙ me.lives }
 
 -- an end
 pub told_end : (s : State) (r : Process) (w : ℕ) → s.halted ≡ false → IsRising s.processes → IsLiving s r.pid → is_end_word w ≡ true → IsTold s (end_process s r w)
 unfolding end_process
 told_end s r w awake up me word =
     let q = quiet_hung_up s r in
-    told_after s (hang_up s r) _ q (told_heir (hang_up s r) r w (halted_hung_up s r awake) (q.rising up) (living_hung_up s r r.pid up me) word)
+    let t = hang_up s r in
+    let lives = living_hung_up s r r.pid up me in
+    let still = q.halted ∙ awake in
+    told_after s t _ q (cond_both (r.pid == 1) _ _ (IsTold t)
+    (λ e. let first = eqb-true r.pid 1 e in subst (λ n. IsTold t (record { state = halt t w; entries = Ended n w ∷ Halted ∷ [] })) (sym first) (told_halt t w (subst (IsLiving t) first lives) word))
+    (λ e. told_gone t r.pid r.parent w still (q.rising up) lives (eqb-false r.pid 1 e) word))
 
 -- ---- stops
 
@@ -249,12 +234,7 @@ told_stop s r n awake me word =
 
 -- who runs lives
 pub running_living : (s : State) (p : ℕ) → IsRunning s p → IsLiving s p
-running_living s p me = record { what = me.what; found = me.found; lives = lives me.what.life me.runs }
-  where
-    lives : (l : Life) → is_running l ≡ true → is_zombie l ≡ false
-    lives Running r = refl
-    lives Halting r = absurd (cc)
-    lives (Zombie w) r = absurd (cc)
+running_living s p me = record { what = me.what; found = me.found; lives = running_lives me.what.life me.runs }
 
 -- a process that runs becomes a subreaper, or is none any more
 pub told_marked : (s : State) (p : ℕ) (mark : Bool) → s.halted ≡ false → IsRunning s p → IsTold s (record { state = change s p (marked_as mark); entries = Marked p mark ∷ [] })
@@ -298,11 +278,11 @@ pub told_news : (s : State) (p : ℕ) (call : WaitCall) (c w : ℕ) (r : Process
     → IsTold s (record { state = change s c news_told; entries = Reported p call c w ∷ [] })
 unfolding news_told
 told_news s p call c w r awake me found parent lives what =
-    told_one s (change s c news_told) (Reported p call c w) awake (λ lines k a. agree_reported lines k s p call c w r a me found parent lives what) (turns_changed s c news_told (λ r. refl) r found (λ stops was. was stops))
+    told_one s (change s c news_told) (Reported p call c w) awake (λ lines k a. agree_news lines k s p call c w r a me found (news_are_told lines p c w r (subst (AgreeOn (kept_of lines c)) found (a.records c)) parent lives what)) (turns_changed s c news_told (λ r. refl) r found (λ stops was. was stops))
 
 -- or a child is looked at
 pub told_looked_at_end : (s : State) (p c w : ℕ) (r : Process) → s.halted ≡ false → IsLiving s p → lookup c s.processes ≡ Some r → r.parent ≡ p → r.life ≡ Zombie w → IsTold s (record { state = s; entries = Looked p c w ∷ [] })
-told_looked_at_end s p c w r awake me found parent life = told_one s s (Looked p c w) awake (λ lines k a. agree_looked_at_end lines k s p c w r a me found parent life) (λ a. a)
+told_looked_at_end s p c w r awake me found parent life = told_one s s (Looked p c w) awake (λ lines k a. agree_look lines k s p c w a me (end_passes p w (kept_of lines c) r life parent (subst (AgreeOn (kept_of lines c)) found (a.records c)))) (λ a. a)
 
 pub told_looked_at_news : (s : State) (p c w : ℕ) (r : Process) → s.halted ≡ false → IsLiving s p → lookup c s.processes ≡ Some r → r.parent ≡ p → is_zombie r.life ≡ false → IsNewsOf r w → IsTold s (record { state = s; entries = Looked p c w ∷ [] })
-told_looked_at_news s p c w r awake me found parent lives what = told_one s s (Looked p c w) awake (λ lines k a. agree_looked_at_news lines k s p c w r a me found parent lives what) (λ a. a)
+told_looked_at_news s p c w r awake me found parent lives what = told_one s s (Looked p c w) awake (λ lines k a. agree_look lines k s p c w a me (news_are_told lines p c w r (subst (AgreeOn (kept_of lines c)) found (a.records c)) parent lives what).passes) (λ a. a)

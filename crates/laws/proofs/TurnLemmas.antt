@@ -1,17 +1,16 @@
 -- Who has a place keeps it, and comes nearer to its turn.
 use Rattle.std.proofs.Common.{◌≡◌, ◌≢◌, ℕ, zero, suc, add-zero, append_assoc, ◌+◌, ◌≤◌, Bool, true, false, cond, not, refl, ap, sym, ◌∙◌, arith, subst, List, [], ◌∷◌, ◌++◌, filter, Option, Some, None, ◌==◌, slice_get, inl, inr, ◌⊎◌}
-use Rattle.std.proofs.lemmas.Bool.{eqb-true, eq-eqb, ne_eqb, or_left}
+use Rattle.std.proofs.lemmas.Bool.{eqb-true, eq-eqb, ne_eqb, or_left, false_from_ne_true}
 use Rattle.std.proofs.lemmas.List.Sums.{sum_by-cons}
 use Rattle.posix.specs.declared.event.Event.{Event}
 use Rattle.posix.specs.declared.event.Event.TheVariants.{Step, Tick, Key, Hangup}
 use Rattle.posix.specs.declared.entry.Entry.{Entry}
-use Rattle.posix.specs.States.{State, is_in, without, current, current_process}
+use Rattle.posix.specs.States.{State, is_in, without, current}
 use Rattle.posix.specs.Regular.{IsDistinct}
-use Rattle.posix.specs.Consoles.{Console, console_at}
-use Rattle.posix.specs.Outcomes.{Outcome}
+use Rattle.posix.specs.Consoles.{console_at}
 use Rattle.posix.specs.Settle.{settle}
 use Rattle.posix.specs.Alarms.{pass_time}
-use Rattle.posix.specs.Step.{IsStep, next, happens, step, tick, rotate, key, key_on, hangup, hangup_on}
+use Rattle.posix.specs.Step.{IsStep, happens, tick, rotate, key, key_on, hangup, hangup_on}
 use Rattle.posix.specs.Entries.{Line, numbered}
 use Rattle.posix.specs.Runs.{RunsFrom}
 use Rattle.laws.specs.Turns.{places_before, is_tick, ticks_in, HasTurn}
@@ -19,10 +18,9 @@ use Rattle.posix.proofs.TableLemmas.{pid_looked}
 use Rattle.posix.proofs.OrderLemmas.{without_absent}
 use Rattle.posix.proofs.ActLemmas.{Turned, acted}
 use Rattle.posix.proofs.DeliveryLemmas.{by_step}
-use Rattle.posix.proofs.CountLemmas.{by_next}
 use Rattle.posix.proofs.MemberLemmas.{in_append, others_stay}
-use Rattle.posix.proofs.WakeLemmas.{next_awake, nothing_after_halt}
-use Rattle.laws.proofs.WokenLemmas.{given_places, order_settled}
+use Rattle.posix.proofs.WakeLemmas.{nothing_after_halt}
+use Rattle.laws.proofs.WokenLemmas.{by_event, given_places, order_settled}
 
 -- ---- the order after an event
 
@@ -30,32 +28,13 @@ use Rattle.laws.proofs.WokenLemmas.{given_places, order_settled}
 abbrev pub FirstTurned : List ℕ → List ℕ → Type 0
 FirstTurned old new = (new ≡ old) ⊎ ((p : ℕ) × (slice_get old 0 ≡ Some p) × Turned p old new)
 
--- a step turns the current process
-turned_step : (granted : Bool) (s : State) → FirstTurned s.order (step granted s (current_process s)).state.order
-turned_step granted s = by_step (λ o. FirstTurned s.order o.state.order) granted s (inl refl) (λ p r first e. inr (r.pid, first ∙ ap Some (sym (pid_looked p s.processes r e)), (acted granted s r).order))
-
--- so does a tick
-turned_rotate : (s : State) (c : Option ℕ) → current s ≡ c → FirstTurned s.order (rotate (pass_time s) c).order
-turned_rotate s None first = inl refl
-turned_rotate s (Some p) first = inr (p, first, inr (inr refl))
-
--- a key turns nobody
-turned_key : (s : State) (console byte : ℕ) (c : Option Console) → FirstTurned s.order (key_on s console byte c).order
-turned_key s console byte None = inl refl
-turned_key s console byte (Some c) = inl refl
-
--- nor a hangup
-turned_hangup : (s : State) (console : ℕ) (c : Option Console) → FirstTurned s.order (hangup_on s console c).order
-turned_hangup s console None = inl refl
-turned_hangup s console (Some c) = inl refl
-
 -- before places are given an event turns nobody but the current process
 pub turned_first : (granted : Bool) (s : State) (event : Event) → FirstTurned s.order (happens granted s event).state.order
 unfolding happens tick key hangup
-turned_first granted s Step = turned_step granted s
-turned_first granted s Tick = turned_rotate s (current s) refl
-turned_first granted s (Key console byte) = turned_key s console byte (console_at console s.consoles)
-turned_first granted s (Hangup console) = turned_hangup s console (console_at console s.consoles)
+turned_first granted s Step = by_step (λ o. FirstTurned s.order o.state.order) granted s (inl refl) (λ p r first e. inr (r.pid, first ∙ ap Some (sym (pid_looked p s.processes r e)), (acted granted s r).order))
+turned_first granted s Tick = elim (current s) as (λ c. current s ≡ c → FirstTurned s.order (rotate (pass_time s) c).order) [ None ↦ λ first. inl refl | Some p ↦ λ first. inr (p, first, inr (inr refl)) ] refl
+turned_first granted s (Key console byte) = elim (console_at console s.consoles) as (λ c. FirstTurned s.order (key_on s console byte c).order) [ None ↦ inl refl | Some c ↦ inl refl ]
+turned_first granted s (Hangup console) = elim (console_at console s.consoles) as (λ c. FirstTurned s.order (hangup_on s console c).order) [ None ↦ inl refl | Some c ↦ inl refl ]
 
 -- one other than q may have turned
 abbrev OtherTurned : ℕ → List ℕ → List ℕ → Type 0
@@ -88,7 +67,7 @@ before_without p q [] ne = omega arith
 before_without p q (x ∷ xs) ne = grind (arith, ne, before_without p q xs ne, eqb-true)
 
 -- a place, and no more before it than there were
-abbrev Nearer : ℕ → List ℕ → List ℕ → Type 0
+abbrev pub Nearer : ℕ → List ℕ → List ℕ → Type 0
 Nearer q old new = (is_in q new ≡ true) × (places_before q new ≤ places_before q old)
 
 -- another's turn brings q nearer
@@ -108,30 +87,12 @@ nearer_settled s q old h = (
   rw (order_settled s, before_front q s.order (given_places s) h.0) h.1,
 )
 
--- an event before a halt brings q nearer
-nearer_awake : (granted : Bool) (s : State) (event : Event) (q : ℕ) → is_in q s.order ≡ true → current s ≢ Some q → Nearer q s.order (settle (happens granted s event).state).order
-nearer_awake granted s event q e ne =
-    let t = turned_event granted s event q ne in
-    nearer_settled _ q s.order (nearer_turned t.0 q s.order _ t.1 e t.2)
-
--- an event brings q nearer
-nearer_next : (granted : Bool) (s : State) (event : Event) (q : ℕ) → is_in q s.order ≡ true → current s ≢ Some q → Nearer q s.order (next granted s event).state.order
-nearer_next granted s event q e ne = by_next (λ o. Nearer q s.order o.state.order) granted s event (λ h. (e, omega arith)) (λ h. nearer_awake granted s event q e ne)
-
--- a step of the relation brings q nearer
-nearer_after : (old new : State) (event : Event) (entries : List Entry) → IsStep old event entries new
+-- an event brings q nearer: who isn't current keeps its place, and no more places come before it
+pub nearer_after : (old new : State) (event : Event) (entries : List Entry) → IsStep old event entries new
     → (q : ℕ) → is_in q old.order ≡ true → current old ≢ Some q → Nearer q old.order new.order
-nearer_after old new event entries h q e ne = subst (λ (o : Outcome). Nearer q old.order o.state.order) h.comes (nearer_next h.granted old event q e ne)
-
--- who isn't current keeps its place
-pub place_stays : (old new : State) (event : Event) (entries : List Entry) → IsStep old event entries new
-    → (q : ℕ) → is_in q old.order ≡ true → current old ≢ Some q → is_in q new.order ≡ true
-place_stays old new event entries h q e ne = (nearer_after old new event entries h q e ne).0
-
--- no more places come before it
-pub place_nears : (old new : State) (event : Event) (entries : List Entry) → IsStep old event entries new
-    → (q : ℕ) → is_in q old.order ≡ true → current old ≢ Some q → places_before q new.order ≤ places_before q old.order
-place_nears old new event entries h q e ne = (nearer_after old new event entries h q e ne).1
+nearer_after old new event entries h q e ne =
+    by_event (λ o. Nearer q old.order o.state.order) old new event entries h (λ t. (e, omega arith))
+    (λ t. let turned = turned_event h.granted old event q ne in nearer_settled _ q old.order (nearer_turned turned.0 q old.order _ turned.1 e turned.2))
 
 -- ---- a tick
 
@@ -152,41 +113,30 @@ unfolding is_in
 no_first q [] k e = absurd (cc)
 no_first q (x ∷ xs) k e = absurd (cc)
 
--- a rotation takes one from before q
-tick_rotates : (s : State) (q : ℕ) (c : Option ℕ) → current s ≡ c → IsDistinct s.order → is_in q s.order ≡ true → c ≢ Some q
-    → places_before q s.order ≡ places_before q (rotate (pass_time s) c).order + 1
-tick_rotates s q None k d e ne = absurd (no_first q s.order k e)
-tick_rotates s q (Some p) k d e ne =
-    let away : p ≢ q = λ x. ne (ap Some x) in
-    one_before p q s.order d k away ∙ ap (λ n. n + 1) (sym (before_front q (without p s.order) (p ∷ []) (others_stay p q s.order (λ x. away (sym x)) ∙ e)))
+-- a tick lets the first go last, behind q
+record Rotated (q : ℕ) (old new : List ℕ) : Type 0 where
+  first : ℕ
+  is : slice_get old 0 ≡ Some first
+  other : first ≢ q
+  rest : places_before q new ≡ places_before q (without first old)
 
--- to settle leaves how many are before q
-settle_counts : (s : State) (q : ℕ) → is_in q s.order ≡ true → places_before q (settle s).order ≡ places_before q s.order
-settle_counts s q e = ap (places_before q) (order_settled s) ∙ before_front q s.order _ e
-
--- a tick takes one from before q
-tick_counts : (granted : Bool) (s : State) (q : ℕ) → IsDistinct s.order → is_in q s.order ≡ true → current s ≢ Some q
-    → places_before q s.order ≡ places_before q (happens granted s Tick).state.order + 1
+rotated : (old new : State) (entries : List Entry) → IsStep old Tick entries new → old.halted ≡ false → (q : ℕ) → is_in q old.order ≡ true → current old ≢ Some q → Rotated q old.order new.order
 unfolding happens tick
-tick_counts granted s q d e ne = tick_rotates s q (current s) refl d e ne
-
--- a tick leaves q its place
-tick_stays : (granted : Bool) (s : State) (q : ℕ) → is_in q s.order ≡ true → current s ≢ Some q → is_in q (happens granted s Tick).state.order ≡ true
-tick_stays granted s q e ne = let t = turned_event granted s Tick q ne in (nearer_turned t.0 q s.order _ t.1 e t.2).0
-
--- a tick before a halt takes one from before q
-tick_next : (granted : Bool) (s : State) (q : ℕ) → s.halted ≡ false → IsDistinct s.order → is_in q s.order ≡ true → current s ≢ Some q
-    → places_before q s.order ≡ places_before q (next granted s Tick).state.order + 1
-tick_next granted s q h d e ne =
-    tick_counts granted s q d e ne
-    ∙ ap (λ n. n + 1) (sym (settle_counts _ q (tick_stays granted s q e ne)))
-    ∙ ap (λ (o : Outcome). places_before q o.state.order + 1) (sym (next_awake granted s Tick h))
+rotated old new entries h awake q e ne =
+    by_event (λ o. Rotated q old.order o.state.order) old new Tick entries h (λ t. let no = sym awake ∙ t in absurd (cc)) (λ t. of (current old) refl ne)
+  where
+    of : (c : Option ℕ) → current old ≡ c → c ≢ Some q → Rotated q old.order (settle (rotate (pass_time old) c)).order
+    of None is ne = absurd (no_first q old.order is e)
+    of (Some p) is ne =
+        let away : p ≢ q = λ x. ne (ap Some x) in
+        let stays = others_stay p q old.order (λ x. away (sym x)) ∙ e in
+        let last = before_front q (without p old.order ++ p ∷ []) _ (in_append q (without p old.order) (p ∷ []) ∙ or_left _ _ stays) in
+        record { first = p; is = is; other = away; rest = ap (places_before q) (order_settled (rotate (pass_time old) (Some p))) ∙ last ∙ before_front q (without p old.order) (p ∷ []) stays }
 
 -- at a tick one place less comes before q
 pub tick_nears : (old new : State) (entries : List Entry) → IsStep old Tick entries new → old.halted ≡ false → IsDistinct old.order
     → (q : ℕ) → is_in q old.order ≡ true → current old ≢ Some q → places_before q old.order ≡ places_before q new.order + 1
-tick_nears old new entries h awake d q e ne =
-    tick_next h.granted old q awake d e ne ∙ ap (λ (o : Outcome). places_before q o.state.order + 1) h.comes
+tick_nears old new entries h awake d q e ne = let r = rotated old new entries h awake q e ne in one_before r.first q old.order d r.is r.other ∙ ap (λ n. n + 1) (sym r.rest)
 
 -- ---- the turn
 
@@ -216,60 +166,23 @@ fewer_before p q (x ∷ xs) e ne =
     let f = first_other q x xs u in
     rw t (omega (arith, l, f))
 
--- a rotation takes at least one from before q
-tick_lowers : (s : State) (q : ℕ) (c : Option ℕ) → current s ≡ c → is_in q s.order ≡ true → c ≢ Some q
-    → places_before q (rotate (pass_time s) c).order + 1 ≤ places_before q s.order
-tick_lowers s q None k e ne = absurd (no_first q s.order k e)
-tick_lowers s q (Some p) k e ne =
-    let away : p ≢ q = λ x. ne (ap Some x) in
-    rw (before_front q (without p s.order) (p ∷ []) (others_stay p q s.order (λ x. away (sym x)) ∙ e)) (fewer_before p q s.order k away)
-
--- a tick takes at least one from before q
-tick_happens : (granted : Bool) (s : State) (q : ℕ) → is_in q s.order ≡ true → current s ≢ Some q
-    → places_before q (happens granted s Tick).state.order + 1 ≤ places_before q s.order
-unfolding happens tick
-tick_happens granted s q e ne = tick_lowers s q (current s) refl e ne
-
--- a tick before a halt takes at least one from before q
-tick_lessens : (granted : Bool) (s : State) (q : ℕ) → s.halted ≡ false → is_in q s.order ≡ true → current s ≢ Some q
-    → places_before q (next granted s Tick).state.order + 1 ≤ places_before q s.order
-tick_lessens granted s q h e ne =
-    let l = tick_happens granted s q e ne in
-    let k = settle_counts (happens granted s Tick).state q (tick_stays granted s q e ne) in
-    let n = ap (λ (o : Outcome). places_before q o.state.order) (next_awake granted s Tick h) in
-    omega (arith, l, k, n)
-
 -- what is left of the ticks is enough
 enough : (old new : State) (event : Event) (entries : List Entry) (events : List Event) → IsStep old event entries new → old.halted ≡ false
     → (q : ℕ) → is_in q old.order ≡ true → current old ≢ Some q → places_before q old.order ≤ ticks_in (event ∷ events) → places_before q new.order ≤ ticks_in events
-enough old new Step entries events h awake q e ne l =
-    let n = place_nears old new Step entries h q e ne in
-    omega (arith, n, l)
-enough old new (Key console byte) entries events h awake q e ne l =
-    let n = place_nears old new (Key console byte) entries h q e ne in
-    omega (arith, n, l)
-enough old new (Hangup console) entries events h awake q e ne l =
-    let n = place_nears old new (Hangup console) entries h q e ne in
-    omega (arith, n, l)
 enough old new Tick entries events h awake q e ne l =
-    let n = tick_lessens h.granted old q awake e ne in
-    let k = ap (λ (o : Outcome). places_before q o.state.order) h.comes in
+    let r = rotated old new entries h awake q e ne in
+    let n = fewer_before r.first q old.order r.is r.other in
+    let k = r.rest in
     let one : ticks_in (Tick ∷ events) ≡ 1 + ticks_in events = sum_by-cons (λ e. cond (is_tick e) 1 0) Tick events in
     omega (arith, n, k, l, one)
-
--- a halt lasts
-halt_lasts : (k : ℕ) (s last : State) (events : List Event) (lines : List Line) → RunsFrom k s events lines last → s.halted ≡ true → last.halted ≡ true
-halt_lasts k s last [] lines run h = ap (λ (s : State). s.halted) run.1 ∙ h
-halt_lasts k s last (event ∷ events) lines run h =
-    halt_lasts (k + 1) run.0 last events run.2 run.5 (ap (λ (s : State). s.halted) (nothing_after_halt s run.0 event run.1 run.3 h) ∙ h)
+enough old new event entries events h awake q e ne l = let n = (nearer_after old new event entries h q e ne).1 in omega (arith, n, l)
 
 -- without a halt at the end there was none before
 awake_before : (k : ℕ) (s last : State) (events : List Event) (lines : List Line) → RunsFrom k s events lines last → last.halted ≡ false → s.halted ≡ false
-awake_before k s last events lines run awake =
-    elim s.halted as (λ b. s.halted ≡ b → s.halted ≡ false) [
-      | true ↦ λ h. let no = sym (halt_lasts k s last events lines run h) ∙ awake in absurd (cc)
-      | false ↦ λ h. h
-    ] refl
+awake_before k s last [] lines run awake = sym (ap (λ (s : State). s.halted) run.1) ∙ awake
+awake_before k s last (event ∷ events) lines run awake = false_from_ne_true s.halted (λ h.
+    let stays = sym (ap (λ (s : State). s.halted) (nothing_after_halt s run.0 event run.1 run.3 h) ∙ h) ∙ awake_before (k + 1) run.0 last events run.2 run.5 awake in
+    cc)
 
 -- the turn is at the start
 turn_now : (q k : ℕ) (old last : State) (events : List Event) (lines : List Line) → RunsFrom k old events lines last → current old ≡ Some q → HasTurn q k old events lines last
@@ -312,7 +225,7 @@ turn_comes q k old last (event ∷ events) lines run awake e l =
       | suc n ↦ λ z.
           let ne : current old ≢ Some q = not_current q n old.order z in
           let lit : old.halted ≡ false = awake_before k old last (event ∷ events) lines run awake in
-          let stays = place_stays old run.0 event run.1 run.3 q e ne in
+          let stays = (nearer_after old run.0 event run.1 run.3 q e ne).0 in
           let left = enough old run.0 event run.1 events run.3 lit q e ne l in
           turn_later q k old run.0 last event events run.1 lines run.2 run.3 run.4 (turn_comes q (k + 1) run.0 last events run.2 run.5 awake stays left)
     ] refl

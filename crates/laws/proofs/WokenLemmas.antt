@@ -1,14 +1,24 @@
 -- Who is given a place as an event is settled.
-use Rattle.std.proofs.Common.{◌≡◌, ℕ, true, false, not, refl, ap, sym, ◌∙◌, List, ◌++◌, filter, Some}
+use Rattle.std.proofs.Common.{◌≡◌, ℕ, true, false, not, refl, ap, sym, ◌∙◌, subst, List, ◌++◌, filter, Some}
 use Rattle.std.proofs.lemmas.Bool.{and_parts, not-true}
+use Rattle.posix.specs.declared.event.Event.{Event}
+use Rattle.posix.specs.declared.entry.Entry.{Entry}
+use Rattle.posix.specs.Outcomes.{Outcome, silent}
+use Rattle.posix.specs.Step.{IsStep, settled, happens}
 use Rattle.posix.specs.Processes.{Process}
 use Rattle.posix.specs.Tables.{IsRising, lookup, pids}
 use Rattle.posix.specs.States.{State, is_in}
 use Rattle.posix.specs.Regular.{IsDistinct}
 use Rattle.posix.specs.Settle.{wakes, can_act, clear_foregrounds, give_places, settle}
+use Rattle.posix.proofs.CountLemmas.{by_next}
 use Rattle.posix.proofs.TableLemmas.{pid_looked, rising_filter}
 use Rattle.posix.proofs.OrderLemmas.{distinct_pids}
 use Rattle.posix.proofs.WalkLemmas.{in_filter, pid_found}
+
+-- An event leads to where it began after a halt, and else to where what happens is settled.
+pub by_event : (M : Outcome → Type 0) (old new : State) (event : Event) (entries : List Entry) (h : IsStep old event entries new)
+    → (old.halted ≡ true → M (silent old)) → (old.halted ≡ false → M (settled (happens h.granted old event))) → M (record { state = new; entries = entries })
+by_event M old new event entries h halted awake = subst M h.comes (by_next M h.granted old event halted awake)
 
 -- the numbers of those who are given a place
 abbrev pub given_places : State → List ℕ

@@ -1,34 +1,29 @@
 //! Laws of the definitions, each the contract of a function that does nothing.
 #![tactic(auto)]
 
-ghost use Rattle.std.specs.Prelude.{length, ◌++◌, ◌<◌, ℕ, ◌+◌, ◌≤◌, ◌≡◌, ◌≢◌, Bool, true, false, List, Option, [], ◌∷◌, Contains, Some, None, negsuc, IsSomeAnd};
+ghost use Rattle.std.specs.Prelude.{length, ◌++◌, ◌<◌, ℕ, ◌+◌, ◌≤◌, ◌≡◌, ◌≢◌, Bool, true, false, List, Option, [], ◌∷◌, Contains, Some, None, negsuc, IsSomeAnd, ◌/◌, ◌||◌, count_by};
 ghost use Rattle.posix.specs.declared.call.Call.{Call};
 ghost use Rattle.posix.specs.declared.errno.Errno.TheVariants.{EAGAIN};
 ghost use Rattle.posix.specs.declared.event.Event.{Event};
 ghost use Rattle.posix.specs.declared.event.Event.TheVariants.{Tick};
 ghost use Rattle.posix.specs.declared.entry.Entry.{Entry};
-ghost use Rattle.posix.specs.declared.entry.Entry.TheVariants.{Called, NoMemory};
+ghost use Rattle.posix.specs.declared.entry.Entry.TheVariants.{Called, NoMemory, Reported, Looked};
 ghost use Rattle.posix.specs.declared.process.Blocked.{Blocked};
 ghost use Rattle.posix.specs.declared.process.Blocked.TheVariants.{Read};
-ghost use Rattle.posix.specs.Processes.{Process, is_running};
+ghost use Rattle.posix.specs.Processes.{Process, is_running, is_zombie};
 ghost use Rattle.posix.specs.Tables.{IsRising};
 ghost use Rattle.posix.specs.States.{World, State, boot, process, change, has_place, current, lose_place};
 ghost use Rattle.posix.specs.Outcomes.{Outcome, silent, Done, Again, finish, refusal};
 ghost use Rattle.posix.specs.Terminals.{waits_to_read};
 ghost use Rattle.posix.specs.Attempts.{attempt, attempt_again};
 ghost use Rattle.posix.specs.Step.{IsStep, begin_call, go_on, out_of_call};
-ghost use Rattle.posix.specs.Entries.{Line, process_of};
+ghost use Rattle.posix.specs.Entries.{Line, process_of, numbered, reported};
 ghost use Rattle.posix.specs.Runs.{RunsFrom, Runs};
 ghost use Rattle.posix.specs.Regular.{IsRegular, IsDistinct};
 ghost use Rattle.laws.specs.Stamps.{Stamps, without_stamp, IsRisingOrder, HasLeastStamp, Stamping, IsStamped, first_stamping, Move, Leads, stamping_after};
-ghost use Rattle.posix.specs.Processes.{is_zombie};
 ghost use Rattle.posix.specs.NextPid.{is_free};
-ghost use Rattle.posix.specs.Entries.{numbered, reported};
-ghost use Rattle.std.specs.List.{AllByRecursion};
+ghost use Rattle.std.specs.List.{AllByRecursion, list_any};
 ghost use Rattle.posix.specs.declared.process.Life.TheVariants.{Zombie};
-ghost use Rattle.std.specs.Prelude.{◌/◌, ◌||◌, count_by};
-ghost use Rattle.std.specs.List.{list_any};
-ghost use Rattle.posix.specs.declared.entry.Entry.TheVariants.{Reported, Looked};
 ghost use Rattle.posix.specs.declared.waits.WaitCall.{WaitCall};
 ghost use Rattle.posix.specs.Statuses.{is_end_word, is_stopped_word, is_continued_word};
 ghost use Rattle.laws.specs.Lives.{Laws, laws, IsOfEnd, IsOfStop, IsTold, born_by, begins, ends, stops, reports, reports_or_looks, is_change_word, is_halt, ends_first, last_line, is_living, parent_in};

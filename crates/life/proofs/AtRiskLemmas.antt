@@ -7,47 +7,24 @@ use Rattle.posix.specs.Tables.{IsRising, lookup, above, first_pid, has_pid, is_c
 use Rattle.posix.proofs.HupAndContLemmas.{Lasts, lasting, lasts_hup_and_cont, lasts_then}
 use Rattle.posix.proofs.MapLemmas.{filter_map}
 use Rattle.std.proofs.lemmas.List.{length-map}
-use Rattle.posix.specs.States.{State, is_in, without}
+use Rattle.posix.specs.States.{State, is_in}
 use Rattle.posix.specs.Groups.{is_anchor, loses_anchor}
 use Rattle.posix.specs.Ends.{hup_and_cont, hup_and_cont_all}
 use Rattle.posix.proofs.WalkLemmas.{numbered, numbered_one, AtChild}
 use Rattle.pidset.proofs.WalkLemmas.{IsWalking, walk_on}
 use Rattle.pidset.specs.Numbers.{PidSetView, Rises, numbers_above}
-use Rattle.pidset.proofs.NumberLemmas.{rises_with, rises_without, in_with, few}
+use Rattle.pidset.proofs.NumberLemmas.{in_with, few}
 use Rattle.pidalloc.specs.Rows.{Pids}
-use Rattle.sched.specs.Places.{Places}
+use Rattle.pidalloc.specs.Places.{Places}
 use Rattle.life.specs.Ends.{slots_of_hup_and_cont, slots_of_hups}
-use Rattle.life.specs.Machines.{IsMachine, IsNoted, Terminals}
-use Rattle.jobs.proofs.ChildLemmas.{sibling_is}
+use Rattle.life.specs.Machines.{IsMachine, Terminals}
 use Rattle.life.proofs.RingLemmas.{one_more}
 
 -- ---- the list of those that are noted
 
--- one more is noted
-pub noted_with : (n g : ℕ) (groups_at_risk after : PidSetView) → IsNoted n groups_at_risk → after.pids ≡ with_number g groups_at_risk.pids → after.room ≡ groups_at_risk.room → IsNoted n after
-noted_with n g groups_at_risk after i put same = record {
-  rising = subst Rises (sym put) (rises_with g groups_at_risk.pids i.rising);
-  room = let room = i.room in omega (arith, room, same);
-}
-
--- none is noted
-pub noted_cleared : (n : ℕ) (groups_at_risk after : PidSetView) → IsNoted n groups_at_risk → after.pids ≡ [] → after.room ≡ groups_at_risk.room → IsNoted n after
-unfolding Rises is_in
-noted_cleared n groups_at_risk after i none same = record {
-  rising = rw none tt;
-  room = let room = i.room in omega (arith, room, same);
-}
-
--- one no longer is
-pub noted_without : (n g : ℕ) (groups_at_risk after : PidSetView) → IsNoted n groups_at_risk → after.pids ≡ without g groups_at_risk.pids → after.room ≡ groups_at_risk.room → IsNoted n after
-noted_without n g groups_at_risk after i out same = record {
-  rising = subst Rises (sym out) (rises_without g groups_at_risk.pids i.rising);
-  room = let room = i.room in omega (arith, room, same);
-}
-
--- and the machine stays one
-pub noted_again : {s : State} {pids : Pids} {places : Places} {to_recheck groups_at_risk after : PidSetView} {terminals : Terminals} → IsMachine s pids places to_recheck groups_at_risk terminals → IsNoted to_recheck.room after → IsMachine s pids places to_recheck after terminals
-noted_again i noted = record { sound = i.sound; listed = i.listed; noted = noted; fresh = i.fresh; indexed = i.indexed; within = i.within }
+-- it may be another one with the same room
+pub noted_again : {s : State} {pids : Pids} {places : Places} {to_recheck groups_at_risk after : PidSetView} {terminals : Terminals} → IsMachine s pids places to_recheck groups_at_risk terminals → Rises after.pids → after.room ≡ groups_at_risk.room → IsMachine s pids places to_recheck after terminals
+noted_again i rising same = record { sound = i.sound; listed = i.listed; noted = record { rising = rising; room = let room = i.noted.room in omega (arith, room, same) }; fresh = i.fresh; indexed = i.indexed; within = i.within }
 
 -- ---- noting
 
@@ -84,7 +61,7 @@ begin_noted rs up p me e none ns empty is n = grind (arith, up, e, empty, is, lo
 -- and goes on from child to child
 pub step_noted : (rs : List Process) (p c : ℕ) (next after : Option ℕ) (at : AtChild rs p c) → next ≡ Some c → after ≡ first_pid (above c (children_in p rs)) → (ns noted : List ℕ) → noted ≡ cond (is_anchor rs at.what) (with_number at.what.group ns) ns
     → (n : ℕ) → (is_in n noted || list_any (keeps rs n) (left_of after (children_in p rs))) ≡ (is_in n ns || list_any (keeps rs n) (left_of next (children_in p rs)))
-step_noted rs p c next after at comes e ns noted is n = let then = e ∙ sibling_is p c rs at in grind (arith, comes, then, is, noted_one)
+step_noted rs p c next after at comes e ns noted is n = grind (arith, comes, e, is, noted_one)
 
 -- ---- all get HUP and CONT
 

@@ -15,7 +15,6 @@ use Rattle.posix.proofs.TableLemmas.{pid_looked}
 use Rattle.posix.proofs.ReportingLemmas.{wanted_some, report_one, report_nobody}
 use Rattle.proctable.specs.declared.snapshot.Snapshot.{Snapshot}
 use Rattle.proctable.specs.Records.{snapshot_of}
-use Rattle.jobs.proofs.ChildLemmas.{sibling_is}
 use Rattle.life.proofs.SoundLemmas.{is_there, snapshot_are}
 use Rattle.std.proofs.lemmas.Option.{same_Some}
 use Rattle.life.specs.Waits.{is_reported, is_meant}
@@ -48,11 +47,11 @@ child_there w comes = let r = child_here w comes in is_there _ r.what r.found
 
 -- it goes on to the next child
 pub next_here : {rs : List Process} {p c : ℕ} {next after : Option ℕ} → IsAtChild rs p next → next ≡ Some c → after ≡ first_pid (above c (children_in p rs)) → IsAtChild rs p after
-next_here {rs = rs} {p = p} {c = c} w comes e = let at = child_here w comes in record { rising = w.rising; here = rw (e ∙ sibling_is p c rs at) at.next }
+next_here {rs = rs} {p = p} {c = c} w comes e = let at = child_here w comes in record { rising = w.rising; here = rw e at.next }
 
 -- and one child less is left
 pub child_less : {rs : List Process} {p c : ℕ} {next after : Option ℕ} → IsAtChild rs p next → next ≡ Some c → after ≡ first_pid (above c (children_in p rs)) → length (left_of after (children_in p rs)) < length (left_of next (children_in p rs))
-child_less {rs = rs} {p = p} {c = c} w comes e = let at = child_here w comes in rw (comes, e ∙ sibling_is p c rs at) (omega (arith, ap length at.left))
+child_less {rs = rs} {p = p} {c = c} w comes e = let at = child_here w comes in rw (comes, e) (omega (arith, ap length at.left))
 
 -- ---- a wait
 

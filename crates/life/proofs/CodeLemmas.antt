@@ -17,8 +17,8 @@ pub code_is : (s : State) (me : Process) (n : ℕ) (programs : List Program) (o 
 code_is s me n programs o same number found = ap instructions (sym (ap (λ (ps : List Program). slice_get ps n) same ∙ ap (slice_get s.world.programs) number) ∙ found)
 
 -- what the test of a place says
-pub get_some : (programs : List Program) (n : ℕ) (p : Program) → (true ≡ nat_lt n (length programs)) × (p ≡ slice_index_or programs n p) → slice_get programs n ≡ Some p
-get_some programs n p h = slice_get_read programs (length programs) n p refl (ltb-true _ _ (sym h.0)) h.1
+pub get_some : {A : Type 0} (xs : List A) (n : ℕ) (x : A) → (true ≡ nat_lt n (length xs)) × (x ≡ slice_index_or xs n x) → slice_get xs n ≡ Some x
+get_some xs n x h = slice_get_read xs (length xs) n x refl (ltb-true _ _ (sym h.0)) h.1
 
 pub past_none : {A : Type 0} (xs : List A) (n : ℕ) → false ≡ nat_lt n (length xs) → slice_get xs n ≡ None
 past_none xs n past = slice_get_past xs n (ltb-false _ _ (sym past))

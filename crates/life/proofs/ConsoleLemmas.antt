@@ -1,7 +1,7 @@
 -- A machine that gets another console in the place of one.
-use Rattle.std.proofs.Common.{◌≡◌, ◌≢◌, ℕ, Bool, suc, ◌+◌, ◌*◌, ◌≤◌, ◌==◌, true, false, cond, not, ◌&&◌, ◌||◌, refl, ap, sym, ◌∙◌, arith, subst, List, [], ◌∷◌, Option, Some, None, is_some, length, nat_lt, slice_get, slice_set, slice_index_or, inl, inr, ⊎_elim, rules}
-use Rattle.std.proofs.lemmas.Bool.{false_from_ne_true, true_from_ne_false, or_cases, eqb-true, eqb-false, and_parts, not-true, or_right, ltb-true, cond_both, both_ways}
-use Rattle.std.proofs.lemmas.Option.{get_or_from_slice_get, slice_get_read, same_Some}
+use Rattle.std.proofs.Common.{◌≡◌, ◌≢◌, ℕ, Bool, suc, ◌+◌, ◌*◌, ◌≤◌, ◌==◌, true, false, cond, not, ◌&&◌, ◌||◌, refl, ap, sym, ◌∙◌, arith, subst, List, [], ◌∷◌, Option, Some, None, is_some, length, slice_get, slice_set, slice_index_or, inl, inr, ⊎_elim, rules}
+use Rattle.std.proofs.lemmas.Bool.{false_from_ne_true, true_from_ne_false, or_cases, eqb-true, eqb-false, and_parts, not-true, or_right, cond_both, both_ways}
+use Rattle.std.proofs.lemmas.Option.{get_or_from_slice_get, same_Some}
 use Rattle.std.specs.Borrow.{MutBor}
 use Rattle.std.specs.Fn.{Once, FnOnceReturnsAtMut}
 use Rattle.posix.specs.declared.process.Blocked.{Blocked}
@@ -24,7 +24,7 @@ use Rattle.posix.proofs.ConsoleLemmas.{consoles_set, consoles_freed, consoles_ac
 use Rattle.posix.proofs.ReaderLemmas.{IsOfOrFree, console_of_set, touches_unread}
 use Rattle.posix.proofs.RealtimeLemmas.{key_standard}
 use Rattle.pidalloc.specs.Rows.{Pids}
-use Rattle.sched.specs.Places.{Places}
+use Rattle.pidalloc.specs.Places.{Places}
 use Rattle.pidset.specs.Lists.{ListsView}
 use Rattle.pidset.specs.Numbers.{PidSetView}
 use Rattle.life.specs.Machines.{AreTerminals, IsListed, IsMachine, MachineView}
@@ -169,11 +169,7 @@ machine_became m to_recheck k c d list at h i moved = machine_put _ _ _ _ _ _ _ 
 
 -- ---- the console in a place
 
--- what the test of a place says
-pub lent_at : (cs : List Console) (k : ℕ) (c : Console) → true ≡ nat_lt k (length cs) → c ≡ slice_index_or cs k c → slice_get cs k ≡ Some c
-lent_at cs k c within is = slice_get_read cs (length cs) k c refl (ltb-true _ _ (sym within)) is
-
--- and what was read there is the one that was found
+-- what was read there is the one that was found
 pub found_there : {cs ds : List Console} {c d : Console} (k : ℕ) (other : Console) → cs ≡ ds → slice_get cs k ≡ Some c → d ≡ slice_index_or ds k other → (slice_get ds k ≡ Some c) × (d ≡ c)
 found_there {ds = ds} {c = c} k other all at read = let here = ap (λ cs. slice_get cs k) (sym all) ∙ at in (here, read ∙ get_or_from_slice_get ds k c other here)
 
@@ -278,21 +274,16 @@ pub none_stays : (s : State) (me : Process) → console_of me.session s.consoles
 unfolding hang_up
 none_stays s me none = rw none (sym (cond_both (not (me.pid == 1) && me.session == me.pid) s s (λ t. t ≡ s) (λ e. refl) (λ e. refl)))
 
+-- who hangs a terminal up leads the session with its own number
+pub leads_own : (s : State) (p : ℕ) (me : Process) → process s p ≡ Some me → hangs_up (snapshot_of me) ≡ true → me.session ≡ p
+leads_own s p me found leads = eqb-true me.session me.pid (and_parts (not (me.pid == 1)) _ leads).1 ∙ pid_looked p s.processes me found
+
 -- nor does who would lead a session that has none
-pub unled_stays : (s : State) (p : ℕ) (me : Process) → process s p ≡ Some me → is_some (console_of p s.consoles) ≡ false → s ≡ hang_up s me
+pub unled_stays : (s : State) (p : ℕ) (me : Process) → process s p ≡ Some me → console_of p s.consoles ≡ None → s ≡ hang_up s me
 unled_stays s p me found none = elim (hangs_up (snapshot_of me)) as (λ b. hangs_up (snapshot_of me) ≡ b → s ≡ hang_up s me) [
-  | true ↦ λ e. none_stays s me (ap (λ n. console_of n s.consoles) (eqb-true me.session me.pid (and_parts (not (me.pid == 1)) _ e).1 ∙ pid_looked p s.processes me found) ∙ nobody (console_of p s.consoles) none)
+  | true ↦ λ e. none_stays s me (ap (λ n. console_of n s.consoles) (leads_own s p me found e) ∙ none)
   | false ↦ λ e. others_stay s me e
 ] refl
-  where
-    nobody : (o : Option Console) → is_some o ≡ false → o ≡ None
-    nobody None e = refl
-    nobody (Some c) e = absurd (cc)
-
--- a session has a terminal where a console is it
-pub has_index : (session : ℕ) (cs : List Console) (index : Option ℕ) → IsTerminalIndex session cs index → is_some index ≡ is_some (console_of session cs)
-has_index session cs None none = sym (ap is_some none)
-has_index session cs (Some k) it = sym (ap is_some it.2)
 
 -- the leader of a session that has one
 pub leader_hangs_up : (s : State) (k p : ℕ) (me : Process) (c : Console) → IsRegular s → process s p ≡ Some me → hangs_up (snapshot_of me) ≡ true → slice_get s.consoles k ≡ Some c → c.session ≡ me.session

@@ -1,21 +1,20 @@
 -- Foreground process groups that have a member in their console's session, but for those that are unchecked.
-use Rattle.std.proofs.Common.{◌≡◌, ◌≢◌, ℕ, zero, suc, ◌≤◌, Bool, true, false, cond, ◌||◌, refl, ap, sym, ◌∙◌, arith, subst, List, [], ◌∷◌, length, count_by, filter, map, ◌==◌, Some, None, slice_get, slice_set}
+use Rattle.std.proofs.Common.{◌≡◌, ◌≢◌, ℕ, zero, suc, ◌≤◌, Bool, true, false, cond, ◌&&◌, ◌||◌, refl, ap, sym, ◌∙◌, arith, subst, List, [], ◌∷◌, length, count_by, filter, map, ◌==◌, Some, None, slice_get, slice_set}
 use Rattle.std.specs.List.{AllByRecursion}
-use Rattle.std.proofs.lemmas.Bool.{eqb-true, eqb-false, eq-eqb, ne_eqb, or_right}
+use Rattle.std.proofs.lemmas.Bool.{eqb-true, eqb-false, eq-eqb, ne_eqb, and_parts, or_right}
 use Rattle.std.proofs.lemmas.List.{map-id}
 use Rattle.std.proofs.lemmas.List.Sums.{length-filter}
 use Rattle.std.proofs.lemmas.Option.{same_Some}
 use Rattle.posix.specs.Processes.{Process}
-use Rattle.posix.specs.Tables.{IsRising, lookup, removed, changed, adopted}
+use Rattle.posix.specs.Tables.{IsRising, lookup, changed, adopted}
 use Rattle.posix.specs.Ends.{made_zombie}
 use Rattle.posix.specs.Consoles.{Console, changed_at, changed_console, console_of}
 use Rattle.posix.specs.Regular.{AreConsoles}
 use Rattle.posix.specs.GroupCalls.{is_group_of}
 use Rattle.posix.specs.Settle.{is_fresh, refreshed}
-use Rattle.posix.proofs.TableLemmas.{pid_looked}
 use Rattle.posix.proofs.ConsoleLemmas.{changed_at_place, changed_none, none_of}
 use Rattle.posix.proofs.FreshLemmas.{AllFresh, fresh_changed}
-use Rattle.posix.proofs.WalkLemmas.{all_looked}
+use Rattle.posix.proofs.WalkLemmas.{any_looked, some_looked}
 use Rattle.life.specs.declared.consoles.Unchecked.{Unchecked}
 use Rattle.life.specs.declared.consoles.Unchecked.TheVariants.{Nothing, In, All}
 use Rattle.life.specs.Foregrounds.{is_unchecked, also_in, AreFreshBut}
@@ -73,27 +72,14 @@ fresh_beside u session rs ts cs still h = fresh_by u (also_in session u) rs ts (
     kept : (c : Console) → (c.session == session) ≡ false → is_fresh rs c ≡ true → is_fresh ts c ≡ true
     kept c other e = grind (arith, e, still c.session c.foreground (eqb-false c.session session other))
 
--- each record with this number is of that session
-alone : (p : ℕ) (it : Process) (rs : List Process) → IsRising rs → lookup p rs ≡ Some it → AllByRecursion (λ r. r.pid ≡ p → r.session ≡ it.session) rs
-alone p it rs up found = all_looked (λ r. r.pid ≡ p → r.session ≡ it.session) rs up (λ q r e named. ap (λ (r : Process). r.session) (same_Some _ _ (sym e ∙ ap (λ n. lookup n rs) (sym (pid_looked q rs r e) ∙ named) ∙ found)))
-
--- its record goes
-pub fresh_removed : (u : Unchecked) (p : ℕ) (it : Process) (rs : List Process) (cs : List Console) → IsRising rs → lookup p rs ≡ Some it → AreFreshBut u rs cs → AreFreshBut (also_in it.session u) (removed p rs) cs
-unfolding is_group_of removed
-fresh_removed u p it rs cs up found h = fresh_beside u it.session rs (removed p rs) cs (λ other group ne. left other group ne rs (alone p it rs up found)) h
-  where
-    left : (session group : ℕ) → session ≢ it.session → (rs : List Process) → AllByRecursion (λ r. r.pid ≡ p → r.session ≡ it.session) rs → is_group_of session group rs ≡ true → is_group_of session group (removed p rs) ≡ true
-    left session group other [] all e = absurd (cc)
-    left session group other (r ∷ rs) all e = grind (arith, e, all.0, eqb-true r.pid p, eqb-true r.session session, left session group other rs all.1)
-
--- it changes in whatever way
-pub fresh_moved : (u : Unchecked) (p : ℕ) (it : Process) (f : Process → Process) (rs : List Process) (cs : List Console) → IsRising rs → lookup p rs ≡ Some it → AreFreshBut u rs cs → AreFreshBut (also_in it.session u) (changed p f rs) cs
-unfolding is_group_of changed
-fresh_moved u p it f rs cs up found h = fresh_beside u it.session rs (changed p f rs) cs (λ other group ne. left other group ne rs (alone p it rs up found)) h
-  where
-    left : (session group : ℕ) → session ≢ it.session → (rs : List Process) → AllByRecursion (λ r. r.pid ≡ p → r.session ≡ it.session) rs → is_group_of session group rs ≡ true → is_group_of session group (changed p f rs) ≡ true
-    left session group other [] all e = absurd (cc)
-    left session group other (r ∷ rs) all e = grind (arith, e, all.0, eqb-true r.pid p, eqb-true r.session session, left session group other rs all.1)
+-- one record goes, or changes in whatever way
+pub fresh_but_one : (u : Unchecked) (p : ℕ) (it : Process) (rs ts : List Process) (cs : List Console) → IsRising rs → lookup p rs ≡ Some it → ((q : ℕ) (r : Process) → q ≢ p → lookup q rs ≡ Some r → lookup q ts ≡ Some r) → AreFreshBut u rs cs → AreFreshBut (also_in it.session u) ts cs
+unfolding is_group_of
+fresh_but_one u p it rs ts cs up found others h = fresh_beside u it.session rs ts cs (λ session group ne some.
+    let w = some_looked (λ r. r.session == session && r.group == group) rs up some in
+    let own : w.0.session ≡ session = eqb-true w.0.session session (and_parts (w.0.session == session) (w.0.group == group) w.2).0 in
+    let other : w.0.pid ≢ p = λ same. ne (sym own ∙ ap (λ (r : Process). r.session) (same_Some _ _ (sym w.1 ∙ ap (λ q. lookup q rs) same ∙ found))) in
+    any_looked (λ r. r.session == session && r.group == group) w.0.pid ts w.0 (others w.0.pid w.0 other w.1) w.2) h
 
 -- ---- a console in the place of one
 

@@ -29,9 +29,9 @@ use Rattle.posix.proofs.FreshLemmas.{fresh_changed}
 use Rattle.pidalloc.specs.Rows.{Pids, regrouped, is_free_in}
 use Rattle.pidalloc.proofs.TallyLemmas.{AreBorne, are_borne}
 use Rattle.pidalloc.proofs.MoveLemmas.{tallied_regrouped, pids_regrouped, greatest_regrouped, CanRegroup, can_regroup}
-use Rattle.sched.specs.Places.{Places}
+use Rattle.pidalloc.specs.Places.{Places}
 use Rattle.pidset.specs.Lists.{ListsView}
-use Rattle.pidset.specs.Indexes.{IsMoved, is_pair_in}
+use Rattle.pidset.specs.Indexes.{HaveParents, IsMoved, is_pair_in}
 use Rattle.pidset.specs.Numbers.{PidSetView, with_number}
 use Rattle.pidset.specs.Rows.{HasRoom}
 use Rattle.pidset.proofs.NumberLemmas.{in_with}
@@ -49,9 +49,8 @@ use Rattle.life.specs.Machines.{with_processes, IsKept, IsSound, IsListed, IsNot
 use Rattle.life.specs.Rechecks.{with_numbers, with_parent, rechecking, rechecking_by_signals, rechecking_effect, rechecking_generated, slots_of_signal, awaits, rechecking_told}
 use Rattle.life.specs.declared.consoles.Unchecked.{Unchecked}
 use Rattle.life.specs.Foregrounds.{AreFreshBut, also_in}
-use Rattle.life.proofs.ForegroundLemmas.{fresh_moved, fresh_still}
+use Rattle.life.proofs.ForegroundLemmas.{fresh_but_one, fresh_still}
 use Rattle.life.specs.Changes.{has_moved, CanMoveNumbers, StaysInSession, StaysRegular, lives}
-use Rattle.pidset.specs.Indexes.{HaveParents}
 use Rattle.pidset.proofs.ParentLemmas.{parents_map}
 use Rattle.life.proofs.SoundLemmas.{found_in, kept_map, some_back, not_many, within_map}
 use Rattle.life.proofs.ReaderLemmas.{listed_forgotten, none_marked, within_marked}
@@ -95,16 +94,13 @@ pub machine_changed : {groups_at_risk : PidSetView} {terminals : Terminals} (s :
     → IsRegular (change s p f) → IsMachine s pids places to_recheck groups_at_risk terminals → after.room ≡ to_recheck.room → IsListed (change s p f) after terminals.readers → IsMachine (change s p f) pids places after groups_at_risk terminals
 machine_changed {groups_at_risk = groups_at_risk} {terminals = terminals} s pids places to_recheck after p f k regular i room listed = record { sound = sound_changed s pids places p f k regular i.sound; listed = listed; noted = subst (λ n. IsNoted n groups_at_risk) (sym room) i.noted; fresh = fresh_on terminals.foregrounds_unchecked s p f k i.fresh; indexed = i.indexed; within = within_on p f _ k i.within }
 
--- a record with other signals, and another alarm
-signals_are : (rs : List Process) → IsRising rs → (p : ℕ) (b c : Record) → lookup p rs ≡ Some (process_of p (parent_of p rs) b) → c ≡ record b { alarm = c.alarm; own = record (b.own) { signals = c.own.signals } } → with_record rs p c ≡ changed p (with_signals c.own.signals c.alarm) rs
-signals_are rs up p b c found same = changed_here rs up p b c (with_signals c.own.signals c.alarm) found (λ q. ap (process_of p q) same)
-
+-- a record gets other signals, and another alarm
 pub machine_run : {groups_at_risk : PidSetView} {terminals : Terminals} (s : State) (pids : Pids) (places : Places) (to_recheck after : PidSetView) (p : ℕ) (b c : Record) (ts : List Process)
     → lookup p s.processes ≡ Some (process_of p (parent_of p s.processes) b) → ts ≡ with_record s.processes p c → c ≡ record b { alarm = c.alarm; own = record (b.own) { signals = c.own.signals } } → IsRegular (record s { processes = with_record s.processes p c })
     → IsMachine s pids places to_recheck groups_at_risk terminals → after.pids ≡ rechecking_by_signals (lookup p ts) s.order to_recheck.pids → after.room ≡ to_recheck.room → IsMachine (record s { processes = ts }) pids places after groups_at_risk terminals
 machine_run {groups_at_risk = groups_at_risk} {terminals = terminals} s pids places to_recheck after p b c ts found is same regular i put room =
     let f = with_signals c.own.signals c.alarm in
-    let became = signals_are s.processes i.sound.regular.rising p b c found same in
+    let became = changed_here s.processes i.sound.regular.rising p b c (with_signals c.own.signals c.alarm) found (λ q. ap (process_of p q) same) in
     subst (λ rs. IsMachine (record s { processes = rs }) pids places after groups_at_risk terminals) (sym (is ∙ became))
     (machine_changed s pids places to_recheck after p f (record { pid = λ r. refl; parent = λ r. refl; group = λ r. refl; session = λ r. refl }) (subst (λ rs. IsRegular (record s { processes = rs })) became regular) i room
     (listed_signals s p c.own.signals c.alarm to_recheck after i.listed (rw found refl) (put ∙ ap (λ rs. rechecking_by_signals (lookup p rs) s.order to_recheck.pids) (is ∙ became)) room))
@@ -172,11 +168,6 @@ listed_changed {readers = readers} s t p parent before after touched h touches m
     mine : (q : ℕ) → q ≡ p → (is_in q (p ∷ []) ≡ true) ⊎ ((is_in q s.order ≡ true) × (is_in q t.order ≡ true))
     mine q same = inl (or_left _ _ (eq-eqb p q (sym same)))
 
--- the number that was given last is the same
-pub machine_numbered : {groups_at_risk : PidSetView} {terminals : Terminals} (t : State) (pids : Pids) (places : Places) (to_recheck : PidSetView) (last : ℕ) → t.last_pid ≡ last
-    → IsMachine t pids places to_recheck groups_at_risk terminals → IsMachine (record t { last_pid = last }) pids places to_recheck groups_at_risk terminals
-machine_numbered {groups_at_risk = groups_at_risk} {terminals = terminals} t pids places to_recheck last same i = subst (λ n. IsMachine (record t { last_pid = n }) pids places to_recheck groups_at_risk terminals) same i
-
 -- everybody else has the parent that it had
 parents_record : (rs : List Process) (p : ℕ) (c : Record) → HaveParents IsOther rs → HaveParents IsOther (with_record rs p c)
 unfolding give_record changed
@@ -229,7 +220,7 @@ machine_shown {groups_at_risk = groups_at_risk} {terminals = terminals} {sets = 
     let up = i.sound.regular.rising in
     let me = process_of p (parent_of p rs) b in
     let t = change s p f in
-    rw is (machine_numbered t now places after now.last given (record {
+    rw is (subst (λ n. IsMachine (record t { last_pid = n }) now places after groups_at_risk (record terminals { readers = sets; foregrounds_unchecked = foregrounds_unchecked })) given (record {
       sound = record {
         regular = regular;
         parents = parents_record rs p c i.sound.parents;
@@ -243,7 +234,7 @@ machine_shown {groups_at_risk = groups_at_risk} {terminals = terminals} {sets = 
           (ap (is_in p) put ∙ in_parent p parent s.order _ (in_with p p to_recheck.pids ∙ or_left _ _ (eq-eqb p p refl))) forgot;
       noted = subst (λ n. IsNoted n groups_at_risk) (sym room) i.noted;
       fresh = subst (λ u. AreFreshBut u (with_record rs p c) s.consoles) (sym mark) (elim (has_moved (record_seen b) (record_seen c)) as (λ m. has_moved (record_seen b) (record_seen c) ≡ m → AreFreshBut (cond m (also_in b.session terminals.foregrounds_unchecked) terminals.foregrounds_unchecked) (with_record rs p c) s.consoles) [
-        | true ↦ λ e. fresh_moved terminals.foregrounds_unchecked p me f rs s.consoles up found i.fresh
+        | true ↦ λ e. fresh_but_one terminals.foregrounds_unchecked p me rs (with_record rs p c) s.consoles up found (λ q r ne e. lookup_other p q f (λ r. refl) ne rs r e) i.fresh
         | false ↦ λ e. fresh_still terminals.foregrounds_unchecked rs (with_record rs p c) s.consoles (λ ds h. rw (numbers_as rs up p b c found e) (fresh_changed p (keep_numbers c) (λ r. refl) (λ r. refl) rs ds h)) i.fresh
       ] refl);
       indexed = i.indexed;

@@ -11,7 +11,7 @@ use Rattle.posix.specs.Regular.{IsRegular}
 use Rattle.posix.proofs.RegularLemmas.{Keeps, regular_change}
 use Rattle.posix.proofs.TouchLemmas.{Unseen, touches_unseen}
 use Rattle.pidalloc.specs.Rows.{Pids}
-use Rattle.sched.specs.Places.{Places}
+use Rattle.pidalloc.specs.Places.{Places}
 use Rattle.pidset.specs.Numbers.{PidSetView}
 use Rattle.proctable.specs.declared.own_part.OwnPart.{OwnPart}
 use Rattle.proctable.specs.Records.{own_of, give_own}

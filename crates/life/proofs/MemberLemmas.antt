@@ -8,7 +8,6 @@ use Rattle.posix.specs.States.{State}
 use Rattle.posix.specs.Regular.{IsRegular}
 use Rattle.posix.proofs.TableLemmas.{rising_filter}
 use Rattle.posix.proofs.WalkLemmas.{AtOne, one_here, next_begins, passing_above, all_left}
-use Rattle.jobs.proofs.ChildLemmas.{sibling_is}
 use Rattle.life.proofs.ChildLemmas.{IsAtChild, child_here, first_here, first_todo, next_here}
 use Rattle.life.proofs.SoundLemmas.{is_there}
 
@@ -71,6 +70,6 @@ seek_on {rs = rs} {p = p} {group = group} {c = c} {m = m} w child_comes member_c
     record {
       at_child = next_here w.at_child child_comes e;
       at_member = next_begins m (filter (is_member group) rs) _ f;
-      of_children = rw (e ∙ sibling_is p c rs h) (rw no_member at (sym (asked (is_member group) _ _ _ _ h.what child_comes h.left)) ∙ w.of_children);
+      of_children = rw e (rw no_member at (sym (asked (is_member group) _ _ _ _ h.what child_comes h.left)) ∙ w.of_children);
       of_members = rw f (rw no_child at (sym (asked (is_child p) _ _ _ _ k.what member_comes k.left)) ∙ w.of_members);
     }

@@ -5,7 +5,7 @@ use Rattle.posix.specs.Processes.{Process}
 use Rattle.posix.specs.Tables.{lookup}
 use Rattle.posix.specs.States.{State}
 use Rattle.pidalloc.specs.Rows.{Pids, is_free_in}
-use Rattle.sched.specs.Places.{Places}
+use Rattle.pidalloc.specs.Places.{Places}
 use Rattle.pidset.specs.Lists.{ListsView, without_page_of}
 use Rattle.pidset.specs.Numbers.{PidSetView}
 use Rattle.pidset.specs.Rows.{IsOnAnotherPage, sizes_without}

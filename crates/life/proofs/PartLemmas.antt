@@ -14,7 +14,7 @@ use Rattle.posix.proofs.RegularLemmas.{keeps_at, keeps_noticed, lookup_kept, loo
 use Rattle.pidalloc.specs.Rows.{Pids, gone_from}
 use Rattle.pidalloc.specs.Tallies.{IsTallied}
 use Rattle.pidalloc.proofs.TallyLemmas.{can_give_up, tallied_gone}
-use Rattle.sched.specs.Places.{Places}
+use Rattle.pidalloc.specs.Places.{Places}
 use Rattle.life.specs.Machines.{AreWithin, IsSound, IsMachine, Terminals, CanGo, IsGone, IsOther}
 use Rattle.life.proofs.RecheckLemmas.{listed_same}
 use Rattle.pidset.specs.Indexes.{is_pair_in}

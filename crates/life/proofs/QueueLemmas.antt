@@ -311,10 +311,6 @@ standard_queuers me target (Some m) rs standard = none_queued m.sig (permitted m
 pub room_none : (n : ℕ) (qs : List Process) → qs ≡ [] → HaveRoom n qs
 room_none n qs e = subst (HaveRoom n) (sym e) (record { free = refl; enough = omega arith })
 
--- it is sent as it finds them
-pub standard_goes : (qs : List Process) (other : Sending) → qs ≡ [] → other ≡ queued_for true qs other
-standard_goes qs other e = ap (λ l. queued_for true l other) (sym e)
-
 -- a count that lets more
 pub sends_more : {n : ℕ} (m : ℕ) (me : Process) (target : Target) (k : Option PendingSignal) (old new : MachineView) (answer : Sending) → Sends answer me target k n old new → Sends answer me target k (n + m) old new
 sends_more m me target k old new answer did = record { state = did.state; to_recheck = did.to_recheck; foregrounds_unchecked = did.foregrounds_unchecked; costs = record { visits = omega (arith, did.costs.visits); no_fewer = did.costs.no_fewer; groups_at_risk = did.costs.groups_at_risk; regular = did.costs.regular } }

@@ -1,7 +1,7 @@
 -- Who waits to read, and each console refreshed.
-use Rattle.std.proofs.Common.{◌≡◌, ◌≢◌, ℕ, ◌+◌, ◌<◌, ◌≤◌, zero, suc, true, false, cond, refl, ap, sym, ◌∙◌, arith, subst, List, [], ◌∷◌, ◌++◌, ◌⊎◌, ⊎_elim, inl, inr, length, take, Option, Some, None, ◌==◌, slice_get, slice_set, ◌&&◌, ◌||◌, Bool, map, drop, get_or, rules}
+use Rattle.std.proofs.Common.{◌≡◌, ◌≢◌, ℕ, ◌+◌, ◌<◌, ◌≤◌, zero, suc, true, false, cond, refl, ap, sym, ◌∙◌, arith, subst, List, [], ◌∷◌, ◌++◌, ⊎_elim, length, take, Option, Some, None, ◌==◌, slice_get, slice_set, ◌&&◌, ◌||◌, Bool, map, drop, get_or, rules}
 use Rattle.std.specs.Option.{IsSome, IfSome}
-use Rattle.std.proofs.lemmas.Bool.{and_parts, eqb-true, eqb-false, eq-eqb, ne_eqb, or_left, both_ways, true_from_ne_false}
+use Rattle.std.proofs.lemmas.Bool.{and_parts, cases_eq, eqb-true, eqb-false, eq-eqb, ne_eqb, or_left, both_ways, true_from_ne_false}
 use Rattle.std.proofs.lemmas.Option.{slice_get_read, same_Some}
 use Rattle.posix.specs.declared.process.Life.{Life}
 use Rattle.posix.specs.declared.process.Life.TheVariants.{Running}
@@ -121,20 +121,17 @@ listed_asleep s p l h rests unread = record {
       let named = pid_looked q s.processes r found in
       let acts = can_act_order s (without p s.order) r in
       let other = λ (ne : q ≢ p). h.covers q r found (sym (rw (acts, others_stay p r.pid s.order (λ e. ne (sym named ∙ e))) refl) ∙ w) in
-      ⊎_elim (λ e. absurd (both_ways _ (acts ∙ rests r (subst (λ n. process s n ≡ Some r) e found)) (and_parts _ _ w).1)) other (same_or_other q p);
+      ⊎_elim (λ e. absurd (both_ways _ (acts ∙ rests r (subst (λ n. process s n ≡ Some r) e found)) (and_parts _ _ w).1)) other (cases_eq q p);
   rising = h.rising;
   there = h.there;
   room = h.room;
   watched = record {
     known = λ session q r found visits out unasked.
         let other = λ (ne : q ≢ p). h.watched.known session q r found visits (sym (others_stay p q s.order ne) ∙ out) unasked in
-        ⊎_elim (λ e. absurd (both_ways _ (unread r (subst (λ n. process s n ≡ Some r) e found)) (reader_is session r visits).visits)) other (same_or_other q p);
+        ⊎_elim (λ e. absurd (both_ways _ (unread r (subst (λ n. process s n ≡ Some r) e found)) (reader_is session r visits).visits)) other (cases_eq q p);
     waits = λ session q on unasked. let it = h.watched.waits session q on unasked in record { reader = it.reader; found = it.found; reads = it.reads; out = still_out p q s.order it.out };
   };
 }
-  where
-    same_or_other : (q p : ℕ) → (q ≡ p) ⊎ (q ≢ p)
-    same_or_other q p = elim (q == p) as (λ b. (q == p) ≡ b → (q ≡ p) ⊎ (q ≢ p)) [ true ↦ λ e. inl (eqb-true q p e) | false ↦ λ e. inr (eqb-false q p e) ] refl
 
 -- ---- all are rechecked who may wait to read from a terminal
 
@@ -198,9 +195,6 @@ refreshed_suc f k c [] e = absurd (cc)
 refreshed_suc f zero c (d ∷ ds) e = ap (λ x. f x ∷ ds) (sym (same_Some _ _ e))
 refreshed_suc f (suc k) c (d ∷ ds) e = ap (λ x. f d ∷ x) (refreshed_suc f k c ds e)
 
-pub refreshed_next : (f : Console → Console) (k : ℕ) (c : Console) (cs : List Console) → slice_get cs k ≡ Some c → slice_set (refreshed_to f k cs) k (f c) ≡ refreshed_to f (k + 1) cs
-refreshed_next f k c cs e = grind (arith, e, refreshed_suc)
-
 -- the next one is as it was
 pub not_refreshed : (f : Console → Console) (k : ℕ) (cs : List Console) → slice_get (refreshed_to f k cs) k ≡ slice_get cs k
 not_refreshed f (suc k) (d ∷ ds) = not_refreshed f k ds
@@ -216,4 +210,6 @@ was_at f k x cs now so_far fits is = grind (arith, so_far, fits, is, not_refresh
 
 -- one more
 pub refreshed_step : (f : Console → Console) (k : ℕ) (x : Console) (cs now : List Console) → now ≡ refreshed_to f k cs → k < length cs → x ≡ get_or now k x → slice_set now k (f x) ≡ refreshed_to f (k + 1) cs
-refreshed_step f k x cs now so_far fits is = ap (λ (l : List Console). slice_set l k (f x)) so_far ∙ refreshed_next f k x cs (was_at f k x cs now so_far fits is)
+refreshed_step f k x cs now so_far fits is =
+    let next : suc k ≡ k + 1 = omega arith in
+    ap (λ (l : List Console). slice_set l k (f x)) so_far ∙ refreshed_suc f k x cs (was_at f k x cs now so_far fits is) ∙ ap (λ n. refreshed_to f n cs) next

@@ -1,20 +1,21 @@
--- A machine in which there is room for more.
+-- A machine in which there is room for more, or whose order of turns changes.
 use Rattle.std.proofs.Common.{◌≡◌, ℕ, ◌<◌, ◌≤◌, Bool, true, false, refl, ap, sym, ◌∙◌, subst, List, Some, IsSome}
 use Rattle.std.proofs.lemmas.Bool.{both_ways}
 use Rattle.posix.specs.Processes.{Process}
 use Rattle.posix.specs.Tables.{lookup}
 use Rattle.posix.specs.Consoles.{Console}
 use Rattle.posix.specs.States.{World, State}
+use Rattle.posix.specs.Regular.{IsRegular}
 use Rattle.pidalloc.specs.Rows.{Pids, row, is_free_in}
 use Rattle.pidalloc.proofs.TallyLemmas.{CanBear}
-use Rattle.sched.specs.Places.{Places}
+use Rattle.pidalloc.specs.Places.{Places}
 use Rattle.pidset.specs.Indexes.{is_pair_in}
 use Rattle.pidset.specs.Lists.{ListsView}
 use Rattle.pidset.specs.Rows.{Grows, HasRoom}
 use Rattle.pidset.specs.Numbers.{PidSetView, Rises}
-use Rattle.life.specs.Machines.{state_of, MachineView, AreSame, AreSameButRoom, IsKept, IsMachine, Terminals}
+use Rattle.life.specs.Machines.{state_of, MachineView, AreSame, AreSameButRoom, IsKept, IsListed, IsMachine, IsNoted, Terminals}
 use Rattle.life.proofs.RecheckLemmas.{listed_roomier}
-use Rattle.life.proofs.SoundLemmas.{kept_roomier}
+use Rattle.life.proofs.SoundLemmas.{grows_same, kept_roomier, sound_order}
 
 -- it stays one with other room, where there is room for each process in the order, and among those who wait to read
 pub machine_with_room : {s t : State} {pids now : Pids} {places order : Places} {l m groups after : PidSetView} {terminals : Terminals} {sets : ListsView}
@@ -55,6 +56,12 @@ state_roomier w rs ts cs pids now places order births ticks dropped halted same 
 -- what is the same is so but for room
 pub same_but_room : {old new : MachineView} → AreSame old new → AreSameButRoom old new
 same_but_room a = record { state = a.state; to_recheck = a.to_recheck; groups_at_risk = a.groups_at_risk; foregrounds_unchecked = a.foregrounds_unchecked; readers = ap (λ (l : ListsView). l.pairs) a.readers }
+
+-- it stays one with another order, in which there is room as before
+pub machine_ordered : {s : State} {order : List ℕ} {pids : Pids} {a b : Places} {l after groups : PidSetView} {terminals : Terminals} → IsMachine s pids a l groups terminals → b.sizes ≡ a.sizes
+    → IsRegular (record s { order = order }) → IsListed (record s { order = order }) after terminals.readers → after.room ≡ l.room → IsMachine (record s { order = order }) pids b after groups terminals
+machine_ordered {s = s} {order = order} {pids = pids} {a = a} {b = b} {groups = groups} i same regular listed room =
+    record { sound = sound_order s order pids a b (grows_same same) regular i.sound; listed = listed; noted = subst (λ n. IsNoted n groups) (sym room) i.noted; fresh = i.fresh; indexed = i.indexed; within = i.within }
 
 -- what the rows need before three numbers are borne, of which two are borne already
 pub record CanBearAll (p : Pids) (n group session : ℕ) : Type 0 where

@@ -5,7 +5,7 @@ use Rattle.std.proofs.lemmas.Bool.{cases_eq}
 use Rattle.std.proofs.lemmas.Option.{same_Some}
 use Rattle.std.proofs.lemmas.List.{length-map, length-replicate}
 use Rattle.posix.specs.Processes.{Process, is_zombie, first_process}
-use Rattle.posix.specs.Tables.{at, lookup, changed, inserted, adopted, reparented}
+use Rattle.posix.specs.Tables.{at, lookup, changed, inserted, adopted, reparented, pids}
 use Rattle.posix.specs.Consoles.{Console, unused_console}
 use Rattle.posix.specs.States.{World, State, boot, process, next_pid}
 use Rattle.posix.specs.NextPid.{next_free}
@@ -13,20 +13,22 @@ use Rattle.posix.specs.Regular.{IsRegular, IsPlaced, CanInherit}
 use Rattle.posix.specs.Ends.{made_zombie, leave_children_and_die}
 use Rattle.posix.proofs.NextLemmas.{IsNew, new_number}
 use Rattle.posix.proofs.RegularLemmas.{lookup_inserted, lookup_new, regular_as, regular_inserted, regular_first, regular_depart, heir_there}
-use Rattle.posix.proofs.TableLemmas.{length_inserted}
+use Rattle.posix.proofs.TableLemmas.{length_inserted, pid_looked}
 use Rattle.posix.proofs.MapLemmas.{at_pid, lookup_back, lookup_on}
-use Rattle.posix.proofs.WalkLemmas.{all_looked}
+use Rattle.posix.proofs.WalkLemmas.{pid_found}
 use Rattle.posix.proofs.ReportLemmas.{some_changed}
 use Rattle.pidalloc.specs.Rows.{Pids, IsPids, is_free_in, unborne_table, born_in}
 use Rattle.pidalloc.specs.Tallies.{IsTallied}
 use Rattle.pidalloc.proofs.TallyLemmas.{CanBear, can_bear, next_same, tallied_unborne, tallied_born, tallied_map}
-use Rattle.sched.specs.Places.{Places}
+use Rattle.pidalloc.specs.Places.{Places}
 use Rattle.life.specs.Machines.{AreWithin, IsKept, IsSound, state_of, IsOther}
 pub use Rattle.jobs.proofs.SnapshotLemmas.{There, there, is_there, snapshot_are, some_read, none_read}
-use Rattle.jobs.proofs.NumberLemmas.{no_more, above_none, nobody_there}
+use Rattle.jobs.proofs.NumberLemmas.{nobody_there}
 use Rattle.pidset.specs.Indexes.{is_pair_in}
 use Rattle.pidset.specs.Lists.{ListsView}
 use Rattle.pidset.specs.Rows.{Grows, HasRoom}
+use Rattle.pidset.proofs.IndexLemmas.{rises_pids}
+use Rattle.pidset.proofs.NumberLemmas.{few}
 use Rattle.pidset.proofs.ParentLemmas.{parents_map, parents_adopted, parents_inserted}
 
 -- what the value of a machine says of a process, its parts say
@@ -120,12 +122,6 @@ within_departed p heir w rs h = within_map (reparented p heir) _ (λ r. grind ar
 pub next_is : (s : State) (p : Pids) (places : Places) → s.last_pid ≡ p.last → IsSound s p places → next_free (is_free_in p.rows) p.last p.pidmax ≡ next_pid s
 next_is s p places last i = grind (arith, last, i, next_same)
 
--- there are no more processes than numbers
-pub few : (s : State) → IsRegular s → length s.processes ≤ s.world.pidmax
-few s i =
-    let l = no_more 0 s.world.pidmax s.processes i.rising (above_none s.processes (all_looked _ s.processes i.rising (λ p r e. (i.bounded p r e).least))) (all_looked _ s.processes i.rising (λ p r e. (i.bounded p r e).pid)) (omega arith) in
-    omega (arith, l)
-
 -- ---- births
 
 -- the number of the next child is free, and in the range of the rows
@@ -133,9 +129,12 @@ pub next_is_new : (s t : State) (p : Pids) (places : Places) (child : ℕ) → s
 next_is_new s t p places child now i next =
     subst (λ m. IsNew s.processes m child) (sym i.kept.greatest) (new_number s child (ap (λ (s : State). next_pid s) now ∙ next))
 
--- and no more than 4,194,304
+-- there are no more processes than numbers, and so no more than 4,194,304
 pub not_many : (s : State) (p : Pids) (places : Places) → IsSound s p places → length s.processes ≤ 4194304
-not_many s p places i = omega (arith, few s i.regular, i.kept.greatest, i.kept.table.limit)
+not_many s p places i =
+    let l = subst (λ n. n ≤ s.world.pidmax) (length-map s.processes (λ (r : Process). r.pid)) (few s.world.pidmax (pids s.processes) (rises_pids s.processes i.regular.rising)
+    (λ q e. let r = pid_found q s.processes e in let b = i.regular.bounded q r.0 r.1 in subst (λ n. (1 ≤ n) × (n ≤ s.world.pidmax)) (pid_looked q s.processes r.0 r.1) (b.least, b.pid))) in
+    omega (arith, l, i.kept.greatest, i.kept.table.limit)
 
 -- the rows have room for one more process in the group and session of its parent
 pub room_to_bear : (s t : State) (p : Pids) (places : Places) (rs : List Process) (child parent group session : ℕ) → s ≡ t → rs ≡ s.processes → IsSound s p places → next_pid t ≡ Some child → IsPlaced t.processes parent

@@ -23,7 +23,7 @@ use Rattle.life.specs.Loans.{looked}
 use Rattle.life.specs.Machines.{AreSame, Looks, MachineView}
 use Rattle.life.proofs.ViewLemmas.{same_then}
 use Rattle.life.proofs.QueueLemmas.{queuing_append}
-use Rattle.life.proofs.SendLemmas.{joined_none, joined_twice, sending_append, target_one, target_other, target_none}
+use Rattle.life.proofs.SendLemmas.{joined_none, joined_twice, sending_append, target_one}
 
 -- the survey of some for none of whom the signal would be queued
 abbrev pub unqueued : Sending → Survey
@@ -46,9 +46,9 @@ surveys_none a = grind (arith, joined_none, or-false)
 pub none_surveys : (a : Survey) → joined_surveys (unqueued found.NobodyFound) a ≡ a
 none_surveys a = grind (arith)
 
-pub survey_none : (me : Process) (n : ℕ) → unqueued found.NobodyFound ≡ survey_of me n []
+pub survey_missed : (me : Process) (n : ℕ) (qs : List Process) → qs ≡ [] → unqueued found.NobodyFound ≡ survey_of me n qs
 unfolding survey_of permitted queuers
-survey_none me n = refl
+survey_missed me n qs none = rw none refl
 
 -- the survey of some and of others is that of all of them
 pub survey_append : (me : Process) (n : ℕ) (xs ys : List Process) → joined_surveys (survey_of me n xs) (survey_of me n ys) ≡ survey_of me n (xs ++ ys)
@@ -59,14 +59,6 @@ survey_append me n xs ys =
     rw (full, many, sym (sending_append me (Some n) xs ys)) refl
 
 -- ---- one number
-
--- where nobody is there, nobody is found
-pub survey_absent : (me : Process) (n : ℕ) (target : Target) (p : ℕ) (rs : List Process) → lookup p rs ≡ None → unqueued found.NobodyFound ≡ survey_of me n (targets me target (numbered p rs))
-survey_absent me n target p rs e = survey_none me n ∙ ap (survey_of me n) (sym (target_none me target p rs e))
-
--- so it is where who is there isn't meant
-pub survey_other : (me : Process) (n : ℕ) (target : Target) (p : ℕ) (rs : List Process) → IsRising rs → (q : Process) → lookup p rs ≡ Some q → is_target me target q ≡ false → unqueued found.NobodyFound ≡ survey_of me n (targets me target (numbered p rs))
-survey_other me n target p rs up q e t = survey_none me n ∙ ap (survey_of me n) (sym (target_other me target p rs up q e t))
 
 -- who is meant may not be signalled
 pub survey_forbidden : (me : Process) (n : ℕ) (target : Target) (p : ℕ) (rs : List Process) → IsRising rs → (q : Process) → lookup p rs ≡ Some q → is_target me target q ≡ true → may me (Some n) q ≡ false

@@ -11,7 +11,7 @@ use Rattle.life.specs.declared.consoles.Unchecked.{Unchecked}
 use Rattle.life.specs.Foregrounds.{AreFreshBut}
 use Rattle.pidalloc.specs.Rows.{Pids, IsPids, row, gone_from}
 use Rattle.pidalloc.specs.Tallies.{IsTallied}
-use Rattle.sched.specs.Places.{Places}
+use Rattle.pidalloc.specs.Places.{Places}
 use Rattle.pidset.specs.Rows.{HasRoom}
 use Rattle.pidset.specs.Numbers.{PidSetView, Rises}
 use Rattle.pidset.specs.declared.index.Pair.{Pair}

@@ -22,11 +22,10 @@ use crate::machine::Machine;
 use crate::rechecks::recheck_later;
 use crate::waits::awaits;
 use jobs::{Change, IndexedFields, IndexedTable};
-use pidalloc::PidTable;
+use pidalloc::{Order, PidTable};
 use pidset::PidSet;
 use posix::{Life, News, Pid, Status};
 use proctable::{ProcessTable, Record};
-use sched::Order;
 
 impl<K: ProcessTable> Machine<K> {
     /// Changes the signals of a process that is there, and its alarm: the process is to be rechecked where a signal is

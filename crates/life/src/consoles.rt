@@ -1,7 +1,7 @@
 //! Consoles: whose terminal each is, who waits to read from it, and what a key, a hangup and a lost foreground
 //! process group do (XBD 11.1).
 
-ghost use Rattle.std.specs.Prelude.{is_some, ◌≡◌, ◌≢◌, ◌==◌, ◌+◌, ◌<◌, ◌≤◌, ◌||◌, ℕ, List, IfOk, IfSome, Some, None, [], count_by, length, false, true, if◌then◌else◌, option_map, map, replicate, slice_get, slice_set};
+ghost use Rattle.std.specs.Prelude.{◌≡◌, ◌≢◌, ◌==◌, ◌+◌, ◌<◌, ◌≤◌, ◌||◌, ℕ, List, IfOk, IfSome, Some, None, [], count_by, length, false, true, if◌then◌else◌, option_map, map, replicate, slice_get, slice_set};
 ghost use Rattle.std.specs.Option.{option_copied};
 ghost use Rattle.posix.specs.Processes.{Process};
 ghost use Rattle.posix.specs.States.{process, is_in, without};
@@ -202,15 +202,6 @@ impl<K: ProcessTable> Machine<K> {
         ensures { IsTerminalIndex session self.now.state.consoles result }
     {
         index_in(&self.terminals, session)
-    }
-
-    /// Whether a session has a controlling terminal. No console is looked at.
-    fn has_terminal(&self, session: Pid) -> bool
-        ensures value { result ≡ is_some (console_of session self.now.state.consoles) }
-        ensures regular { IsRegular self.now.state }
-    {
-        let _ = &self.table;
-        self.terminal_index(session).is_some()
     }
 
     /// The controlling terminal of a session; none where it has none.
@@ -495,20 +486,18 @@ impl<K: ProcessTable> Machine<K> {
         ensures costs { IfThere pid self.old (λ me. Costs (1 + slots_of_hangup me self.old) self.old self.new) }
         ensures those { (me : Process) (p : ℕ) (c : ConsoleValue) → process self.old.state pid ≡ Some me → console_of me.session self.old.state.consoles ≡ Some c → is_in p self.new.to_recheck ≡ true → ((is_in p self.old.to_recheck || is_pair_in me.session p self.old.readers.pairs) || is_in p (pids (members_in c.foreground self.old.state.processes))) ≡ true }
     {
-        if !self.has_terminal(pid) {
+        let _ = &self.table;
+        let Some(console_index) = self.terminal_index(pid) else {
             return;
-        }
+        };
         let Some(snapshot) = self.snapshot(pid) else {
             return;
         };
         if !hangs_up(&snapshot) {
             return;
         }
-        let Some(console_index) = self.terminal_index(snapshot.session) else {
-            return;
-        };
         let foreground = self.consoles[console_index].foreground();
-        self.release(snapshot.session, console_index);
+        self.release(pid, console_index);
         self.signal_group(foreground, Sig::HUP);
     }
 

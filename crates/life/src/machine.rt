@@ -19,17 +19,16 @@ ghost use Rattle.life.specs.Machines.{AreTerminals, FindsAndCounts, Runs, IsTher
 ghost use Rattle.life.specs.NotedBursts.{most_notes, exec_with_notes};
 ghost use Rattle.pidset.specs.Numbers.{with_number};
 ghost use Rattle.pidset.specs.Rows.{HasRoom};
-ghost use Rattle.sched.specs.Places.{next_behind};
+ghost use Rattle.pidalloc.specs.Places.{next_behind};
 
 use crate::consoles::{Unchecked, nobodys, unused};
 use crate::noted_bursts::{Notes, run_with_notes};
 use crate::rechecks::recheck_later;
 use jobs::IndexedTable;
-use pidalloc::PidTable;
+use pidalloc::{Order, PidTable};
 use pidset::{Index, PidSet};
 use posix::{Pid, Sig, Trap};
 use proctable::{GrantedPools, OwnPart, ProcessTable, Record, Snapshot};
-use sched::Order;
 use std::alloc::{AllocError, Global};
 use std::marker::Model;
 use tty::Console;

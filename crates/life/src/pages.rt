@@ -10,11 +10,10 @@ ghost use Rattle.life.specs.Machines.{AreSameButRoom};
 
 use crate::machine::Machine;
 use jobs::IndexedTable;
-use pidalloc::PidTable;
+use pidalloc::{Order, PidTable};
 use pidset::Lists;
 use posix::Pid;
 use proctable::ProcessTable;
-use sched::Order;
 
 /// The room for a number goes in the parts of a machine, and that for all others on its page of 1,024 numbers. It stands
 /// by itself, since few births and ends come so far.

@@ -3,9 +3,9 @@
 ghost use Rattle.std.specs.Prelude.{◌≡◌, ◌<◌, length};
 ghost use Rattle.life.specs.Rechecks.{rechecking, without_gone};
 
+use pidalloc::Order;
 use pidset::PidSet;
 use posix::Pid;
-use sched::Order;
 
 /// A process that is there has changed, but not its place: it is to be rechecked where it has none.
 #[inline]

@@ -15,7 +15,8 @@ use Rattle.counting.specs.Endings.{ending_of}
 use Rattle.counting.specs.Tallies.{TallyView, both}
 use Rattle.counting.specs.Texts.{marked}
 use Rattle.merging.specs.declared.search.Search.{Search}
-use Rattle.merging.specs.Merging.{ForgetsHalted, Outlook, Property, from_spot, if_none_left, list_of, loose_of, marks_after, one_if, outlook_of, over_kinds, state_after, tally_at_place, tally_from, tally_of_rest, texts_of}
+use Rattle.merging.specs.Merging.{ForgetsHalted, Outlook, Property, from_spot, if_none_left, list_of, loose_of, marks_after, one_if, outlook_of, state_after, tally_at_place, tally_from, tally_of_rest, texts_of}
+use Rattle.merging.proofs.MergeLemmas.{over_kinds_same}
 
 -- the same comes of all states in which the machine has halted
 abbrev Forgets : (State → List Bool → TallyView) → Type 0
@@ -55,10 +56,6 @@ event_forgets texts x f forgets s t marks halted too =
     ap (f (state_after x s)) (marks_halted texts s x marks halted ∙ sym (marks_halted texts t x marks too))
     ∙ forgets (state_after x s) (state_after x t) (marks_after texts x t marks) (still_halted s x halted) (still_halted t x too)
 
-each_alike : (f g : ℕ → List ℕ → TallyView) → ((kind : ℕ) (others : List ℕ) → f kind others ≡ g kind others) → (i : ℕ) (left : List ℕ) → over_kinds f i left ≡ over_kinds g i left
-each_alike f g same zero left = refl
-each_alike f g same (suc i) left = ap₂ both (each_alike f g same i left) (same (slice_index_or left i 0) (remove left i))
-
 place_forgets : (go_on : Outlook) → ForgetsHalted go_on → (texts : List (List ℕ)) (loose : List Event) (x : Event) (p : ℕ) → ForgetsHalted (tally_at_place go_on texts loose x p)
 unfolding tally_at_place
 place_forgets go_on forgets texts loose x p zero left s t marks halted too = event_forgets texts x (go_on zero left) (forgets zero left) s t marks halted too
@@ -68,7 +65,8 @@ place_forgets go_on forgets texts loose x p (suc n) left s t marks halted too =
     (event_forgets texts y (tally_at_place go_on texts loose x p n others) (place_forgets go_on forgets texts loose x p n others) s t marks halted too) in
     ap₂ both
     (ap₂ both (alike Tick 0 left)
-    (each_alike (λ kind others. put (event_of loose kind) kind others s) (λ kind others. put (event_of loose kind) kind others t) (λ kind others. alike (event_of loose kind) kind others) (length left) left))
+    (over_kinds_same (λ kind others. put (event_of loose kind) kind others s) (λ kind others. put (event_of loose kind) kind others t) (length left) left
+    (λ k l. let kind = slice_index_or left k 0 in alike (event_of loose kind) kind (remove left k))))
     (event_forgets texts x (go_on (suc n) left) (forgets (suc n) left) s t marks halted too)
 
 from_forgets : (has : Property) (texts : List (List ℕ)) (loose : List Event) (places p : ℕ) (events : List Event) → ForgetsHalted (tally_from has texts loose places p events)

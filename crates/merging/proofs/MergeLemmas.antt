@@ -4,7 +4,7 @@ use Rattle.std.specs.Prelude.{count_by, nat_lt, slice_get, IfSome}
 use Rattle.std.specs.List.{All, AllPairs, list_any}
 use Rattle.std.proofs.lemmas.Bool.Decides.{nat_tests}
 use Rattle.std.proofs.lemmas.List.{map-append}
-use Rattle.std.proofs.lemmas.List.Elements.{All-append, All-head, All-tail, All-weaker}
+use Rattle.std.proofs.lemmas.List.Elements.{All-head, All-tail, All-weaker}
 use Rattle.std.proofs.lemmas.List.Folds.{list_any-append}
 use Rattle.std.proofs.lemmas.List.Sums.{sum_by-cons}
 use Rattle.posix.specs.declared.entry.Entry.{Entry}
@@ -13,9 +13,9 @@ use Rattle.posix.specs.Entries.{Line, numbered}
 use Rattle.posix.specs.States.{State, World, boot}
 use Rattle.posix.specs.Step.{next}
 use Rattle.schedules.specs.Families.{IsBefore, IsEarlier, IsSchedule, Spots, each_kind, family, kinds_of, of_at_most, of_spots, place_of, spot, with_spot}
-use Rattle.schedules.specs.Schedules.{event_of, from_front, put_at, scheduled}
-use Rattle.schedules.proofs.FamilyLemmas.{All-remove, RisesFrom, all_kinds, in_order, kind_of_spot, level_rises, place_of_spot}
-use Rattle.schedules.proofs.ScheduledLemmas.{front}
+use Rattle.schedules.specs.Schedules.{event_of, from_front, scheduled}
+use Rattle.schedules.proofs.FamilyLemmas.{AreKinds, IsAtMost, all_kinds, at_most_is, in_order, kind_of_spot, kinds_left, place_of_spot}
+use Rattle.schedules.proofs.ScheduledLemmas.{event_next, front}
 use Rattle.counting.specs.Counts.{tally_over}
 use Rattle.counting.specs.Courses.{course_from, course_of}
 use Rattle.counting.specs.Endings.{ending_of}
@@ -23,7 +23,7 @@ use Rattle.counting.specs.Tallies.{TallyView, both, first_of, is_before, is_earl
 use Rattle.counting.specs.Texts.{has_text, have_text, marked, shown, unmarked}
 use Rattle.counting.proofs.CountLemmas.{first_found, members}
 use Rattle.merging.specs.Merging.{Property, from_spot, if_none_left, marks_after, one_if, over_kinds, state_after, tally_at_place, tally_from, tally_of_rest}
-use Rattle.merging.proofs.TallyLemmas.{and_none, both_regrouped, exchanged, first_begun, first_if_before, none_and, two_by_two}
+use Rattle.merging.proofs.TallyLemmas.{and_none, both_regrouped, exchanged, first_begun, first_if_before, none_and, step_equal, two_by_two}
 
 -- ---- what the definitions say
 
@@ -114,18 +114,15 @@ each_from_spot has p (x ∷ xs) =
 less_says : (m n : ℕ) (b : Bool) → m < n → (nat_lt m n || (m == n && b)) ≡ true
 less_says m n b l = grind (arith, nat_tests)
 
-same_says : (m n : ℕ) (b : Bool) → m ≡ n → b ≡ true → (nat_lt m n || (m == n && b)) ≡ true
-same_says m n b e t = grind (arith, nat_tests)
-
 earlier_says : (ps qs : Spots) → IsEarlier ps qs → is_earlier ps qs ≡ true
 earlier_says [] qs e = absurd e
 earlier_says (p ∷ ps) [] e = absurd e
 earlier_says (p ∷ ps) (q ∷ qs) (inl less) = less_says p q (is_earlier ps qs) less
-earlier_says (p ∷ ps) (q ∷ qs) (inr same) = same_says p q (is_earlier ps qs) same.0 (earlier_says ps qs same.1)
+earlier_says (p ∷ ps) (q ∷ qs) (inr same) = step_equal p q (is_earlier ps qs) same.0 ∙ earlier_says ps qs same.1
 
 before_says : (ps qs : Spots) → IsBefore ps qs → is_before ps qs ≡ true
 before_says ps qs (inl less) = less_says (length ps) (length qs) (is_earlier ps qs) less
-before_says ps qs (inr same) = same_says (length ps) (length qs) (is_earlier ps qs) same.0 (earlier_says ps qs same.1)
+before_says ps qs (inr same) = step_equal (length ps) (length qs) (is_earlier ps qs) same.0 ∙ earlier_says ps qs same.1
 
 first_stays : (x : Spots) (o : Option Spots) → IfSome o (IsBefore x) → first_of (Some x) o ≡ Some x
 first_stays x None h = refl
@@ -153,7 +150,7 @@ over_each has (x ∷ xs) h =
 
 -- with each kind that is left
 
-over_kinds_same : (f g : ℕ → List ℕ → TallyView) (i : ℕ) (left : List ℕ) → ((k : ℕ) → k < i → f (slice_index_or left k 0) (remove left k) ≡ g (slice_index_or left k 0) (remove left k))
+pub over_kinds_same : (f g : ℕ → List ℕ → TallyView) (i : ℕ) (left : List ℕ) → ((k : ℕ) → k < i → f (slice_index_or left k 0) (remove left k) ≡ g (slice_index_or left k 0) (remove left k))
     → over_kinds f i left ≡ over_kinds g i left
 over_kinds_same f g zero left e = refl
 over_kinds_same f g (suc i) left e = ap₂ both (over_kinds_same f g i left (λ k l. e k (omega (arith, l)))) (e i (omega arith))
@@ -227,13 +224,6 @@ unfolding of_at_most
 no_places loose zero kinds p = refl
 no_places loose (suc n) kinds p = append-nil (of_at_most loose n kinds p zero) ∙ no_places loose n kinds p
 
-family_rises : (loose n : ℕ) (kinds : List ℕ) (p places high : ℕ) → All (λ k. k ≤ loose) kinds → p + places ≡ high → All (RisesFrom loose p high) (of_at_most loose n kinds p places)
-unfolding of_at_most
-family_rises loose zero kinds p places high few e = level_rises loose zero kinds p places high few e
-family_rises loose (suc n) kinds p places high few e =
-    All-append (RisesFrom loose p high) (of_at_most loose n kinds p places) (of_spots loose (suc n) kinds p places)
-    (family_rises loose n kinds p places high few e) (level_rises loose (suc n) kinds p places high few e)
-
 -- with the first spot at the first place, or with none there
 family_parts : (has : Spots → Bool) (loose n : ℕ) (kinds : List ℕ) (p places : ℕ) → tally_each has (of_at_most loose (suc n) kinds p (suc places))
     ≡ both (put_first has loose p (λ ks. of_at_most loose n ks p (suc places)) kinds) (tally_each has (of_at_most loose (suc n) kinds (p + 1) places))
@@ -297,15 +287,6 @@ put_next loose p events kind ps few =
     ap₂ (λ m k. take (m - p) events ++ event_of loose k ∷ from_front loose m (drop (m - p) events) ps) (place_of_spot (length loose) p kind few) (kind_of_spot (length loose) p kind few)
     ∙ ap (λ n. take n events ++ event_of loose kind ∷ from_front loose p (drop n events) ps) here
 
-event_next : (loose : List Event) (p high : ℕ) (x : Event) (events : List Event) (ps : Spots) → RisesFrom (length loose) (p + 1) high ps
-    → from_front loose p (x ∷ events) ps ≡ x ∷ from_front loose (p + 1) events ps
-unfolding from_front
-event_next loose p high x events [] r = refl
-event_next loose p high x events (q ∷ ps) r =
-    let place = place_of (length loose) q in
-    let later : place_of (length loose) q - p ≡ suc (place_of (length loose) q - (p + 1)) = omega (arith, r.0) in
-    ap (λ n. take n (x ∷ events) ++ put_at loose q ∷ from_front loose place (drop n (x ∷ events)) ps) later
-
 -- ---- what goes on from a state, over the schedules that do
 
 each_with_put : (has : Property) (texts : List (List ℕ)) (loose : List Event) (p : ℕ) (events : List Event) (s : State) (marks : List Bool) (kind : ℕ) (xs : List Spots) → kind ≤ length loose
@@ -324,23 +305,23 @@ each_with_put has texts loose p events s marks kind xs few =
     with_put ps = sym (ap (holds_from has texts s marks) (put_next loose p events kind ps few) ∙ holds_next has texts s marks x (from_front loose p events ps))
 
 each_with_event : (has : Property) (texts : List (List ℕ)) (loose : List Event) (p : ℕ) (x : Event) (events : List Event) (n : ℕ) (left : List ℕ) (s : State) (marks : List Bool) (places : ℕ)
-    → All (λ k. k ≤ length loose) left
+    → AreKinds (length loose) left
     → tally_each (λ ps. holds_from has texts (state_after x s) (marks_after texts x s marks) (from_front loose (p + 1) events ps)) (of_at_most (length loose) n left (p + 1) places)
     ≡ tally_each (λ ps. holds_from has texts s marks (from_front loose p (x ∷ events) ps)) (of_at_most (length loose) n left (p + 1) places)
-each_with_event has texts loose p x events n left s marks places few =
+each_with_event has texts loose p x events n left s marks places kinds =
     each_same (λ ps. holds_from has texts (state_after x s) (marks_after texts x s marks) (from_front loose (p + 1) events ps))
     (λ ps. holds_from has texts s marks (from_front loose p (x ∷ events) ps)) (of_at_most (length loose) n left (p + 1) places)
-    (All-weaker (RisesFrom (length loose) (p + 1) (p + 1 + places))
+    (All-weaker (IsAtMost (length loose) n left (p + 1) (p + 1 + places))
     (λ ps. holds_from has texts (state_after x s) (marks_after texts x s marks) (from_front loose (p + 1) events ps) ≡ holds_from has texts s marks (from_front loose p (x ∷ events) ps))
-    with_event (of_at_most (length loose) n left (p + 1) places) (family_rises (length loose) n left (p + 1) places (p + 1 + places) few refl))
+    with_event (of_at_most (length loose) n left (p + 1) places) (at_most_is (length loose) n left (p + 1) places (p + 1 + places) kinds refl))
   where
-    with_event : (ps : Spots) → RisesFrom (length loose) (p + 1) (p + 1 + places) ps
+    with_event : (ps : Spots) → IsAtMost (length loose) n left (p + 1) (p + 1 + places) ps
         → holds_from has texts (state_after x s) (marks_after texts x s marks) (from_front loose (p + 1) events ps) ≡ holds_from has texts s marks (from_front loose p (x ∷ events) ps)
-    with_event ps r = sym (ap (holds_from has texts s marks) (event_next loose p (p + 1 + places) x events ps r) ∙ holds_next has texts s marks x (from_front loose (p + 1) events ps))
+    with_event ps is = sym (ap (holds_from has texts s marks) (event_next loose p (p + 1 + places) x events ps is.rise) ∙ holds_next has texts s marks x (from_front loose (p + 1) events ps))
 
 -- What goes on from a state, with so many places before which something is put in, is what the schedules come to that do.
 abbrev IsEach : Property → List (List ℕ) → List Event → ℕ → ℕ → List Event → Type 0
-IsEach has texts loose places p events = (n : ℕ) (left : List ℕ) (s : State) (marks : List Bool) → All (λ k. k ≤ length loose) left
+IsEach has texts loose places p events = (n : ℕ) (left : List ℕ) (s : State) (marks : List Bool) → AreKinds (length loose) left
     → tally_from has texts loose places p events n left s marks ≡ tally_each (λ ps. holds_from has texts s marks (from_front loose p events ps)) (of_at_most (length loose) n left p places)
 
 -- where one of these kinds is put in, which may be a tick
@@ -363,14 +344,14 @@ at_place has texts loose places p x events later zero left s marks few =
 at_place has texts loose places p x events later (suc n) left s marks few =
     let holds = λ (ps : Spots). holds_from has texts s marks (from_front loose p (x ∷ events) ps) in
     let here = λ (kind : ℕ) (others : List ℕ). tally_from has texts loose (suc places) p (x ∷ events) n others (state_after (event_of loose kind) s) (marks_after texts (event_of loose kind) s marks) in
-    let from_here = λ (kind : ℕ) (others : List ℕ) (fit : All (λ k. k ≤ length loose) others).
+    let from_here = λ (kind : ℕ) (others : List ℕ) (fit : AreKinds (length loose) others).
     at_place has texts loose places p x events later n others (state_after (event_of loose kind) s) (marks_after texts (event_of loose kind) s marks) fit in
     ap₂ both
     (ap₂ both (kind_put has texts loose (suc places) p (x ∷ events) n left s marks 0 (omega arith) (from_here 0 left few))
     (over_kinds_same (λ kind others. from_spot (spot (length loose) p kind) (here kind others))
     (λ kind others. behind_spot holds (spot (length loose) p kind) (of_at_most (length loose) n others p (suc places))) (length left) left
-    (λ k l. kind_put has texts loose (suc places) p (x ∷ events) n (remove left k) s marks (slice_index_or left k 0) (few k 0 l)
-    (from_here (slice_index_or left k 0) (remove left k) (All-remove (λ k. k ≤ length loose) left k few)))))
+    (λ k l. kind_put has texts loose (suc places) p (x ∷ events) n (remove left k) s marks (slice_index_or left k 0) (few.most k 0 l)
+    (from_here (slice_index_or left k 0) (remove left k) (kinds_left (length loose) left k l few)))))
     (later (suc n) left (state_after x s) (marks_after texts x s marks) few ∙ each_with_event has texts loose p x events (suc n) left s marks places few)
     ∙ sym (family_parts holds (length loose) n left p places)
 
@@ -399,7 +380,7 @@ pub merged_tally : (has : Property) (texts : List (List ℕ)) (world : World) (l
     ≡ tally_over (λ ps. has (ending_of (course_of world loose events ps).last) (marked texts (course_of world loose events ps).lines (unmarked texts))) (family upto ticks (length loose))
 unfolding course_of
 merged_tally has texts world loose events upto ticks l =
-    from_state has texts loose upto 0 events l (ticks + length loose) (kinds_of (length loose)) (boot world) (unmarked texts) (all_kinds (length loose)).most
+    from_state has texts loose upto 0 events l (ticks + length loose) (kinds_of (length loose)) (boot world) (unmarked texts) (all_kinds (length loose))
     ∙ each_same (λ ps. holds (from_front loose 0 events ps)) (λ ps. holds (scheduled loose events ps)) all
     (All-weaker (IsSchedule upto ticks (length loose)) (λ ps. holds (from_front loose 0 events ps) ≡ holds (scheduled loose events ps)) whole all (members upto ticks (length loose)))
     ∙ sym (over_each (λ ps. holds (scheduled loose events ps)) all (in_order upto ticks (length loose)))

@@ -73,29 +73,16 @@ endings_counted of test step texts loose rest upto most (n ∷ ns) b none =
     ∙ joined (of b.endings) (tally_of_node go_on most n) (tally_of_nodes go_on most ns) (if_so (test (ends_with rest n)) (begun n))
     (node_is (λ ending marks. test ending) texts loose rest upto most n (All-head (λ m. m.left.items ≡ []) n ns none))
 
-halted_with : (ending : Ending) (t : TallyView) (e : Endings) → (with_many_endings ending t e).halted ≡ both e.halted (if_so (is_halted ending) t)
-halted_with Halted t e = refl
-halted_with AtRest t e = sym (and_none e.halted)
-halted_with AwaitsAlarm t e = sym (and_none e.halted)
-halted_with Going t e = sym (and_none e.halted)
-
-at_rest_with : (ending : Ending) (t : TallyView) (e : Endings) → (with_many_endings ending t e).at_rest ≡ both e.at_rest (if_so (is_at_rest ending) t)
-at_rest_with Halted t e = sym (and_none e.at_rest)
-at_rest_with AtRest t e = refl
-at_rest_with AwaitsAlarm t e = refl
-at_rest_with Going t e = sym (and_none e.at_rest)
-
-alarmed_with : (ending : Ending) (t : TallyView) (e : Endings) → (with_many_endings ending t e).alarmed ≡ both e.alarmed (if_so (is_alarmed ending) t)
-alarmed_with Halted t e = sym (and_none e.alarmed)
-alarmed_with AtRest t e = sym (and_none e.alarmed)
-alarmed_with AwaitsAlarm t e = refl
-alarmed_with Going t e = sym (and_none e.alarmed)
-
-going_with : (ending : Ending) (t : TallyView) (e : Endings) → (with_many_endings ending t e).going ≡ both e.going (if_so (is_going ending) t)
-going_with Halted t e = sym (and_none e.going)
-going_with AtRest t e = sym (and_none e.going)
-going_with AwaitsAlarm t e = sym (and_none e.going)
-going_with Going t e = refl
+many_with : (ending : Ending) (t : TallyView) (e : Endings) → with_many_endings ending t e ≡ record {
+  halted = both e.halted (if_so (is_halted ending) t);
+  at_rest = both e.at_rest (if_so (is_at_rest ending) t);
+  alarmed = both e.alarmed (if_so (is_alarmed ending) t);
+  going = both e.going (if_so (is_going ending) t);
+}
+many_with Halted t e = rw (and_none e.at_rest, and_none e.alarmed, and_none e.going) refl
+many_with AtRest t e = rw (and_none e.halted, and_none e.alarmed, and_none e.going) refl
+many_with AwaitsAlarm t e = rw (and_none e.halted, and_none e.going) refl
+many_with Going t e = rw (and_none e.halted, and_none e.at_rest, and_none e.alarmed) refl
 
 endings_same : (a b : Endings) → a.halted ≡ b.halted → a.at_rest ≡ b.at_rest → a.alarmed ≡ b.alarmed → a.going ≡ b.going → a ≡ b
 endings_same a b halted at_rest alarmed going =
@@ -211,10 +198,10 @@ pub counted_book : (texts : List (List ℕ)) (world : World) (loose events rest 
 counted_book texts world loose events rest upto ticks nodes few is none same =
     book_same (counted_all texts rest nodes (empty_book texts)) (book_over world loose events texts all)
     (endings_same (counted_all texts rest nodes (empty_book texts)).endings (endings_over world loose events all)
-    (ended (λ e. e.halted) is_halted halted_with refl)
-    (ended (λ e. e.at_rest) is_at_rest at_rest_with refl)
-    (ended (λ e. e.alarmed) is_alarmed alarmed_with refl)
-    (ended (λ e. e.going) is_going going_with refl))
+    (ended (λ e. e.halted) is_halted (λ ending t e. ap (λ (x : Endings). x.halted) (many_with ending t e)) refl)
+    (ended (λ e. e.at_rest) is_at_rest (λ ending t e. ap (λ (x : Endings). x.at_rest) (many_with ending t e)) refl)
+    (ended (λ e. e.alarmed) is_alarmed (λ ending t e. ap (λ (x : Endings). x.alarmed) (many_with ending t e)) refl)
+    (ended (λ e. e.going) is_going (λ ending t e. ap (λ (x : Endings). x.going) (many_with ending t e)) refl))
     (finds_counted texts loose rest upto (ticks + length loose) nodes none
     ∙ texts_over world loose events all texts (λ i. tally_of_nodes (tally_from (is_marked i) texts loose 0 upto rest) (ticks + length loose) nodes) shown_by)
     total

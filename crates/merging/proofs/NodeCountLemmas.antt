@@ -1,7 +1,5 @@
 -- Schedules that begin as nodes say are counted, node by node.
-use Rattle.std.proofs.Common.{◌≡◌, ℕ, ◌+◌, ◌≤◌, Bool, List, [], ◌∷◌, ◌++◌, length, map, Some, refl, ap, ap₂, sym, subst, ◌∙◌, arith}
-use Rattle.std.specs.List.{All}
-use Rattle.std.proofs.lemmas.List.Elements.{All-cons, All-head, All-nil, All-tail}
+use Rattle.std.proofs.Common.{◌≡◌, ℕ, ◌+◌, ◌≤◌, Bool, List, [], ◌∷◌, ◌++◌, length, map, Some, refl, ap, ap₂, sym, ◌∙◌, arith}
 use Rattle.posix.specs.declared.event.Event.{Event}
 use Rattle.posix.specs.Entries.{Line}
 use Rattle.posix.specs.States.{State}
@@ -45,21 +43,6 @@ pub counted_more : (texts : List (List ℕ)) (events : List Event) (before rest 
     → counted_all texts events before old ≡ whole → counted_all texts events rest new ≡ whole
 counted_more texts events before rest n old new whole is one all =
     ap (counted_all texts events rest) one ∙ sym (counted_behind texts events rest n old) ∙ ap (λ (ns : List Node). counted_all texts events ns old) (sym is) ∙ all
-
--- what holds of all holds of the last, and of the others
-pub of_last : (P : Node → Type 0) (before rest : List Node) (n : Node) → before ≡ rest ++ n ∷ [] → All P before → P n
-of_last P before rest n is all = last rest (subst (All P) is all)
-  where
-    last : (ns : List Node) → All P (ns ++ n ∷ []) → P n
-    last [] h = h 0 n (omega arith)
-    last (m ∷ ns) h = last ns (All-tail P m (ns ++ n ∷ []) h)
-
-pub of_others : (P : Node → Type 0) (before rest : List Node) (n : Node) → before ≡ rest ++ n ∷ [] → All P before → All P rest
-of_others P before rest n is all = others rest (subst (All P) is all)
-  where
-    others : (ns : List Node) → All P (ns ++ n ∷ []) → All P ns
-    others [] h = All-nil P
-    others (m ∷ ns) h = All-cons P m ns (All-head P m (ns ++ n ∷ []) h) (others ns (All-tail P m (ns ++ n ∷ []) h))
 
 -- the events of a node, and those that are left, are few
 pub events_fit : (search : Search) (place least left : ℕ) (n : Node) → IsNode search place least n → place + left ≤ length (list_of search) → length (list_of search) + most_of search ≤ most_events

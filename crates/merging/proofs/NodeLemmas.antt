@@ -14,7 +14,7 @@ use Rattle.counting.specs.Texts.{marked}
 use Rattle.counting.proofs.CourseLemmas.{granted_course}
 use Rattle.merging.specs.declared.node.Node.{Node}
 use Rattle.merging.specs.declared.search.Search.{Search}
-use Rattle.merging.specs.Merging.{AreOneState, ForgetsHalted, IsNode, IsOne, Outlook, behind, marks_after, most_of, state_after, tally_of_node, texts_of, world_of}
+use Rattle.merging.specs.Merging.{AreOneState, ForgetsHalted, IsNode, IsOne, Outlook, Seen, StandsAt, behind, marks_after, most_of, state_after, tally_of_node, texts_of, world_of}
 use Rattle.merging.proofs.MergeLemmas.{entries_numbered, marked_by_entries}
 use Rattle.merging.proofs.TallyLemmas.{behind_meets}
 
@@ -110,35 +110,38 @@ joined_tally old other mid n one (inr (same, first)) sum go_on most forgets =
     ∙ joined_behind old.count other.count q r rest one.spots first
     ∙ ap (λ t. both (behind old.count q rest) (behind other.count r t)) (goes_on_alike go_on most old other forgets one)
 
-recounted : (search : Search) (place least count : ℕ) (n : Node) → IsNode search place least n → IsNode search place least (with_count count n)
-recounted search place least count n i = record {
-  reached = i.reached;
-  regular = i.regular;
-  settled = i.settled;
-  events = i.events;
-  marks = i.marks;
-  given = i.given;
-  least = i.least;
-  few = i.few;
-  last = i.last;
-}
+-- with another count, and fewer spots at least, a node stands there, too
+pub stands_still : (search : Search) (place fewer least count : ℕ) (n : Node) → fewer ≤ least → IsNode search place least n → IsNode search place fewer (with_count count n)
+stands_still search place fewer least count n lower i =
+    let at_least = i.least in
+    record {
+      reached = i.reached;
+      regular = i.regular;
+      settled = i.settled;
+      events = i.events;
+      marks = i.marks;
+      given = i.given;
+      least = omega (arith, at_least, lower);
+      few = i.few;
+      last = i.last;
+    }
 
 pub joined_node : (old other mid : Node) (n : ℕ) → IsFirstOf old other mid → (search : Search) (place least : ℕ) → IsNode search place least old → IsNode search place least other
     → IsNode search place least (with_count n mid)
 joined_node old other mid n (inl (same, first)) search place least i j =
-    recounted search place least n mid (subst (λ (m : Node). IsNode search place least m) (sym same) j)
+    stands_still search place least least n mid (omega arith) (subst (λ (m : Node). IsNode search place least m) (sym same) j)
 joined_node old other mid n (inr (same, first)) search place least i j =
-    recounted search place least n mid (subst (λ (m : Node). IsNode search place least m) (sym same) i)
+    stands_still search place least least n mid (omega arith) (subst (λ (m : Node). IsNode search place least m) (sym same) i)
 
 -- ---- nodes that are given events
 
 -- with one more event, before the same event of the list or the next
-with_event : (search : Search) (place later least more : ℕ) (x : Event) (old new : Node) → IsNode search place least old → new.kernel.state ≡ state_after x old.kernel.state
-    → IsRegular new.kernel.state → IsSettled new.kernel.state → new.kernel.events ≤ length old.given + 1 → new.marks.items ≡ marks_after (texts_of search) x old.kernel.state old.marks.items
-    → new.given ≡ old.given ++ x ∷ [] → length new.given ≡ later + length new.spots → more ≤ length new.spots → length new.spots + length new.left.items ≤ most_of search
-    → (later ≡ search.family.now.upto → new.left.items ≡ []) → IsNode search later more new
+with_event : (search : Search) (place later least more : ℕ) (x : Event) (old : Node) (new : Seen) → IsNode search place least old → new.state ≡ state_after x old.kernel.state
+    → IsRegular new.state → IsSettled new.state → new.events ≤ length old.given + 1 → new.marks ≡ marks_after (texts_of search) x old.kernel.state old.marks.items
+    → new.given ≡ old.given ++ x ∷ [] → length new.given ≡ later + length new.spots → more ≤ length new.spots → length new.spots + length new.left ≤ most_of search
+    → (later ≡ search.family.now.upto → new.left ≡ []) → StandsAt search later more new
 with_event search place later least more x old new i state regular settled events marks given longer most few last = record {
-  reached = reached_then (boot (world_of search)) old.kernel.state new.kernel.state old.given x i.reached state ∙ ap (λ xs. (course_from 1 (boot (world_of search)) xs).last) (sym given);
+  reached = reached_then (boot (world_of search)) old.kernel.state new.state old.given x i.reached state ∙ ap (λ xs. (course_from 1 (boot (world_of search)) xs).last) (sym given);
   regular = regular;
   settled = settled;
   events = omega (arith, events, ap length given, length-append old.given (x ∷ []));
@@ -150,10 +153,10 @@ with_event search place later least more x old new i state regular settled event
 }
 
 -- the event of the list
-pub given_node : (search : Search) (place least : ℕ) (x : Event) (old new : Node) → IsNode search place least old → (place + 1 ≡ search.family.now.upto → old.left.items ≡ [])
-    → new.kernel.state ≡ state_after x old.kernel.state → IsRegular new.kernel.state → IsSettled new.kernel.state → new.kernel.events ≡ old.kernel.events + 1
-    → new.marks.items ≡ marks_after (texts_of search) x old.kernel.state old.marks.items → new.given ≡ old.given ++ x ∷ [] → new.spots ≡ old.spots → new.left.items ≡ old.left.items
-    → IsNode search (place + 1) least new
+pub given_node : (search : Search) (place least : ℕ) (x : Event) (old : Node) (new : Seen) → IsNode search place least old → (place + 1 ≡ search.family.now.upto → old.left.items ≡ [])
+    → new.state ≡ state_after x old.kernel.state → IsRegular new.state → IsSettled new.state → new.events ≡ old.kernel.events + 1
+    → new.marks ≡ marks_after (texts_of search) x old.kernel.state old.marks.items → new.given ≡ old.given ++ x ∷ [] → new.spots ≡ old.spots → new.left ≡ old.left.items
+    → StandsAt search (place + 1) least new
 given_node search place least x old new i none state regular settled events marks given spots left =
     let had = i.events in
     let long = i.given in
@@ -164,10 +167,10 @@ given_node search place least x old new i none state regular settled events mark
     (omega (arith, long, same, ap length given, length-append old.given (x ∷ []))) (omega (arith, least_was, same)) (omega (arith, few, same, ap length left)) (λ end. left ∙ none end)
 
 -- a tick or a loose event before it, with as many left as still can be put in
-pub put_node : (search : Search) (place least q : ℕ) (x : Event) (n m : Node) → IsNode search place least n → place < search.family.now.upto
-    → m.kernel.state ≡ state_after x n.kernel.state → IsRegular m.kernel.state → IsSettled m.kernel.state → m.kernel.events ≤ length n.given + 1
-    → m.marks.items ≡ marks_after (texts_of search) x n.kernel.state n.marks.items → m.given ≡ n.given ++ x ∷ [] → m.spots ≡ n.spots ++ q ∷ []
-    → length n.spots + 1 + length m.left.items ≤ most_of search → IsNode search place (least + 1) m
+pub put_node : (search : Search) (place least q : ℕ) (x : Event) (n : Node) (m : Seen) → IsNode search place least n → place < search.family.now.upto
+    → m.state ≡ state_after x n.kernel.state → IsRegular m.state → IsSettled m.state → m.events ≤ length n.given + 1
+    → m.marks ≡ marks_after (texts_of search) x n.kernel.state n.marks.items → m.given ≡ n.given ++ x ∷ [] → m.spots ≡ n.spots ++ q ∷ []
+    → length n.spots + 1 + length m.left ≤ most_of search → StandsAt search place (least + 1) m
 put_node search place least q x n m i before state regular settled events marks given spots few =
     let long = i.given in
     let least_was = i.least in

@@ -1,39 +1,26 @@
 -- Rows of nodes before an event: which node stands in which row, and what all rows are told of as they go on.
-use Rattle.std.proofs.Common.{◌≡◌, ℕ, ◌+◌, ◌<◌, ◌≤◌, false, List, [], ◌∷◌, ◌++◌, drop, length, length-append, refl, ap, ap₂, sym, subst, ◌∙◌, arith}
+use Rattle.std.proofs.Common.{◌≡◌, ℕ, ◌+◌, ◌<◌, false, List, [], ◌∷◌, ◌++◌, append-nil, drop, length, length-append, refl, ap, ap₂, sym, subst, ◌∙◌, arith}
 use Rattle.std.specs.List.{All}
 use Rattle.std.proofs.lemmas.List.{length-map}
-use Rattle.std.proofs.lemmas.List.Elements.{All-append, All-head, All-weaker}
+use Rattle.std.proofs.lemmas.List.Elements.{All-append, All-head, All-nil, All-weaker}
+use Rattle.std.proofs.lemmas.List.Concat.{flat_map-append}
 use Rattle.posix.specs.Regular.{IsRegular}
 use Rattle.posix.specs.Settle.{IsSettled}
 use Rattle.posix.specs.States.{boot}
 use Rattle.schedules.specs.Families.{kinds_of}
 use Rattle.schedules.proofs.SizeLemmas.{length_kinds_of}
 use Rattle.counting.specs.Courses.{course_from}
-use Rattle.counting.specs.Tallies.{TallyView, both, no_schedules}
+use Rattle.counting.specs.Tallies.{TallyView, both}
 use Rattle.counting.specs.Texts.{unmarked}
 use Rattle.merging.specs.declared.layer.Layer.{Layer}
 use Rattle.merging.specs.declared.node.Node.{Node}
 use Rattle.merging.specs.declared.search.Search.{Search}
-use Rattle.merging.specs.Merging.{AreRows, IsNode, Outlook, Property, loose_of, most_of, nodes_tally, outlook_of, rows_tally, tally_around, tally_of_all, tally_of_node, tally_of_nodes, tally_of_rows, texts_of, world_of}
+use Rattle.merging.specs.Merging.{AreRows, IsNode, Property, loose_of, most_of, nodes_in, nodes_tally, outlook_of, rows_tally, tally_around, tally_of_all, tally_of_nodes, texts_of, world_of}
+use Rattle.merging.proofs.LayerLemmas.{nodes_joined}
+use Rattle.merging.proofs.NodeLemmas.{stands_still}
 use Rattle.merging.proofs.TallyLemmas.{and_none, both_regrouped, both_swapped, none_and}
 
 -- ---- which nodes stand in a row
-
--- with as many spots at least, a node has fewer at least
-pub node_of_fewer : (search : Search) (place fewer least : ℕ) (n : Node) → fewer ≤ least → IsNode search place least n → IsNode search place fewer n
-node_of_fewer search place fewer least n lower is =
-    let at_least = is.least in
-    record {
-      reached = is.reached;
-      regular = is.regular;
-      settled = is.settled;
-      events = is.events;
-      marks = is.marks;
-      given = is.given;
-      least = omega (arith, at_least, lower);
-      few = is.few;
-      last = is.last;
-    }
 
 -- no node has more spots than there may be
 pub no_nodes : (search : Search) (place least : ℕ) (ns : List Node) → most_of search < least → All (IsNode search place least) ns → ns ≡ []
@@ -44,11 +31,17 @@ no_nodes search place least (n ∷ ns) above all =
     let few = is.few in
     absurd (omega (arith, above, at_least, few))
 
-pub no_rows : (search : Search) (place least : ℕ) (rows : List Layer) (go_on : Outlook) (most : ℕ) → most_of search < least → AreRows search place least rows → tally_of_rows go_on most rows ≡ no_schedules
-no_rows search place least [] go_on most above are = refl
-no_rows search place least (row ∷ rows) go_on most above are =
-    ap₂ both (ap (tally_of_nodes go_on most) (no_nodes search place least row.nodes.items above are.0)) (no_rows search place (least + 1) rows go_on most (omega (arith, above)) are.1)
-    ∙ none_and no_schedules
+pub no_rows : (search : Search) (place least : ℕ) (rows : List Layer) → most_of search < least → AreRows search place least rows → nodes_in rows ≡ []
+no_rows search place least [] above are = refl
+no_rows search place least (row ∷ rows) above are =
+    ap₂ (λ ns ms. ns ++ ms) (no_nodes search place least row.nodes.items above are.0) (no_rows search place (least + 1) rows (omega (arith, above)) are.1)
+
+pub nodes_of_rows : (search : Search) (place least : ℕ) (rows : List Layer) → AreRows search place least rows → All (IsNode search place 0) (nodes_in rows)
+nodes_of_rows search place least [] are = All-nil (IsNode search place 0)
+nodes_of_rows search place least (row ∷ rows) are =
+    All-append (IsNode search place 0) row.nodes.items (nodes_in rows)
+    (All-weaker (IsNode search place least) (IsNode search place 0) (λ n. stands_still search place 0 least n.count n (omega arith)) row.nodes.items are.0)
+    (nodes_of_rows search place (least + 1) rows are.1)
 
 -- ---- one more row
 
@@ -60,12 +53,8 @@ rows_more search place least (r ∷ rows) row are all = (are.0, rows_more search
 pub one_longer : (old new : List Layer) (row : Layer) → new ≡ old ++ row ∷ [] → length new ≡ length old + 1
 one_longer old new row is = ap length is ∙ length-append old (row ∷ [])
 
-pub row_tallies_more : (go_on : Outlook) (most : ℕ) (rows : List Layer) (row : Layer) → tally_of_rows go_on most (rows ++ row ∷ []) ≡ both (tally_of_rows go_on most rows) (tally_of_nodes go_on most row.nodes.items)
-row_tallies_more go_on most [] row = both_swapped (tally_of_nodes go_on most row.nodes.items) no_schedules
-row_tallies_more go_on most (r ∷ rows) row =
-    let here = tally_of_nodes go_on most r.nodes.items in
-    ap (both here) (row_tallies_more go_on most rows row)
-    ∙ sym (both_regrouped here (tally_of_rows go_on most rows) (tally_of_nodes go_on most row.nodes.items))
+nodes_more : (rows : List Layer) (row : Layer) → nodes_in (rows ++ row ∷ []) ≡ nodes_in rows ++ row.nodes.items
+nodes_more rows row = flat_map-append (λ (r : Layer). r.nodes.items) rows (row ∷ []) ∙ ap (λ ns. nodes_in rows ++ ns) (append-nil row.nodes.items)
 
 -- ---- a row goes on
 
@@ -79,7 +68,7 @@ regrouped above row rows next more behind on =
 
 -- the first of the rows with more spots is taken and gets what has one more spot, and a row behind the event comes to the others
 pub row_goes_on : (has : Property) (search : Search) (place : ℕ) (row above more : List Node) (old rows next new : List Layer) (behind : Layer)
-    → rows_tally has search place old ≡ both (nodes_tally has search place above) (rows_tally has search place rows)
+    → nodes_in old ≡ above ++ nodes_in rows
     → tally_around has search place more behind.nodes.items ≡ both (nodes_tally has search place above) (nodes_tally has search place row)
     → new ≡ next ++ behind ∷ []
     → tally_of_all has search place more rows new ≡ tally_of_all has search place row old next
@@ -87,75 +76,45 @@ row_goes_on has search place row above more old rows next new behind taken on pu
     let here = outlook_of has search place in
     let later = outlook_of has search (place + 1) in
     let most = most_of search in
-    let r = tally_of_nodes here most row in
-    ap (both (both (tally_of_nodes here most more) (tally_of_rows here most rows))) (ap (tally_of_rows later most) pushed ∙ row_tallies_more later most next behind)
-    ∙ regrouped (tally_of_nodes here most above) r (tally_of_rows here most rows) (tally_of_rows later most next) (tally_of_nodes here most more) (tally_of_nodes later most behind.nodes.items) on
-    ∙ ap (λ t. both (both r t) (tally_of_rows later most next)) (sym taken)
+    let others = nodes_in rows in
+    ap₂ both (nodes_joined here most more others) (ap (tally_of_nodes later most) (ap nodes_in pushed ∙ nodes_more next behind) ∙ nodes_joined later most (nodes_in next) behind.nodes.items)
+    ∙ regrouped (tally_of_nodes here most above) (tally_of_nodes here most row) (tally_of_nodes here most others) (tally_of_nodes later most (nodes_in next)) (tally_of_nodes here most more)
+    (tally_of_nodes later most behind.nodes.items) on
+    ∙ ap (λ t. both t (tally_of_nodes later most (nodes_in next)))
+    (sym (nodes_joined here most row (nodes_in old) ∙ ap (both (tally_of_nodes here most row)) (ap (tally_of_nodes here most) taken ∙ nodes_joined here most above others)))
 
 -- ---- all rows go on
 
 -- at first no row is behind the event
-pub rows_begin : (has : Property) (search : Search) (place : ℕ) (row : List Node) (old rows next : List Layer) → next ≡ []
-    → rows_tally has search place old ≡ both (nodes_tally has search place row) (rows_tally has search place rows)
+pub rows_begin : (has : Property) (search : Search) (place : ℕ) (row : List Node) (old rows next : List Layer) → next ≡ [] → nodes_in old ≡ row ++ nodes_in rows
     → tally_of_all has search place row rows next ≡ rows_tally has search place old
 rows_begin has search place row old rows next none taken =
-    let all = both (nodes_tally has search place row) (rows_tally has search place rows) in
-    ap (λ (xs : List Layer). both all (rows_tally has search (place + 1) xs)) none ∙ and_none all ∙ sym taken
+    ap (λ (xs : List Layer). tally_of_all has search place row rows xs) none
+    ∙ and_none (nodes_tally has search place (row ++ nodes_in rows))
+    ∙ ap (nodes_tally has search place) (sym taken)
 
 -- in the end all are
 pub rows_end : (has : Property) (search : Search) (place least : ℕ) (row : List Node) (rows next : List Layer) (all : TallyView) → most_of search < least
     → All (IsNode search place least) row → AreRows search place (least + 1) rows → tally_of_all has search place row rows next ≡ all
     → rows_tally has search (place + 1) next ≡ all
 rows_end has search place least row rows next all above nodes are same =
-    let here = outlook_of has search place in
-    let most = most_of search in
-    let behind = tally_of_rows (outlook_of has search (place + 1)) most next in
+    let behind = rows_tally has search (place + 1) next in
     sym
-    (ap (λ t. both t behind)
-    (ap₂ both (ap (tally_of_nodes here most) (no_nodes search place least row above nodes)) (no_rows search place (least + 1) rows here most (omega (arith, above)) are) ∙ none_and no_schedules)
+    (ap (λ ns. both (nodes_tally has search place ns) behind) (ap₂ (λ ns ms. ns ++ ms) (no_nodes search place least row above nodes) (no_rows search place (least + 1) rows (omega (arith, above)) are))
     ∙ none_and behind)
     ∙ same
-
--- ---- the nodes of all rows
-
-pub nodes_joined : (go_on : Outlook) (most : ℕ) (ns ms : List Node) → tally_of_nodes go_on most (ns ++ ms) ≡ both (tally_of_nodes go_on most ns) (tally_of_nodes go_on most ms)
-nodes_joined go_on most [] ms = sym (none_and (tally_of_nodes go_on most ms))
-nodes_joined go_on most (n ∷ ns) ms =
-    ap (both (tally_of_node go_on most n)) (nodes_joined go_on most ns ms)
-    ∙ sym (both_regrouped (tally_of_node go_on most n) (tally_of_nodes go_on most ns) (tally_of_nodes go_on most ms))
-
--- a row's nodes come to others, and the row is gone
-pub nodes_taken : (search : Search) (place least : ℕ) (old new : List Node) (row : Layer) (before rows : List Layer) → new ≡ old ++ row.nodes.items → before ≡ row ∷ rows
-    → All (IsNode search place 0) old → AreRows search place least before → All (IsNode search place 0) new × AreRows search place (least + 1) rows
-nodes_taken search place least old new row before rows more is all are =
-    let parts = subst (AreRows search place least) is are in
-    let others = All-weaker (IsNode search place least) (IsNode search place 0) (λ n. node_of_fewer search place 0 least n (omega arith)) row.nodes.items parts.0 in
-    (subst (All (IsNode search place 0)) (sym more) (All-append (IsNode search place 0) old row.nodes.items all others), parts.1)
-
-pub tally_taken : (go_on : Outlook) (most : ℕ) (old new : List Node) (row : Layer) (before rows : List Layer) → new ≡ old ++ row.nodes.items → before ≡ row ∷ rows
-    → both (tally_of_nodes go_on most new) (tally_of_rows go_on most rows) ≡ both (tally_of_nodes go_on most old) (tally_of_rows go_on most before)
-tally_taken go_on most old new row before rows more is =
-    let here = tally_of_nodes go_on most old in
-    let taken = tally_of_nodes go_on most row.nodes.items in
-    ap (λ t. both t (tally_of_rows go_on most rows)) (ap (tally_of_nodes go_on most) more ∙ nodes_joined go_on most old row.nodes.items)
-    ∙ both_regrouped here taken (tally_of_rows go_on most rows)
-    ∙ ap (λ xs. both here (tally_of_rows go_on most xs)) (sym is)
 
 -- no row is left
 pub none_there : (rows : List Layer) → rows ≡ drop 1 rows → rows ≡ []
 none_there [] is = refl
 none_there (row ∷ rows) is = absurd (omega (arith, ap length is))
 
-pub none_left : (go_on : Outlook) (most : ℕ) (nodes : List Node) (rows : List Layer) (all : TallyView) → rows ≡ [] → both (tally_of_nodes go_on most nodes) (tally_of_rows go_on most rows) ≡ all → tally_of_nodes go_on most nodes ≡ all
-none_left go_on most nodes rows all none same =
-    sym (ap (λ xs. both (tally_of_nodes go_on most nodes) (tally_of_rows go_on most xs)) none ∙ and_none (tally_of_nodes go_on most nodes)) ∙ same
-
 -- one row alone
 pub one_row : (search : Search) (place : ℕ) (none rows : List Layer) (row : Layer) → none ≡ [] → rows ≡ none ++ row ∷ [] → All (IsNode search place 0) row.nodes.items → AreRows search place 0 rows
 one_row search place none rows row empty is all = subst (AreRows search place 0) (sym (is ∙ ap (λ xs. xs ++ row ∷ []) empty)) (all, tt)
 
-pub one_row_tally : (go_on : Outlook) (most : ℕ) (none rows : List Layer) (row : Layer) → none ≡ [] → rows ≡ none ++ row ∷ [] → tally_of_rows go_on most rows ≡ tally_of_nodes go_on most row.nodes.items
-one_row_tally go_on most none rows row empty is = ap (tally_of_rows go_on most) (is ∙ ap (λ xs. xs ++ row ∷ []) empty) ∙ and_none (tally_of_nodes go_on most row.nodes.items)
+pub nodes_of_one : (none rows : List Layer) (row : Layer) → none ≡ [] → rows ≡ none ++ row ∷ [] → nodes_in rows ≡ row.nodes.items
+nodes_of_one none rows row empty is = ap nodes_in (is ∙ ap (λ xs. xs ++ row ∷ []) empty) ∙ append-nil row.nodes.items
 
 -- ---- the first node
 

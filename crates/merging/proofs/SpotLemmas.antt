@@ -6,6 +6,7 @@ use Rattle.std.proofs.lemmas.Bool.Decides.{nat_tests}
 use Rattle.std.proofs.lemmas.List.{length-replicate, replicate-append-replicate}
 use Rattle.counting.specs.Tallies.{is_earlier}
 use Rattle.merging.specs.declared.spot_list.SpotRun.{SpotRun}
+use Rattle.merging.proofs.TallyLemmas.{step_equal}
 use Rattle.merging.specs.SpotLists.{AreRuns, BeginOtherwise, begin_above, begin_below, spots_of}
 
 -- ---- one more spot
@@ -80,9 +81,6 @@ spots_taken (p ∷ rs) (suc i) d there =
 earlier_apart : (p q : ℕ) (a : Bool) → (p ≡ q → ⊥) → (nat_lt p q || (p == q && a)) ≡ nat_lt p q
 earlier_apart p q a apart = grind (arith, nat_tests)
 
-earlier_behind : (p q : ℕ) (a : Bool) → p ≡ q → (nat_lt p q || (p == q && a)) ≡ a
-earlier_behind p q a same = grind (arith, nat_tests)
-
 -- two runs of different spots
 two_apart : (p q t u : ℕ) (ps qs : List ℕ) → 0 < t → 0 < u → (p ≡ q → ⊥) → is_earlier (replicate t p ++ ps) (replicate u q ++ qs) ≡ nat_lt p q
 two_apart p q zero u ps qs some others apart = absurd (omega arith)
@@ -95,7 +93,7 @@ runs_apart r o rs os are others apart = two_apart r.spot o.spot r.times o.times 
 -- two that begin with the same spots
 two_alike : (p q t : ℕ) (ps qs : List ℕ) → p ≡ q → is_earlier (replicate t p ++ ps) (replicate t q ++ qs) ≡ is_earlier ps qs
 two_alike p q zero ps qs same = refl
-two_alike p q (suc t) ps qs same = earlier_behind p q (is_earlier (replicate t p ++ ps) (replicate t q ++ qs)) same ∙ two_alike p q t ps qs same
+two_alike p q (suc t) ps qs same = step_equal p q (is_earlier (replicate t p ++ ps) (replicate t q ++ qs)) same ∙ two_alike p q t ps qs same
 
 pub runs_alike : (r o : SpotRun) (rs os : List SpotRun) → r.spot ≡ o.spot → r.times ≡ o.times → is_earlier (spots_of (r ∷ rs)) (spots_of (o ∷ os)) ≡ is_earlier (spots_of rs) (spots_of os)
 runs_alike r o rs os same as_many =

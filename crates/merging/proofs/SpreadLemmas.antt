@@ -1,8 +1,7 @@
 -- Nodes that go on from before an event: with one more spot, and behind the event.
-use Rattle.std.proofs.Common.{◌≡◌, ℕ, zero, suc, ◌+◌, ◌-◌, ◌<◌, ◌≤◌, inl, inr, ◌⊎◌, cond, true, false, Some, List, [], ◌∷◌, ◌++◌, length, length-append, remove, slice_index_or, refl, ap, ap₂, sym, ◌∙◌, arith}
-use Rattle.std.specs.Prelude.{nat_lt, slice_get}
-use Rattle.std.proofs.lemmas.Bool.{cases_lt}
-use Rattle.std.proofs.lemmas.Bool.Decides.{nat_tests}
+use Rattle.std.proofs.Common.{◌≡◌, ℕ, zero, suc, ◌+◌, ◌-◌, ◌<◌, ◌≤◌, inl, inr, ◌⊎◌, cond, Some, List, [], ◌∷◌, ◌++◌, length, length-append, remove, slice_index_or, refl, ap, ap₂, sym, ◌∙◌, arith}
+use Rattle.std.specs.Prelude.{slice_get}
+use Rattle.std.proofs.lemmas.Bool.{cases_lt, le-ltb, lt-ltb}
 use Rattle.posix.specs.declared.event.Event.{Event}
 use Rattle.posix.specs.declared.event.Event.TheVariants.{Tick}
 use Rattle.schedules.specs.Families.{Spots, spot}
@@ -26,22 +25,16 @@ each_behind c q f g same (suc i) left =
 
 -- ---- a tick, where there may be one
 
-tells_below : (a b : ℕ) → a < b → nat_lt a b ≡ true
-tells_below a b l = grind (arith, nat_tests)
-
-tells_above : (a b : ℕ) → b ≤ a → nat_lt a b ≡ false
-tells_above a b l = grind (arith, nat_tests)
-
 tick_some : (has : Property) (s : Search) (place : ℕ) (n : Node) → length n.spots + length n.left.items < most_of s
     → tick_tally has s place n ≡ put_tally has s place (spot (length (loose_of s)) place 0) Tick n.left.items n
 tick_some has s place n few =
     ap (λ b. cond b (put_tally has s place (spot (length (loose_of s)) place 0) Tick n.left.items n) no_schedules)
-    (tells_below (length n.spots + length n.left.items) (most_of s) few)
+    (lt-ltb (length n.spots + length n.left.items) (most_of s) few)
 
 tick_none : (has : Property) (s : Search) (place : ℕ) (n : Node) → most_of s ≤ length n.spots + length n.left.items → tick_tally has s place n ≡ no_schedules
 tick_none has s place n many =
     ap (λ b. cond b (put_tally has s place (spot (length (loose_of s)) place 0) Tick n.left.items n) no_schedules)
-    (tells_above (length n.spots + length n.left.items) (most_of s) many)
+    (le-ltb (length n.spots + length n.left.items) (most_of s) many)
 
 -- ---- one node before an event
 

@@ -23,7 +23,7 @@ step_same p q a b e f = grind (arith, nat_tests)
 step_more : (p q : ℕ) (a : Bool) → (nat_lt (suc p) (suc q) || (suc p == suc q && a)) ≡ (nat_lt p q || (p == q && a))
 step_more p q a = grind (arith, nat_tests)
 
-step_equal : (p q : ℕ) (a : Bool) → p ≡ q → (nat_lt p q || (p == q && a)) ≡ a
+pub step_equal : (p q : ℕ) (a : Bool) → p ≡ q → (nat_lt p q || (p == q && a)) ≡ a
 step_equal p q a e = grind (arith, nat_tests)
 
 -- of lists of as many spots

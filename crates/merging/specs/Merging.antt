@@ -1,5 +1,5 @@
 -- Schedules that meet in one state: how many of those that go on from there have a property, and which is the first.
-use Rattle.std.specs.Prelude.{◌≡◌, ◌⊎◌, ◌≤◌, ◌-◌, ℕ, zero, suc, ◌+◌, ◌*◌, Bool, true, List, [], ◌∷◌, ◌++◌, length, map, drop, nat_lt, remove, slice_index_or, Some, option_map, if◌then◌else◌}
+use Rattle.std.specs.Prelude.{◌≡◌, ◌⊎◌, ◌≤◌, ◌-◌, ℕ, zero, suc, ◌+◌, ◌*◌, Bool, true, List, [], ◌∷◌, ◌++◌, length, map, flat_map, drop, nat_lt, remove, slice_index_or, Some, option_map, if◌then◌else◌}
 use Rattle.std.specs.List.{All}
 use Rattle.posix.specs.declared.event.Event.{Event}
 use Rattle.posix.specs.declared.event.Event.TheVariants.{Tick}
@@ -133,28 +133,39 @@ abbrev pub tally_of_nodes : Outlook → ℕ → List Node → TallyView
 tally_of_nodes go_on most [] = no_schedules
 tally_of_nodes go_on most (n ∷ ns) = both (tally_of_node go_on most n) (tally_of_nodes go_on most ns)
 
--- of the schedules of the nodes of all layers
-abbrev pub tally_of_rows : Outlook → ℕ → List Layer → TallyView
-tally_of_rows go_on most [] = no_schedules
-tally_of_rows go_on most (row ∷ rows) = both (tally_of_nodes go_on most row.nodes.items) (tally_of_rows go_on most rows)
+-- the nodes of all layers
+abbrev pub nodes_in : List Layer → List Node
+nodes_in rows = flat_map (λ row. row.nodes.items) rows
+
+-- what is seen of a node: all but the count of reads of its kernel
+pub record Seen : Type 0 where
+  pub state : State
+  pub events : ℕ
+  pub count : ℕ
+  pub spots : Spots
+  pub left : List ℕ
+  pub given : List Event
+  pub marks : List Bool
+
+abbrev pub seen : Node → Seen
+seen n = record { state = n.kernel.state; events = n.kernel.events; count = n.count; spots = n.spots; left = n.left.items; given = n.given; marks = n.marks.items }
 
 -- A node stands before the event with this place: it was given all events before it, and what it put in, at so many spots at least. Its events
 -- lead to its state in the world of the search. Its kernel was given no more than these, there is a mark for each text, and what is left can
 -- still be put in.
-pub record IsNode (s : Search) (place fewest : ℕ) (n : Node) : Type 0 where
-  pub reached : n.kernel.state ≡ (course_from 1 (boot (world_of s)) n.given).last
-  pub regular : IsRegular n.kernel.state
-  pub settled : IsSettled n.kernel.state
-  pub events : n.kernel.events ≤ length n.given
-  pub marks : length n.marks.items ≡ length (texts_of s)
+pub record StandsAt (s : Search) (place fewest : ℕ) (n : Seen) : Type 0 where
+  pub reached : n.state ≡ (course_from 1 (boot (world_of s)) n.given).last
+  pub regular : IsRegular n.state
+  pub settled : IsSettled n.state
+  pub events : n.events ≤ length n.given
+  pub marks : length n.marks ≡ length (texts_of s)
   pub given : length n.given ≡ place + length n.spots
   pub least : fewest ≤ length n.spots
-  pub few : length n.spots + length n.left.items ≤ most_of s
-  pub last : place ≡ s.family.now.upto → n.left.items ≡ []
+  pub few : length n.spots + length n.left ≤ most_of s
+  pub last : place ≡ s.family.now.upto → n.left ≡ []
 
--- Where all nodes were there before the event with this place, with so many spots at least, all are that are there now.
-abbrev pub AreKept : Search → ℕ → ℕ → List Node → List Node → Type 0
-AreKept s place least old new = All (IsNode s place least) old → All (IsNode s place least) new
+abbrev pub IsNode : Search → ℕ → ℕ → Node → Type 0
+IsNode s place least n = StandsAt s place least (seen n)
 
 -- Before the event with this place stand rows of nodes, each with one spot more at least than the row before.
 abbrev pub AreRows : Search → ℕ → ℕ → List Layer → Type 0
@@ -162,31 +173,26 @@ AreRows s place least [] = Unit {0}
 AreRows s place least (row ∷ rows) = All (IsNode s place least) row.nodes.items × AreRows s place (least + 1) rows
 
 -- But for the count of reads a node is as it was.
-pub record IsSameNode (old new : Node) : Type 0 where
-  pub state : new.kernel.state ≡ old.kernel.state
-  pub events : new.kernel.events ≡ old.kernel.events
-  pub count : new.count ≡ old.count
-  pub spots : new.spots ≡ old.spots
-  pub left : new.left ≡ old.left
-  pub given : new.given ≡ old.given
-  pub marks : new.marks ≡ old.marks
+abbrev pub IsSameNode : Node → Node → Type 0
+IsSameNode old new = seen new ≡ seen old
 
 -- Two states are one where they are the same. States in which the machine has halted are one, too, as nothing more happens in them.
 abbrev pub AreOneState : State → State → Type 0
 AreOneState s t = (s ≡ t) ⊎ ((s.halted ≡ true) × (t.halted ≡ true))
 
 -- Two nodes are one state, led to by as many spots, with the same loose events left and the same marks.
-pub record IsOne (node other : Node) : Type 0 where
-  pub state : AreOneState node.kernel.state other.kernel.state
-  pub marks : node.marks.items ≡ other.marks.items
+pub record AreAlike (node other : Seen) : Type 0 where
+  pub state : AreOneState node.state other.state
+  pub marks : node.marks ≡ other.marks
   pub spots : length node.spots ≡ length other.spots
-  pub left : node.left.items ≡ other.left.items
+  pub left : node.left ≡ other.left
+
+abbrev pub IsOne : Node → Node → Type 0
+IsOne node other = AreAlike (seen node) (seen other)
 
 -- But for the counts of reads these nodes are as they were.
 abbrev pub AreSameNodes : List Node → List Node → Type 0
-AreSameNodes [] new = new ≡ []
-AreSameNodes (n ∷ ns) [] = ⊥
-AreSameNodes (n ∷ ns) (m ∷ ms) = IsSameNode n m × AreSameNodes ns ms
+AreSameNodes old new = map seen new ≡ map seen old
 
 -- of the schedules of a node before the event with this place
 abbrev pub node_tally : Property → Search → ℕ → Node → TallyView
@@ -198,7 +204,7 @@ nodes_tally has s place nodes = tally_of_nodes (outlook_of has s place) (most_of
 
 -- of those of rows before it
 abbrev pub rows_tally : Property → Search → ℕ → List Layer → TallyView
-rows_tally has s place rows = tally_of_rows (outlook_of has s place) (most_of s) rows
+rows_tally has s place rows = nodes_tally has s place (nodes_in rows)
 
 -- of the schedules of nodes before the event with this place, and of nodes behind it
 abbrev pub tally_around : Property → Search → ℕ → List Node → List Node → TallyView
@@ -210,8 +216,7 @@ tally_with has s place nodes next n = both (tally_around has s place nodes next)
 
 -- of the schedules of the nodes of a row, of the rows with more spots, and of those behind the event
 abbrev pub tally_of_all : Property → Search → ℕ → List Node → List Layer → List Layer → TallyView
-tally_of_all has s place nodes rows next =
-    both (both (nodes_tally has s place nodes) (rows_tally has s place rows)) (rows_tally has s (place + 1) next)
+tally_of_all has s place nodes rows next = tally_around has s place (nodes ++ nodes_in rows) (nodes_in next)
 
 -- of the schedules of a node once it is given this event, and stands before the one with this place
 abbrev pub given_tally : Property → Search → ℕ → Event → Node → TallyView

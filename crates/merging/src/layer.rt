@@ -99,8 +99,8 @@ impl Layer {
     /// A node comes to those of the layer.
     pub fn insert(&mut self, node: Node) -> Result<(), AllocError>
         requires { All (λ n. n.kernel.state.world ≡ node.kernel.state.world) self.old.nodes.items }
-        ensures tally { OnOk result ((go_on : Outlook) (most : ℕ) → ForgetsHalted go_on → tally_of_nodes go_on most self.new.nodes.items ≡ both (tally_of_nodes go_on most self.old.nodes.items) (tally_of_node go_on most node)) }
-        ensures nodes { OnOk result ((search : SearchValue) (place least : ℕ) → All (IsNode search place least) self.old.nodes.items → IsNode search place least node → All (IsNode search place least) self.new.nodes.items) }
+        ensures tally { (go_on : Outlook) (most : ℕ) → ForgetsHalted go_on → OnOk result (tally_of_nodes go_on most self.new.nodes.items ≡ both (tally_of_nodes go_on most self.old.nodes.items) (tally_of_node go_on most node)) }
+        ensures nodes { (search : SearchValue) (place least : ℕ) → All (IsNode search place least) self.old.nodes.items → IsNode search place least node → OnOk result (All (IsNode search place least) self.new.nodes.items) }
     {
         let mut node = node;
         let digest = digest(&mut node);

@@ -7,10 +7,8 @@ ghost use Rattle.posix.specs.States.{boot};
 ghost use Rattle.schedules.specs.Families.{family as family_of, kinds_of};
 ghost use Rattle.text.specs.EventTexts.{most_events};
 ghost use Rattle.counting.specs.Counts.{book_over};
-ghost use Rattle.counting.specs.Tallies.{both};
 ghost use Rattle.counting.specs.Texts.{unmarked};
-ghost use Rattle.merging.specs.declared.search.Search.{Search as SearchValue};
-ghost use Rattle.merging.specs.Merging.{AreRows, ForgetsHalted, IsNode, IsStop, IsStopOf, Outlook, Property, counted, counted_all, list_of, loose_of, most_of, nodes_tally, outlook_of, rows_tally, tally_of_nodes, tally_of_rows, texts_of, world_of};
+ghost use Rattle.merging.specs.Merging.{AreRows, ForgetsHalted, IsNode, IsStop, IsStopOf, Outlook, Property, counted, counted_all, list_of, loose_of, most_of, nodes_in, nodes_tally, outlook_of, rows_tally, tally_of_nodes, texts_of, world_of};
 
 use crate::layer::Layer;
 use crate::node::Node;
@@ -102,8 +100,7 @@ fn take_nodes(nodes: &mut Vec<Node>, row: Layer) -> Result<(), AllocError>
 
 /// The nodes of all rows come to others.
 fn take_rows(nodes: &mut Vec<Node>, rows: &mut VecDeque<Layer>) -> Result<(), AllocError>
-    ensures nodes { (search : SearchValue) (place : ℕ) → All (IsNode search place 0) nodes.old.items → AreRows search place 0 rows.old.items → OnOk result (All (IsNode search place 0) nodes.new.items) }
-    ensures tally { (go_on : Outlook) (most : ℕ) → OnOk result (tally_of_nodes go_on most nodes.new.items ≡ both (tally_of_nodes go_on most nodes.old.items) (tally_of_rows go_on most rows.old.items)) }
+    ensures { OnOk result (nodes.new.items ≡ nodes.old.items ++ nodes_in rows.old.items) }
 {
     while let Some(row) = rows.pop_front() {
         take_nodes(nodes, row)?;
@@ -113,8 +110,7 @@ fn take_rows(nodes: &mut Vec<Node>, rows: &mut VecDeque<Layer>) -> Result<(), Al
 
 /// All states of these rows.
 fn nodes_of(alloc: Global, rows: VecDeque<Layer>) -> Result<Vec<Node>, AllocError>
-    ensures nodes { (search : SearchValue) (place : ℕ) → AreRows search place 0 rows.items → IfOk result (λ nodes. All (IsNode search place 0) nodes.items) }
-    ensures tally { (go_on : Outlook) (most : ℕ) → IfOk result (λ nodes. tally_of_nodes go_on most nodes.items ≡ tally_of_rows go_on most rows.items) }
+    ensures { IfOk result (λ nodes. nodes.items ≡ nodes_in rows.items) }
 {
     let mut rows = rows;
     let mut nodes = Vec::new(alloc);

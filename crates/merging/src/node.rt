@@ -289,7 +289,7 @@ impl Node {
     /// The beginnings of another node that is one with this are counted with its own, of which the first stay.
     fn join_first(&mut self, other: &mut Node) -> Result<(), AllocError>
         requires { IsOne self.old other.old }
-        ensures tally { OnOk result ((go_on : Outlook) (most : ℕ) → ForgetsHalted go_on → tally_of_node go_on most self.new ≡ both (tally_of_node go_on most self.old) (tally_of_node go_on most other.old)) }
+        ensures tally { (go_on : Outlook) (most : ℕ) → ForgetsHalted go_on → OnOk result (tally_of_node go_on most self.new ≡ both (tally_of_node go_on most self.old) (tally_of_node go_on most other.old)) }
         ensures node { (search : SearchValue) (place least : ℕ) → IsNode search place least self.old → IsNode search place least other.old → IsNode search place least self.new }
     {
         if other.spots.is_before(&self.spots) {
@@ -301,7 +301,7 @@ impl Node {
     /// The beginnings of another node that is one with this come to its own.
     pub fn join(&mut self, mut other: Node) -> Result<(), AllocError>
         requires { IsOne self.old other }
-        ensures tally { OnOk result ((go_on : Outlook) (most : ℕ) → ForgetsHalted go_on → tally_of_node go_on most self.new ≡ both (tally_of_node go_on most self.old) (tally_of_node go_on most other)) }
+        ensures tally { (go_on : Outlook) (most : ℕ) → ForgetsHalted go_on → OnOk result (tally_of_node go_on most self.new ≡ both (tally_of_node go_on most self.old) (tally_of_node go_on most other)) }
         ensures node { (search : SearchValue) (place least : ℕ) → IsNode search place least self.old → IsNode search place least other → IsNode search place least self.new }
     {
         let done = self.join_first(&mut other);

@@ -1,9 +1,8 @@
 //! Rows of layers, each with one spot more than the row before, which go on from before an event to behind it.
 
 ghost use Rattle.std.specs.Prelude.{◌≡◌, ◌+◌, ◌<◌, ◌++◌, ℕ, [], ◌∷◌, length, All, IfErr, IfOk, OnOk, Some, slice_get};
-ghost use Rattle.counting.specs.Tallies.{both};
 ghost use Rattle.merging.specs.declared.search.Search.{Search as SearchValue};
-ghost use Rattle.merging.specs.Merging.{AreRows, IsNode, IsStopOf, Outlook, Property, list_of, rows_tally, tally_of_all, tally_of_nodes, tally_of_rows};
+ghost use Rattle.merging.specs.Merging.{AreRows, IsNode, IsStopOf, Property, list_of, nodes_in, rows_tally, tally_of_all};
 
 use crate::layer::Layer;
 use crate::search::{Search, Stop};
@@ -16,7 +15,7 @@ use std::collections::VecDeque;
 /// Takes the first row; no states, where there is none.
 fn take_row(rows: &mut VecDeque<Layer>, alloc: Global) -> Layer
     ensures rows { (search : SearchValue) (place least : ℕ) → AreRows search place least rows.old.items → All (IsNode search place least) result.nodes.items × AreRows search place (least + 1) rows.new.items }
-    ensures tally { (go_on : Outlook) (most : ℕ) → tally_of_rows go_on most rows.old.items ≡ both (tally_of_nodes go_on most result.nodes.items) (tally_of_rows go_on most rows.new.items) }
+    ensures nodes { nodes_in rows.old.items ≡ result.nodes.items ++ nodes_in rows.new.items }
 {
     match rows.pop_front() {
         Some(row) => row,

@@ -2,7 +2,7 @@
 
 ghost use Rattle.std.specs.Prelude.{◌≡◌, ◌+◌, ◌<◌, ℕ, true, false, [], length, All, IfErr, IfOk, OnOk, Some, slice_get};
 ghost use Rattle.counting.specs.Tallies.{both};
-ghost use Rattle.merging.specs.Merging.{AreKept, IsNode, IsStopOf, Property, given_tally, list_of, loose_tally, node_tally, nodes_tally, tally_around, tally_with, tick_tally, with_kind};
+ghost use Rattle.merging.specs.Merging.{IsNode, IsStopOf, Property, given_tally, list_of, loose_tally, node_tally, nodes_tally, tally_around, tally_with, tick_tally, with_kind};
 
 use crate::layer::Layer;
 use crate::node::Node;
@@ -22,8 +22,8 @@ fn put_tick(
 ) -> Result<(), AllocError>
     requires place { place < search.now.family.now.upto }
     requires node { (least : ℕ) × IsNode search.now place least node.now × All (IsNode search.now place (least + 1)) more.old.nodes.items }
-    ensures nodes { (least : ℕ) → IsNode search.now place least node.now → OnOk result (AreKept search.now place (least + 1) more.old.nodes.items more.new.nodes.items) }
-    ensures tally { OnOk result ((has : Property) → nodes_tally has search.now place more.new.nodes.items ≡ both (nodes_tally has search.now place more.old.nodes.items) (tick_tally has search.now place node.now)) }
+    ensures nodes { (least : ℕ) → IsNode search.now place least node.now → All (IsNode search.now place (least + 1)) more.old.nodes.items → OnOk result (All (IsNode search.now place (least + 1)) more.new.nodes.items) }
+    ensures tally { (has : Property) → OnOk result (nodes_tally has search.now place more.new.nodes.items ≡ both (nodes_tally has search.now place more.old.nodes.items) (tick_tally has search.now place node.now)) }
 {
     let family = search.family;
     if node.spots.len() + node.left.len() >= family.ticks + family.loose.len() {
@@ -80,8 +80,8 @@ fn put_loose(
 ) -> Result<(), AllocError>
     requires place { place < search.now.family.now.upto }
     requires node { (least : ℕ) × IsNode search.now place least node.now × All (IsNode search.now place (least + 1)) more.old.nodes.items }
-    ensures nodes { (least : ℕ) → IsNode search.now place least node.now → OnOk result (AreKept search.now place (least + 1) more.old.nodes.items more.new.nodes.items) }
-    ensures tally { OnOk result ((has : Property) → nodes_tally has search.now place more.new.nodes.items ≡ both (nodes_tally has search.now place more.old.nodes.items) (loose_tally has search.now place node.now)) }
+    ensures nodes { (least : ℕ) → IsNode search.now place least node.now → All (IsNode search.now place (least + 1)) more.old.nodes.items → OnOk result (All (IsNode search.now place (least + 1)) more.new.nodes.items) }
+    ensures tally { (has : Property) → OnOk result (nodes_tally has search.now place more.new.nodes.items ≡ both (nodes_tally has search.now place more.old.nodes.items) (loose_tally has search.now place node.now)) }
 {
     for number in 0..node.left.len() {
         let with = with_loose(node, place, number, search, lines)?;
@@ -111,8 +111,8 @@ fn give_to(
 ) -> Result<(), AllocError>
     requires place { place < search.now.family.now.upto }
     requires node { (least : ℕ) × IsNode search.now place least node × All (IsNode search.now (place + 1) least) next.old.nodes.items }
-    ensures nodes { (least : ℕ) → IsNode search.now place least node → OnOk result (AreKept search.now (place + 1) least next.old.nodes.items next.new.nodes.items) }
-    ensures tally { OnOk result ((has : Property) → nodes_tally has search.now (place + 1) next.new.nodes.items
+    ensures nodes { (least : ℕ) → IsNode search.now place least node → All (IsNode search.now (place + 1) least) next.old.nodes.items → OnOk result (All (IsNode search.now (place + 1) least) next.new.nodes.items) }
+    ensures tally { (has : Property) → OnOk result (nodes_tally has search.now (place + 1) next.new.nodes.items
         ≡ both (nodes_tally has search.now (place + 1) next.old.nodes.items) (given_tally has search.now (place + 1) event node)) }
 {
     let mut node = node;
@@ -139,8 +139,8 @@ fn put_one_more(
 ) -> Result<(), AllocError>
     requires place { place < search.now.family.now.upto }
     requires node { (least : ℕ) × IsNode search.now place least node.now × All (IsNode search.now place (least + 1)) more.old.nodes.items }
-    ensures nodes { (least : ℕ) → IsNode search.now place least node.now → OnOk result (AreKept search.now place (least + 1) more.old.nodes.items more.new.nodes.items) }
-    ensures tally { OnOk result ((has : Property) → nodes_tally has search.now place more.new.nodes.items
+    ensures nodes { (least : ℕ) → IsNode search.now place least node.now → All (IsNode search.now place (least + 1)) more.old.nodes.items → OnOk result (All (IsNode search.now place (least + 1)) more.new.nodes.items) }
+    ensures tally { (has : Property) → OnOk result (nodes_tally has search.now place more.new.nodes.items
         ≡ both (nodes_tally has search.now place more.old.nodes.items) (both (tick_tally has search.now place node.now) (loose_tally has search.now place node.now))) }
 {
     put_tick(more, node, place, search, lines)?;
@@ -161,9 +161,9 @@ fn spread(
     requires place { place < search.now.family.now.upto }
     requires event { slice_get (list_of search.now) place ≡ Some event }
     requires node { (least : ℕ) × IsNode search.now place least node × All (IsNode search.now place (least + 1)) more.old.nodes.items × All (IsNode search.now (place + 1) least) next.old.nodes.items }
-    ensures more { (least : ℕ) → IsNode search.now place least node → OnOk result (AreKept search.now place (least + 1) more.old.nodes.items more.new.nodes.items) }
-    ensures next { (least : ℕ) → IsNode search.now place least node → OnOk result (AreKept search.now (place + 1) least next.old.nodes.items next.new.nodes.items) }
-    ensures tally { OnOk result ((has : Property) → tally_around has search.now place more.new.nodes.items next.new.nodes.items ≡ tally_with has search.now place more.old.nodes.items next.old.nodes.items node) }
+    ensures more { (least : ℕ) → IsNode search.now place least node → All (IsNode search.now place (least + 1)) more.old.nodes.items → OnOk result (All (IsNode search.now place (least + 1)) more.new.nodes.items) }
+    ensures next { (least : ℕ) → IsNode search.now place least node → All (IsNode search.now (place + 1) least) next.old.nodes.items → OnOk result (All (IsNode search.now (place + 1) least) next.new.nodes.items) }
+    ensures tally { (has : Property) → OnOk result (tally_around has search.now place more.new.nodes.items next.new.nodes.items ≡ tally_with has search.now place more.old.nodes.items next.old.nodes.items node) }
 {
     match put_one_more(more, &node, place, search, lines) {
         Ok(()) => give_to(next, node, place, event, search, lines),
@@ -188,9 +188,9 @@ fn spread_all(
     requires place { place < search.now.family.now.upto }
     requires event { slice_get (list_of search.now) place ≡ Some event }
     requires nodes { (least : ℕ) × All (IsNode search.now place least) nodes.old.items × All (IsNode search.now place (least + 1)) more.old.nodes.items × All (IsNode search.now (place + 1) least) next.old.nodes.items }
-    ensures more { (least : ℕ) → All (IsNode search.now place least) nodes.old.items → OnOk result (AreKept search.now place (least + 1) more.old.nodes.items more.new.nodes.items) }
-    ensures next { (least : ℕ) → All (IsNode search.now place least) nodes.old.items → OnOk result (AreKept search.now (place + 1) least next.old.nodes.items next.new.nodes.items) }
-    ensures tally { OnOk result ((has : Property) → tally_around has search.now place more.new.nodes.items next.new.nodes.items
+    ensures more { (least : ℕ) → All (IsNode search.now place least) nodes.old.items → All (IsNode search.now place (least + 1)) more.old.nodes.items → OnOk result (All (IsNode search.now place (least + 1)) more.new.nodes.items) }
+    ensures next { (least : ℕ) → All (IsNode search.now place least) nodes.old.items → All (IsNode search.now (place + 1) least) next.old.nodes.items → OnOk result (All (IsNode search.now (place + 1) least) next.new.nodes.items) }
+    ensures tally { (has : Property) → OnOk result (tally_around has search.now place more.new.nodes.items next.new.nodes.items
         ≡ both (tally_around has search.now place more.old.nodes.items next.old.nodes.items) (nodes_tally has search.now place nodes.old.items)) }
     ensures stop { IfErr result (IsStopOf search.now) }
 {
@@ -219,7 +219,7 @@ pub fn spread_row(
     requires place { place < search.now.family.now.upto }
     requires event { slice_get (list_of search.now) place ≡ Some event }
     requires nodes { (least : ℕ) × All (IsNode search.now place least) row.nodes.items × All (IsNode search.now place (least + 1)) more.old.nodes.items }
-    ensures more { (least : ℕ) → All (IsNode search.now place least) row.nodes.items → OnOk result (AreKept search.now place (least + 1) more.old.nodes.items more.new.nodes.items) }
+    ensures more { (least : ℕ) → All (IsNode search.now place least) row.nodes.items → All (IsNode search.now place (least + 1)) more.old.nodes.items → OnOk result (All (IsNode search.now place (least + 1)) more.new.nodes.items) }
     ensures next { (least : ℕ) → All (IsNode search.now place least) row.nodes.items → IfOk result (λ next. All (IsNode search.now (place + 1) least) next.nodes.items) }
     ensures tally { (has : Property) → IfOk result (λ next. tally_around has search.now place more.new.nodes.items next.nodes.items
         ≡ both (nodes_tally has search.now place more.old.nodes.items) (nodes_tally has search.now place row.nodes.items)) }

@@ -6,7 +6,7 @@ use Rattle.inputs.specs.Reads.{Contents, Text}
 use Rattle.inputs.specs.Words.{file_in_words}
 use Rattle.inputs.specs.declared.failure.FileFailure.{FileFailure}
 use Rattle.inputs.specs.declared.failure.FileFailure.TheVariants as failure
-use Rattle.sink.specs.Sinks.{BreaksOff, Seen, TakesAll}
+use Rattle.trace.specs.Sinks.{BreaksOff, Seen, TakesAll}
 use Rattle.naming.specs.Texts.{IsNamed}
 
 -- The status of any end: 1 where something is told.

@@ -31,14 +31,11 @@ pub fn sort_of(line: &[u8]) -> Sort
 fn sort_named(word: &[u8]) -> Sort
     ensures { result ≡ sort_named_of word.now }
 {
-    if word == b"set".as_slice() {
-        Sort::Set
-    } else if word == b"key".as_slice() {
-        Sort::Key
-    } else if word == b"type".as_slice() {
-        Sort::Typed
-    } else {
-        Sort::Other
+    match word {
+        b"set" => Sort::Set,
+        b"key" => Sort::Key,
+        b"type" => Sort::Typed,
+        _ => Sort::Other,
     }
 }
 
@@ -46,7 +43,7 @@ fn sort_named(word: &[u8]) -> Sort
 fn begins_name(byte: u8) -> bool
     ensures { result ≡ begins_name_of byte }
 {
-    byte.is_ascii_uppercase() || byte == b'{' || byte == b'^' || byte == b'"'
+    byte.is_ascii_uppercase() || matches!(byte, b'{' | b'^' | b'"')
 }
 
 /// Whether one of the bytes can begin a name, a set, a key or a text.

@@ -34,15 +34,6 @@ fn realtime(name: &[u8]) -> Option<i64> {
     Some(i64::from(SIGRTMIN) + i64::from(behind))
 }
 
-/// The number that a register holds for a number of a kind: of an error the negative one.
-fn given_number(kind: Kind, number: i64) -> i64 {
-    if kind == Kind::Errno {
-        number.wrapping_neg()
-    } else {
-        number
-    }
-}
-
 /// What a name stands for.
 #[derive(Clone, Copy)]
 pub struct Meaning {
@@ -50,10 +41,11 @@ pub struct Meaning {
     number: i64,
 }
 
-/// What a name stands for; none where no number has it.
+/// What a name stands for, of an error the negative number; none where no number has it.
 fn known_as(word: &[u8]) -> Option<Meaning> {
     let (kind, number) = match named(word) {
-        Some((kind, number)) => (kind, given_number(kind, number)),
+        Some((Kind::Errno, number)) => (Kind::Errno, number.wrapping_neg()),
+        Some(known) => known,
         None => (Kind::Signal, realtime(word)?),
     };
     Some(Meaning { kind, number })
@@ -118,9 +110,7 @@ fn add_name<'a>(
     if name.is_empty() {
         return Err(Fault::Missing);
     }
-    let Some(known) = known_as(name) else {
-        return Err(Fault::Unknown(name));
-    };
+    let known = known_as(name).ok_or(Fault::Unknown(name))?;
     if form == Form::Set && known.kind != Kind::Signal {
         return Err(Fault::NoSignal(name));
     }

@@ -5,8 +5,8 @@ ghost use Rattle.naming.specs.Serving.{Ends, EndsText, Means, answer_of, text_in
 
 use crate::texts::{Named, name_text};
 use inputs::{FileFailure, ReadFiles, named_file};
-use sink::{Sink, put_all};
 use std::alloc::Global;
+use trace::{Sink, put_all};
 
 /// Puts a text with numbers for its names. What is wrong with names.
 fn serve_text<'a, O: Sink>(

@@ -22,24 +22,30 @@ enum Letter<'a> {
     End(&'a [u8]),
 }
 
+/// The byte that a letter behind a `\` stands for.
+fn unescaped(letter: u8) -> Option<u8> {
+    match letter {
+        b'n' => Some(b'\n'),
+        b't' => Some(b'\t'),
+        b'r' => Some(b'\r'),
+        b'\\' | b'"' => Some(letter),
+        _ => None,
+    }
+}
+
 /// The letter of what stands behind a `\`.
 fn escaped(text: &[u8]) -> Result<Letter<'_>, Fault<'_>>
     ensures shorter { IfOk result (λ l. IsShorter text.now l) }
     ensures one_line { IsOneLine text.now → IfOk result IsOneLineLetter }
 {
     match text {
-        [b'n', rest @ ..] => Ok(Letter::Byte(b'\n', rest)),
-        [b't', rest @ ..] => Ok(Letter::Byte(b'\t', rest)),
-        [b'r', rest @ ..] => Ok(Letter::Byte(b'\r', rest)),
-        [b'\\', rest @ ..] => Ok(Letter::Byte(b'\\', rest)),
-        [b'"', rest @ ..] => Ok(Letter::Byte(b'"', rest)),
         [b'x', high, low, rest @ ..] if high.is_ascii_hexdigit() && low.is_ascii_hexdigit() => {
             Ok(Letter::Digits([*high, *low], rest))
         }
-        [_, rest @ ..] => {
-            let (letter, _) = text.split_at(text.len() - rest.len());
-            Err(Fault::NoEscape(letter))
-        }
+        [letter, rest @ ..] => match unescaped(*letter) {
+            Some(byte) => Ok(Letter::Byte(byte, rest)),
+            None => Err(Fault::NoEscape(&text[..1])),
+        },
         [] => Err(Fault::NoEscape(text)),
     }
 }

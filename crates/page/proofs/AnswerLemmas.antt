@@ -6,7 +6,7 @@ use Rattle.std.specs.Option.{IsSomeAnd}
 use Rattle.std.proofs.Math.Seq.{take-append_seam}
 use Rattle.clap.proofs.OnLiterals.{clap_on_literals}
 use Rattle.kernel.specs.Headline.{CutsShort}
-use Rattle.sink.specs.Sinks.{Seen}
+use Rattle.trace.specs.Sinks.{Seen}
 use Rattle.inputs.specs.declared.command_line.WordsFault.TheVariants.{NotText, Memory}
 use Rattle.inputs.proofs.MeaningLemmas.{means_along}
 use Rattle.inputs.specs.Reads.{Contents, Text}
@@ -16,7 +16,7 @@ use Rattle.exploring.specs.Serving.{Means as MeansOfExploring}
 use Rattle.exploring.specs.Words.{Asked as AskedOfExploring}
 use Rattle.explaining.specs.Serving.{IsRefused as IsOtherTrace}
 use Rattle.explaining.specs.Words.{Asked as AskedOfExplaining, OfTrace as OfTraceAlone, OfRun}
-use Rattle.commands.specs.Commands.{Audits, AuditsInWords, Draws, Explains, Explores, Helps, IsNone, Names, Purpose, Runs, RunsStored, ServesAs, Shows, TellsVersion, purpose_of}
+use Rattle.commands.specs.Commands.{Audits, AuditsInWords, Draws, Explains, Explores, Helps, AsksNothing, Names, Purpose, Runs, RunsStored, ServesAs, Shows, TellsVersion, purpose_of}
 use Rattle.commands.specs.Named.{Place, ServesNamed, named_in, place_in}
 use Rattle.commands.specs.Serving.{Serves, ServesWords, Words}
 use Rattle.page.specs.Answers.{AreServed, BeginsTrace, IsAnswered, IsAudited, IsGiven, IsRun, IsTrace}
@@ -57,7 +57,7 @@ as_along f contents old new before after status (Explains more) h = (means_along
 as_along f contents old new before after status (AuditsInWords more) h = (means_along f _ _ _ _ _ old new status (λ r. r) h.0, h.1)
 as_along f contents old new before after status (Draws more) h = (means_along f _ _ _ _ _ old new status (λ r. r) h.0, h.1)
 as_along f contents old new before after status (Names more) h = (means_along f _ _ _ _ _ old new status (λ r. r) h.0, h.1)
-as_along f contents old new before after status IsNone h = (h.0, ap f h.1)
+as_along f contents old new before after status AsksNothing h = (h.0, ap f h.1)
 
 named_along : {S T : Type 0} (f : S → T) (contents : Contents) (command : Text) (place : Option Place) (old new : S) (before after : Seen) (status : ℕ)
     → ServesNamed contents command place old new before after status → ServesNamed contents command place (f old) (f new) before after status
@@ -112,7 +112,7 @@ as_most contents old new before after status (Explains more) h = omega (arith, h
 as_most contents old new before after status (AuditsInWords more) h = omega (arith, h.1)
 as_most contents old new before after status (Draws more) h = omega (arith, h.1)
 as_most contents old new before after status (Names more) h = omega (arith, h.1)
-as_most contents old new before after status IsNone h = omega (arith, h.0)
+as_most contents old new before after status AsksNothing h = omega (arith, h.0)
 
 named_most : {S : Type 0} (contents : Contents) (command : Text) (place : Option Place) (old new : S) (before after : Seen) (status : ℕ)
     → ServesNamed contents command place old new before after status → status ≤ 4

@@ -5,7 +5,7 @@ use Rattle.posix.specs.Entries.{Line}
 use Rattle.posix.specs.States.{State}
 use Rattle.posix.specs.Printing.{print}
 use Rattle.kernel.specs.Headline.{RunsTexts}
-use Rattle.sink.specs.Sinks.{Seen}
+use Rattle.trace.specs.Sinks.{Seen}
 use Rattle.audit.specs.Texts.{IsLawful}
 use Rattle.inputs.specs.Reads.{Contents}
 use Rattle.commands.specs.Running.{IsRefused}

@@ -6,3 +6,7 @@ pub mod MoveLemmas
 pub mod CountLemmas
 pub mod TableLemmas
 pub mod BoundLemmas
+pub mod MemberLemmas
+pub mod LinkLemmas
+pub mod RingLemmas
+pub mod BehindLemmas

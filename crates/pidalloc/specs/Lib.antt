@@ -1,3 +1,5 @@
 pub mod Rows
 pub mod Tallies
 pub mod Bags
+pub mod Rings
+pub mod Places

@@ -7,14 +7,14 @@ use Rattle.std.specs.List.{list_any}
 use Rattle.std.specs.Prelude.{option_and_then}
 use Rattle.std.proofs.lemmas.Bool.{cases_eq, eq-eqb, ne_eqb}
 use Rattle.posix.specs.Processes.{Process, is_living}
-use Rattle.posix.specs.Tables.{lookup, has_pid, is_child, children_in, left_of, next_sibling, inserted, removed, reparented, adopted}
+use Rattle.posix.specs.Tables.{lookup, has_pid, is_child, children_in, left_of, first_pid, above, reparented, adopted}
 use Rattle.posix.specs.Groups.{is_anchor, is_outside}
 use Rattle.posix.proofs.TableLemmas.{pid_looked, pid_reparented, reparented_keeps}
 use Rattle.posix.proofs.MapLemmas.{lookup_map}
 use Rattle.posix.proofs.WalkLemmas.{AtChild, any_filter, any_looked}
 use Rattle.pidset.specs.declared.index.Pair.{Pair}
 use Rattle.pidset.specs.Indexes.{AreTurned, IsKeyed, IsMoved, IsAnchorIndex, anchor_key, is_key, is_pair_in, is_turned, key_of}
-use Rattle.pidset.proofs.IndexLemmas.{IsElsewhere, elsewhere_inserted, elsewhere_removed, key_removed, keyed_moved}
+use Rattle.pidset.proofs.IndexLemmas.{IsElsewhere, keyed_moved}
 
 -- what a child sees of its parent
 pub record Stance : Type 0 where
@@ -39,11 +39,11 @@ same_anchor rs ts r same = ap (λ (b : Bool). cond (is_living r && b) (Some r.gr
     outside None = refl
     outside (Some q) = refl
 
--- all but p and its children have the same key where the record of p is changed, comes or goes
-pub same_elsewhere : (p q : ℕ) (rs ts : List Process) → IsElsewhere p rs ts → q ≢ p → ((r : Process) → lookup q rs ≡ Some r → r.parent ≢ p) → key_of (anchor_key ts) q ts ≡ key_of (anchor_key rs) q rs
-same_elsewhere p q rs ts same ne apart = ap (option_and_then (anchor_key ts)) (same q ne) ∙ elim (lookup q rs) as (λ o. lookup q rs ≡ o → option_and_then (anchor_key ts) o ≡ option_and_then (anchor_key rs) o) [
+-- all but p have the same key where the record of p is changed, comes or goes, and their parents take the same stance
+pub same_elsewhere : (p q : ℕ) (rs ts : List Process) → IsElsewhere p rs ts → q ≢ p → ((r : Process) → lookup q rs ≡ Some r → stance_of r.parent ts ≡ stance_of r.parent rs) → key_of (anchor_key ts) q ts ≡ key_of (anchor_key rs) q rs
+same_elsewhere p q rs ts same ne stays = ap (option_and_then (anchor_key ts)) (same q ne) ∙ elim (lookup q rs) as (λ o. lookup q rs ≡ o → option_and_then (anchor_key ts) o ≡ option_and_then (anchor_key rs) o) [
   | None ↦ λ e. refl
-  | Some r ↦ λ e. same_anchor rs ts r (ap (option_map stance) (same r.parent (apart r e)))
+  | Some r ↦ λ e. same_anchor rs ts r (stays r e)
 ] refl
 
 -- where p takes the same stance, all do
@@ -52,21 +52,13 @@ stance_stays p rs ts same stays q = grind (arith, same q, stays)
 
 -- and its children have the same key: a change of its life, say, moves it alone
 pub anchors_moved : (p : ℕ) (rs ts : List Process) (old new : List Pair) → IsElsewhere p rs ts → stance_of p ts ≡ stance_of p rs → IsAnchorIndex rs old → IsMoved p (key_of (anchor_key ts) p ts) old new → IsAnchorIndex ts new
-anchors_moved p rs ts old new same stays h moved = keyed_moved p (λ q. key_of (anchor_key rs) q rs) (λ q. key_of (anchor_key ts) q ts) old new (λ q ne.
-    ap (option_and_then (anchor_key ts)) (same q ne) ∙ elim (lookup q rs) as (λ o. option_and_then (anchor_key ts) o ≡ option_and_then (anchor_key rs) o) [
-      | None ↦ refl
-      | Some r ↦ same_anchor rs ts r (stance_stays p rs ts same stays r.parent)
-    ]) h moved
+anchors_moved p rs ts old new same stays h moved =
+    keyed_moved p (λ q. key_of (anchor_key rs) q rs) (λ q. key_of (anchor_key ts) q ts) old new (λ q ne. same_elsewhere p q rs ts same ne (λ r e. stance_stays p rs ts same stays r.parent)) h moved
 
--- one goes in that is nobody's parent yet
-pub anchors_inserted : (new : Process) (rs : List Process) (old now : List Pair) → ((q : ℕ) (r : Process) → lookup q rs ≡ Some r → r.parent ≢ new.pid) → IsMoved new.pid (key_of (anchor_key (inserted new rs)) new.pid (inserted new rs)) old now → IsAnchorIndex rs old → IsAnchorIndex (inserted new rs) now
-anchors_inserted new rs old now apart moved h =
-    keyed_moved new.pid (λ q. key_of (anchor_key rs) q rs) (λ q. key_of (anchor_key (inserted new rs)) q (inserted new rs)) old now (λ q ne. same_elsewhere new.pid q rs (inserted new rs) (elsewhere_inserted new rs) ne (apart q)) h moved
-
--- one goes that is nobody's any more
-pub anchors_removed : (p : ℕ) (rs : List Process) (old new : List Pair) → ((q : ℕ) (r : Process) → lookup q rs ≡ Some r → r.parent ≢ p) → IsMoved p None old new → IsAnchorIndex rs old → IsAnchorIndex (removed p rs) new
-anchors_removed p rs old new apart moved h =
-    keyed_moved p (λ q. key_of (anchor_key rs) q rs) (λ q. key_of (anchor_key (removed p rs)) q (removed p rs)) old new (λ q ne. same_elsewhere p q rs (removed p rs) (elsewhere_removed p rs) ne (apart q)) h (rw (key_removed (anchor_key (removed p rs)) p rs) moved)
+-- so does one that is nobody's parent, where it comes or goes
+pub anchors_apart : (p : ℕ) (rs ts : List Process) (old new : List Pair) → IsElsewhere p rs ts → ((q : ℕ) (r : Process) → lookup q rs ≡ Some r → r.parent ≢ p) → IsMoved p (key_of (anchor_key ts) p ts) old new → IsAnchorIndex rs old → IsAnchorIndex ts new
+anchors_apart p rs ts old new same apart moved h =
+    keyed_moved p (λ q. key_of (anchor_key rs) q rs) (λ q. key_of (anchor_key ts) q ts) old new (λ q ne. same_elsewhere p q rs ts same ne (λ r e. ap (option_map stance) (same r.parent (apart q r e)))) h moved
 
 -- ---- children
 
@@ -85,7 +77,7 @@ pub anchors_turned : (p : ℕ) (key : Process → Option ℕ) (rs ts : List Proc
 anchors_turned p key rs ts old mid new same moved turned keys h = keyed_turned p key ts between now mid new turned (keyed_moved p was between old mid (λ q ne. rw (ne_eqb q p ne) refl) h (rw (eq-eqb p p refl) moved))
     (λ q r e child. keys r child ∙ sym (ap (option_and_then (anchor_key ts)) e)) (λ q apart. elim (cases_eq q p) [
       | inl here ↦ rw (eq-eqb q p here) (ap now (sym here))
-      | inr ne ↦ rw (ne_eqb q p ne) (sym (same_elsewhere p q rs ts same ne (λ r e. apart r (same q ne ∙ e))))
+      | inr ne ↦ rw (ne_eqb q p ne) (sym (same_elsewhere p q rs ts same ne (λ r e. ap (option_map stance) (same r.parent (apart r (same q ne ∙ e))))))
     ])
   where
     was : ℕ → Option ℕ
@@ -137,7 +129,7 @@ turned_none p key rs old q none k = at (lookup q rs) refl
 -- and the child c stands as it is to, with those that aren't left
 pub turned_one : (p c : ℕ) (key : Process → Option ℕ) (rs : List Process) (old mid new : List Pair) (next : Option ℕ) → (i : AtChild rs p c) → next ≡ Some c → IsMoved c (key i.what) mid new
     → ((q : ℕ) → list_any (has_pid q) (left_of next (children_in p rs)) ≡ false → (k : ℕ) → is_pair_in k q mid ≡ is_turned p key rs old k q)
-    → (q : ℕ) → list_any (has_pid q) (left_of (next_sibling c rs) (children_in p rs)) ≡ false → (k : ℕ) → is_pair_in k q new ≡ is_turned p key rs old k q
+    → (q : ℕ) → list_any (has_pid q) (left_of (first_pid (above c (children_in p rs))) (children_in p rs)) ≡ false → (k : ℕ) → is_pair_in k q new ≡ is_turned p key rs old k q
 turned_one p c key rs old mid new next i comes moved h q none k = moved k q ∙ elim (cases_eq q c) [
   | inl here ↦ rw (eq-eqb q c here) (sym (ap (λ n. is_turned p key rs old k n) here ∙ rw (i.found, eq-eqb i.what.parent p i.parent) refl))
   | inr ne ↦ rw (ne_eqb q c ne) (h q (rw (comes, i.left, none) (rw (ne_eqb i.what.pid q (λ e. ne (sym e ∙ i.named))) refl)) k)

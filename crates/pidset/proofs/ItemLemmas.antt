@@ -2,16 +2,17 @@
 use Rattle.std.proofs.Common.{◌≡◌, ◌≢◌, ℕ, zero, suc, ◌+◌, ◌-◌, ◌<◌, Bool, true, false, cond, not, refl, ap, sym, ◌∙◌, arith, subst, List, [], ◌∷◌, length, map, filter, find, insert, remove, slice_get, slice_set, get_or, Some, None, Result, Ok, Err, IfOk, IfErr, ◌==◌, nat_lt}
 use Rattle.std.specs.List.{AllByRecursion}
 use Rattle.std.specs.List.Sorted.{IsSearchInRange, IsBinarySearchResult, IsNonDecreasingBy}
-use Rattle.std.specs.Option.{IfSome, option_map}
+use Rattle.std.specs.Option.{IfSome}
 use Rattle.std.specs.Ordering.{nat_cmp, ordering_index}
 use Rattle.std.proofs.lemmas.Cmp.{ranked}
-use Rattle.std.proofs.lemmas.List.{length-map, get_or-map}
-use Rattle.std.proofs.lemmas.Option.{slice_get-map, slice_get_within, slice_get_read}
+use Rattle.std.proofs.lemmas.List.{length-map}
+use Rattle.std.proofs.Math.ListN.{get_or-map}
+use Rattle.std.proofs.lemmas.Option.{get_or_from_slice_get, slice_get_past, slice_get_within, slice_get_read}
 use Rattle.std.proofs.lemmas.Bool.{eqb-true, eq-eqb}
 use Rattle.std.proofs.lemmas.Bool.Decides.{nat_tests}
 use Rattle.posix.specs.States.{is_in}
 use Rattle.pidset.specs.Numbers.{Rises, with_number, IsNumberAt, IsInsertionPoint, index_behind, inserted_in_order}
-use Rattle.pidset.proofs.NumberLemmas.{AllAbove, above_get, above_less, not_in_above, out_point, later, rising_or, point_last, rises_filter, rises_with}
+use Rattle.pidset.proofs.NumberLemmas.{AllAbove, above_get, above_less, not_in_above, out_point, later, rising_or, rises_filter, rises_with}
 
 -- ---- at the index of a number
 
@@ -148,13 +149,15 @@ rises_inserted f xs new up e = subst Rises (numbers_inserted f xs new e) (rises_
 
 -- ---- a search
 
+-- at a later index is an item with a greater number
+rising_at : {X : Type 0} (f : X → ℕ) (xs : List X) → Rises (map f xs) → (i j : ℕ) (d : X) → i < j → j < length xs → f (get_or xs i d) < f (get_or xs j d)
+rising_at f xs up i j d less lt = rw (← get_or-map f xs i d, ← get_or-map f xs j d) (rising_or (map f xs) up i j (f d) less (omega (arith, length-map xs f, lt)))
+
 -- what a binary search asks
 comparisons_rise : {X : Type 0} (f : X → ℕ) (xs : List X) → Rises (map f xs) → (n : ℕ) → IsNonDecreasingBy (λ x. ordering_index (nat_cmp (f x) n)) xs
 comparisons_rise f xs up n i j d le lt =
-    let one : get_or (map f xs) i (f d) ≡ f (get_or xs i d) = get_or-map f xs i d (f d) (omega (arith, le, lt)) in
-    let two : get_or (map f xs) j (f d) ≡ f (get_or xs j d) = get_or-map f xs j d (f d) lt in
-    let rise : i < j → get_or (map f xs) i (f d) < get_or (map f xs) j (f d) = λ k. rising_or (map f xs) up i j (f d) k (omega (arith, length-map xs f, lt)) in
-    grind (arith, nat_tests, one, two, rise, λ (same : i ≡ j). ap (λ k. f (get_or xs k d)) same)
+    let rise : i < j → f (get_or xs i d) < f (get_or xs j d) = λ k. rising_at f xs up i j d k lt in
+    grind (arith, nat_tests, rise, λ (same : i ≡ j). ap (λ k. f (get_or xs k d)) same)
 
 -- what holds at an index within the list holds of the number there, if there is one
 some_at : {X : Type 0} (f : X → ℕ) (xs : List X) (j : ℕ) (P : ℕ → Type 0) → ((d : X) → j < length xs → P (f (get_or xs j d))) → IfSome (slice_get (map f xs) j) P
@@ -188,12 +191,13 @@ pub point_first : {X : Type 0} (f : X → ℕ) (xs : List X) (n : ℕ) (x : X) �
 point_first f [] n x is lt = record { in_range = omega arith; before = λ j low. tt; after = tt }
 point_first f (y ∷ xs) n x is lt = record { in_range = omega arith; before = λ j low. absurd (omega (arith, low)); after = subst (λ y. n < f y) is lt }
 
--- the last item's number is the last one
-pub last_number : {X : Type 0} (f : X → ℕ) (xs : List X) (x : X) → slice_get xs (length xs - 1) ≡ Some x → IsNumberAt (map f xs) (f x) (length xs - 1)
-last_number f xs x e = slice_get-map f xs (length xs - 1) ∙ ap (option_map f) e
-
--- a number above it goes to the end
+-- a number above that of the last item goes to the end
 pub point_end : {X : Type 0} (f : X → ℕ) (xs : List X) → Rises (map f xs) → (n : ℕ) (x : X) → slice_get xs (length xs - 1) ≡ Some x → f x < n → IsInsertionPoint (map f xs) n (length xs)
 point_end f xs up n x e lt =
     let long = length-map xs f in
-    subst (IsInsertionPoint (map f xs) n) long (point_last (map f xs) up n (f x) (ap (λ k. slice_get (map f xs) (k - 1)) long ∙ last_number f xs x e) lt)
+    record {
+      in_range = omega (arith, long);
+      before = λ j low. some_at f xs j (λ m. m < n) (λ d h.
+          grind (arith, ap f (get_or_from_slice_get xs _ x d e), λ (k : j < length xs - 1). rising_at f xs up j (length xs - 1) d k (omega (arith, h)), λ (same : j ≡ length xs - 1). ap (λ k. f (get_or xs k d)) same));
+      after = rw (slice_get_past (map f xs) (length xs) (omega (arith, long))) tt;
+    }

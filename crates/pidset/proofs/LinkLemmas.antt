@@ -1,11 +1,12 @@
 -- Lists that are linked, as a process goes into one or is taken out.
 use Rattle.std.proofs.Common.{◌≡◌, ◌≢◌, ◌⊎◌, ℕ, ◌<◌, ◌≤◌, cond, refl, ap, sym, ◌∙◌, subst, arith, ◌==◌, inl, inr}
+use Rattle.std.proofs.lemmas.Bool.{ne_eqb}
 use Rattle.std.proofs.lemmas.Bool.Decides.{nat_tests}
 use Rattle.pidset.specs.declared.lists.Node.{Node}
 use Rattle.pidset.specs.Rows.{HasRow}
-use Rattle.pidset.specs.Lists.{Nodes, node_of, list_of, behind_of, before_of, Stands, IsLeast, AreLinked, IsListed, IsPlaceFor, with_list, joined}
+use Rattle.pidset.specs.Lists.{Nodes, node_of, list_of, behind_of, before_of, Stands, IsLeast, AreLinked, IsListed, IsPlaceFor, with_place, joined}
 use Rattle.pidset.proofs.RowLemmas.{row_kept}
-use Rattle.pidset.proofs.NodeLemmas.{nowhere, node_or_none, IsListSet, list_set, joins}
+use Rattle.pidset.proofs.NodeLemmas.{nowhere, node_or_none, IsPlaced, placed, links_same, joins}
 
 -- ---- who stands inside
 
@@ -48,7 +49,7 @@ removed_before : (old new : Nodes) (k p a b n x y z : ℕ) → k ≢ 0 → p ≢
     → (n ≡ k → z ≡ cond (y == b) a x) → (n ≢ k → (y ≡ b → b ≡ 0) → z ≡ x) → Stands new n z × (behind_of new n z ≡ y)
 removed_before old new k p a b n x y z nk np nn nb less hy m ha hb ea ep e list behind else is at = (grind (arith, nat_tests), grind (arith, nat_tests))
 
-pub removed : (old new : Nodes) (k p a b : ℕ) → AreLinked old → k ≢ 0 → 1 ≤ p → list_of old p ≡ k → a ≡ before_of old k p → b ≡ behind_of old k p → new ≡ with_list (joined old k a b) p 0 → IsListed old new p 0
+pub removed : (old new : Nodes) (k p a b : ℕ) → AreLinked old → k ≢ 0 → 1 ≤ p → list_of old p ≡ k → a ≡ before_of old k p → b ≡ behind_of old k p → new ≡ with_place (joined old k a b b a) p 0 a b → IsListed old new p 0
 removed old new k p a b l nk some e ea eb is =
     let np : p ≢ 0 = omega (arith, some) in
     let up : IsLeast old k p b = rw eb (l.behind k p nk (inr e)) in
@@ -57,16 +58,19 @@ removed old new k p a b l nk some e ea eb is =
     let m : IsLeast old k a p = rw (← sa) (l.behind k a nk ha) in
     let hb : Stands old k b = grind arith in
     let some_list : list_of old p ≢ 0 = λ z. nk (sym e ∙ z) in
-    let j = joins old k a b (subst (HasRow old) e (list_inside old p l some_list some)) (stands_inside old k a nk ha) (stands_inside old k b nk hb) in
+    let j = joins old k a b b a (subst (HasRow old) e (list_inside old p l some_list some)) (stands_inside old k a nk ha) (stands_inside old k b nk hb) in
     let js = j.sizes in
-    let s : IsListSet (joined old k a b) new p 0 = rw is (list_set (joined old k a b) p 0 (row_kept old _ p js (inside old p some_list))) in
+    let mid : Nodes = joined old k a b b a in
+    let s : IsPlaced mid new p 0 a b = rw is (placed mid p 0 a b np (row_kept old _ p js (inside old p some_list))) in
     let list : (i : ℕ) → list_of new i ≡ cond (i == p) 0 (list_of old i) = (λ i. s.list i ∙ ap (cond (i == p) 0) (j.list i)) in
+    let behind : (n i : ℕ) → behind_of new n i ≡ behind_of mid n i = (λ n i. grind (arith, nat_tests, s.behind n i, j.behind k p refl, (links_same mid p k n np).0)) in
+    let before : (n i : ℕ) → before_of new n i ≡ before_of mid n i = (λ n i. grind (arith, nat_tests, s.before n i, j.before k p refl, (links_same mid p k n np).1)) in
     record {
       sizes = s.sizes ∙ js;
       linked = record {
         none = grind (arith, list 0, l.none);
-        behind = λ n x nn h. removed_behind old new k p a b n x _ _ nk np nn h (l.behind n x nn) up ha e m list (λ t. s.behind n x ∙ j.behind n x t) (λ t u. s.behind n x ∙ j.else_behind n x t u);
-        before = λ n y nn h. removed_before old new k p a b n _ y _ nk np nn (grind arith) (grind arith) h (l.before n y nn) ha hb sa (sym eb) e list (λ i t. s.behind n i ∙ j.behind n i t) (λ i t u. s.behind n i ∙ j.else_behind n i t u) (λ t. s.before n y ∙ j.before n y t) (λ t u. s.before n y ∙ j.else_before n y t u);
+        behind = λ n x nn h. removed_behind old new k p a b n x _ _ nk np nn h (l.behind n x nn) up ha e m list (λ t. behind n x ∙ j.behind n x t) (λ t u. behind n x ∙ j.else_behind n x t u);
+        before = λ n y nn h. removed_before old new k p a b n _ y _ nk np nn (grind arith) (grind arith) h (l.before n y nn) ha hb sa (sym eb) e list (λ i t. behind n i ∙ j.behind n i t) (λ i t u. behind n i ∙ j.else_behind n i t u) (λ t. before n y ∙ j.before n y t) (λ t u. before n y ∙ j.else_before n y t u);
       };
       list = list;
     }
@@ -87,39 +91,36 @@ was_behind old new k p a b n x y nk np nn hy m ha hb e list = grind (arith, nat_
 
 -- z is before y now, where x was: it stands there, and y is behind it
 added_stands : (old new : Nodes) (k p a b n x y z : ℕ) → p ≢ 0 → WasBehind old k p a b n x y → Stands old k a → list_of old p ≡ 0
-    → ((i : ℕ) → list_of new i ≡ cond (i == p) k (list_of old i)) → (n ≡ k → z ≡ cond (y == b) p (cond (y == p) a x)) → (n ≢ k → (y ≡ b → b ≡ 0) → (y ≡ p → p ≡ 0) → z ≡ x) → Stands new n z
+    → ((i : ℕ) → list_of new i ≡ cond (i == p) k (list_of old i)) → (n ≡ k → z ≡ cond (y == p) a (cond (y == b) p x)) → (n ≢ k → (y ≡ b → b ≡ 0) → (y ≡ p → p ≡ 0) → z ≡ x) → Stands new n z
 added_stands old new k p a b n x y z np m ha e list is at = grind (arith, nat_tests)
 
 added_back : (old new : Nodes) (k p a b n x y z : ℕ) → p ≢ 0 → a < p → WasBehind old k p a b n x y → behind_of old k a ≡ b
     → (n ≡ k → behind_of new n z ≡ cond (z == p) b (cond (z == a) p (behind_of old n z))) → (n ≢ k → (z ≡ p → p ≡ 0) → (z ≡ a → a ≡ 0) → behind_of new n z ≡ behind_of old n z)
-    → (n ≡ k → z ≡ cond (y == b) p (cond (y == p) a x)) → (n ≢ k → (y ≡ b → b ≡ 0) → (y ≡ p → p ≡ 0) → z ≡ x) → behind_of new n z ≡ y
+    → (n ≡ k → z ≡ cond (y == p) a (cond (y == b) p x)) → (n ≢ k → (y ≡ b → b ≡ 0) → (y ≡ p → p ≡ 0) → z ≡ x) → behind_of new n z ≡ y
 added_back old new k p a b n x y z np less m ea behind else is at = grind (arith, nat_tests)
 
-pub added : (old new : Nodes) (k p a b : ℕ) → AreLinked old → 1 ≤ k → HasRow old k → 1 ≤ p → HasRow old p → list_of old p ≡ 0 → IsPlaceFor old k p a b → new ≡ with_list (joined (joined old k a p) k p b) p k → IsListed old new p k
+pub added : (old new : Nodes) (k p a b : ℕ) → AreLinked old → 1 ≤ k → HasRow old k → 1 ≤ p → HasRow old p → list_of old p ≡ 0 → IsPlaceFor old k p a b → new ≡ with_place (joined old k a p b p) p k a b → IsListed old new p k
 added old new k p a b l some hk one hp e place is =
     let nk : k ≢ 0 = omega (arith, some) in
     let np : p ≢ 0 = omega (arith, one) in
     let ha = place.stands in
     let up : IsLeast old k a b = rw (← place.behind) (l.behind k a nk ha) in
     let hb : Stands old k b = grind arith in
-    let mid : Nodes = joined old k a p in
-    let j = joins old k a p hk (stands_inside old k a nk ha) (λ _. hp) in
+    let j = joins old k a p b p hk (stands_inside old k a nk ha) (stands_inside old k b nk hb) in
     let js = j.sizes in
-    let f = joins mid k p b (row_kept old mid k js hk) (λ _. row_kept old mid p js hp) (λ h. row_kept old mid b js (stands_inside old k b nk hb h)) in
-    let fs = f.sizes in
-    let s : IsListSet (joined mid k p b) new p k = rw is (list_set (joined mid k p b) p k (row_kept old _ p (fs ∙ js) hp)) in
-    let list : (i : ℕ) → list_of new i ≡ cond (i == p) k (list_of old i) = (λ i. s.list i ∙ ap (cond (i == p) k) (f.list i ∙ j.list i)) in
-    let behind : (n i : ℕ) → n ≡ k → behind_of new n i ≡ cond (i == p) b (cond (i == a) p (behind_of old n i)) = (λ n i t. s.behind n i ∙ f.behind n i t ∙ ap (cond (i == p) b) (j.behind n i t)) in
-    let else : (n i : ℕ) → n ≢ k → (i ≡ p → p ≡ 0) → (i ≡ a → a ≡ 0) → behind_of new n i ≡ behind_of old n i = (λ n i t u v. s.behind n i ∙ f.else_behind n i t u ∙ j.else_behind n i t v) in
+    let s : IsPlaced (joined old k a p b p) new p k a b = rw is (placed (joined old k a p b p) p k a b np (row_kept old _ p js hp)) in
+    let list : (i : ℕ) → list_of new i ≡ cond (i == p) k (list_of old i) = (λ i. s.list i ∙ ap (cond (i == p) k) (j.list i)) in
+    let behind : (n i : ℕ) → n ≡ k → behind_of new n i ≡ cond (i == p) b (cond (i == a) p (behind_of old n i)) = (λ n i t. s.behind n i ∙ ap (cond (i == p) b) (j.behind n i t)) in
+    let else : (n i : ℕ) → n ≢ k → (i ≡ p → p ≡ 0) → (i ≡ a → a ≡ 0) → behind_of new n i ≡ behind_of old n i = (λ n i t u v. s.behind n i ∙ rw (ne_eqb i p (λ is. np (u is))) (j.else_behind n i t v)) in
     record {
-      sizes = s.sizes ∙ fs ∙ js;
+      sizes = s.sizes ∙ js;
       linked = record {
         none = grind (arith, list 0, l.none);
         behind = λ n x nn h. added_behind old new k p a b n x _ _ nk np nn h (l.behind n x nn) up ha place.low place.high e list (behind n x) (else n x);
         before = λ n y nn h.
             let m = was_behind old new k p a b n _ y nk np nn h (l.before n y nn) ha hb e list in
-            let z : n ≡ k → before_of new n y ≡ cond (y == b) p (cond (y == p) a (before_of old n y)) = (λ t. s.before n y ∙ f.before n y t ∙ ap (cond (y == b) p) (j.before n y t)) in
-            let w : n ≢ k → (y ≡ b → b ≡ 0) → (y ≡ p → p ≡ 0) → before_of new n y ≡ before_of old n y = (λ t u v. s.before n y ∙ f.else_before n y t u ∙ j.else_before n y t v) in
+            let z : n ≡ k → before_of new n y ≡ cond (y == p) a (cond (y == b) p (before_of old n y)) = (λ t. s.before n y ∙ ap (cond (y == p) a) (j.before n y t)) in
+            let w : n ≢ k → (y ≡ b → b ≡ 0) → (y ≡ p → p ≡ 0) → before_of new n y ≡ before_of old n y = (λ t u v. s.before n y ∙ rw (ne_eqb y p (λ is. np (v is))) (j.else_before n y t u)) in
             (added_stands old new k p a b n _ y _ np m ha e list z w, added_back old new k p a b n _ y _ np place.low m place.behind (behind n _) (else n _) z w);
       };
       list = list;

@@ -1,10 +1,10 @@
 -- What the nodes of lists say, and what of it a change of one node changes.
-use Rattle.std.proofs.Common.{◌≡◌, ◌≢◌, ◌⊎◌, ℕ, ◌/◌, cond, sym, ◌∙◌, arith, ◌==◌, inl, inr}
+use Rattle.std.proofs.Common.{◌≡◌, ◌≢◌, ◌⊎◌, ℕ, ◌/◌, cond, refl, ◌∙◌, arith, ◌==◌, inl, inr}
 use Rattle.std.proofs.lemmas.Bool.{eq-eqb, ne_eqb, cases_eq}
 use Rattle.std.proofs.lemmas.Bool.Decides.{nat_tests}
 use Rattle.pidset.specs.declared.lists.Node.{Node}
-use Rattle.pidset.specs.Rows.{HasRow, IsOnAnotherPage, row_or, sizes_of, with_row, without_page}
-use Rattle.pidset.specs.Lists.{Nodes, node_of, list_of, behind_of, before_of, with_list, with_behind, with_before, joined}
+use Rattle.pidset.specs.Rows.{HasRow, IsOnAnotherPage, sizes_of, with_row, without_page}
+use Rattle.pidset.specs.Lists.{Nodes, node_of, list_of, behind_of, before_of, with_place, with_behind, with_before, joined}
 use Rattle.pidset.proofs.RowLemmas.{row_set, row_kept, row_or_none, row_left, row_gone, sizes_kept}
 
 -- ---- a node is read
@@ -12,10 +12,6 @@ use Rattle.pidset.proofs.RowLemmas.{row_set, row_kept, row_or_none, row_left, ro
 -- the node of a process in no list, and of an empty list
 abbrev pub nowhere : Node
 nowhere = record { list = 0; before = 0; behind = 0; first = 0; last = 0 }
-
-pub node_read : (ns : Nodes) (i : ℕ) (n : Node) → ((other : Node) → row_or other ns i ≡ n) → n ≡ node_of ns i
-unfolding node_of
-node_read ns i n is = sym (is nowhere)
 
 pub node_or_none : (ns : Nodes) (i : ℕ) → HasRow ns i ⊎ (node_of ns i ≡ nowhere)
 unfolding node_of
@@ -37,32 +33,37 @@ node_set : (ns : Nodes) (x i : ℕ) (n : Node) → HasRow ns x → node_of (with
 unfolding node_of
 node_set ns x i n h = row_set ns x i n nowhere h
 
--- p stands in the list k from now on, and nothing else changed
-pub record IsListSet (old new : Nodes) (p k : ℕ) : Type 0 where
+-- p stands in the list k from now on, between a and b, and nothing else changed
+pub record IsPlaced (old new : Nodes) (p k a b : ℕ) : Type 0 where
   pub sizes : sizes_of new ≡ sizes_of old
   pub list : (i : ℕ) → list_of new i ≡ cond (i == p) k (list_of old i)
-  pub behind : (j i : ℕ) → behind_of new j i ≡ behind_of old j i
-  pub before : (j i : ℕ) → before_of new j i ≡ before_of old j i
+  pub behind : (n i : ℕ) → behind_of new n i ≡ cond (i == p) b (behind_of old n i)
+  pub before : (n i : ℕ) → before_of new n i ≡ cond (i == p) a (before_of old n i)
 
-list_set_so : (old new : Nodes) (p k : ℕ) → sizes_of new ≡ sizes_of old → ((i : ℕ) → node_of new i ≡ cond (i == p) (record (node_of old p) { list = k }) (node_of old i)) → IsListSet old new p k
+placed_so : (old new : Nodes) (p k a b : ℕ) → p ≢ 0 → sizes_of new ≡ sizes_of old → ((i : ℕ) → node_of new i ≡ cond (i == p) (record (node_of old p) { list = k; before = a; behind = b }) (node_of old i)) → IsPlaced old new p k a b
 unfolding list_of behind_of before_of
-list_set_so old new p k sizes is = record {
+placed_so old new p k a b some sizes is = record {
   sizes = sizes;
   list = λ i. grind (arith, nat_tests, is i);
-  behind = λ j i. grind (arith, nat_tests, is i, is j);
-  before = λ j i. grind (arith, nat_tests, is i, is j);
+  behind = λ n i. grind (arith, nat_tests, is i, is n);
+  before = λ n i. grind (arith, nat_tests, is i, is n);
 }
 
-pub list_set : (ns : Nodes) (p k : ℕ) → HasRow ns p → IsListSet ns (with_list ns p k) p k
-unfolding with_list
-list_set ns p k h = list_set_so ns _ p k (sizes_kept ns p _) (λ i. node_set ns p i _ h)
+pub placed : (ns : Nodes) (p k a b : ℕ) → p ≢ 0 → HasRow ns p → IsPlaced ns (with_place ns p k a b) p k a b
+unfolding with_place
+placed ns p k a b some h = placed_so ns _ p k a b some (sizes_kept ns p _) (λ i. node_set ns p i _ h)
 
--- b comes right behind a in the list k from now on, and nothing else changed
-pub record IsJoined (old new : Nodes) (k a b : ℕ) : Type 0 where
+-- the links of a process are the same in each list
+pub links_same : (ns : Nodes) (p k n : ℕ) → p ≢ 0 → (behind_of ns n p ≡ behind_of ns k p) × (before_of ns n p ≡ before_of ns k p)
+unfolding behind_of before_of
+links_same ns p k n some = rw (ne_eqb p 0 some) (refl, refl)
+
+-- x comes behind a in the list k from now on, and y before b, and nothing else changed
+pub record IsJoined (old new : Nodes) (k a x b y : ℕ) : Type 0 where
   pub sizes : sizes_of new ≡ sizes_of old
   pub list : (i : ℕ) → list_of new i ≡ list_of old i
-  pub behind : (n i : ℕ) → n ≡ k → behind_of new n i ≡ cond (i == a) b (behind_of old n i)
-  pub before : (n i : ℕ) → n ≡ k → before_of new n i ≡ cond (i == b) a (before_of old n i)
+  pub behind : (n i : ℕ) → n ≡ k → behind_of new n i ≡ cond (i == a) x (behind_of old n i)
+  pub before : (n i : ℕ) → n ≡ k → before_of new n i ≡ cond (i == b) y (before_of old n i)
   pub else_behind : (n i : ℕ) → n ≢ k → (i ≡ a → a ≡ 0) → behind_of new n i ≡ behind_of old n i
   pub else_before : (n i : ℕ) → n ≢ k → (i ≡ b → b ≡ 0) → before_of new n i ≡ before_of old n i
 
@@ -93,12 +94,12 @@ sizes_before ns k b a = elim (cases_eq b 0) [ inl e ↦ rw (eq-eqb b 0 e) (sizes
 pub row_behind : (ns new : Nodes) (k a b i : ℕ) → new ≡ with_behind ns k a b → HasRow ns i → HasRow new i
 row_behind ns new k a b i is h = rw is (row_kept ns (with_behind ns k a b) i (sizes_behind ns k a b) h)
 
-pub row_joined : (ns new : Nodes) (k a b i : ℕ) → new ≡ joined ns k a b → HasRow ns i → HasRow new i
-row_joined ns new k a b i is h = rw is (row_kept ns (joined ns k a b) i (sizes_before (with_behind ns k a b) k b a ∙ sizes_behind ns k a b) h)
+pub row_joined : (ns mid new : Nodes) (k a x b y i : ℕ) → mid ≡ with_behind ns k a x → new ≡ with_before mid k b y → HasRow ns i → HasRow new i
+row_joined ns mid new k a x b y i one two h = rw (two, one) (row_kept ns (joined ns k a x b y) i (sizes_before (with_behind ns k a x) k b y ∙ sizes_behind ns k a x) h)
 
-joins_so : (old mid new : Nodes) (k a b : ℕ) → sizes_of new ≡ sizes_of old → IsBehindSet old mid k a b → IsBeforeSet mid new k b a → IsJoined old new k a b
+joins_so : (old mid new : Nodes) (k a x b y : ℕ) → sizes_of new ≡ sizes_of old → IsBehindSet old mid k a x → IsBeforeSet mid new k b y → IsJoined old new k a x b y
 unfolding list_of behind_of before_of
-joins_so old mid new k a b sizes one two = record {
+joins_so old mid new k a x b y sizes one two = record {
   sizes = sizes;
   list = λ i. grind (arith, nat_tests, one, two);
   behind = λ n i h. grind (arith, nat_tests, one, two);
@@ -107,8 +108,8 @@ joins_so old mid new k a b sizes one two = record {
   else_before = λ n i h t. grind (arith, nat_tests, one, two);
 }
 
-pub joins : (ns : Nodes) (k a b : ℕ) → HasRow ns k → (a ≢ 0 → HasRow ns a) → (b ≢ 0 → HasRow ns b) → IsJoined ns (joined ns k a b) k a b
-joins ns k a b hk ha hb =
-    let mid : Nodes = with_behind ns k a b in
-    let s = sizes_behind ns k a b in
-    joins_so ns mid (with_before mid k b a) k a b (sizes_before mid k b a ∙ s) (behind_set ns k a b hk ha) (before_set mid k b a (row_kept ns mid k s hk) (λ h. row_kept ns mid b s (hb h)))
+pub joins : (ns : Nodes) (k a x b y : ℕ) → HasRow ns k → (a ≢ 0 → HasRow ns a) → (b ≢ 0 → HasRow ns b) → IsJoined ns (joined ns k a x b y) k a x b y
+joins ns k a x b y hk ha hb =
+    let mid : Nodes = with_behind ns k a x in
+    let s = sizes_behind ns k a x in
+    joins_so ns mid (with_before mid k b y) k a x b y (sizes_before mid k b y ∙ s) (behind_set ns k a x hk ha) (before_set mid k b y (row_kept ns mid k s hk) (λ h. row_kept ns mid b s (hb h)))

@@ -2,7 +2,7 @@
 use Rattle.std.proofs.Common.{◌≡◌, ℕ, zero, suc, ◌+◌, ◌-◌, ◌<◌, ◌≤◌, Bool, true, false, cond, ◌||◌, refl, ap, sym, ◌∙◌, arith, subst, List, [], ◌∷◌, length, filter, insert, slice_get, get_or, Some, ◌==◌, nat_lt}
 use Rattle.std.specs.List.{AllByRecursion}
 use Rattle.std.specs.Option.{IfSome, IsSome}
-use Rattle.std.proofs.lemmas.Option.{IfSome_then, slice_get_past, get_or_from_slice_get}
+use Rattle.std.proofs.lemmas.Option.{IfSome_then}
 use Rattle.std.proofs.lemmas.Bool.{eqb-true, eqb-false, eq-eqb, ne_eqb, ltb-true, ltb-false, or_right}
 use Rattle.std.proofs.lemmas.Bool.Decides.{nat_tests}
 use Rattle.posix.specs.States.{is_in, without}
@@ -92,20 +92,6 @@ rising_or [] up i j d less lt = absurd (omega arith)
 rising_or (x ∷ xs) up i zero d less lt = absurd (omega arith)
 rising_or (x ∷ xs) up zero (suc j) d less lt = above_or x xs up.0 j d (omega arith)
 rising_or (x ∷ xs) up (suc i) (suc j) d less lt = rising_or xs up.1 i j d (omega arith) (omega arith)
-
--- what holds at an index within the list holds of what is there, if anything
-some_at : (ns : List ℕ) (j d : ℕ) (P : ℕ → Type 0) → (j < length ns → P (get_or ns j d)) → IfSome (slice_get ns j) P
-some_at [] j d P h = tt
-some_at (x ∷ xs) zero d P h = h (omega arith)
-some_at (x ∷ xs) (suc j) d P h = some_at xs j d P (λ lt. h (omega arith))
-
--- a number above the last goes to the end
-pub point_last : (ns : List ℕ) → Rises ns → (n m : ℕ) → slice_get ns (length ns - 1) ≡ Some m → m < n → IsInsertionPoint ns n (length ns)
-point_last ns up n m last lt = record {
-  in_range = omega arith;
-  before = λ j low. some_at ns j 0 (λ k. k < n) (λ h. grind (arith, get_or_from_slice_get ns _ m 0 last, rising_or ns up j (length ns - 1) 0, λ (same : j ≡ length ns - 1). ap (λ k. get_or ns k 0) same));
-  after = rw (slice_get_past ns (length ns) (omega arith)) tt;
-}
 
 -- ---- what stays in rising order
 

@@ -18,9 +18,6 @@ use Rattle.pidset.proofs.ItemLemmas.{all_inserted, rises_inserted, rises_passing
 abbrev pub Fits : ℕ → ℕ → Type 0
 Fits p c = (c < 4294967296) × (p ≤ 18446744073709551615)
 
-fits : (x : Pair) → IsPair x → Fits x.key x.pid
-fits x h = (h.1, h.2)
-
 -- it tells pairs apart
 pair_is : (x : Pair) (p c : ℕ) → Fits x.key x.pid → Fits p c → is_pair p c x ≡ (pair_number x == keyed_number p c)
 pair_is x p c low l = elim (cases_eq x.key p) [
@@ -41,13 +38,13 @@ child_range (x ∷ xs) h p c e = grind (arith, eqb-true, child_range xs h.1 p c,
 pub child_is : (pairs : List Pair) → AllByRecursion IsPair pairs → (p c : ℕ) → Fits p c → is_pair_in p c pairs ≡ is_in (keyed_number p c) (map pair_number pairs)
 unfolding is_pair_in is_in
 child_is [] h p c l = refl
-child_is (x ∷ xs) h p c l = rw (pair_is x p c (fits x h.0) l, child_is xs h.1 p c l) refl
+child_is (x ∷ xs) h p c l = rw (pair_is x p c (h.0.1, h.0.2) l, child_is xs h.1 p c l) refl
 
 -- it is there if it is found
 pub child_found : (x : Pair) (pairs : List Pair) → Fits x.key x.pid → AllByRecursion IsPair pairs → is_pair_in x.key x.pid pairs ≡ is_some (find (λ y. pair_number y == pair_number x) pairs)
 unfolding is_pair_in
 child_found x [] l h = refl
-child_found x (y ∷ ys) l h = grind (arith, pair_is y x.key x.pid (fits y h.0) l, child_found x ys l h.1)
+child_found x (y ∷ ys) l h = grind (arith, pair_is y x.key x.pid (h.0.1, h.0.2) l, child_found x ys l h.1)
 
 -- ---- a child that is put in
 
@@ -68,7 +65,7 @@ put_at_point new pairs at i h point =
     let none = find_point pair_number pairs h.rising (pair_number new) at point in
     let is = insert_point pair_number pairs at new point in
     record {
-      absent = child_found new pairs (fits new i) h.within ∙ ap is_some none;
+      absent = child_found new pairs (i.1, i.2) h.within ∙ ap is_some none;
       once = subst ArePairs is (record { rising = rises_inserted pair_number pairs new h.rising none; within = all_inserted IsPair pair_number new pairs i h.within });
       children = λ p c. rw (← is) (grind (arith, eqb-true, eq-eqb, any_inserted (is_pair p c) new pairs));
     }
@@ -82,7 +79,7 @@ child_there p q c d pairs e = grind (arith, eqb-true, e)
 pub child_taken : (x : Pair) (pairs : List Pair) → Fits x.key x.pid → AllByRecursion IsPair pairs → (p c : ℕ) → is_pair_in p c (filter (λ y. not (pair_number y == pair_number x)) pairs) ≡ (not (p == x.key && c == x.pid) && is_pair_in p c pairs)
 unfolding is_pair_in
 child_taken x [] l h p c = grind arith
-child_taken x (y ∷ ys) l h p c = rw (← pair_is y x.key x.pid (fits y h.0) l) (grind (arith, eqb-true, eq-eqb, child_taken x ys l h.1 p c))
+child_taken x (y ∷ ys) l h p c = rw (← pair_is y x.key x.pid (h.0.1, h.0.2) l) (grind (arith, eqb-true, eq-eqb, child_taken x ys l h.1 p c))
 
 pub pairs_taken : (n : ℕ) (pairs : List Pair) → ArePairs pairs → ArePairs (filter (λ y. not (pair_number y == n)) pairs)
 pairs_taken n pairs h = record { rising = rises_passing pair_number (λ m. not (m == n)) pairs h.rising; within = all_filter IsPair _ pairs h.within }

@@ -2,15 +2,14 @@
 use Rattle.std.proofs.Common.{◌≡◌, ℕ, zero, suc, ◌%◌, ◌/◌, ◌<◌, ◌≤◌, ◌==◌, false, cond, refl, ap, sym, ◌∙◌, subst, arith, inl, inr, ◌⊎◌, List, [], ◌∷◌, length, length-set, map, get_or, get_or-set_same, get_or-set_other}
 use Rattle.std.specs.Prelude.{slice_set, slice_index_or, nat_lt}
 use Rattle.std.proofs.lemmas.Bool.{eq-eqb, ne_eqb, ltb-false, cases_eq, cases_lt}
+use Rattle.std.proofs.Math.ListN.{get_or-map as map_at}
 use Rattle.std.proofs.lemmas.List.{map-set, set-get_or, set_past, get_or_past, get_or-map, length-map}
 use Rattle.pidset.specs.Rows.{HasRoom, IsOnAnotherPage, HasRow, page_at, sizes_of, sizes_without, row_or, with_row, without_page}
 
 -- ---- the sizes
 
 size_at : {T : Type 0} (pages : List (List T)) (k : ℕ) → slice_index_or (sizes_of pages) k 0 ≡ length (page_at pages k)
-size_at [] k = refl
-size_at (x ∷ xs) zero = refl
-size_at (x ∷ xs) (suc k) = size_at xs k
+size_at pages k = map_at length pages k []
 
 -- they tell where there is a row
 pub room_is : {T : Type 0} (pages : List (List T)) (n : ℕ) → HasRow pages n → HasRoom (sizes_of pages) n

@@ -66,9 +66,9 @@ pub record AreLinked (ns : Nodes) : Type 0 where
   pub behind : (k a : ℕ) → k ≢ 0 → Stands ns k a → IsLeast ns k a (behind_of ns k a)
   pub before : (k b : ℕ) → k ≢ 0 → Stands ns k b → Stands ns k (before_of ns k b) × (behind_of ns k (before_of ns k b) ≡ b)
 
--- the nodes when p stands in the list k
-unfoldable pub with_list : Nodes → ℕ → ℕ → Nodes
-with_list ns p k = with_row ns p (record (node_of ns p) { list = k })
+-- the nodes when p stands in the list k between a and b
+unfoldable pub with_place : Nodes → ℕ → ℕ → ℕ → ℕ → Nodes
+with_place ns p k a b = with_row ns p (record (node_of ns p) { list = k; before = a; behind = b })
 
 -- the nodes when b comes behind a in the list k, or is its first
 unfoldable pub with_behind : Nodes → ℕ → ℕ → ℕ → Nodes
@@ -78,9 +78,9 @@ with_behind ns k a b = if a == 0 then with_row ns k (record (node_of ns k) { fir
 unfoldable pub with_before : Nodes → ℕ → ℕ → ℕ → Nodes
 with_before ns k b a = if b == 0 then with_row ns k (record (node_of ns k) { last = a }) else with_row ns b (record (node_of ns b) { before = a })
 
--- the nodes when b comes right behind a in the list k
-abbrev pub joined : Nodes → ℕ → ℕ → ℕ → Nodes
-joined ns k a b = with_before (with_behind ns k a b) k b a
+-- the nodes when x comes behind a in the list k, and y before b
+abbrev pub joined : Nodes → ℕ → ℕ → ℕ → ℕ → ℕ → Nodes
+joined ns k a x b y = with_before (with_behind ns k a x) k b y
 
 -- the nodes are linked, p stands in the list k, or in none, and all others stand where they did
 pub record IsListed (old new : Nodes) (p k : ℕ) : Type 0 where

@@ -4,7 +4,7 @@
 ghost use Rattle.std.specs.Prelude.{◌≡◌, ◌≢◌, ◌<◌, ◌≤◌, ◌==◌, ℕ, [], IfSome, OnOk, cond};
 ghost use Rattle.pidset.specs.Indexes.{ArePairsRekeyed, IsNextPair, IsMoved, IsAt};
 ghost use Rattle.pidset.specs.Rows.{Grows, HasRoom, HasRow, sizes_of};
-ghost use Rattle.pidset.specs.Lists.{AreLinked, IsPageUnused, without_page_of, IsAbove, IsListed, IsPlaceFor, IsFrom, node_of, list_of, behind_of, before_of, with_list, with_behind, with_before, joined};
+ghost use Rattle.pidset.specs.Lists.{AreLinked, IsPageUnused, without_page_of, IsAbove, IsListed, IsPlaceFor, IsFrom, node_of, list_of, behind_of, before_of, with_place, with_behind, with_before};
 
 use crate::rows::Rows;
 use posix::Pid;
@@ -146,6 +146,7 @@ impl Lists {
 
 /// The node of a number.
 #[inline(always)]
+#[tactic(auto, unfolding(crate::specs::Lists::node_of))]
 fn node_at(nodes: &Rows<Node>, pid: Pid) -> Node
     requires { HasRow nodes.now pid }
     ensures { result ≡ node_of nodes.now pid }
@@ -193,15 +194,19 @@ fn before(nodes: &Rows<Node>, list: Pid, at: Pid) -> Pid
     }
 }
 
-/// A process stands in a list from now on, or in none.
+/// A process stands in a list from now on, or in none, with these before and behind it.
 #[inline]
-#[tactic(auto, unfolding(crate::specs::Lists::with_list))]
-fn set_list(nodes: &mut Rows<Node>, pid: Pid, list: Pid)
+#[tactic(auto, unfolding(crate::specs::Lists::with_place))]
+fn set_place(nodes: &mut Rows<Node>, pid: Pid, list: Pid, before: Pid, behind: Pid)
     requires { HasRow nodes.old pid }
-    ensures { nodes.new ≡ with_list nodes.old pid list }
+    ensures { nodes.new ≡ with_place nodes.old pid list before behind }
 {
-    let mut node = node_at(nodes, pid);
-    node.list = list;
+    let node = Node {
+        list,
+        before,
+        behind,
+        ..node_at(nodes, pid)
+    };
     nodes.set(pid, node);
 }
 
@@ -277,18 +282,6 @@ fn place_for(nodes: &Rows<Node>, list: Pid, pid: Pid, above: Pid) -> Pid
     at
 }
 
-/// One comes right behind another in a list from now on. Number 0 stands before the first, and behind the last.
-#[inline]
-fn join(nodes: &mut Rows<Node>, list: Pid, before: Pid, behind: Pid)
-    requires list_inside { HasRow nodes.old list }
-    requires before_inside { before ≢ 0 → HasRow nodes.old before }
-    requires behind_inside { behind ≢ 0 → HasRow nodes.old behind }
-    ensures { nodes.new ≡ joined nodes.old list before behind }
-{
-    set_behind(nodes, list, before, behind);
-    set_before(nodes, list, behind, before);
-}
-
 /// Takes a process out of the list in which it stands, if it stands in one.
 #[inline]
 #[tactic(auto, using(crate::proofs::LinkLemmas::list_inside))]
@@ -303,8 +296,9 @@ fn take_out(nodes: &mut Rows<Node>, pid: Pid)
     }
     let before = before(nodes, list, pid);
     let behind = behind(nodes, list, pid);
-    join(nodes, list, before, behind);
-    set_list(nodes, pid, Pid::NONE);
+    set_behind(nodes, list, before, behind);
+    set_before(nodes, list, behind, before);
+    set_place(nodes, pid, Pid::NONE, before, behind);
 }
 
 /// Puts a process that stands in no list into one, in which `above` has a greater number or is number 0.
@@ -319,9 +313,9 @@ fn put_in(nodes: &mut Rows<Node>, list: Pid, pid: Pid, above: Pid)
 {
     let before = place_for(nodes, list, pid, above);
     let behind = behind(nodes, list, before);
-    join(nodes, list, before, pid);
-    join(nodes, list, pid, behind);
-    set_list(nodes, pid, list);
+    set_behind(nodes, list, before, pid);
+    set_before(nodes, list, behind, pid);
+    set_place(nodes, pid, list, before, behind);
 }
 
 /// Puts all that stand in one list into another.

@@ -91,6 +91,7 @@ pub(crate) fn behind<T>(items: &[T], place: Result<usize, usize>) -> Option<&T>
 }
 
 /// The item with the least number above that of `key`.
+#[tactic(auto, using(crate::proofs::ItemLemmas::behind_place))]
 pub fn next_above<'a, T: Numbered, K: Numbered>(items: &'a [T], key: &K) -> Option<&'a T>
     requires { Rises (map T.number items.now) }
     ensures { option_copied result ≡ slice_get (filter (λ item. nat_lt (K.number key.now) (T.number item)) items.now) 0 }

@@ -1,11 +1,10 @@
 -- The ways in which attempts of calls end: what holds of each of them holds of each attempt.
-use Rattle.std.proofs.Common.{◌≡◌, ℕ, zero, suc, ◌<◌, Bool, true, false, cond, not, refl, arith, ◌∙◌, List, [], ◌∷◌, take, Option, Some, None, ◌==◌, ◌||◌, ℤ, pos, negsuc, Result, Ok, Err, slice_get, inl, inr, ◌⊎◌}
+use Rattle.std.proofs.Common.{◌≡◌, ℕ, zero, suc, ◌<◌, Bool, true, false, not, refl, arith, ◌∙◌, List, [], ◌∷◌, take, Option, Some, None, ◌==◌, ◌||◌, ℤ, pos, negsuc, Result, Ok, Err, slice_get, inl, inr, ◌⊎◌}
 use Rattle.std.specs.Prelude.{slice_set}
 use Rattle.std.specs.Int.{cast_unsigned, w64}
-use Rattle.std.specs.List.{list_any}
 use Rattle.std.proofs.lemmas.Bool.{cond_both, or_parts}
 use Rattle.posix.specs.declared.call.Call.{Call}
-use Rattle.posix.specs.declared.call.Call.TheVariants.{Exit, Fork, Waitpid, Waitid, Pause, SchedYield, Getpid, Getppid, Getuid, Geteuid, Getgid, Getegid, Setuid, Seteuid, Setgid, Setegid, Kill, Sigqueue, Sigaction, Sigprocmask, Sigpending, Sigsuspend, Sigreturn, Alarm, Exec, Getpgid, Getsid, Setpgid, Setsid, Setctty, Tcgetpgrp, Tcsetpgrp, Settostop, Read, Write, Subreaper}
+use Rattle.posix.specs.declared.call.Call.TheVariants.{Exit, Fork, Waitpid, Waitid, SchedYield, Getpid, Getppid, Getuid, Geteuid, Getgid, Getegid, Setuid, Seteuid, Setgid, Setegid, Kill, Sigqueue, Sigaction, Sigprocmask, Sigpending, Sigreturn, Alarm, Exec, Getpgid, Getsid, Setpgid, Setsid, Setctty, Tcgetpgrp, Tcsetpgrp, Settostop, Read, Write, Subreaper}
 use Rattle.posix.specs.declared.errno.Errno.{Errno}
 use Rattle.posix.specs.declared.errno.Errno.TheVariants.{EPERM, ENOENT, ESRCH, EINTR, EIO, ECHILD, EAGAIN, EACCES, EFAULT, EINVAL, ENOTTY}
 use Rattle.posix.specs.declared.how.How.{How}
@@ -38,7 +37,7 @@ use Rattle.posix.specs.Ends.{end_process, signalled_group}
 use Rattle.posix.specs.Targets.{target_in, process_in}
 use Rattle.posix.specs.Waits.{report, news_told, gives_nothing, wait_by}
 use Rattle.posix.specs.Delivery.{return_from_handler}
-use Rattle.posix.specs.Sends.{permitted, targets, sent, sending_permitted, sending_found, sending, has_full_queue, queued_for, queuers_among, sending_granted, message, send_with, signal_in, signal_or_none, send, kill, sigqueue}
+use Rattle.posix.specs.Sends.{permitted, targets, sent, sending_permitted, sending_found, sending, queued_for, queuers_among, sending_granted, message, send_with, signal_in, signal_or_none, send, kill, sigqueue}
 use Rattle.posix.specs.SignalCalls.{give_credentials, set_credentials, is_question, are_flags, action_in, gives_action, sigaction_with, sigaction_of, sigaction, how_in, sigprocmask_with, sigprocmask, pending_set, sigpending}
 use Rattle.posix.specs.Programs.{exec_as, exec_of, exec}
 use Rattle.posix.specs.GroupCalls.{named, tells, getpgid, getsid, move_of, move_to, setpgid_with, setpgid, is_group_of, is_group_of_others, in_session, setsid}
@@ -136,144 +135,88 @@ pub record Ways (M : Outcome → Type 0) (A : State → Type 0) (granted : Bool)
   pub writes : (span : Span) → span_in (argument me 1) (argument me 2) ≡ Ok span → Meets M A (finish_moved s me.pid Write (bytes_in span me.cpu.memory))
   pub marks : (mark : Bool) → Meets M A (finish_marked s me mark)
 
--- ---- waits, and the terminal
+-- ---- calls that a process may be blocked in, and others that change nothing else
 
--- what is refused gives a negative number that isn't large
-by_refusal : (M : Outcome → Type 0) (A : State → Type 0) (s : State) (me : Process) → Retries M A s me → (call : Call) → may_fail call ≡ true → (why : Errno) → Meets M A (refused s me.pid call why)
-by_refusal M A s me w call fails EPERM = w.refuses call 0 fails (omega arith)
-by_refusal M A s me w call fails ENOENT = w.refuses call 1 fails (omega arith)
-by_refusal M A s me w call fails ESRCH = w.refuses call 2 fails (omega arith)
-by_refusal M A s me w call fails EINTR = w.refuses call 3 fails (omega arith)
-by_refusal M A s me w call fails EIO = w.refuses call 4 fails (omega arith)
-by_refusal M A s me w call fails ECHILD = w.refuses call 9 fails (omega arith)
-by_refusal M A s me w call fails EAGAIN = w.refuses call 10 fails (omega arith)
-by_refusal M A s me w call fails EACCES = w.refuses call 12 fails (omega arith)
-by_refusal M A s me w call fails EFAULT = w.refuses call 13 fails (omega arith)
-by_refusal M A s me w call fails EINVAL = w.refuses call 21 fails (omega arith)
-by_refusal M A s me w call fails ENOTTY = w.refuses call 24 fails (omega arith)
+module _ (M : Outcome → Type 0) (A : State → Type 0) (s : State) (me : Process) (w : Retries M A s me) where
+  -- what is refused gives a negative number that isn't large
+  by_refusal : (call : Call) → may_fail call ≡ true → (why : Errno) → Meets M A (refused s me.pid call why)
+  by_refusal call fails EPERM = w.refuses call 0 fails (omega arith)
+  by_refusal call fails ENOENT = w.refuses call 1 fails (omega arith)
+  by_refusal call fails ESRCH = w.refuses call 2 fails (omega arith)
+  by_refusal call fails EINTR = w.refuses call 3 fails (omega arith)
+  by_refusal call fails EIO = w.refuses call 4 fails (omega arith)
+  by_refusal call fails ECHILD = w.refuses call 9 fails (omega arith)
+  by_refusal call fails EAGAIN = w.refuses call 10 fails (omega arith)
+  by_refusal call fails EACCES = w.refuses call 12 fails (omega arith)
+  by_refusal call fails EFAULT = w.refuses call 13 fails (omega arith)
+  by_refusal call fails EINVAL = w.refuses call 21 fails (omega arith)
+  by_refusal call fails ENOTTY = w.refuses call 24 fails (omega arith)
 
-by_waits : (M : Outcome → Type 0) (A : State → Type 0) (s : State) (me : Process) → Retries M A s me → (call : WaitCall) → Meets M A (wait_by call s me)
-by_waits M A s me w call = by_wait (Meets M A) call s me (λ why. by_refusal M A s me w (call_of_wait call) (fails call) why) (w.finds_nothing call) tt (w.tells_end call) (w.tells_change call)
-  where
-    fails : (call : WaitCall) → may_fail (call_of_wait call) ≡ true
-    fails wait.Waitpid = refl
-    fails wait.Waitid = refl
+  by_waits : (call : WaitCall) → Meets M A (wait_by call s me)
+  by_waits call = by_wait (Meets M A) call s me (λ why. by_refusal (call_of_wait call) fails why) (w.finds_nothing call) tt (w.tells_end call) (w.tells_change call)
+    where
+      fails : may_fail (call_of_wait call) ≡ true
+      fails = elim call as (λ k. may_fail (call_of_wait k) ≡ true) [ wait.Waitpid ↦ refl | wait.Waitid ↦ refl ]
 
--- a call that is judged by the rule for the background
-by_allowed : (M : Outcome → Type 0) (A : State → Type 0) (s : State) (me : Process) → Retries M A s me → (call : Call) (c : Console) (allowed : Attempted) → may_fail call ≡ true → Meets M A allowed → Meets M A (if_allowed s me call c allowed)
-by_allowed M A s me w call c allowed fails h =
-    cond_both (not (is_in_background me c) || blocks_or_ignores me TTOU) _ _ (Meets M A) (λ t. h)
-    (λ t. cond_both (is_orphaned me.group s.processes) _ _ (Meets M A) (λ u. by_refusal M A s me w call fails EIO) (λ u. w.begins_again TTOU (inr refl)))
+  -- a call that is judged by the rule for the background
+  by_allowed : (call : Call) (c : Console) (allowed : Attempted) → may_fail call ≡ true → Meets M A allowed → Meets M A (if_allowed s me call c allowed)
+  by_allowed call c allowed fails h =
+      cond_both (not (is_in_background me c) || blocks_or_ignores me TTOU) _ _ (Meets M A) (λ t. h)
+      (λ t. cond_both (is_orphaned me.group s.processes) _ _ (Meets M A) (λ u. by_refusal call fails EIO) (λ u. w.begins_again TTOU (inr refl)))
 
-by_read : (M : Outcome → Type 0) (A : State → Type 0) (s : State) (me : Process) → Retries M A s me → Meets M A (read s me)
-unfolding read
-by_read M A s me w = on (terminal s me) refl
-  where
-    from : (c : Console) (span : Span) (lines : List (List ℕ)) → terminal s me ≡ Some c → span_in (argument me 1) (argument me 2) ≡ Ok span → c.lines ≡ lines → Meets M A (read_from s me span lines)
-    from c span [] has fits is = tt
-    from c span (line ∷ rest) has fits is = w.reads c span line rest has fits is
+  by_read : Meets M A (read s me)
+  unfolding read
+  by_read = on (terminal s me) refl
+    where
+      from : (c : Console) (span : Span) (lines : List (List ℕ)) → terminal s me ≡ Some c → span_in (argument me 1) (argument me 2) ≡ Ok span → c.lines ≡ lines → Meets M A (read_from s me span lines)
+      from c span [] has fits is = tt
+      from c span (line ∷ rest) has fits is = w.reads c span line rest has fits is
 
-    within : (c : Console) (span : Result Span Errno) → terminal s me ≡ Some c → span_in (argument me 1) (argument me 2) ≡ span → Meets M A (read_in s me c span)
-    within c (Err why) has fits = by_refusal M A s me w Read refl why
-    within c (Ok span) has fits =
-        cond_both c.hung_up _ _ (Meets M A) (λ t. w.gives Read 0 refl) (λ t. cond_both (is_in_background me c) _ _ (Meets M A)
-        (λ u. cond_both (blocks_or_ignores me TTIN || is_orphaned me.group s.processes) _ _ (Meets M A) (λ v. by_refusal M A s me w Read refl EIO) (λ v. w.begins_again TTIN (inl refl)))
-        (λ u. cond_both (span.count == 0) _ _ (Meets M A) (λ v. w.gives Read 0 refl) (λ v. from c span c.lines has fits refl)))
+      within : (c : Console) (span : Result Span Errno) → terminal s me ≡ Some c → span_in (argument me 1) (argument me 2) ≡ span → Meets M A (read_in s me c span)
+      within c (Err why) has fits = by_refusal Read refl why
+      within c (Ok span) has fits =
+          cond_both c.hung_up _ _ (Meets M A) (λ t. w.gives Read 0 refl) (λ t. cond_both (is_in_background me c) _ _ (Meets M A)
+          (λ u. cond_both (blocks_or_ignores me TTIN || is_orphaned me.group s.processes) _ _ (Meets M A) (λ v. by_refusal Read refl EIO) (λ v. w.begins_again TTIN (inl refl)))
+          (λ u. cond_both (span.count == 0) _ _ (Meets M A) (λ v. w.gives Read 0 refl) (λ v. from c span c.lines has fits refl)))
 
-    on : (c : Option Console) → terminal s me ≡ c → Meets M A (read_on s me c)
-    on None has = by_refusal M A s me w Read refl ENOTTY
-    on (Some c) has = within c (span_in (argument me 1) (argument me 2)) has refl
+      on : (c : Option Console) → terminal s me ≡ c → Meets M A (read_on s me c)
+      on None has = by_refusal Read refl ENOTTY
+      on (Some c) has = within c (span_in (argument me 1) (argument me 2)) has refl
 
--- What holds of the ways of calls that a process may be blocked in holds of each attempt afresh.
-pub by_again : (M : Outcome → Type 0) (A : State → Type 0) (s : State) (me : Process) → Retries M A s me → (b : Blocked) → Meets M A (attempt_again s me b)
-unfolding attempt_again
-by_again M A s me w (blocked.Wait call) = by_waits M A s me w call
-by_again M A s me w blocked.Read = by_read M A s me w
-by_again M A s me w blocked.Pause = tt
-by_again M A s me w (blocked.Sigsuspend mask) = tt
+  -- What holds of the ways of calls that a process may be blocked in holds of each attempt afresh.
+  pub by_again : (b : Blocked) → Meets M A (attempt_again s me b)
+  unfolding attempt_again
+  by_again (blocked.Wait call) = by_waits call
+  by_again blocked.Read = by_read
+  by_again _ = tt
 
-by_setctty : (M : Outcome → Type 0) (A : State → Type 0) (granted : Bool) (s : State) (me : Process) → Ways M A granted s me → Meets M A (setctty s me)
-unfolding setctty
-by_setctty M A granted s me w = at (console_named (argument me 1))
-  where
-    of : (k : ℕ) (c : Option Console) → slice_get s.consoles k ≡ c → Meets M A (setctty_of s me k c)
-    of k None is = by_refusal M A s me w.retries Setctty refl ENOENT
-    of k (Some c) is = cond_both (may_acquire s me c) _ _ (Meets M A) (λ t. w.acquires k c is t) (λ t. by_refusal M A s me w.retries Setctty refl EPERM)
+  by_tcgetpgrp : Meets M A (tcgetpgrp s me)
+  unfolding tcgetpgrp
+  by_tcgetpgrp = on (terminal s me) refl
+    where
+      on : (c : Option Console) → terminal s me ≡ c → Meets M A (tcgetpgrp_on s me c)
+      on None has = by_refusal Tcgetpgrp refl ENOTTY
+      on (Some c) has = w.gives Tcgetpgrp (foreground_told s.world.pidmax c.foreground) (c, has, refl)
 
-    at : (k : Option ℕ) → Meets M A (setctty_at s me k)
-    at None = by_refusal M A s me w.retries Setctty refl ENOENT
-    at (Some k) = of k (slice_get s.consoles k) refl
+  by_tells : (call : Call) (field : Process → ℕ) (o : Option Process) → may_fail call ≡ true → ((r : Process) → o ≡ Some r → Gives s me call (field r))
+      → Meets M A (tells s me call field o)
+  by_tells call field None fails gives = by_refusal call fails ESRCH
+  by_tells call field (Some r) fails gives = w.gives call (field r) (gives r refl)
 
-by_tcgetpgrp : (M : Outcome → Type 0) (A : State → Type 0) (s : State) (me : Process) → Retries M A s me → Meets M A (tcgetpgrp s me)
-unfolding tcgetpgrp
-by_tcgetpgrp M A s me w = on (terminal s me) refl
-  where
-    on : (c : Option Console) → terminal s me ≡ c → Meets M A (tcgetpgrp_on s me c)
-    on None has = by_refusal M A s me w Tcgetpgrp refl ENOTTY
-    on (Some c) has = w.gives Tcgetpgrp (foreground_told s.world.pidmax c.foreground) (c, has, refl)
-
-by_tcsetpgrp : (M : Outcome → Type 0) (A : State → Type 0) (granted : Bool) (s : State) (me : Process) → Ways M A granted s me → Meets M A (tcsetpgrp s me)
-unfolding tcsetpgrp
-by_tcsetpgrp M A granted s me w = on (terminal s me)
-  where
-    put : (z : ℤ) → Meets M A (put_foreground s me z)
-    put (negsuc n) = by_refusal M A s me w.retries Tcsetpgrp refl EINVAL
-    put (pos g) = cond_both (is_group_of me.session g s.processes) _ _ (Meets M A) (λ t. w.sets_foreground g t) (λ t. by_refusal M A s me w.retries Tcsetpgrp refl EPERM)
-
-    on : (c : Option Console) → Meets M A (tcsetpgrp_on s me c)
-    on None = by_refusal M A s me w.retries Tcsetpgrp refl ENOTTY
-    on (Some c) = by_allowed M A s me w.retries Tcsetpgrp c _ refl (put (argument me 1))
-
-by_settostop : (M : Outcome → Type 0) (A : State → Type 0) (granted : Bool) (s : State) (me : Process) → Ways M A granted s me → Meets M A (settostop s me)
-unfolding settostop
-by_settostop M A granted s me w = on (terminal s me)
-  where
-    on : (c : Option Console) → Meets M A (settostop_on s me c)
-    on None = by_refusal M A s me w.retries Settostop refl ENOTTY
-    on (Some c) = by_allowed M A s me w.retries Settostop c _ refl (w.sets_tostop (is_nonzero (argument me 1)))
-
-by_write : (M : Outcome → Type 0) (A : State → Type 0) (granted : Bool) (s : State) (me : Process) → Ways M A granted s me → Meets M A (write s me)
-unfolding write
-by_write M A granted s me w = on (terminal s me)
-  where
-    within : (c : Console) (span : Result Span Errno) → span_in (argument me 1) (argument me 2) ≡ span → Meets M A (write_in s me c span)
-    within c (Err why) fits = by_refusal M A s me w.retries Write refl why
-    within c (Ok span) fits =
-        let written = w.writes span fits in
-        cond_both c.hung_up _ _ (Meets M A) (λ t. by_refusal M A s me w.retries Write refl EIO) (λ t. cond_both c.tostop _ _ (Meets M A) (λ u. by_allowed M A s me w.retries Write c _ refl written) (λ u. written))
-
-    on : (c : Option Console) → Meets M A (write_on s me c)
-    on None = by_refusal M A s me w.retries Write refl ENOTTY
-    on (Some c) = within c (span_in (argument me 1) (argument me 2)) refl
-
--- ---- births and signals
-
-by_fork : (M : Outcome → Type 0) (A : State → Type 0) (granted : Bool) (s : State) (me : Process) → Ways M A granted s me → (n : Option ℕ) → next_pid s ≡ n → Meets M A (fork_as granted s me n)
-unfolding fork_as
-by_fork M A granted s me w None is = by_refusal M A s me w.retries Fork refl EAGAIN
-by_fork M A granted s me w (Some n) is = cond_both granted _ _ (Meets M A) (λ t. w.bears n is) (λ t. w.wants_memory Fork refl t)
+-- ---- sends
 
 -- memory is wanting for the queues alone, and where it isn't granted
 wanting_memory : (granted : Bool) (me : Process) (target : Target) (n : Option ℕ) (rs : List Process) → sending_granted granted me target n rs ≡ sends.NoMemory → granted ≡ false
 unfolding sending_granted sending
 wanting_memory granted me target n rs e = by granted (queuers_among me target n rs) e
   where
-    some : (qs : List Process) → sending_permitted qs ≡ sends.NoMemory → ⊥
-    some [] e = absurd (cc)
-    some (q ∷ qs) e = absurd (cc)
-
     none : (meant : List Process) → sending_found me n meant ≡ sends.NoMemory → ⊥
     none [] e = absurd (cc)
-    none (r ∷ meant) e = some (permitted me n (r ∷ meant)) e
-
-    full : (b granted : Bool) → cond b sends.QueueFull (cond granted (sending_found me n (targets me target rs)) sends.NoMemory) ≡ sends.NoMemory → granted ≡ false
-    full true granted e = absurd (cc)
-    full false true e = absurd (none (targets me target rs) e)
-    full false false e = refl
+    none (r ∷ meant) e = elim (permitted me n (r ∷ meant)) as (λ qs. sending_permitted qs ≡ sends.NoMemory → ⊥) [ [] ↦ λ k. absurd (cc) | q ∷ qs ↦ λ k. absurd (cc) ] e
 
     by : (granted : Bool) (qs : List Process) → queued_for granted qs (sending_found me n (targets me target rs)) ≡ sends.NoMemory → granted ≡ false
     by granted [] e = absurd (none (targets me target rs) e)
-    by granted (q ∷ qs) e = full (list_any has_full_queue (q ∷ qs)) granted e
+    by granted (q ∷ qs) e = grind (arith, e, none (targets me target rs))
 
 -- a call that sends a signal
 record IsSend (me : Process) (call : Call) (value : ℤ) : Type 0 where
@@ -281,124 +224,171 @@ record IsSend (me : Process) (call : Call) (value : ℤ) : Type 0 where
   fails : may_fail call ≡ true
   wants : may_want_memory call ≡ true
 
-by_send : (M : Outcome → Type 0) (A : State → Type 0) (granted : Bool) (s : State) (me : Process) → Ways M A granted s me → (call : Call) (target : Target) (value : ℤ) → IsSend me call value → (sig : Result (Option ℕ) Errno)
-    → Meets M A (send granted s me call target value sig)
-by_send M A granted s me w call target value k (Err why) = by_refusal M A s me w.retries call k.fails why
-by_send M A granted s me w call target value k (Ok n) = with (sending_granted granted me target n s.processes) refl
-  where
-    with : (what : Sending) → sending_granted granted me target n s.processes ≡ what → Meets M A (send_with s me call target (message me.pid value n) what)
-    with sends.NobodyFound is = by_refusal M A s me w.retries call k.fails ESRCH
-    with sends.NobodyPermitted is = by_refusal M A s me w.retries call k.fails EPERM
-    with sends.QueueFull is = by_refusal M A s me w.retries call k.fails EAGAIN
-    with sends.NoMemory is = w.wants_memory call k.wants (wanting_memory granted me target n s.processes is)
-    with sends.Permitted is = w.sends call target value n k.sends is
-
-by_action : (M : Outcome → Type 0) (A : State → Type 0) (granted : Bool) (s : State) (me : Process) → Ways M A granted s me → Meets M A (finish_call s me.pid Sigaction (sigaction me))
-unfolding sigaction
-by_action M A granted s me w = of (signal_in (argument me 1))
-  where
-    with : (n : ℕ) (g : Result Signals Errno) → set_action n (action_in me) me.signals ≡ g → Meets M A (finish_call s me.pid Sigaction (sigaction_with (action me.signals n) g))
-    with n (Ok g) is = w.sets_action n g (inr is)
-    with n (Err why) is = by_refusal M A s me w.retries Sigaction refl why
-
-    of : (n : Option ℕ) → Meets M A (finish_call s me.pid Sigaction (sigaction_of me n))
-    of None = by_refusal M A s me w.retries Sigaction refl EINVAL
-    of (Some n) =
-        cond_both (is_question (argument me 2)) _ _ (λ reply. Meets M A (finish_call s me.pid Sigaction reply)) (λ t. w.sets_action n me.signals (inl refl))
-        (λ t. cond_both (are_flags (cast_unsigned w64 (argument me 4))) _ _ (λ reply. Meets M A (finish_call s me.pid Sigaction reply)) (λ u. with n (set_action n (action_in me) me.signals) refl) (λ u. by_refusal M A s me w.retries Sigaction refl EINVAL))
-
-by_mask : (M : Outcome → Type 0) (A : State → Type 0) (granted : Bool) (s : State) (me : Process) → Ways M A granted s me → Meets M A (finish_call s me.pid Sigprocmask (sigprocmask me))
-unfolding sigprocmask
-by_mask M A granted s me w = with (how_in (argument me 1))
-  where
-    with : (what : Option How) → Meets M A (finish_call s me.pid Sigprocmask (sigprocmask_with me what))
-    with None = by_refusal M A s me w.retries Sigprocmask refl EINVAL
-    with (Some what) = w.sets_mask what
-
-by_alarm : (M : Outcome → Type 0) (A : State → Type 0) (granted : Bool) (s : State) (me : Process) → Ways M A granted s me → Meets M A (finish_call s me.pid Alarm (alarm s me))
-unfolding alarm
-by_alarm M A granted s me w = within (ticks_in (argument me 1)) refl
-  where
-    within : (n : Option ℕ) → ticks_in (argument me 1) ≡ n → Meets M A (finish_call s me.pid Alarm (alarm_in s.ticks me n))
-    within None is = by_refusal M A s me w.retries Alarm refl EINVAL
-    within (Some n) is = w.sets_alarm n is
-
--- ---- other calls
-
-by_ids : (M : Outcome → Type 0) (A : State → Type 0) (granted : Bool) (s : State) (me : Process) → Ways M A granted s me → (call : Call) (c : Result Credentials Errno) → may_fail call ≡ true → ((new : Credentials) → c ≡ Ok new → SetsIds me call new)
-    → Meets M A (finish_call s me.pid call (set_credentials c))
-by_ids M A granted s me w call (Ok c) fails sets = w.sets_ids call c (sets c refl)
-by_ids M A granted s me w call (Err why) fails sets = by_refusal M A s me w.retries call fails why
-
-by_exec : (M : Outcome → Type 0) (A : State → Type 0) (granted : Bool) (s : State) (me : Process) → Ways M A granted s me → Meets M A (exec s me)
-unfolding exec
-by_exec M A granted s me w = of (argument me 1)
-  where
-    as_number : (n : ℕ) (program : Option Program) → slice_get s.world.programs n ≡ program → Meets M A (exec_as s me n program)
-    as_number n None is = by_refusal M A s me w.retries Exec refl ENOENT
-    as_number n (Some program) is = w.executes n program is
-
-    of : (z : ℤ) → Meets M A (exec_of s me z)
-    of (pos n) = as_number n (slice_get s.world.programs n) refl
-    of (negsuc n) = by_refusal M A s me w.retries Exec refl ENOENT
-
-by_tells : (M : Outcome → Type 0) (A : State → Type 0) (s : State) (me : Process) → Retries M A s me → (call : Call) (field : Process → ℕ) (o : Option Process) → may_fail call ≡ true → ((r : Process) → o ≡ Some r → Gives s me call (field r))
-    → Meets M A (tells s me call field o)
-by_tells M A s me w call field None fails gives = by_refusal M A s me w call fails ESRCH
-by_tells M A s me w call field (Some r) fails gives = w.gives call (field r) (gives r refl)
-
-by_setpgid : (M : Outcome → Type 0) (A : State → Type 0) (granted : Bool) (s : State) (me : Process) → Ways M A granted s me → Meets M A (setpgid s me)
-unfolding setpgid
-by_setpgid M A granted s me w = to (named me (argument me 1) s.processes) (argument me 2) refl
-  where
-    with : (target : Option Process) (group : ℕ) (what : Result ℕ Errno) → named me (argument me 1) s.processes ≡ target → move_of me target group s.processes ≡ what → Meets M A (setpgid_with s me target what)
-    with target group (Err why) is goes = by_refusal M A s me w.retries Setpgid refl why
-    with None group (Ok h) is goes = by_refusal M A s me w.retries Setpgid refl ESRCH
-    with (Some r) group (Ok h) is goes = w.moves r group h is goes
-
-    to : (target : Option Process) (z : ℤ) → named me (argument me 1) s.processes ≡ target → Meets M A (setpgid_with s me target (move_to me target z s.processes))
-    to target (pos group) is = with target group (move_of me target group s.processes) is refl
-    to target (negsuc n) is = by_refusal M A s me w.retries Setpgid refl EINVAL
-
 -- ---- all calls
 
--- What holds of the ways of calls holds of each attempt.
-pub by_attempt : (M : Outcome → Type 0) (A : State → Type 0) (granted : Bool) (s : State) (me : Process) → Ways M A granted s me → (call : Call) → Meets M A (attempt granted s me call)
-unfolding attempt kill sigqueue sigpending getpgid getsid setsid subreaper
-by_attempt M A granted s me w Exit = w.exits
-by_attempt M A granted s me w Fork = by_fork M A granted s me w (next_pid s) refl
-by_attempt M A granted s me w Waitpid = by_waits M A s me w.retries wait.Waitpid
-by_attempt M A granted s me w Waitid = by_waits M A s me w.retries wait.Waitid
-by_attempt M A granted s me w Pause = tt
-by_attempt M A granted s me w SchedYield = w.yields
-by_attempt M A granted s me w Getpid = w.retries.gives Getpid me.pid refl
-by_attempt M A granted s me w Getppid = w.retries.gives Getppid me.parent refl
-by_attempt M A granted s me w Getuid = w.retries.gives Getuid me.credentials.user.real refl
-by_attempt M A granted s me w Geteuid = w.retries.gives Geteuid me.credentials.user.effective refl
-by_attempt M A granted s me w Getgid = w.retries.gives Getgid me.credentials.group.real refl
-by_attempt M A granted s me w Getegid = w.retries.gives Getegid me.credentials.group.effective refl
-by_attempt M A granted s me w Setuid = by_ids M A granted s me w Setuid _ refl (λ c is. is)
-by_attempt M A granted s me w Seteuid = by_ids M A granted s me w Seteuid _ refl (λ c is. is)
-by_attempt M A granted s me w Setgid = by_ids M A granted s me w Setgid _ refl (λ c is. is)
-by_attempt M A granted s me w Setegid = by_ids M A granted s me w Setegid _ refl (λ c is. is)
-by_attempt M A granted s me w Kill = by_send M A granted s me w Kill (target_in (argument me 1)) (pos 0) (record { sends = refl; fails = refl; wants = refl }) (signal_or_none (argument me 2))
-by_attempt M A granted s me w Sigqueue = by_send M A granted s me w Sigqueue (process_in (argument me 1)) (argument me 3) (record { sends = refl; fails = refl; wants = refl }) (signal_or_none (argument me 2))
-by_attempt M A granted s me w Sigaction = by_action M A granted s me w
-by_attempt M A granted s me w Sigprocmask = by_mask M A granted s me w
-by_attempt M A granted s me w Sigpending = w.tells_pending
-by_attempt M A granted s me w Sigsuspend = tt
-by_attempt M A granted s me w Sigreturn = w.returns
-by_attempt M A granted s me w Alarm = by_alarm M A granted s me w
-by_attempt M A granted s me w Exec = by_exec M A granted s me w
-by_attempt M A granted s me w Getpgid = by_tells M A s me w.retries Getpgid (λ r. r.group) (named me (argument me 1) s.processes) refl (λ r is. (r, is, refl))
-by_attempt M A granted s me w Getsid = by_tells M A s me w.retries Getsid (λ r. r.session) (named me (argument me 1) s.processes) refl (λ r is. (r, is, refl))
-by_attempt M A granted s me w Setpgid = by_setpgid M A granted s me w
-by_attempt M A granted s me w Setsid =
-    cond_both (me.group == me.pid || is_group_of_others me s.processes) _ _ (Meets M A) (λ t. by_refusal M A s me w.retries Setsid refl EPERM) (λ t. w.leads (or_parts _ _ t).1)
-by_attempt M A granted s me w Setctty = by_setctty M A granted s me w
-by_attempt M A granted s me w Tcgetpgrp = by_tcgetpgrp M A s me w.retries
-by_attempt M A granted s me w Tcsetpgrp = by_tcsetpgrp M A granted s me w
-by_attempt M A granted s me w Settostop = by_settostop M A granted s me w
-by_attempt M A granted s me w Read = by_read M A s me w.retries
-by_attempt M A granted s me w Write = by_write M A granted s me w
-by_attempt M A granted s me w Subreaper = w.marks (is_nonzero (argument me 1))
+module _ (M : Outcome → Type 0) (A : State → Type 0) (granted : Bool) (s : State) (me : Process) (w : Ways M A granted s me) where
+  refusal : (call : Call) → may_fail call ≡ true → (why : Errno) → Meets M A (refused s me.pid call why)
+  refusal call fails why = by_refusal M A s me w.retries call fails why
+
+  by_setctty : Meets M A (setctty s me)
+  unfolding setctty
+  by_setctty = at (console_named (argument me 1))
+    where
+      of : (k : ℕ) (c : Option Console) → slice_get s.consoles k ≡ c → Meets M A (setctty_of s me k c)
+      of k None is = refusal Setctty refl ENOENT
+      of k (Some c) is = cond_both (may_acquire s me c) _ _ (Meets M A) (λ t. w.acquires k c is t) (λ t. refusal Setctty refl EPERM)
+
+      at : (k : Option ℕ) → Meets M A (setctty_at s me k)
+      at None = refusal Setctty refl ENOENT
+      at (Some k) = of k (slice_get s.consoles k) refl
+
+  by_tcsetpgrp : Meets M A (tcsetpgrp s me)
+  unfolding tcsetpgrp
+  by_tcsetpgrp = on (terminal s me)
+    where
+      put : (z : ℤ) → Meets M A (put_foreground s me z)
+      put (negsuc n) = refusal Tcsetpgrp refl EINVAL
+      put (pos g) = cond_both (is_group_of me.session g s.processes) _ _ (Meets M A) (λ t. w.sets_foreground g t) (λ t. refusal Tcsetpgrp refl EPERM)
+
+      on : (c : Option Console) → Meets M A (tcsetpgrp_on s me c)
+      on None = refusal Tcsetpgrp refl ENOTTY
+      on (Some c) = by_allowed M A s me w.retries Tcsetpgrp c _ refl (put (argument me 1))
+
+  by_settostop : Meets M A (settostop s me)
+  unfolding settostop
+  by_settostop = on (terminal s me)
+    where
+      on : (c : Option Console) → Meets M A (settostop_on s me c)
+      on None = refusal Settostop refl ENOTTY
+      on (Some c) = by_allowed M A s me w.retries Settostop c _ refl (w.sets_tostop (is_nonzero (argument me 1)))
+
+  by_write : Meets M A (write s me)
+  unfolding write
+  by_write = on (terminal s me)
+    where
+      within : (c : Console) (span : Result Span Errno) → span_in (argument me 1) (argument me 2) ≡ span → Meets M A (write_in s me c span)
+      within c (Err why) fits = refusal Write refl why
+      within c (Ok span) fits =
+          let written = w.writes span fits in
+          cond_both c.hung_up _ _ (Meets M A) (λ t. refusal Write refl EIO) (λ t. cond_both c.tostop _ _ (Meets M A) (λ u. by_allowed M A s me w.retries Write c _ refl written) (λ u. written))
+
+      on : (c : Option Console) → Meets M A (write_on s me c)
+      on None = refusal Write refl ENOTTY
+      on (Some c) = within c (span_in (argument me 1) (argument me 2)) refl
+
+  by_fork : (n : Option ℕ) → next_pid s ≡ n → Meets M A (fork_as granted s me n)
+  unfolding fork_as
+  by_fork None is = refusal Fork refl EAGAIN
+  by_fork (Some n) is = cond_both granted _ _ (Meets M A) (λ t. w.bears n is) (λ t. w.wants_memory Fork refl t)
+
+  by_send : (call : Call) (target : Target) (value : ℤ) → IsSend me call value → (sig : Result (Option ℕ) Errno)
+      → Meets M A (send granted s me call target value sig)
+  by_send call target value k (Err why) = refusal call k.fails why
+  by_send call target value k (Ok n) = with (sending_granted granted me target n s.processes) refl
+    where
+      with : (what : Sending) → sending_granted granted me target n s.processes ≡ what → Meets M A (send_with s me call target (message me.pid value n) what)
+      with sends.NobodyFound is = refusal call k.fails ESRCH
+      with sends.NobodyPermitted is = refusal call k.fails EPERM
+      with sends.QueueFull is = refusal call k.fails EAGAIN
+      with sends.NoMemory is = w.wants_memory call k.wants (wanting_memory granted me target n s.processes is)
+      with sends.Permitted is = w.sends call target value n k.sends is
+
+  by_action : Meets M A (finish_call s me.pid Sigaction (sigaction me))
+  unfolding sigaction
+  by_action = of (signal_in (argument me 1))
+    where
+      with : (n : ℕ) (g : Result Signals Errno) → set_action n (action_in me) me.signals ≡ g → Meets M A (finish_call s me.pid Sigaction (sigaction_with (action me.signals n) g))
+      with n (Ok g) is = w.sets_action n g (inr is)
+      with n (Err why) is = refusal Sigaction refl why
+
+      of : (n : Option ℕ) → Meets M A (finish_call s me.pid Sigaction (sigaction_of me n))
+      of None = refusal Sigaction refl EINVAL
+      of (Some n) =
+          cond_both (is_question (argument me 2)) _ _ (λ reply. Meets M A (finish_call s me.pid Sigaction reply)) (λ t. w.sets_action n me.signals (inl refl))
+          (λ t. cond_both (are_flags (cast_unsigned w64 (argument me 4))) _ _ (λ reply. Meets M A (finish_call s me.pid Sigaction reply)) (λ u. with n (set_action n (action_in me) me.signals) refl) (λ u. refusal Sigaction refl EINVAL))
+
+  by_mask : Meets M A (finish_call s me.pid Sigprocmask (sigprocmask me))
+  unfolding sigprocmask
+  by_mask = with (how_in (argument me 1))
+    where
+      with : (what : Option How) → Meets M A (finish_call s me.pid Sigprocmask (sigprocmask_with me what))
+      with None = refusal Sigprocmask refl EINVAL
+      with (Some what) = w.sets_mask what
+
+  by_alarm : Meets M A (finish_call s me.pid Alarm (alarm s me))
+  unfolding alarm
+  by_alarm = within (ticks_in (argument me 1)) refl
+    where
+      within : (n : Option ℕ) → ticks_in (argument me 1) ≡ n → Meets M A (finish_call s me.pid Alarm (alarm_in s.ticks me n))
+      within None is = refusal Alarm refl EINVAL
+      within (Some n) is = w.sets_alarm n is
+
+  by_ids : (call : Call) (c : Result Credentials Errno) → may_fail call ≡ true → ((new : Credentials) → c ≡ Ok new → SetsIds me call new)
+      → Meets M A (finish_call s me.pid call (set_credentials c))
+  by_ids call (Ok c) fails sets = w.sets_ids call c (sets c refl)
+  by_ids call (Err why) fails sets = refusal call fails why
+
+  by_exec : Meets M A (exec s me)
+  unfolding exec
+  by_exec = of (argument me 1)
+    where
+      as_number : (n : ℕ) (program : Option Program) → slice_get s.world.programs n ≡ program → Meets M A (exec_as s me n program)
+      as_number n None is = refusal Exec refl ENOENT
+      as_number n (Some program) is = w.executes n program is
+
+      of : (z : ℤ) → Meets M A (exec_of s me z)
+      of (pos n) = as_number n (slice_get s.world.programs n) refl
+      of (negsuc n) = refusal Exec refl ENOENT
+
+  by_setpgid : Meets M A (setpgid s me)
+  unfolding setpgid
+  by_setpgid = to (named me (argument me 1) s.processes) (argument me 2) refl
+    where
+      with : (target : Option Process) (group : ℕ) (what : Result ℕ Errno) → named me (argument me 1) s.processes ≡ target → move_of me target group s.processes ≡ what → Meets M A (setpgid_with s me target what)
+      with target group (Err why) is goes = refusal Setpgid refl why
+      with None group (Ok h) is goes = refusal Setpgid refl ESRCH
+      with (Some r) group (Ok h) is goes = w.moves r group h is goes
+
+      to : (target : Option Process) (z : ℤ) → named me (argument me 1) s.processes ≡ target → Meets M A (setpgid_with s me target (move_to me target z s.processes))
+      to target (pos group) is = with target group (move_of me target group s.processes) is refl
+      to target (negsuc n) is = refusal Setpgid refl EINVAL
+
+  -- What holds of the ways of calls holds of each attempt.
+  pub by_attempt : (call : Call) → Meets M A (attempt granted s me call)
+  unfolding attempt kill sigqueue sigpending getpgid getsid setsid subreaper
+  by_attempt Exit = w.exits
+  by_attempt Fork = by_fork (next_pid s) refl
+  by_attempt Waitpid = by_waits M A s me w.retries wait.Waitpid
+  by_attempt Waitid = by_waits M A s me w.retries wait.Waitid
+  by_attempt SchedYield = w.yields
+  by_attempt Getpid = w.retries.gives Getpid me.pid refl
+  by_attempt Getppid = w.retries.gives Getppid me.parent refl
+  by_attempt Getuid = w.retries.gives Getuid me.credentials.user.real refl
+  by_attempt Geteuid = w.retries.gives Geteuid me.credentials.user.effective refl
+  by_attempt Getgid = w.retries.gives Getgid me.credentials.group.real refl
+  by_attempt Getegid = w.retries.gives Getegid me.credentials.group.effective refl
+  by_attempt Setuid = by_ids Setuid _ refl (λ c is. is)
+  by_attempt Seteuid = by_ids Seteuid _ refl (λ c is. is)
+  by_attempt Setgid = by_ids Setgid _ refl (λ c is. is)
+  by_attempt Setegid = by_ids Setegid _ refl (λ c is. is)
+  by_attempt Kill = by_send Kill (target_in (argument me 1)) (pos 0) (record { sends = refl; fails = refl; wants = refl }) (signal_or_none (argument me 2))
+  by_attempt Sigqueue = by_send Sigqueue (process_in (argument me 1)) (argument me 3) (record { sends = refl; fails = refl; wants = refl }) (signal_or_none (argument me 2))
+  by_attempt Sigaction = by_action
+  by_attempt Sigprocmask = by_mask
+  by_attempt Sigpending = w.tells_pending
+  by_attempt Sigreturn = w.returns
+  by_attempt Alarm = by_alarm
+  by_attempt Exec = by_exec
+  by_attempt Getpgid = by_tells M A s me w.retries Getpgid (λ r. r.group) (named me (argument me 1) s.processes) refl (λ r is. (r, is, refl))
+  by_attempt Getsid = by_tells M A s me w.retries Getsid (λ r. r.session) (named me (argument me 1) s.processes) refl (λ r is. (r, is, refl))
+  by_attempt Setpgid = by_setpgid
+  by_attempt Setsid =
+      cond_both (me.group == me.pid || is_group_of_others me s.processes) _ _ (Meets M A) (λ t. refusal Setsid refl EPERM) (λ t. w.leads (or_parts _ _ t).1)
+  by_attempt Setctty = by_setctty
+  by_attempt Tcgetpgrp = by_tcgetpgrp M A s me w.retries
+  by_attempt Tcsetpgrp = by_tcsetpgrp
+  by_attempt Settostop = by_settostop
+  by_attempt Read = by_read M A s me w.retries
+  by_attempt Write = by_write
+  by_attempt Subreaper = w.marks (is_nonzero (argument me 1))
+  by_attempt _ = tt

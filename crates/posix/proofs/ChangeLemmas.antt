@@ -1,10 +1,10 @@
 -- A process that is stopped or continued keeps a state regular.
-use Rattle.std.proofs.Common.{◌≡◌, ℕ, Bool, true, false, cond, not, ◌&&◌, refl, ap, sym, ◌∙◌, subst, List, [], ◌∷◌, Some, None, ◌==◌}
+use Rattle.std.proofs.Common.{arith, ◌≡◌, ℕ, true, false, cond, refl, ap, sym, ◌∙◌, subst, List, [], ◌∷◌, Some, None, ◌==◌}
 use Rattle.std.proofs.lemmas.Bool.{cond_both, eq-eqb}
 use Rattle.posix.specs.declared.process.Effect.{Effect}
 use Rattle.posix.specs.declared.process.Effect.TheVariants as effect
 use Rattle.posix.specs.declared.process.Life.{Life}
-use Rattle.posix.specs.declared.process.Life.TheVariants.{Running, Stopped, Zombie}
+use Rattle.posix.specs.declared.process.Life.TheVariants.{Zombie}
 use Rattle.posix.specs.declared.process.PendingSignal.{PendingSignal}
 use Rattle.posix.specs.SignalNumbers.{CONT}
 use Rattle.posix.specs.Processes.{Process, is_zombie, is_stopped}
@@ -12,7 +12,7 @@ use Rattle.posix.specs.Tables.{IsRising, lookup, at, changed}
 use Rattle.posix.specs.States.{State, change}
 use Rattle.posix.specs.Statuses.{continued, stopped}
 use Rattle.posix.specs.Regular.{IsRegular, IsAhead}
-use Rattle.posix.specs.Generation.{signalled, effect_of, gets_no_signals}
+use Rattle.posix.specs.Generation.{signalled, effect_of}
 use Rattle.posix.specs.Notices.{ignores_stops, noticed_of_change, child_signal, told_of_change, stopped_by, resumed, acted_upon, generated_for, signalled_all}
 use Rattle.posix.specs.Delivery.{stop_process}
 use Rattle.posix.proofs.TableLemmas.{changed_same, pid_looked}
@@ -30,13 +30,7 @@ keeps_noticed_of_change signal = keeps_cond (λ r. ignores_stops r.signals) (λ 
 -- and a parent doesn't see it
 pub unseen_noticed_of_change : (signal : PendingSignal) → Unseen (noticed_of_change signal)
 unfolding noticed_of_change signalled
-unseen_noticed_of_change signal = record {
-  pid = λ r. cond_both (ignores_stops r.signals) r (signalled signal r) (λ q. q.pid ≡ r.pid) (λ e. refl) (λ e. refl);
-  parent = λ r. cond_both (ignores_stops r.signals) r (signalled signal r) (λ q. q.parent ≡ r.parent) (λ e. refl) (λ e. refl);
-  group = λ r. cond_both (ignores_stops r.signals) r (signalled signal r) (λ q. q.group ≡ r.group) (λ e. refl) (λ e. refl);
-  life = λ r. cond_both (ignores_stops r.signals) r (signalled signal r) (λ q. q.life ≡ r.life) (λ e. refl) (λ e. refl);
-  news = λ r. cond_both (ignores_stops r.signals) r (signalled signal r) (λ q. q.news ≡ r.news) (λ e. refl) (λ e. refl);
-}
+unseen_noticed_of_change signal = record { pid = λ r. grind arith; parent = λ r. grind arith; group = λ r. grind arith; life = λ r. grind arith; news = λ r. grind arith }
 
 -- a state stays regular where a parent gets one
 pub regular_told : (status : ℕ) (r : Process) (s : State) → IsRegular s → IsRegular (record s { processes = told_of_change status r s.processes })
@@ -100,27 +94,17 @@ regular_stop s r me n e living i =
 -- who is continued was stopped
 pub continued_stopped : (p : ℕ) (signal : PendingSignal) (r : Process) → effect_of p r.life signal r.signals ≡ effect.Continued → is_stopped r.life ≡ true
 unfolding effect_of
-continued_stopped p signal r e = was (signal.sig == CONT) (is_stopped r.life) (not (gets_no_signals p r.life r.signals signal.sig)) e
-  where
-    was : (a b c : Bool) → cond (a && (b && c)) effect.Continued effect.Nothing ≡ effect.Continued → b ≡ true
-    was true true c e = refl
-    was true false c e = absurd (cc)
-    was false b c e = absurd (cc)
+continued_stopped p signal r e = grind (arith, e)
 
 -- by CONT
 pub continued_cont : (p : ℕ) (signal : PendingSignal) (r : Process) → effect_of p r.life signal r.signals ≡ effect.Continued → (signal.sig == CONT) ≡ true
 unfolding effect_of
-continued_cont p signal r e = was (signal.sig == CONT) (is_stopped r.life && not (gets_no_signals p r.life r.signals signal.sig)) e
-  where
-    was : (a b : Bool) → cond (a && b) effect.Continued effect.Nothing ≡ effect.Continued → a ≡ true
-    was true b e = refl
-    was false b e = absurd (cc)
+continued_cont p signal r e = grind (arith, e)
 
 -- and lives
 pub stopped_living : (l : Life) → is_stopped l ≡ true → is_zombie l ≡ false
-stopped_living Running e = refl
-stopped_living Stopped e = refl
 stopped_living (Zombie status) e = absurd (cc)
+stopped_living _ e = refl
 
 -- a signal that is generated leaves its life
 pub life_signalled : (signal : PendingSignal) (r : Process) → is_zombie (signalled signal r).life ≡ is_zombie r.life

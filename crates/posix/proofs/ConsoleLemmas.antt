@@ -1,5 +1,5 @@
 -- Consoles of a regular state: there are so many, and a session has one at most.
-use Rattle.std.proofs.Common.{◌≡◌, ◌≢◌, ◌⊎◌, ℕ, zero, suc, ◌==◌, Bool, true, false, cond, not, ◌&&◌, refl, ap, sym, ◌∙◌, arith, List, [], ◌∷◌, map, find, Option, Some, None, option_map, slice_get, slice_set, inl, inr, ⊎_elim}
+use Rattle.std.proofs.Common.{◌≡◌, ◌≢◌, ◌⊎◌, ℕ, zero, suc, ◌==◌, true, false, cond, not, ◌&&◌, refl, ap, sym, ◌∙◌, arith, List, [], ◌∷◌, map, find, Option, Some, None, option_map, slice_get, slice_set, inl, inr, ⊎_elim}
 use Rattle.std.proofs.lemmas.Bool.{eqb-true, eq-eqb, ne_eqb, cond_both}
 use Rattle.std.proofs.lemmas.List.{length-map, length-set}
 use Rattle.std.proofs.lemmas.Option.{slice_get-map}
@@ -14,6 +14,7 @@ use Rattle.posix.specs.Ends.{signalled_members, signalled_group, hung_up, hang_u
 use Rattle.posix.specs.Settle.{is_fresh, refreshed, clear_foregrounds}
 use Rattle.posix.specs.Terminals.{change_console}
 use Rattle.posix.specs.Step.{signalled_from, key_on, key, with_leader_told, hangup_on, hangup}
+use Rattle.posix.proofs.RegularLemmas.{regular_with}
 use Rattle.posix.proofs.ChangeLemmas.{regular_signalled}
 
 -- ---- one console in the place of another
@@ -56,15 +57,8 @@ consoles_freed n cs k d free h = consoles_with n cs k d (λ j b away e some same
 pub none_of : (session : ℕ) (cs : List Console) → console_of session cs ≡ None → (j : ℕ) (c : Console) → slice_get cs j ≡ Some c → c.session ≢ session
 unfolding console_of
 none_of session [] e j c f = absurd (cc)
-none_of session (x ∷ xs) e zero c f = λ same.
-    let is : x ≡ c = cc in
-    let own : (x.session == session) ≡ true = eq-eqb x.session session (ap (λ (c : Console). c.session) is ∙ same) in
-    absurd (let both = sym (ap (λ b. cond b (Some x) (find (is_of_session session) xs)) own) ∙ e in cc)
-none_of session (x ∷ xs) e (suc j) c f = none_of session xs (rest (x.session == session) e) j c f
-  where
-    rest : (b : Bool) → cond b (Some x) (find (is_of_session session) xs) ≡ None → find (is_of_session session) xs ≡ None
-    rest true k = absurd (cc)
-    rest false k = k
+none_of session (x ∷ xs) e zero c f = λ same. grind (arith, e, f, same, eq-eqb x.session session)
+none_of session (x ∷ xs) e (suc j) c f = none_of session xs (grind (arith, e)) j c f
 
 -- and where d is that of a session that had none
 pub consoles_acquired : (n : ℕ) (cs : List Console) (k : ℕ) (d : Console) → console_of d.session cs ≡ None → AreConsoles n cs → AreConsoles n (slice_set cs k d)
@@ -72,22 +66,16 @@ consoles_acquired n cs k d none h = consoles_with n cs k d (λ j b away e some s
 
 -- ---- all consoles
 
--- the console that was at i has the session of c
-record Before (cs : List Console) (i : ℕ) (c : Console) : Type 0 where
-  what : Console
-  found : slice_get cs i ≡ Some what
-  session : c.session ≡ what.session
-
 -- who is somebody's after such a change was so before it
-before : (f : Console → Console) → ((c : Console) → ((f c).session ≡ c.session) ⊎ ((f c).session ≡ 0)) → (cs : List Console) (i : ℕ) (c : Console) → slice_get (map f cs) i ≡ Some c → c.session ≢ 0 → Before cs i c
+before : (f : Console → Console) → ((c : Console) → ((f c).session ≡ c.session) ⊎ ((f c).session ≡ 0)) → (cs : List Console) (i : ℕ) (c : Console) → slice_get (map f cs) i ≡ Some c → c.session ≢ 0 → (d : Console) × (slice_get cs i ≡ Some d) × (c.session ≡ d.session)
 before f keeps cs i c e some = from (slice_get cs i) refl (sym (slice_get-map f cs i) ∙ e)
   where
-    from : (o : Option Console) → slice_get cs i ≡ o → option_map f o ≡ Some c → Before cs i c
+    from : (o : Option Console) → slice_get cs i ≡ o → option_map f o ≡ Some c → (d : Console) × (slice_get cs i ≡ Some d) × (c.session ≡ d.session)
     from None t k = absurd (cc)
     from (Some d) t k =
         let is : f d ≡ c = cc in
         let own : (f d).session ≡ c.session = ap (λ (c : Console). c.session) is in
-        record { what = d; found = t; session = ⊎_elim (λ same. sym own ∙ same) (λ free. absurd (some (sym own ∙ free))) (keeps d) }
+        (d, t, ⊎_elim (λ same. sym own ∙ same) (λ free. absurd (some (sym own ∙ free))) (keeps d))
 
 -- a session has one console at most where each is changed, and keeps its session or is nobody's
 pub consoles_map : (n : ℕ) (f : Console → Console) (cs : List Console) → ((c : Console) → ((f c).session ≡ c.session) ⊎ ((f c).session ≡ 0)) → AreConsoles n cs → AreConsoles n (map f cs)
@@ -96,26 +84,13 @@ consoles_map n f cs keeps h = record {
   apart = λ i j b c e g some same.
       let p = before f keeps cs i b e some in
       let q = before f keeps cs j c g (λ z. some (same ∙ z)) in
-      h.apart i j p.what q.what p.found q.found (λ z. some (p.session ∙ z)) (sym p.session ∙ same ∙ q.session);
+      h.apart i j p.0 q.0 p.1 q.1 (λ z. some (p.2 ∙ z)) (sym p.2 ∙ same ∙ q.2);
 }
 
--- where that of a session is changed, and keeps its session
-pub consoles_changed : (n session : ℕ) (f : Console → Console) (cs : List Console) → ((c : Console) → (f c).session ≡ c.session) → AreConsoles n cs → AreConsoles n (changed_console session f cs)
-unfolding changed_console
-consoles_changed n session f cs keeps h =
-    consoles_map n (changed_at session f) cs (λ c. inl (cond_both (c.session == session) (f c) c (λ d. d.session ≡ c.session) (λ e. keeps c) (λ e. refl))) h
-
--- where it is released
-pub consoles_released : (n session : ℕ) (cs : List Console) → AreConsoles n cs → AreConsoles n (changed_console session released cs)
-unfolding changed_console released
-consoles_released n session cs h =
-    consoles_map n (changed_at session released) cs (λ c. cond_both (c.session == session) (released c) c (λ d. (d.session ≡ c.session) ⊎ (d.session ≡ 0)) (λ e. inr refl) (λ e. inl refl)) h
-
--- and where foregrounds are cleared
-pub consoles_refreshed : (n : ℕ) (rs : List Process) (cs : List Console) → AreConsoles n cs → AreConsoles n (map (refreshed rs) cs)
+-- foregrounds that are cleared leave a console to its session
+pub session_refreshed : (rs : List Process) (c : Console) → (refreshed rs c).session ≡ c.session
 unfolding with_foreground
-consoles_refreshed n rs cs h =
-    consoles_map n (refreshed rs) cs (λ c. inl (cond_both (is_fresh rs c) c (with_foreground 0 c) (λ d. d.session ≡ c.session) (λ e. refl) (λ e. refl))) h
+session_refreshed rs c = cond_both (is_fresh rs c) c (with_foreground 0 c) (λ d. d.session ≡ c.session) (λ e. refl) (λ e. refl)
 
 -- ---- the console of a session
 
@@ -148,10 +123,7 @@ console_is n cs k session c h found own some = from (console_of session cs) refl
 -- where no console is that of a session, nothing is changed
 pub changed_none : (session : ℕ) (f : Console → Console) (cs : List Console) → ((j : ℕ) (d : Console) → slice_get cs j ≡ Some d → d.session ≢ session) → map (changed_at session f) cs ≡ cs
 changed_none session f [] none = refl
-changed_none session f (x ∷ xs) none =
-    let away : (x.session == session) ≡ false = ne_eqb _ _ (none 0 x refl) in
-    let rest = changed_none session f xs (λ j d e. none (suc j) d e) in
-    rw away (ap (λ ds. x ∷ ds) rest)
+changed_none session f (x ∷ xs) none = rw (ne_eqb _ _ (none 0 x refl)) (ap (λ ds. x ∷ ds) (changed_none session f xs (λ j d e. none (suc j) d e)))
 
 -- where one console is, that one is
 changed_only : (session : ℕ) (f : Console → Console) (cs : List Console) (k : ℕ) (c : Console) → slice_get cs k ≡ Some c → c.session ≡ session
@@ -178,26 +150,18 @@ changed_at_place n cs k session c f h found own some =
 
 -- a state stays regular with other consoles of that kind
 pub regular_consoles : (s : State) (cs : List Console) → IsRegular s → AreConsoles s.world.consoles cs → IsRegular (record s { consoles = cs })
-regular_consoles s cs i h = record {
-  rising = i.rising;
-  bounded = i.bounded;
-  first = i.first;
-  placed = i.placed;
-  distinct = i.distinct;
-  childless = i.childless;
-  alarms = i.alarms;
-  grouped = i.grouped;
-  consoles = h;
-}
+regular_consoles s cs i h = regular_with s.order cs s i.placed i.distinct h i
 
 -- where that of a session is changed, and keeps its session
 pub regular_change_console : (session : ℕ) (f : Console → Console) (s : State) → ((c : Console) → (f c).session ≡ c.session) → IsRegular s → IsRegular (change_console s session f)
-regular_change_console session f s keeps i = regular_consoles s _ i (consoles_changed s.world.consoles session f s.consoles keeps i.consoles)
+unfolding changed_console
+regular_change_console session f s keeps i =
+    regular_consoles s _ i (consoles_map s.world.consoles (changed_at session f) s.consoles (λ c. inl (cond_both (c.session == session) (f c) c (λ d. d.session ≡ c.session) (λ e. keeps c) (λ e. refl))) i.consoles)
 
 -- where foregrounds are cleared
 pub regular_cleared : (s : State) → IsRegular s → IsRegular (clear_foregrounds s)
 unfolding clear_foregrounds
-regular_cleared s i = regular_consoles s _ i (consoles_refreshed s.world.consoles s.processes s.consoles i.consoles)
+regular_cleared s i = regular_consoles s _ i (consoles_map s.world.consoles (refreshed s.processes) s.consoles (λ c. inl (session_refreshed s.processes c)) i.consoles)
 
 -- where the members of a process group get a signal of the kernel
 pub regular_signalled_group : (n group : ℕ) (s : State) → IsRegular s → IsRegular (record s { processes = signalled_group n group s.processes })
@@ -208,9 +172,11 @@ regular_signalled_group n group s i =
 
 -- where the terminal of a session is hung up
 regular_hung : (session : ℕ) (o : Option Console) (s : State) → IsRegular s → IsRegular (hung_up s session o)
+unfolding changed_console released
 regular_hung session None s i = i
 regular_hung session (Some c) s i =
-    regular_consoles (record s { processes = signalled_group HUP c.foreground s.processes }) _ (regular_signalled_group HUP c.foreground s i) (consoles_released s.world.consoles session s.consoles i.consoles)
+    regular_consoles (record s { processes = signalled_group HUP c.foreground s.processes }) _ (regular_signalled_group HUP c.foreground s i)
+    (consoles_map s.world.consoles (changed_at session released) s.consoles (λ d. cond_both (d.session == session) (released d) d (λ e. (e.session ≡ d.session) ⊎ (e.session ≡ 0)) (λ t. inr refl) (λ t. inl refl)) i.consoles)
 
 -- where that of a session is whose leader ends
 pub regular_hung_up : (s : State) (r : Process) → IsRegular s → IsRegular (hang_up s r)

@@ -1,11 +1,10 @@
 -- An event raises the counts of births and of ticks by one at most.
-use Rattle.std.proofs.Common.{◌≡◌, ◌+◌, ◌≤◌, ℕ, Bool, true, false, cond, refl, arith, Option, Some, None}
+use Rattle.std.proofs.Common.{◌≡◌, ◌+◌, ◌≤◌, Bool, true, false, cond, refl, arith, Some, None}
 use Rattle.std.proofs.lemmas.Bool.{cond_both}
 use Rattle.posix.specs.declared.event.Event.{Event}
 use Rattle.posix.specs.declared.event.Event.TheVariants.{Step, Tick, Key, Hangup}
-use Rattle.posix.specs.Processes.{Process}
 use Rattle.posix.specs.States.{State, current, current_process}
-use Rattle.posix.specs.Consoles.{Console, console_at}
+use Rattle.posix.specs.Consoles.{console_at}
 use Rattle.posix.specs.Outcomes.{Outcome, silent}
 use Rattle.posix.specs.Settle.{give_places, clear_foregrounds, settle}
 use Rattle.posix.specs.Alarms.{pass_time}
@@ -21,34 +20,13 @@ pub record Counts (old new : State) : Type 0 where
 same : (s : State) → Counts s s
 same s = record { births = omega arith; ticks = omega arith }
 
--- a step, with a process to take it or without
-counts_step : (granted : Bool) (s : State) (o : Option Process) → Counts s (step granted s o).state
-unfolding step
-counts_step granted s None = same s
-counts_step granted s (Some r) = let h = acted granted s r in record { births = h.births; ticks = omega (arith, h.ticks) }
-
--- a tick, with a process to rotate or without
-counts_rotate : (s : State) (o : Option ℕ) → Counts s (rotate (pass_time s) o)
-counts_rotate s None = record { births = omega arith; ticks = omega arith }
-counts_rotate s (Some p) = record { births = omega arith; ticks = omega arith }
-
--- a key, on a console that is there or not
-counts_key : (s : State) (console byte : ℕ) (o : Option Console) → Counts s (key_on s console byte o)
-counts_key s console byte None = same s
-counts_key s console byte (Some c) = record { births = omega arith; ticks = omega arith }
-
--- a hangup, on a console that is there or not
-counts_hangup : (s : State) (console : ℕ) (o : Option Console) → Counts s (hangup_on s console o)
-counts_hangup s console None = same s
-counts_hangup s console (Some c) = record { births = omega arith; ticks = omega arith }
-
--- what happens at any event
+-- one more birth, or one more tick, at most
 counts_happens : (granted : Bool) (s : State) (event : Event) → Counts s (happens granted s event).state
-unfolding happens tick key hangup
-counts_happens granted s Step = counts_step granted s (current_process s)
-counts_happens granted s Tick = counts_rotate s (current s)
-counts_happens granted s (Key console byte) = counts_key s console byte (console_at console s.consoles)
-counts_happens granted s (Hangup console) = counts_hangup s console (console_at console s.consoles)
+unfolding happens step tick key hangup
+counts_happens granted s Step = elim (current_process s) as (λ o. Counts s (step granted s o).state) [ None ↦ same s | Some r ↦ let h = acted granted s r in record { births = h.births; ticks = omega (arith, h.ticks) } ]
+counts_happens granted s Tick = elim (current s) as (λ o. Counts s (rotate (pass_time s) o)) [ None ↦ record { births = omega arith; ticks = omega arith } | Some p ↦ record { births = omega arith; ticks = omega arith } ]
+counts_happens granted s (Key console byte) = elim (console_at console s.consoles) as (λ o. Counts s (key_on s console byte o)) [ None ↦ same s | Some c ↦ record { births = omega arith; ticks = omega arith } ]
+counts_happens granted s (Hangup console) = elim (console_at console s.consoles) as (λ o. Counts s (hangup_on s console o)) [ None ↦ same s | Some c ↦ record { births = omega arith; ticks = omega arith } ]
 
 -- any event, after a halt too
 pub counts_next : (granted : Bool) (s : State) (event : Event) → Counts s (next granted s event).state

@@ -1,5 +1,5 @@
 -- Foreground process groups with a member in their console's session: to settle leaves no other.
-use Rattle.std.proofs.Common.{◌≡◌, ℕ, zero, suc, Bool, true, false, cond, ◌||◌, refl, ap, ◌∙◌, arith, List, [], ◌∷◌, map, ◌==◌, replicate}
+use Rattle.std.proofs.Common.{◌≡◌, ℕ, zero, suc, true, refl, ap, ◌∙◌, arith, List, [], ◌∷◌, map, replicate}
 use Rattle.std.specs.List.{AllByRecursion}
 use Rattle.posix.specs.Processes.{Process}
 use Rattle.posix.specs.Tables.{at, changed, inserted}
@@ -12,13 +12,10 @@ use Rattle.posix.proofs.MapLemmas.{at_keeps}
 -- ---- foregrounds are cleared
 
 -- a foreground process group that is left has a member
-fresh_refreshed : (rs : List Process) (c : Console) → is_fresh rs (refreshed rs c) ≡ true
-unfolding with_foreground
-fresh_refreshed rs c = elim (is_fresh rs c) as (λ b. is_fresh rs c ≡ b → is_fresh rs (cond b c (with_foreground 0 c)) ≡ true) [ true ↦ λ e. e | false ↦ λ e. refl ] refl
-
 all_refreshed : (rs : List Process) (cs : List Console) → AllByRecursion (λ c. is_fresh rs c ≡ true) (map (refreshed rs) cs)
+unfolding with_foreground
 all_refreshed rs [] = tt
-all_refreshed rs (c ∷ cs) = (fresh_refreshed rs c, all_refreshed rs cs)
+all_refreshed rs (c ∷ cs) = (grind arith, all_refreshed rs cs)
 
 -- so each has
 pub fresh_cleared : (s : State) → AreFresh (clear_foregrounds s)
@@ -44,11 +41,7 @@ AllFresh rs cs = AllByRecursion (λ c. is_fresh rs c ≡ true) cs
 -- where each group that has a member in a session still has one
 fresh_still : (rs ts : List Process) → ((session group : ℕ) → is_group_of session group rs ≡ true → is_group_of session group ts ≡ true) → (cs : List Console) → AllFresh rs cs → AllFresh ts cs
 fresh_still rs ts still [] h = tt
-fresh_still rs ts still (c ∷ cs) h = (one (c.foreground == 0) (is_group_of c.session c.foreground rs) (is_group_of c.session c.foreground ts) (still c.session c.foreground) h.0, fresh_still rs ts still cs h.1)
-  where
-    one : (z b d : Bool) → (b ≡ true → d ≡ true) → (z || b) ≡ true → (z || d) ≡ true
-    one true b d k h = refl
-    one false b d k h = k h
+fresh_still rs ts still (c ∷ cs) h = (grind (arith, h.0, still c.session c.foreground), fresh_still rs ts still cs h.1)
 
 -- a change of each record that keeps both numbers keeps the groups of a session
 group_mapped : (g : Process → Process) → ((r : Process) → (g r).group ≡ r.group) → ((r : Process) → (g r).session ≡ r.session)

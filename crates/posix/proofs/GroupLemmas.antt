@@ -1,8 +1,6 @@
 -- Calls on process groups, sessions and programs keep a state regular.
-use Rattle.std.proofs.Common.{◌≡◌, ◌≢◌, ℕ, ◌≤◌, Bool, true, false, cond, not, ◌&&◌, ◌||◌, ◌==◌, refl, ap, sym, ◌∙◌, arith, subst, List, [], ◌∷◌, Some, Ok, Err, ⊎_elim}
-use Rattle.std.specs.List.{list_any, AllByRecursion}
+use Rattle.std.proofs.Common.{◌≡◌, ◌≢◌, ℕ, ◌≤◌, true, false, not, ◌&&◌, ◌||◌, ◌==◌, refl, ap, sym, ◌∙◌, arith, List, Some, Ok, ⊎_elim}
 use Rattle.std.proofs.lemmas.Bool.{eqb-true, eq-eqb, ne_eqb, and_parts, or_cases}
-use Rattle.posix.specs.declared.errno.Errno.TheVariants.{EPERM, ESRCH, EACCES}
 use Rattle.posix.specs.Processes.{Process}
 use Rattle.posix.specs.Tables.{IsRising, lookup}
 use Rattle.posix.specs.States.{State, Program, change}
@@ -10,16 +8,11 @@ use Rattle.posix.specs.Regular.{IsRegular}
 use Rattle.posix.specs.Programs.{executed}
 use Rattle.posix.specs.GroupCalls.{is_group_of, group_meant, can_join, can_move, move_of, in_group, is_group_of_others, in_session}
 use Rattle.posix.proofs.TableLemmas.{pid_looked, none_found}
-use Rattle.posix.proofs.WalkLemmas.{all_looked}
+use Rattle.posix.proofs.WalkLemmas.{some_looked}
 use Rattle.posix.proofs.GroupedLemmas.{FitsIn}
 use Rattle.posix.proofs.RegularLemmas.{Keeps, regular_moved}
 
 -- ---- which group a process moves to
-
--- what follows for each that passes a test follows where one does
-any_gives : (C : Type 0) (t : Process → Bool) (rs : List Process) → AllByRecursion (λ r. t r ≡ true → C) rs → list_any t rs ≡ true → C
-any_gives C t [] a e = absurd (cc)
-any_gives C t (x ∷ xs) a e = ⊎_elim a.0 (any_gives C t xs a.1) (or_cases _ _ e)
 
 -- a member of a group of a session
 record IsMember (rs : List Process) (own g : ℕ) : Type 0 where
@@ -33,8 +26,9 @@ record IsMember (rs : List Process) (own g : ℕ) : Type 0 where
 member_of : (rs : List Process) → IsRising rs → (session g : ℕ) → is_group_of session g rs ≡ true → IsMember rs session g
 unfolding is_group_of
 member_of rs up session g e =
-    any_gives (IsMember rs session g) _ rs
-    (all_looked _ rs up (λ p r found k. let both = and_parts _ _ k in record { number = p; what = r; found = found; session = eqb-true r.session session both.0; group = eqb-true r.group g both.1 })) e
+    let i = some_looked _ rs up e in
+    let both = and_parts _ _ i.2 in
+    record { number = i.0.pid; what = i.0; found = i.1; session = eqb-true i.0.session session both.0; group = eqb-true i.0.group g both.1 }
 
 -- r may move to the group g of the session of me, which is its own
 record Joins (me r : Process) (g : ℕ) (rs : List Process) : Type 0 where
@@ -43,28 +37,11 @@ record Joins (me r : Process) (g : ℕ) (rs : List Process) : Type 0 where
 
 -- a process that may join a group
 joined : (me r : Process) (g h : ℕ) (rs : List Process) → can_join me r g rs ≡ Ok h → Joins me r h rs
-joined me r g h rs e = elim (not (r.session == me.session) || r.session == r.pid) as (λ b. (not (r.session == me.session) || r.session == r.pid) ≡ b → cond b (Err EPERM) (cond (g == r.pid || is_group_of me.session g rs) (Ok g) (Err EPERM)) ≡ Ok h → Joins me r h rs) [
-  | true ↦ λ n k. absurd (cc)
-  | false ↦ λ n k. elim (g == r.pid || is_group_of me.session g rs) as (λ b. (g == r.pid || is_group_of me.session g rs) ≡ b → cond b (Ok g) (Err EPERM) ≡ Ok h → Joins me r h rs) [
-    | true ↦ λ t o. let is : g ≡ h = cc in subst (λ n. Joins me r n rs) is (record { session = eqb-true r.session me.session (within _ _ n); group = t })
-    | false ↦ λ t o. absurd (cc)
-  ] refl k
-] refl e
-  where
-    within : (a b : Bool) → (not a || b) ≡ false → a ≡ true
-    within true b k = refl
-    within false b k = absurd (cc)
+joined me r g h rs e = record { session = grind (arith, e, eqb-true r.session me.session); group = grind (arith, e) }
 
 -- or move to it
 moved : (me r : Process) (g h : ℕ) (rs : List Process) → can_move me r g rs ≡ Ok h → Joins me r h rs
-moved me r g h rs e = step (r.pid == me.pid) (not (r.parent == me.pid)) (not (r.session == me.session)) r.ran_exec e
-  where
-    step : (a b c d : Bool) → cond a (can_join me r g rs) (cond b (Err ESRCH) (cond c (Err EPERM) (cond d (Err EACCES) (can_join me r g rs)))) ≡ Ok h → Joins me r h rs
-    step true b c d k = joined me r g h rs k
-    step false true c d k = absurd (cc)
-    step false false true d k = absurd (cc)
-    step false false false true k = absurd (cc)
-    step false false false false k = joined me r g h rs k
+moved me r g h rs e = joined me r g h rs (grind (arith, e))
 
 -- the number of that group is within the range
 joined_bounded : (s : State) → IsRegular s → (me r : Process) (p h : ℕ) → lookup p s.processes ≡ Some r → Joins me r h s.processes → (1 ≤ h) × (h ≤ s.world.pidmax)
@@ -110,9 +87,8 @@ regular_move s i me r p g h found e =
 others_elsewhere : (rs : List Process) (me : Process) (p : ℕ) → lookup p rs ≡ Some me → is_group_of_others me rs ≡ false → (q : ℕ) (t : Process) → q ≢ p → lookup q rs ≡ Some t → t.group ≢ me.pid
 others_elsewhere rs me p found none q t away e same =
     let no : (t.group == me.pid && not (t.pid == me.pid)) ≡ false = none_found _ rs none q t e in
-    let is : (t.group == me.pid) ≡ true = eq-eqb t.group me.pid same in
     let other : (t.pid == me.pid) ≡ false = ne_eqb _ _ (λ x. away (sym (pid_looked q rs t e) ∙ x ∙ pid_looked p rs me found)) in
-    absurd (let k : true ≡ false = sym (rw (is, other) refl) ∙ no in cc)
+    absurd (grind (arith, no, eq-eqb t.group me.pid same, other))
 
 -- and where it leads a session of its own, no other being in a group with its number
 pub regular_session : (s : State) → IsRegular s → (me : Process) (p : ℕ) → lookup p s.processes ≡ Some me → is_group_of_others me s.processes ≡ false → IsRegular (change s p in_session)

@@ -1,8 +1,8 @@
 -- Heirs: who is found is process 1, or another process that lives; and the walk, step by step.
-use Rattle.std.proofs.Common.{◌≡◌, ◌≢◌, ◌⊎◌, inl, inr, ℕ, zero, suc, ◌-◌, Bool, true, false, cond, not, ◌&&◌, refl, ap, ◌∙◌, arith, List, Option, Some, None, ◌==◌, option_and_then}
+use Rattle.std.proofs.Common.{◌≡◌, ◌≢◌, ◌⊎◌, inl, inr, ℕ, zero, suc, ◌-◌, true, false, cond, not, ◌&&◌, refl, ap, ◌∙◌, arith, List, Option, Some, None, ◌==◌, option_and_then}
 use Rattle.std.specs.Option.{option_map_or}
-use Rattle.std.proofs.lemmas.Bool.{and_parts, eqb-false, cond_both}
-use Rattle.posix.specs.Processes.{Process, is_zombie}
+use Rattle.std.proofs.lemmas.Bool.{and_parts, not-true, eqb-false, cond_both}
+use Rattle.posix.specs.Processes.{Process}
 use Rattle.posix.specs.Tables.{lookup}
 use Rattle.posix.specs.Heirs.{Forebear, nearest_marked, most_processes, heir_among, forebear_of, forebears, heir_in}
 use Rattle.posix.specs.Regular.{IsPlaced, CanInherit}
@@ -16,14 +16,10 @@ unfolding nearest_marked
 nearest_found living p zero q = inl refl
 nearest_found living p (suc n) q = by (λ k. nearest_found living p n k) (living q) refl
   where
-    apart : (b : Bool) → (q == p) ≡ b → not b ≡ true → q ≢ p
-    apart true t h = absurd (cc)
-    apart false t h = eqb-false q p t
-
     by : ((k : ℕ) → IsFound living p (nearest_marked living p n k)) → (o : Option Forebear) → living q ≡ o
         → IsFound living p (option_map_or (λ (f : Forebear). cond (f.is_marked && not (q == p)) q (nearest_marked living p n f.parent)) o 1)
     by rest None e = inl refl
-    by rest (Some f) e = cond_both (f.is_marked && not (q == p)) q (nearest_marked living p n f.parent) (IsFound living p) (λ m. inr (apart (q == p) refl (and_parts f.is_marked (not (q == p)) m).1, (f, e))) (λ m. rest f.parent)
+    by rest (Some f) e = cond_both (f.is_marked && not (q == p)) q (nearest_marked living p n f.parent) (IsFound living p) (λ m. inr (eqb-false q p (not-true _ (and_parts f.is_marked (not (q == p)) m).1), (f, e))) (λ m. rest f.parent)
 
 pub heir_found : (living : ℕ → Option Forebear) (p : ℕ) → IsFound living p (heir_among living p)
 heir_found living p = cond_both (p == 1) 1 (nearest_marked living p most_processes p) (IsFound living p) (λ t. inl refl) (λ t. nearest_found living p most_processes p)
@@ -32,13 +28,9 @@ heir_found living p = cond_both (p == 1) 1 (nearest_marked living p most_process
 forebear_placed : (rs : List Process) (p : ℕ) (f : Forebear) → forebears rs p ≡ Some f → IsPlaced rs p
 forebear_placed rs p f e = of (lookup p rs) refl e
   where
-    none : (b : Bool) (g : Forebear) → cond b None (Some g) ≡ Some f → b ≡ false
-    none true g e = absurd (cc)
-    none false g e = refl
-
     of : (o : Option Process) → lookup p rs ≡ o → option_and_then forebear_of o ≡ Some f → IsPlaced rs p
     of None found e = absurd (cc)
-    of (Some r) found e = record { what = r; found = found; living = none (is_zombie r.life) (record { is_marked = r.is_subreaper; parent = r.parent }) e }
+    of (Some r) found e = record { what = r; found = found; living = grind (arith, e) }
 
 -- So the heir of a process may inherit.
 pub heir_inherits : (rs : List Process) (p : ℕ) → CanInherit rs p (heir_in rs p)
@@ -49,17 +41,6 @@ heir_inherits rs p = of (heir_found (forebears rs) p)
     of {h} (inr k) = inr (k.0, forebear_placed rs h k.1.0 k.1.1)
 
 -- ---- one step of the walk
-
--- a mark that counts, or doesn't
-pub both : (a b : Bool) → a ≡ true → not b ≡ true → (a && not b) ≡ true
-both a b h k = rw (h, k) refl
-
-pub none_early : (a b : Bool) → a ≡ false → (a && b) ≡ false
-none_early a b h = rw h refl
-
-pub none_late : (a b : Bool) → b ≡ false → (a && b) ≡ false
-none_late true b h = h
-none_late false b h = refl
 
 nearest_next : (living : ℕ → Option Forebear) (p n q : ℕ) → n ≢ 0
     → nearest_marked living p n q ≡ option_map_or (λ (f : Forebear). cond (f.is_marked && not (q == p)) q (nearest_marked living p (n - 1) f.parent)) (living q) 1

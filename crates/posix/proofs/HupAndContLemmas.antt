@@ -52,11 +52,6 @@ lasting_changed p f keeps (r ∷ rs) = let here = at_keeps lasting p f keeps r i
 pub lasts_changed : (p : ℕ) (f : Process → Process) → ((r : Process) → (f r).pid ≡ r.pid) → ((r : Process) → lasting (f r) ≡ lasting r) → (rs : List Process) → IsRising rs → Lasts rs (changed p f rs)
 lasts_changed p f kp keeps rs up = record { rising = rising_changed p f kp rs up; same = lasting_changed p f keeps rs }
 
--- a signal that is generated is such a change
-lasts_signalled : (signal : PendingSignal) (p : ℕ) (rs : List Process) → IsRising rs → Lasts rs (changed p (signalled signal) rs)
-unfolding signalled
-lasts_signalled signal p rs up = lasts_changed p (signalled signal) (λ r. refl) (λ r. refl) rs up
-
 lasting_noticed : (signal : PendingSignal) (r : Process) → lasting (noticed_of_change signal r) ≡ lasting r
 unfolding noticed_of_change signalled
 lasting_noticed signal r = cond_both (ignores_stops r.signals) r (signalled signal r) (λ q. lasting q ≡ lasting r) (λ e. refl) (λ e. refl)
@@ -84,11 +79,12 @@ lasts_resumed p rs up r e living =
 
 -- a signal that is generated for a process leaves what lasts
 pub lasts_generated : (signal : PendingSignal) (p : ℕ) (rs : List Process) → IsRising rs → Lasts rs (generated_for signal (lookup p rs) rs)
+unfolding signalled
 lasts_generated signal p rs up = elim (lookup p rs) as (λ o. lookup p rs ≡ o → Lasts rs (generated_for signal o rs)) [
   | None ↦ λ e. record { rising = up; same = refl }
   | Some r ↦ λ e.
       let told = changed r.pid (signalled signal) rs in
-      let one = lasts_signalled signal r.pid rs up in
+      let one : Lasts rs told = lasts_changed r.pid (signalled signal) (λ r. refl) (λ r. refl) rs up in
       elim (effect_of r.pid r.life signal r.signals) as (λ w. effect_of r.pid r.life signal r.signals ≡ w → Lasts rs (acted_upon w r told)) [
         | effect.Nothing ↦ λ w. one
         | effect.Continued ↦ λ w.
@@ -139,8 +135,7 @@ pub record IsLasting (o : Option Process) (r : Process) : Type 0 where
 
 unstopped_zombie : (l : Life) → is_zombie (unstopped l) ≡ is_zombie l
 unstopped_zombie Running = refl
-unstopped_zombie Stopped = refl
-unstopped_zombie (Zombie status) = refl
+unstopped_zombie _ = refl
 
 pub lasting_one : (o : Option Process) (q r : Process) → o ≡ Some q → lasting q ≡ lasting r → IsLasting o r
 lasting_one o q r e same = record {

@@ -1,18 +1,19 @@
 -- The process that setpgid moves.
-use Rattle.std.proofs.Common.{◌≡◌, ℕ, zero, suc, ap, sym, ◌∙◌, List, Some, None, Ok, ℤ, pos, negsuc}
+use Rattle.std.proofs.Common.{◌≡◌, ℕ, ap, ◌∙◌, List, Some, None, Ok, ℤ, pos, negsuc}
 use Rattle.posix.specs.Processes.{Process}
 use Rattle.posix.specs.Tables.{lookup}
 use Rattle.posix.specs.States.{State, change}
 use Rattle.posix.specs.Regular.{IsRegular}
 use Rattle.posix.specs.GroupCalls.{named, move_to, in_group}
 use Rattle.posix.proofs.TableLemmas.{pid_looked}
+use Rattle.posix.proofs.AttemptLemmas.{named_there}
 use Rattle.posix.proofs.GroupLemmas.{regular_move}
 
 -- who is named is found by its number
 pub named_found : (p : ℕ) (rs : List Process) (me : Process) (z : ℤ) (r : Process) → lookup p rs ≡ Some me → named me z rs ≡ Some r → lookup r.pid rs ≡ Some r
-named_found p rs me (pos zero) r found e = let is : me ≡ r = cc in ap (λ (x : Process). lookup x.pid rs) (sym is) ∙ ap (λ n. lookup n rs) (pid_looked p rs me found) ∙ found ∙ ap Some is
-named_found p rs me (pos (suc n)) r found e = ap (λ m. lookup m rs) (pid_looked (suc n) rs r e) ∙ e
-named_found p rs me (negsuc n) r found e = absurd (cc)
+named_found p rs me z r found e =
+    let t = named_there me z rs r (ap (λ n. lookup n rs) (pid_looked p rs me found) ∙ found) e in
+    ap (λ n. lookup n rs) (pid_looked t.0 rs r t.1) ∙ t.1
 
 -- nobody moves where nobody is named
 pub moves_nobody : (me : Process) (z : ℤ) (rs : List Process) (g : ℕ) → move_to me None z rs ≡ Ok g → ⊥

@@ -1,34 +1,20 @@
 -- The number of the next process.
-use Rattle.std.proofs.Common.{◌≡◌, ◌≢◌, ◌==◌, ℕ, zero, suc, ◌+◌, ◌-◌, ◌≤◌, Bool, true, false, cond, refl, ap, ◌∙◌, sym, arith, subst, List, [], ◌∷◌, find, Some, None}
-use Rattle.std.specs.List.{range_with_len}
+use Rattle.std.proofs.Common.{◌≡◌, ◌≢◌, ℕ, ◌+◌, ◌-◌, ◌≤◌, Bool, true, false, refl, ap, ◌∙◌, sym, arith, List, [], ◌∷◌, Some, None}
 use Rattle.std.proofs.lemmas.Bool.{eq-eqb}
 use Rattle.posix.specs.Processes.{Process}
 use Rattle.posix.specs.Tables.{lookup, bears}
 use Rattle.posix.specs.States.{State, next_pid}
 use Rattle.posix.specs.NextPid.{is_free, first_free, or_else, next_free}
 use Rattle.posix.proofs.TableLemmas.{none_found}
-
--- a number that was found from low up to high
-record Found (f : ℕ → Bool) (low high k : ℕ) : Type 0 where
-  free : f k ≡ true
-  least : low ≤ k
-  greatest : k ≤ high
-
-found_range : (f : ℕ → Bool) (a n k : ℕ) → find f (range_with_len a (n)) ≡ Some k → Found f a (a + n - 1) k
-found_range f a zero k e = absurd (cc)
-found_range f a (suc n) k e = elim (f a) as (λ b. f a ≡ b → cond b (Some a) (find f (range_with_len (a + 1) n)) ≡ Some k → Found f a (a + suc n - 1) k) [
-  | true ↦ λ t h. let same : a ≡ k = cc in record { free = ap f (sym same) ∙ t; least = omega arith; greatest = omega arith }
-  | false ↦ λ t h. let i = found_range f (a + 1) n k h in record { free = i.free; least = let l = i.least in omega arith; greatest = let l = i.greatest in let m = i.least in omega arith }
-] refl e
+use Rattle.posix.proofs.RangeLemmas.{find_range}
 
 -- the next number is free, and 1 to pidmax
-next_found : (f : ℕ → Bool) (last pidmax k : ℕ) → next_free f last pidmax ≡ Some k → Found f 1 pidmax k
+next_found : (f : ℕ → Bool) (last pidmax k : ℕ) → next_free f last pidmax ≡ Some k → (f k ≡ true) × (1 ≤ k) × (k ≤ pidmax)
 unfolding next_free
 next_found f last pidmax k e =
-    elim (first_free f (last + 1) (pidmax - last)) as (λ o. first_free f (last + 1) (pidmax - last) ≡ o → or_else o (first_free f 2 (pidmax - 1)) ≡ Some k → Found f 1 pidmax k) [
-      | Some q ↦ λ u h. let same : q ≡ k = cc in let i = found_range f (last + 1) (pidmax - last) q u in
-          subst (λ k. Found f 1 pidmax k) same (record { free = i.free; least = let a = i.least in omega arith; greatest = let a = i.greatest in let b = i.least in omega arith })
-      | None ↦ λ u h. let i = found_range f 2 (pidmax - 1) k h in record { free = i.free; least = let a = i.least in omega arith; greatest = let a = i.greatest in let b = i.least in omega arith }
+    elim (first_free f (last + 1) (pidmax - last)) as (λ o. first_free f (last + 1) (pidmax - last) ≡ o → or_else o (first_free f 2 (pidmax - 1)) ≡ Some k → (f k ≡ true) × (1 ≤ k) × (k ≤ pidmax)) [
+      | Some q ↦ λ u h. let same : q ≡ k = cc in let i = find_range f (last + 1) (pidmax - last) q u in (ap f (sym same) ∙ i.0, omega (arith, i.1, same), omega (arith, i.1, i.2, same))
+      | None ↦ λ u h. let i = find_range f 2 (pidmax - 1) k h in (i.0, omega (arith, i.1), omega (arith, i.1, i.2))
     ] refl e
 
 -- nobody has a free number
@@ -42,8 +28,7 @@ free_group : (n : ℕ) (rs : List Process) → is_free rs n ≡ true → (p : �
 unfolding is_free
 free_group n rs e p r found same =
     let no : bears n r ≡ false = none_found (bears n) rs (grind (arith, e)) p r found in
-    let is : (r.group == n) ≡ true = eq-eqb r.group n same in
-    absurd (grind (arith, no, is))
+    absurd (grind (arith, no, eq-eqb r.group n same))
 
 -- a number from 1 up to pidmax that is free: nobody has it, as its own or as its group's
 pub record IsNew (rs : List Process) (pidmax n : ℕ) : Type 0 where
@@ -57,4 +42,4 @@ pub record IsNew (rs : List Process) (pidmax n : ℕ) : Type 0 where
 pub new_number : (s : State) (n : ℕ) → next_pid s ≡ Some n → IsNew s.processes s.world.pidmax n
 new_number s n e =
     let f = next_found (is_free s.processes) s.last_pid s.world.pidmax n e in
-    record { least = f.least; greatest = f.greatest; free = f.free; fresh = free_none n s.processes f.free; groupless = free_group n s.processes f.free }
+    record { least = f.1; greatest = f.2; free = f.0; fresh = free_none n s.processes f.0; groupless = free_group n s.processes f.0 }

@@ -1,5 +1,5 @@
 -- Notices of ends, and what they are followed by, change the records, and the count of those dropped without a report, and nothing else of a state.
-use Rattle.std.proofs.Common.{◌≡◌, ℕ, Bool, true, false, cond, not, ◌&&◌, refl, ap, ◌∙◌, List, [], ◌∷◌, ◌==◌, Option, Some, None}
+use Rattle.std.proofs.Common.{◌≡◌, ℕ, Bool, true, false, cond, not, ◌&&◌, refl, ap, ◌∙◌, List, [], ◌∷◌, ◌==◌, Option, None}
 use Rattle.posix.specs.Processes.{Process}
 use Rattle.posix.specs.States.{State, change}
 use Rattle.posix.specs.Consoles.{Console, console_of}
@@ -53,5 +53,4 @@ only_hung_up s r = both (not (r.pid == 1) && r.session == r.pid) (console_of r.s
   where
     both : (b : Bool) (o : Option Console) → (λ (t : State). t ≡ record s { processes = t.processes; consoles = t.consoles }) (cond b (hung_up s r.session o) s)
     both true None = refl
-    both true (Some c) = refl
-    both false o = refl
+    both _ _ = refl

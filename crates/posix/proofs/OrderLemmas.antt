@@ -8,7 +8,7 @@ use Rattle.posix.specs.States.{State, is_in, without, lose_place, go_last}
 use Rattle.posix.specs.Regular.{IsRegular, IsPlaced, IsDistinct}
 use Rattle.posix.proofs.TableLemmas.{Above}
 use Rattle.posix.proofs.MemberLemmas.{in_last, apart_first, apart_rest, out_of}
-use Rattle.posix.proofs.RegularLemmas.{regular_lose}
+use Rattle.posix.proofs.RegularLemmas.{regular_with, regular_lose}
 
 -- ---- there are no more places than records
 
@@ -58,17 +58,9 @@ distinct_last p (x ∷ xs) d e =
 
 -- p, which has no place, gets the last
 pub regular_placed : (p : ℕ) (s : State) → IsRegular s → IsPlaced s.processes p → is_in p s.order ≡ false → IsRegular (record s { order = s.order ++ p ∷ [] })
-regular_placed p s i h e = record {
-  rising = i.rising;
-  bounded = i.bounded;
-  first = i.first;
-  placed = λ q t. elim (or_cases _ (p == q) (sym (in_last q p s.order) ∙ t)) [ inl there ↦ i.placed q there | inr same ↦ subst (IsPlaced s.processes) (eqb-true p q same) h ];
-  distinct = distinct_last p s.order i.distinct e;
-  childless = i.childless;
-  alarms = i.alarms;
-  grouped = i.grouped;
-  consoles = i.consoles;
-}
+regular_placed p s i h e = regular_with (s.order ++ p ∷ []) s.consoles s
+    (λ q t. elim (or_cases _ (p == q) (sym (in_last q p s.order) ∙ t)) [ inl there ↦ i.placed q there | inr same ↦ subst (IsPlaced s.processes) (eqb-true p q same) h ])
+    (distinct_last p s.order i.distinct e) i.consoles i
 
 -- p, which has a place, goes last
 pub regular_last : (p : ℕ) (s : State) → IsRegular s → is_in p s.order ≡ true → IsRegular (go_last s p)

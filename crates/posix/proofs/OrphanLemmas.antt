@@ -121,21 +121,14 @@ anchored rs p r e k =
     let here : (is_member r.group r && is_anchor rs r) ≡ true = rw (eq-eqb r.group r.group refl) k in
     ap not (any_filter (is_member r.group) (is_anchor rs) rs ∙ any_looked (λ q. is_member r.group q && is_anchor rs q) p rs r e here)
 
--- a member that is an anchor
-record HasAnchor (g : ℕ) (rs : List Process) : Type 0 where
-  what : Process
-  found : lookup what.pid rs ≡ Some what
-  group : what.group ≡ g
-  anchor : is_anchor rs what ≡ true
-
--- a group that isn't orphaned has one
-anchor_of : (g : ℕ) (rs : List Process) → IsRising rs → is_orphaned g rs ≡ false → HasAnchor g rs
+-- one that isn't orphaned has a member that is an anchor
+anchor_of : (g : ℕ) (rs : List Process) → IsRising rs → is_orphaned g rs ≡ false → (r : Process) × (lookup r.pid rs ≡ Some r) × (r.group ≡ g) × (is_anchor rs r ≡ true)
 unfolding is_orphaned members_in
 anchor_of g rs up e =
     let some : list_any (is_anchor rs) (filter (is_member g) rs) ≡ true = not-false _ e in
     let i = some_looked (λ r. is_member g r && is_anchor rs r) rs up (sym (any_filter (is_member g) (is_anchor rs) rs) ∙ some) in
     let k = and_parts (is_member g i.0) _ i.2 in
-    record { what = i.0; found = i.1; group = eqb-true _ _ k.0; anchor = k.1 }
+    (i.0, i.1, eqb-true _ _ k.0, k.1)
 
 -- ---- an end
 
@@ -174,14 +167,14 @@ orphans_by_anchor s i p heir status me there g before after =
     let bounds = i.bounded p me there in
     let named = pid_looked p s.processes me there in
     let least : 1 ≤ p = let l = bounds.least in omega (arith, l, named) in
-    elim (a.what.pid == p || a.what.parent == p) as (λ b. (a.what.pid == p || a.what.parent == p) ≡ b → loses_anchor p s.processes g ≡ true) [
+    elim (a.0.pid == p || a.0.parent == p) as (λ b. (a.0.pid == p || a.0.parent == p) ≡ b → loses_anchor p s.processes g ≡ true) [
       | true ↦ λ near.
-          let here : ((a.what.pid == p || a.what.parent == p) && (is_anchor s.processes a.what && a.what.group == g)) ≡ true = rw (near, a.anchor, eq-eqb a.what.group g a.group) refl in
-          any_looked (λ r. (r.pid == p || r.parent == p) && (is_anchor s.processes r && r.group == g)) a.what.pid s.processes a.what a.found here
+          let here : ((a.0.pid == p || a.0.parent == p) && (is_anchor s.processes a.0 && a.0.group == g)) ≡ true = rw (near, a.3, eq-eqb a.0.group g a.2) refl in
+          any_looked (λ r. (r.pid == p || r.parent == p) && (is_anchor s.processes r && r.group == g)) a.0.pid s.processes a.0 a.1 here
       | false ↦ λ far.
           let k = or_parts _ _ far in
-          let still = still_anchor s i p heir status least a.what a.found a.anchor (eqb-false _ _ k.0) (eqb-false _ _ k.1) in
-          let both = sym (subst (λ g. is_orphaned g (after_departure s p heir status).processes ≡ false) a.group still) ∙ after in
+          let still = still_anchor s i p heir status least a.0 a.1 a.3 (eqb-false _ _ k.0) (eqb-false _ _ k.1) in
+          let both = sym (subst (λ g. is_orphaned g (after_departure s p heir status).processes ≡ false) a.2 still) ∙ after in
           absurd (cc)
     ] refl
 

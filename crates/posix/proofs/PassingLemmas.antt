@@ -1,18 +1,12 @@
 -- How many records of a list pass a test.
-use Rattle.std.proofs.Common.{◌≡◌, ℕ, suc, ◌≤◌, Bool, true, false, cond, not, refl, ap, sym, ◌∙◌, arith, subst, List, [], ◌∷◌, length, map, filter, find, Some, ◌==◌, Option, None, nat_le}
-use Rattle.std.specs.List.{list_any}
-use Rattle.std.proofs.lemmas.Bool.{eqb-true, ne_eqb}
+use Rattle.std.proofs.Common.{◌≡◌, ℕ, ◌≤◌, Bool, true, refl, ap, ◌∙◌, arith, subst, List, [], ◌∷◌, length, map, filter, Some, Option, None, nat_le}
+use Rattle.std.proofs.lemmas.Bool.{eqb-true}
 use Rattle.std.proofs.lemmas.List.{length-map}
 use Rattle.std.proofs.lemmas.List.Sums.{length-filter, count_by-le-length}
 use Rattle.posix.specs.Processes.{Process}
-use Rattle.posix.specs.Tables.{IsRising, lookup, has_pid, changed, inserted, removed, left_of}
+use Rattle.posix.specs.Tables.{IsRising, lookup, changed, inserted, removed, left_of}
 use Rattle.posix.proofs.MapLemmas.{filter_map}
 use Rattle.posix.proofs.TableLemmas.{Above, remove_above}
-
--- no records are counted where none passes the test
-pub none_counted : (t : Process → Bool) (rs : List Process) → (length (filter t rs) == 0) ≡ not (list_any t rs)
-none_counted t [] = refl
-none_counted t (r ∷ rs) = grind (arith, none_counted t rs, ne_eqb)
 
 -- no more are counted than there are
 pub filter_at_most : (t : Process → Bool) (rs : List Process) → length (filter t rs) ≤ length rs
@@ -29,17 +23,6 @@ unfolding lookup
 counted_found t p r [] h e = absurd (cc)
 counted_found t p r (x ∷ xs) h e = grind (arith, h, counted_found t p r xs h)
 
--- a record in front counts the same behind one that comes in
-swap_counted : (t : Process → Bool) (x y : Process) (xs ys : List Process) → length (filter t xs) ≡ length (filter t (y ∷ ys)) → length (filter t (x ∷ xs)) ≡ length (filter t (y ∷ x ∷ ys))
-swap_counted t x y xs ys h = over (t x) (t y) h
-  where
-    over : (a b : Bool) → length (filter t xs) ≡ length (cond b (y ∷ filter t ys) (filter t ys))
-        → length (cond a (x ∷ filter t xs) (filter t xs)) ≡ length (cond b (y ∷ cond a (x ∷ filter t ys) (filter t ys)) (cond a (x ∷ filter t ys) (filter t ys)))
-    over true true h = ap suc h
-    over true false h = ap suc h
-    over false true h = h
-    over false false h = h
-
 -- a record that comes in counts as if it came in front
 pub counted_inserted : (t : Process → Bool) (new : Process) (rs : List Process) → length (filter t (inserted new rs)) ≡ length (filter t (new ∷ rs))
 unfolding inserted
@@ -50,15 +33,7 @@ counted_inserted t new (r ∷ rs) = grind (arith, counted_inserted t new rs)
 pub counted_removed : (t : Process → Bool) (p : ℕ) (r : Process) (rs : List Process) → IsRising rs → lookup p rs ≡ Some r → length (filter t rs) ≡ length (filter t (r ∷ removed p rs))
 unfolding lookup removed IsRising
 counted_removed t p r [] up e = absurd (cc)
-counted_removed t p r (x ∷ xs) up e =
-    elim (x.pid == p) as (λ b. (x.pid == p) ≡ b → cond b (Some x) (find (has_pid p) xs) ≡ Some r
-    → length (filter t (x ∷ xs)) ≡ length (filter t (r ∷ cond (not b) (x ∷ removed p xs) (removed p xs)))) [
-      | true ↦ λ u k.
-          let same : x ≡ r = cc in
-          let gone : removed p xs ≡ xs = remove_above p xs (subst (λ n. Above n xs) (eqb-true _ _ u) up.0) in
-          ap (λ y. length (filter t (y ∷ xs))) same ∙ ap (λ ys. length (filter t (r ∷ ys))) (sym gone)
-      | false ↦ λ u k. swap_counted t x r xs (removed p xs) (counted_removed t p r xs up.1 k)
-    ] refl e
+counted_removed t p r (x ∷ xs) up e = grind (arith, λ (i : x.pid ≡ p). remove_above p xs (subst (λ n. Above n xs) i up.0), counted_removed t p r xs up.1, eqb-true x.pid p)
 
 -- changes that leave the test leave the count
 pub counted_map : (t : Process → Bool) (g : Process → Process) → ((r : Process) → t (g r) ≡ t r) → (rs : List Process) → length (filter t (map g rs)) ≡ length (filter t rs)

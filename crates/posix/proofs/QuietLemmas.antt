@@ -6,7 +6,7 @@ use Rattle.posix.specs.Tables.{at, changed, removed, reparented, adopted, member
 use Rattle.posix.specs.States.{State, change}
 use Rattle.posix.specs.Generation.{signalled}
 use Rattle.posix.specs.Notices.{ignores_children, noticed, child_signal}
-use Rattle.posix.specs.Groups.{some_stopped, has_stopped, is_orphaned, is_newly_orphaned, newly_orphaned, group_numbers}
+use Rattle.posix.specs.Groups.{some_stopped, has_stopped, is_newly_orphaned, newly_orphaned, group_numbers}
 use Rattle.posix.specs.Ends.{made_zombie, leave_children_and_die, is_dropping, drop_child, notice_of_end, tell_of_all, status_of, zombies_of}
 use Rattle.posix.proofs.OrphanLemmas.{after_departure}
 
@@ -66,9 +66,4 @@ pub none_hup_and_cont : (s : State) (p heir status : ℕ) → some_stopped s.pro
 unfolding newly_orphaned is_newly_orphaned has_stopped members_in
 none_hup_and_cont s p heir status e =
     let now = (after_departure s p heir status).processes in
-    none_pass (is_newly_orphaned s.processes now) (λ g. none (is_orphaned g s.processes) (is_orphaned g now) _ (none_filter (λ r. r.group == g) now (none_departed s p heir status e))) (group_numbers now)
-  where
-    none : (a b c : Bool) → c ≡ false → (not a && (b && c)) ≡ false
-    none true b c e = refl
-    none false true c e = e
-    none false false c e = refl
+    none_pass (is_newly_orphaned s.processes now) (λ g. let none = none_filter (λ r. r.group == g) now (none_departed s p heir status e) in grind (arith, none)) (group_numbers now)

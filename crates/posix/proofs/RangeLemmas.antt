@@ -1,7 +1,15 @@
 -- Searches through ranges of numbers.
-use Rattle.std.proofs.Common.{◌≡◌, ℕ, zero, suc, ◌+◌, ◌<◌, ◌≤◌, Bool, true, false, refl, ap, arith, find, Option, Some, None, IsSome, IfSome, inl, inr}
+use Rattle.std.proofs.Common.{◌≡◌, ℕ, zero, suc, ◌+◌, ◌<◌, ◌≤◌, Bool, true, false, cond, refl, ap, sym, ◌∙◌, arith, find, Option, Some, None, IsSome, IfSome, inl, inr}
 use Rattle.std.specs.List.{range_with_len}
 use Rattle.std.proofs.lemmas.Bool.{cases_eq}
+
+-- who is found in a range passes, and is in it
+pub find_range : (f : ℕ → Bool) (a n k : ℕ) → find f (range_with_len a n) ≡ Some k → (f k ≡ true) × (a ≤ k) × (k < a + n)
+find_range f a zero k e = absurd (cc)
+find_range f a (suc n) k e = elim (f a) as (λ b. f a ≡ b → cond b (Some a) (find f (range_with_len (a + 1) n)) ≡ Some k → (f k ≡ true) × (a ≤ k) × (k < a + suc n)) [
+  | true ↦ λ t h. let same : a ≡ k = cc in (ap f (sym same) ∙ t, omega (arith, same), omega (arith, same))
+  | false ↦ λ t h. let i = find_range f (a + 1) n k h in (i.0, omega (arith, i.1), omega (arith, i.2))
+] refl e
 
 -- where no number of a range passes none is found
 pub find_range_none : (f : ℕ → Bool) (a n : ℕ) → ((k : ℕ) → a ≤ k → k < a + n → f k ≡ false) → find f (range_with_len a n) ≡ None

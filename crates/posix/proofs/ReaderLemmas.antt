@@ -1,6 +1,6 @@
 -- Whom a change of consoles can let act: who reads from one of them.
-use Rattle.std.proofs.Common.{◌≡◌, ◌≢◌, ℕ, zero, suc, ◌≤◌, Bool, true, false, cond, not, ◌&&◌, refl, ap, sym, ◌∙◌, arith, subst, List, [], ◌∷◌, length, map, find, slice_get, slice_set, Some, ◌==◌, Result, Ok, Err, ◌⊎◌}
-use Rattle.std.proofs.lemmas.Bool.{eqb-true, eq-eqb, ne_eqb, or_parts, cond_both}
+use Rattle.std.proofs.Common.{◌≡◌, ◌≢◌, ℕ, zero, suc, ◌≤◌, Bool, true, false, cond, not, ◌&&◌, refl, ap, sym, ◌∙◌, arith, List, [], ◌∷◌, length, map, find, slice_get, slice_set, Some, ◌==◌, Result, Ok, Err, ◌⊎◌}
+use Rattle.std.proofs.lemmas.Bool.{eqb-true, eq-eqb, ne_eqb, or_parts}
 use Rattle.posix.specs.declared.errno.Errno.{Errno}
 use Rattle.posix.specs.declared.span.Span.{Span}
 use Rattle.posix.specs.Processes.{Process, argument}
@@ -13,6 +13,7 @@ use Rattle.posix.specs.Terminals.{waits_in, waits_on, waits_to_read}
 use Rattle.posix.specs.Settle.{is_fresh, refreshed, clear_foregrounds}
 use Rattle.posix.specs.Regular.{IsRegular}
 use Rattle.posix.proofs.TableLemmas.{none_found}
+use Rattle.posix.proofs.ConsoleLemmas.{session_refreshed}
 use Rattle.posix.proofs.SeeLemmas.{acts_reading}
 use Rattle.posix.proofs.TouchLemmas.{Touches, stands}
 
@@ -53,19 +54,8 @@ waits_set : (me : Process) (session k : ℕ) (c d : Console) (cs : List Console)
     → waits_on me (console_of session cs) ≡ true → waits_on me (console_of session (slice_set cs k d)) ≡ true
 unfolding console_of
 waits_set me session k c d [] e owner foreground hung lines w = absurd (cc)
-waits_set me session zero c d (x ∷ xs) e owner foreground hung lines w =
-    let same : x ≡ c = cc in
-    let rest = find (is_of_session session) xs in
-    subst (λ b. waits_on me (cond b (Some d) rest) ≡ true) (sym (ap (λ n. n == session) owner))
-    (elim (c.session == session) as (λ b. waits_on me (cond b (Some c) rest) ≡ true → waits_on me (cond b (Some d) rest) ≡ true) [
-      | true ↦ λ w. waits_still me c d (span_in (argument me 1) (argument me 2)) foreground hung lines w
-      | false ↦ λ w. w
-    ] (subst (λ x. waits_on me (find (is_of_session session) (x ∷ xs)) ≡ true) same w))
-waits_set me session (suc k) c d (x ∷ xs) e owner foreground hung lines w =
-    elim (x.session == session) as (λ b. waits_on me (cond b (Some x) (find (is_of_session session) xs)) ≡ true → waits_on me (cond b (Some x) (find (is_of_session session) (slice_set xs k d))) ≡ true) [
-      | true ↦ λ w. w
-      | false ↦ λ w. waits_set me session k c d xs e owner foreground hung lines w
-    ] w
+waits_set me session zero c d (x ∷ xs) e owner foreground hung lines w = grind (arith, e, owner, w, waits_still me c d (span_in (argument me 1) (argument me 2)) foreground hung lines)
+waits_set me session (suc k) c d (x ∷ xs) e owner foreground hung lines w = grind (arith, w, waits_set me session k c d xs e owner foreground hung lines)
 
 -- where it has the same session and foreground process group, and no line where there was none, nobody is touched
 pub touches_unread : (s : State) (k : ℕ) (c d : Console) → slice_get s.consoles k ≡ Some c → d.session ≡ c.session → d.foreground ≡ c.foreground → d.hung_up ≡ c.hung_up → (c.lines ≡ [] → d.lines ≡ [])
@@ -92,10 +82,6 @@ waits_fresh rs p r c e least owner = elim (is_fresh rs c) as (λ b. is_fresh rs 
       let other : (r.group == c.foreground) ≡ false = sym (ap (λ b. b && r.group == c.foreground) (eq-eqb r.session c.session (sym owner))) ∙ none_found (λ r. r.session == c.session && r.group == c.foreground) rs (or_parts _ _ k).1 p r e in
       background r (with_foreground 0 c) span none ∙ sym (background r c span other)
 ] refl
-
-session_refreshed : (rs : List Process) (c : Console) → (refreshed rs c).session ≡ c.session
-unfolding with_foreground
-session_refreshed rs c = cond_both (is_fresh rs c) c (with_foreground 0 c) (λ d. d.session ≡ c.session) (λ e. refl) (λ e. refl)
 
 -- who waits for a line of any console waits as before
 waits_cleared : (rs : List Process) (p : ℕ) (r : Process) (cs : List Console) → lookup p rs ≡ Some r → 1 ≤ r.group → waits_to_read (map (refreshed rs) cs) r ≡ waits_to_read cs r

@@ -1,11 +1,10 @@
 -- Real-time signals do nothing at once, so that one for a process leaves the others; the signal of a key is none of them.
-use Rattle.std.proofs.Common.{◌≡◌, ℕ, Bool, true, false, cond, refl, ap, sym, ◌∙◌, arith, List, Option, Some, None, ◌==◌}
+use Rattle.std.proofs.Common.{◌≡◌, ℕ, true, false, refl, ap, sym, ◌∙◌, arith, List, Option, Some, None, ◌==◌}
 use Rattle.std.proofs.lemmas.Bool.Decides.{nat_tests}
-use Rattle.std.proofs.lemmas.Option.{same_Some}
 use Rattle.posix.specs.declared.process.Effect.TheVariants as effect
 use Rattle.posix.specs.declared.process.Life.{Life}
 use Rattle.posix.specs.declared.process.PendingSignal.{PendingSignal}
-use Rattle.posix.specs.SignalNumbers.{is_realtime, is_stop_signal, CONT, INT, QUIT, TSTP}
+use Rattle.posix.specs.SignalNumbers.{is_realtime, is_stop_signal, CONT}
 use Rattle.posix.specs.Processes.{Process, Signals}
 use Rattle.posix.specs.Tables.{lookup, changed}
 use Rattle.posix.specs.Consoles.{key_signal}
@@ -32,8 +31,4 @@ generated_alone m p (Some r) rs e is =
 -- the signal of a key is a standard signal, and continues nobody
 pub key_standard : (byte sig : ℕ) → key_signal byte ≡ Some sig → (is_realtime sig ≡ false) × ((sig == CONT) ≡ false)
 unfolding key_signal
-key_standard byte sig e = by (byte == 3) (byte == 28) (byte == 26) e
-  where
-    by : (a b c : Bool) → cond a (Some INT) (cond b (Some QUIT) (cond c (Some TSTP) None)) ≡ Some sig → (is_realtime sig ≡ false) × ((sig == CONT) ≡ false)
-    by false false false e = absurd (cc)
-    by a b c e = rw (← same_Some _ _ e) (refl, refl)
+key_standard byte sig e = (grind (arith, e), grind (arith, e))

@@ -18,8 +18,8 @@ use Rattle.posix.specs.Waits.{news_told}
 use Rattle.posix.specs.Delivery.{take_out}
 use Rattle.posix.specs.Step.{set_cpu}
 use Rattle.posix.specs.Alarms.{most_ticks, due_in, is_due, ring_at, rung, with_alarm, ring_all, pass_time}
-use Rattle.posix.proofs.MemberLemmas.{in_without, is_other}
-use Rattle.posix.proofs.TableLemmas.{rising_map, rising_changed, rising_adopted, rising_inserted, rising_removed, reparented_keeps, pid_reparented, pid_looked}
+use Rattle.posix.proofs.MemberLemmas.{in_without, is_other, in_one}
+use Rattle.posix.proofs.TableLemmas.{rising_map, rising_inserted, rising_removed, reparented_keeps, pid_reparented, pid_looked}
 use Rattle.posix.proofs.WalkLemmas.{children_removed}
 use Rattle.posix.proofs.NextLemmas.{IsNew}
 use Rattle.posix.proofs.GroupedLemmas.{FitsIn, grouped_left, grouped_map, grouped_with}
@@ -89,32 +89,46 @@ placed_least s i p h =
     let least = (i.bounded p h.what h.found).least in
     omega (arith, named, least)
 
+-- What a change of the records of a regular state has to keep, where the tick is then now.
+record Suits (s : State) (now : ℕ) (g : Process → Process) : Type 0 where
+  pid : (r : Process) → (g r).pid ≡ r.pid
+  bounded : (q : ℕ) (r : Process) → lookup q s.processes ≡ Some r → IsBounded s.world.pidmax (g r)
+  parentless : (r : Process) → r.parent ≡ 0 → (g r).parent ≡ 0
+  living : (q : ℕ) (r : Process) → is_in q s.order ≡ true → lookup q s.processes ≡ Some r → is_zombie (g r).life ≡ is_zombie r.life
+  childless : (q : ℕ) (r : Process) → q ≢ 1 → lookup q s.processes ≡ Some r → is_zombie (g r).life ≡ true → children_in q (map g s.processes) ≡ []
+  alarm : (r : Process) → IsAhead s.ticks r.alarm → IsAhead now (g r).alarm
+  grouped : AreGrouped (map g s.processes)
+
 -- a state stays regular by such a change of each record
-pub regular_map : (g : Process → Process) (s : State) → Keeps s.ticks g → IsRegular s → IsRegular (record s { processes = map g s.processes })
-regular_map g s k i = record {
+regular_mapped : (g : Process → Process) (now : ℕ) (s : State) → Suits s now g → IsRegular s → IsRegular (record s { processes = map g s.processes; ticks = now })
+regular_mapped g now s k i = record {
   rising = rising_map g k.pid s.processes i.rising;
-  bounded = λ p r e.
-      let b = lookup_back g k.pid p s.processes r e in
-      bounded_as s.world.pidmax r b.what (i.bounded p b.what b.found) (ap (λ (r : Process). r.pid) b.is ∙ k.pid b.what)
-      (ap (λ (r : Process). r.group) b.is ∙ k.group b.what) (ap (λ (r : Process). r.session) b.is ∙ k.session b.what);
-  first = record { what = g i.first.what; found = lookup_on g k.pid 1 s.processes i.first.what i.first.found; parent = k.parent i.first.what ∙ i.first.parent };
-  placed = λ p e. let o = i.placed p e in record { what = g o.what; found = lookup_on g k.pid p s.processes o.what o.found; living = k.zombie o.what ∙ o.living };
+  bounded = λ q r e. let b = lookup_back g k.pid q s.processes r e in subst (IsBounded s.world.pidmax) (sym b.is) (k.bounded q b.what b.found);
+  first = record { what = g i.first.what; found = lookup_on g k.pid 1 s.processes i.first.what i.first.found; parent = k.parentless i.first.what i.first.parent };
+  placed = λ q e. let o = i.placed q e in record { what = g o.what; found = lookup_on g k.pid q s.processes o.what o.found; living = k.living q o.what e o.found ∙ o.living };
   distinct = i.distinct;
-  childless = λ p r ne e z.
-      let b = lookup_back g k.pid p s.processes r e in
-      let old : is_zombie b.what.life ≡ true = sym (k.zombie b.what) ∙ ap (λ (r : Process). is_zombie r.life) (sym b.is) ∙ z in
-      children_map g k.parent p s.processes ∙ ap (map g) (i.childless p b.what ne b.found old);
-  alarms = λ p r e.
-      let b = lookup_back g k.pid p s.processes r e in
-      subst (λ (r : Process). IsAhead s.ticks r.alarm) (sym b.is) (k.alarm b.what (i.alarms p b.what b.found));
-  grouped = grouped_map g k.pid k.group k.session s.processes i.grouped;
+  childless = λ q r ne e z. let b = lookup_back g k.pid q s.processes r e in k.childless q b.what ne b.found (ap (λ (r : Process). is_zombie r.life) (sym b.is) ∙ z);
+  alarms = λ q r e. let b = lookup_back g k.pid q s.processes r e in subst (λ (r : Process). IsAhead now r.alarm) (sym b.is) (k.alarm b.what (i.alarms q b.what b.found));
+  grouped = k.grouped;
   consoles = i.consoles;
 }
 
--- or of one
+-- and by one that keeps all this of any record
+regular_map : (g : Process → Process) (now : ℕ) (s : State) → Keeps s.ticks g → ((r : Process) → IsAhead s.ticks r.alarm → IsAhead now (g r).alarm) → IsRegular s → IsRegular (record s { processes = map g s.processes; ticks = now })
+regular_map g now s k alarm i = regular_mapped g now s (record {
+  pid = k.pid;
+  bounded = λ q r e. bounded_as s.world.pidmax (g r) r (i.bounded q r e) (k.pid r) (k.group r) (k.session r);
+  parentless = λ r e. k.parent r ∙ e;
+  living = λ q r there e. k.zombie r;
+  childless = λ q r ne e z. children_map g k.parent q s.processes ∙ ap (map g) (i.childless q r ne e (sym (k.zombie r) ∙ z));
+  alarm = alarm;
+  grouped = grouped_map g k.pid k.group k.session s.processes i.grouped;
+}) i
+
+-- or by one of a single process
 pub regular_change : (p : ℕ) (f : Process → Process) (s : State) → Keeps s.ticks f → IsRegular s → IsRegular (change s p f)
 unfolding changed
-regular_change p f s k i = regular_map (at p f) s (keeps_at p f k) i
+regular_change p f s k i = regular_map (at p f) s.ticks s (keeps_at p f k) (keeps_at p f k).alarm i
 
 -- ---- the order
 
@@ -124,38 +138,41 @@ unfolding IsDistinct without
 distinct_without p [] d = tt
 distinct_without p (x ∷ xs) d = grind (arith, d.0, in_without x p xs, distinct_without p xs d.1)
 
--- a state stays regular where a process loses its place in the order
-pub regular_lose : (p : ℕ) (s : State) → IsRegular s → IsRegular (lose_place s p)
-regular_lose p s i = record {
+-- a state stays regular with another such order, of who is placed, and other consoles
+pub regular_with : (o : List ℕ) (cs : List Console) (s : State) → ((q : ℕ) → is_in q o ≡ true → IsPlaced s.processes q) → IsDistinct o → AreConsoles s.world.consoles cs → IsRegular s → IsRegular (record s { order = o; consoles = cs })
+regular_with o cs s placed distinct consoles i = record {
   rising = i.rising;
   bounded = i.bounded;
   first = i.first;
-  placed = λ q e. i.placed q (is_other p q s.order e).among;
-  distinct = distinct_without p s.order i.distinct;
+  placed = placed;
+  distinct = distinct;
   childless = i.childless;
   alarms = i.alarms;
   grouped = i.grouped;
-  consoles = i.consoles;
+  consoles = consoles;
 }
+
+-- a state stays regular where a process loses its place in the order
+pub regular_lose : (p : ℕ) (s : State) → IsRegular s → IsRegular (lose_place s p)
+regular_lose p s i = regular_with (without p s.order) s.consoles s (λ q e. i.placed q (is_other p q s.order e).among) (distinct_without p s.order i.distinct) i.consoles i
 
 -- ---- ends
 
--- the record of another process stays
+-- another process has another number
+other_pid : (p q : ℕ) (rs : List Process) (r : Process) → q ≢ p → lookup q rs ≡ Some r → (r.pid == p) ≡ false
+other_pid p q rs r ne e = ne_eqb _ _ (λ x. ne (sym (pid_looked q rs r e) ∙ x))
+
+-- its record stays
 pub lookup_other : (p q : ℕ) (f : Process → Process) → ((r : Process) → (f r).pid ≡ r.pid) → q ≢ p → (rs : List Process) (r : Process) → lookup q rs ≡ Some r → lookup q (changed p f rs) ≡ Some r
 unfolding changed
-lookup_other p q f k ne rs r e =
-    let named : r.pid ≡ q = pid_looked q rs r e in
-    let away : (r.pid == p) ≡ false = ne_eqb _ _ (λ x. ne (sym named ∙ x)) in
-    lookup_on (at p f) (at_pid p f k) q rs r e ∙ ap Some (rw away refl)
+lookup_other p q f k ne rs r e = lookup_on (at p f) (at_pid p f k) q rs r e ∙ ap Some (rw (other_pid p q rs r ne e) refl)
 
 -- and was the same
 pub other_back : (p q : ℕ) (f : Process → Process) → ((r : Process) → (f r).pid ≡ r.pid) → q ≢ p → (rs : List Process) (r : Process) → lookup q (changed p f rs) ≡ Some r → lookup q rs ≡ Some r
 unfolding changed
 other_back p q f k ne rs r e =
     let b = lookup_back (at p f) (at_pid p f k) q rs r e in
-    let named : b.what.pid ≡ q = pid_looked q rs b.what b.found in
-    let away : (b.what.pid == p) ≡ false = ne_eqb _ _ (λ x. ne (sym named ∙ x)) in
-    let same : r ≡ b.what = b.is ∙ rw away refl in
+    let same : r ≡ b.what = b.is ∙ rw (other_pid p q rs b.what ne b.found) refl in
     b.found ∙ ap Some (sym same)
 
 -- A change of one process that may give it another group and session, within their range, and keeps the rest.
@@ -176,62 +193,37 @@ grouped_changed p f k rs me found fits h =
 -- a state stays regular where a process is changed so, and fits in with the others
 pub regular_moved : (p : ℕ) (f : Process → Process) (s : State) (me : Process) → lookup p s.processes ≡ Some me → Moves s.ticks f → IsBounded s.world.pidmax (f me) → FitsIn s.processes p (f me) → IsRegular s → IsRegular (change s p f)
 unfolding changed
-regular_moved p f s me found k bounds fits i = record {
-  rising = rising_changed p f k.pid s.processes i.rising;
-  bounded = λ q r e.
-      let b = lookup_back (at p f) (at_pid p f k.pid) q s.processes r e in
-      elim (cases_eq q p) [
-        | inl same ↦
-            let named : b.what.pid ≡ p = pid_looked q s.processes b.what b.found ∙ same in
-            let it : (b.what.pid == p) ≡ true = eq-eqb b.what.pid p named in
-            let is : r ≡ f b.what = b.is ∙ rw it refl in
-            let one : me ≡ b.what = let both = sym found ∙ ap (λ n. lookup n s.processes) (sym same) ∙ b.found in cc in
-            subst (IsBounded s.world.pidmax) (ap f one ∙ sym is) bounds
-        | inr away ↦ i.bounded q r (other_back p q f k.pid away s.processes r e)
-      ];
-  first = record { what = at p f i.first.what; found = lookup_on (at p f) (at_pid p f k.pid) 1 s.processes i.first.what i.first.found; parent = at_keeps (λ q. q.parent) p f k.parent i.first.what ∙ i.first.parent };
-  placed = λ q e. let o = i.placed q e in record { what = at p f o.what; found = lookup_on (at p f) (at_pid p f k.pid) q s.processes o.what o.found; living = at_keeps (λ q. is_zombie q.life) p f k.zombie o.what ∙ o.living };
-  distinct = i.distinct;
-  childless = λ q r ne e z.
-      let b = lookup_back (at p f) (at_pid p f k.pid) q s.processes r e in
-      let old : is_zombie b.what.life ≡ true = sym (at_keeps (λ q. is_zombie q.life) p f k.zombie b.what) ∙ ap (λ (r : Process). is_zombie r.life) (sym b.is) ∙ z in
-      children_map (at p f) (at_keeps (λ q. q.parent) p f k.parent) q s.processes ∙ ap (map (at p f)) (i.childless q b.what ne b.found old);
-  alarms = λ q r e.
-      let b = lookup_back (at p f) (at_pid p f k.pid) q s.processes r e in
-      subst (λ (r : Process). IsAhead s.ticks r.alarm) (sym b.is)
-      (cond_both (b.what.pid == p) (f b.what) b.what (λ r. IsAhead s.ticks r.alarm) (λ x. k.alarm b.what (i.alarms q b.what b.found)) (λ x. i.alarms q b.what b.found));
+regular_moved p f s me found k bounds fits i = regular_mapped (at p f) s.ticks s (record {
+  pid = at_pid p f k.pid;
+  bounded = λ q r e. cond_both (r.pid == p) (f r) r (IsBounded s.world.pidmax)
+      (λ t.
+      let one : me ≡ r = let both = sym found ∙ ap (λ n. lookup n s.processes) (sym (eqb-true r.pid p t) ∙ pid_looked q s.processes r e) ∙ e in cc in
+      subst (λ r. IsBounded s.world.pidmax (f r)) one bounds)
+      (λ t. i.bounded q r e);
+  parentless = λ r e. at_keeps (λ q. q.parent) p f k.parent r ∙ e;
+  living = λ q r there e. at_keeps (λ q. is_zombie q.life) p f k.zombie r;
+  childless = λ q r ne e z. children_map (at p f) (at_keeps (λ q. q.parent) p f k.parent) q s.processes ∙ ap (map (at p f)) (i.childless q r ne e (sym (at_keeps (λ q. is_zombie q.life) p f k.zombie r) ∙ z));
+  alarm = λ r h. cond_both (r.pid == p) (f r) r (λ r. IsAhead s.ticks r.alarm) (λ t. k.alarm r h) (λ t. h);
   grouped = grouped_changed p f k.pid s.processes me found fits i.grouped;
-  consoles = i.consoles;
-}
+}) i
 
 -- A process that is changed, to a zombie say, and loses its place: all others are as they were.
 pub regular_leave : (p : ℕ) (f : Process → Process) → ((r : Process) → (f r).pid ≡ r.pid) → ((r : Process) → (f r).parent ≡ r.parent)
     → ((r : Process) → (f r).group ≡ r.group) → ((r : Process) → (f r).session ≡ r.session)
     → (s : State) → ((r : Process) → IsAhead s.ticks r.alarm → IsAhead s.ticks (f r).alarm) → IsRegular s → (p ≢ 1 → children_in p s.processes ≡ []) → IsRegular (lose_place (change s p f) p)
 unfolding changed
-regular_leave p f kp kq kg ks s ka i none = record {
-  rising = rising_changed p f kp s.processes i.rising;
-  bounded = λ q r e.
-      let b = lookup_back (at p f) (at_pid p f kp) q s.processes r e in
-      bounded_as s.world.pidmax r b.what (i.bounded q b.what b.found) (ap (λ (r : Process). r.pid) b.is ∙ at_pid p f kp b.what)
-      (ap (λ (r : Process). r.group) b.is ∙ at_keeps (λ q. q.group) p f kg b.what) (ap (λ (r : Process). r.session) b.is ∙ at_keeps (λ q. q.session) p f ks b.what);
-  first = record { what = at p f i.first.what; found = lookup_on (at p f) (at_pid p f kp) 1 s.processes i.first.what i.first.found; parent = at_keeps (λ q. q.parent) p f kq i.first.what ∙ i.first.parent };
-  placed = λ q e.
-      let other = is_other p q s.order e in
-      let o = i.placed q other.among in
-      record { what = o.what; found = lookup_other p q f kp other.apart s.processes o.what o.found; living = o.living };
-  distinct = distinct_without p s.order i.distinct;
+regular_leave p f kp kq kg ks s ka i none = regular_mapped (at p f) s.ticks (lose_place s p) (record {
+  pid = at_pid p f kp;
+  bounded = λ q r e. bounded_as s.world.pidmax (at p f r) r (i.bounded q r e) (at_pid p f kp r) (at_keeps (λ q. q.group) p f kg r) (at_keeps (λ q. q.session) p f ks r);
+  parentless = λ r e. at_keeps (λ q. q.parent) p f kq r ∙ e;
+  living = λ q r there e. rw (other_pid p q s.processes r (is_other p q s.order there).apart e) refl;
   childless = λ q r ne e z. children_map (at p f) (at_keeps (λ q. q.parent) p f kq) q s.processes ∙ ap (map (at p f)) (elim (cases_eq q p) [
     | inl same ↦ subst (λ n. children_in n s.processes ≡ []) (sym same) (none (λ x. ne (same ∙ x)))
-    | inr away ↦ i.childless q r ne (other_back p q f kp away s.processes r e) z
+    | inr away ↦ i.childless q r ne e (rw (other_pid p q s.processes r away e) at z)
   ]);
-  alarms = λ q r e.
-      let b = lookup_back (at p f) (at_pid p f kp) q s.processes r e in
-      subst (λ (r : Process). IsAhead s.ticks r.alarm) (sym b.is)
-      (cond_both (b.what.pid == p) (f b.what) b.what (λ r. IsAhead s.ticks r.alarm) (λ x. ka b.what (i.alarms q b.what b.found)) (λ x. i.alarms q b.what b.found));
+  alarm = λ r h. cond_both (r.pid == p) (f r) r (λ r. IsAhead s.ticks r.alarm) (λ t. ka r h) (λ t. h);
   grouped = grouped_map (at p f) (at_pid p f kp) (at_keeps (λ q. q.group) p f kg) (at_keeps (λ q. q.session) p f ks) s.processes i.grouped;
-  consoles = i.consoles;
-}
+}) (regular_lose p s i)
 
 -- an heir of p is another
 pub heir_other : (rs : List Process) (p heir : ℕ) → p ≢ 1 → CanInherit rs p heir → heir ≢ p
@@ -246,10 +238,7 @@ heir_there s p heir i (inr h) = rw h.1.found refl
 -- a zombie other than process 1 is no heir
 pub heir_living : (rs : List Process) (p heir c : ℕ) (r : Process) → CanInherit rs p heir → c ≢ 1 → lookup c rs ≡ Some r → is_zombie r.life ≡ true → c ≢ heir
 heir_living rs p heir c r (inl first) ne e z = λ x. ne (x ∙ first)
-heir_living rs p heir c r (inr h) ne e z = λ x.
-    let one : h.1.what ≡ r = let both = sym h.1.found ∙ ap (λ n. lookup n rs) (sym x) ∙ e in cc in
-    let both : false ≡ true = sym h.1.living ∙ ap (λ (r : Process). is_zombie r.life) one ∙ z in
-    absurd (cc)
+heir_living rs p heir c r (inr h) ne e z = λ x. grind (arith, x, h.1.found, h.1.living, e, z)
 
 -- who may inherit may still where each record keeps its number and its life
 pub heir_map : (g : Process → Process) → ((r : Process) → (g r).pid ≡ r.pid) → ((r : Process) → is_zombie (g r).life ≡ is_zombie r.life)
@@ -260,31 +249,17 @@ heir_map g kp kz rs p heir (inr h) = inr (h.0, record { what = g h.1.what; found
 -- the children of p go to its heir
 pub regular_adopted : (p heir : ℕ) → 1 ≤ p → (s : State) → IsRegular s → CanInherit s.processes p heir → IsRegular (record s { processes = adopted p heir s.processes })
 unfolding adopted
-regular_adopted p heir least s i h = record {
-  rising = rising_adopted p heir s.processes i.rising;
-  bounded = λ q r e.
-      let b = lookup_back (reparented p heir) (pid_reparented p heir) q s.processes r e in
-      bounded_as s.world.pidmax r b.what (i.bounded q b.what b.found) (ap (λ (r : Process). r.pid) b.is ∙ pid_reparented p heir b.what)
-      (ap (λ (r : Process). r.group) b.is ∙ reparented_keeps (λ r. r.group) p heir (λ r. refl) b.what) (ap (λ (r : Process). r.session) b.is ∙ reparented_keeps (λ r. r.session) p heir (λ r. refl) b.what);
-  first = record {
-    what = reparented p heir i.first.what;
-    found = lookup_on (reparented p heir) (pid_reparented p heir) 1 s.processes i.first.what i.first.found;
-    parent = let t : (i.first.what.parent == p) ≡ false = ne_eqb _ _ (λ x. omega (arith, least, i.first.parent, x)) in rw t i.first.parent;
-  };
-  placed = λ q e.
-      let o = i.placed q e in
-      record { what = reparented p heir o.what; found = lookup_on (reparented p heir) (pid_reparented p heir) q s.processes o.what o.found; living = reparented_keeps (λ r. is_zombie r.life) p heir (λ r. refl) o.what ∙ o.living };
-  distinct = i.distinct;
+regular_adopted p heir least s i h = regular_mapped (reparented p heir) s.ticks s (record {
+  pid = pid_reparented p heir;
+  bounded = λ q r e. bounded_as s.world.pidmax (reparented p heir r) r (i.bounded q r e) (pid_reparented p heir r) (reparented_keeps (λ r. r.group) p heir (λ r. refl) r) (reparented_keeps (λ r. r.session) p heir (λ r. refl) r);
+  parentless = λ r e. let t : (r.parent == p) ≡ false = ne_eqb _ _ (λ x. omega (arith, least, e, x)) in rw t e;
+  living = λ q r there e. reparented_keeps (λ r. is_zombie r.life) p heir (λ r. refl) r;
   childless = λ q r other e z.
-      let b = lookup_back (reparented p heir) (pid_reparented p heir) q s.processes r e in
-      let old : is_zombie b.what.life ≡ true = sym (ap (λ (r : Process). is_zombie r.life) b.is ∙ reparented_keeps (λ r. is_zombie r.life) p heir (λ r. refl) b.what) ∙ z in
-      children_elsewhere p heir q (heir_living s.processes p heir q b.what h other b.found old) s.processes (i.childless q b.what other b.found old);
-  alarms = λ q r e.
-      let b = lookup_back (reparented p heir) (pid_reparented p heir) q s.processes r e in
-      subst (λ (r : Process). IsAhead s.ticks r.alarm) (sym b.is) (subst (IsAhead s.ticks) (sym (reparented_keeps (λ r. r.alarm) p heir (λ r. refl) b.what)) (i.alarms q b.what b.found));
+      let old : is_zombie r.life ≡ true = sym (reparented_keeps (λ r. is_zombie r.life) p heir (λ r. refl) r) ∙ z in
+      children_elsewhere p heir q (heir_living s.processes p heir q r h other e old) s.processes (i.childless q r other e old);
+  alarm = λ r a. subst (IsAhead s.ticks) (sym (reparented_keeps (λ r. r.alarm) p heir (λ r. refl) r)) a;
   grouped = grouped_map (reparented p heir) (pid_reparented p heir) (reparented_keeps (λ r. r.group) p heir (λ r. refl)) (reparented_keeps (λ r. r.session) p heir (λ r. refl)) s.processes i.grouped;
-  consoles = i.consoles;
-}
+}) i
 
 -- a record may be made a zombie and adopted in either order
 commutes : (p heir w : ℕ) (r : Process) → made_zombie w (reparented p heir r) ≡ reparented p heir (made_zombie w r)
@@ -349,16 +324,10 @@ regular_inserted new last births s i number living silent me there up group sess
   placed = λ q e. let o = i.placed q e in record { what = o.what; found = still q o.what o.found; living = o.living };
   distinct = i.distinct;
   childless = λ q r ne e z. elim (cases_eq q new.pid) [
-    | inl same ↦
-        let one : new ≡ r = let both = sym (lookup_new new s.processes number.fresh) ∙ ap (λ n. lookup n (inserted new s.processes)) (sym same) ∙ e in cc in
-        let both : false ≡ true = sym living ∙ ap (λ (r : Process). is_zombie r.life) one ∙ z in
-        absurd (cc)
+    | inl same ↦ absurd (grind (arith, same, e, z, living, lookup_new new s.processes number.fresh))
     | inr away ↦
         let old : lookup q s.processes ≡ Some r = sym (lookup_inserted new q s.processes away) ∙ e in
-        children_inserted new q s.processes (λ x.
-        let one : me ≡ r = let both = sym there ∙ ap (λ n. lookup n s.processes) x ∙ old in cc in
-        let both : false ≡ true = sym up ∙ ap (λ (r : Process). is_zombie r.life) one ∙ z in
-        absurd (cc)) ∙ i.childless q r ne old z
+        children_inserted new q s.processes (λ x. grind (arith, x, there, up, old, z)) ∙ i.childless q r ne old z
   ];
   alarms = λ q r e. elim (cases_eq q new.pid) [
     | inl same ↦
@@ -415,11 +384,7 @@ regular_removed p zombie s i other there dead = record {
   first = record { what = i.first.what; found = lookup_kept p 1 s.processes (λ x. other (sym x)) ∙ i.first.found; parent = i.first.parent };
   placed = λ q e.
       let o = i.placed q e in
-      let apart : q ≢ p = (λ x.
-      let one : o.what ≡ zombie = let both = sym o.found ∙ ap (λ n. lookup n s.processes) x ∙ there in cc in
-      let both : false ≡ true = sym o.living ∙ ap (λ (r : Process). is_zombie r.life) one ∙ dead in
-      absurd (cc)) in
-      record { what = o.what; found = lookup_kept p q s.processes apart ∙ o.found; living = o.living };
+      record { what = o.what; found = lookup_kept p q s.processes (λ x. grind (arith, x, o.found, o.living, there, dead)) ∙ o.found; living = o.living };
   distinct = i.distinct;
   childless = λ q r ne e z. children_removed q p s.processes ∙ ap (removed p) (i.childless q r ne (lookup_left p q s.processes r e) z);
   alarms = λ q r e. i.alarms q r (lookup_left p q s.processes r e);
@@ -488,22 +453,7 @@ later now r h = cond_both (is_due (now + 1) r.alarm) (rung r) r (λ q. IsAhead (
 -- a state stays regular as the time goes on
 pub regular_pass : (s : State) → IsRegular s → IsRegular (pass_time s)
 unfolding ring_all
-regular_pass s i =
-    let k : Keeps s.ticks (ring_at (s.ticks + 1)) = keeps_ring (s.ticks + 1) in
-    let m = regular_map (ring_at (s.ticks + 1)) s k i in
-    record {
-      rising = m.rising;
-      bounded = m.bounded;
-      first = m.first;
-      placed = m.placed;
-      distinct = m.distinct;
-      childless = m.childless;
-      alarms = λ p r e.
-          let b = lookup_back (ring_at (s.ticks + 1)) k.pid p s.processes r e in
-          subst (λ (r : Process). IsAhead (s.ticks + 1) r.alarm) (sym b.is) (later s.ticks b.what (i.alarms p b.what b.found));
-      grouped = m.grouped;
-      consoles = m.consoles;
-    }
+regular_pass s i = regular_map (ring_at (s.ticks + 1)) (s.ticks + 1) s (keeps_ring (s.ticks + 1)) (later s.ticks) i
 
 -- ---- the start
 
@@ -526,15 +476,9 @@ regular_first w most = record {
   rising = (tt, tt);
   bounded = λ p r e. subst (IsBounded w.pidmax) (alone p r e) (record { least = omega arith; pid = omega (arith, most); group = omega (arith, most); session = omega (arith, most); group_least = omega arith; session_least = omega arith });
   first = record { what = first_process; found = refl; parent = refl };
-  placed = λ p e. elim (p == 1) as (λ b. (p == 1) ≡ b → IsPlaced (first_process ∷ []) p) [
-    | true ↦ λ t. subst (IsPlaced (first_process ∷ [])) (sym (eqb-true _ _ t)) (record { what = first_process; found = refl; living = refl })
-    | false ↦ λ t. let u : (1 == p) ≡ false = ne_eqb _ _ (λ x. eqb-false _ _ t (sym x)) in absurd (let k : false ≡ true = sym (rw u refl) ∙ e in cc)
-  ] refl;
+  placed = λ p e. subst (IsPlaced (first_process ∷ [])) (sym (in_one p 1 e)) (record { what = first_process; found = refl; living = refl });
   distinct = (refl, tt);
-  childless = λ p r ne e z. elim (1 == p) as (λ b. (1 == p) ≡ b → cond b (Some first_process) None ≡ Some r → children_in p (first_process ∷ []) ≡ []) [
-    | true ↦ λ t k. absurd (ne (sym (eqb-true _ _ t)))
-    | false ↦ λ t k. absurd (cc)
-  ] refl e;
+  childless = λ p r ne e z. absurd (let k : false ≡ true = ap (λ (r : Process). is_zombie r.life) (alone p r e) ∙ z in cc);
   alarms = λ p r e. subst (λ (r : Process). IsAhead 0 r.alarm) (alone p r e) tt;
   grouped = record {
     one = λ p q r t e f same. ap (λ (r : Process). r.session) (sym (alone p r e) ∙ alone q t f);
@@ -544,4 +488,4 @@ regular_first w most = record {
 }
   where
     alone : (p : ℕ) (r : Process) → cond (1 == p) (Some first_process) None ≡ Some r → first_process ≡ r
-    alone p r e = elim (1 == p) as (λ b. cond b (Some first_process) None ≡ Some r → first_process ≡ r) [ true ↦ λ k. cc | false ↦ λ k. absurd (cc) ] e
+    alone p r e = grind (arith, e)

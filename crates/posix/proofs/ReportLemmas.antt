@@ -18,17 +18,14 @@ use Rattle.posix.proofs.RegularLemmas.{lookup_kept}
 
 -- the child that a report names, if it names one
 abbrev pub child_named : Report → Option ℕ
-child_named found.NoChild = None
-child_named found.Nothing = None
 child_named (found.End p status) = Some p
 child_named (found.Change p status) = Some p
+child_named _ = None
 
 -- whether it reports an end
 abbrev pub is_end : Report → Bool
-is_end found.NoChild = false
-is_end found.Nothing = false
 is_end (found.End p status) = true
-is_end (found.Change p status) = false
+is_end _ = false
 
 -- ---- what one child has to report
 
@@ -48,19 +45,13 @@ unfolding lookup IsRising
 find_looked t [] up r e = absurd (cc)
 find_looked t (x ∷ xs) up r e = grind (arith, found_above x.pid r.pid xs r up.0, find_looked t xs up.1 r, eqb-true, eq-eqb)
 
--- who is found there and reports this
-record InFound (options : ℕ) (rs : List Process) (o : Report) : Type 0 where
-  what : Process
-  found : lookup what.pid rs ≡ Some what
-  says : report_of options what ≡ o
-
 -- a report that names a child is that of somebody there
-in_found : (options : ℕ) (rs : List Process) → IsRising rs → (o : Report) (child : ℕ) → report_among options rs ≡ o → child_named o ≡ Some child → InFound options rs o
+in_found : (options : ℕ) (rs : List Process) → IsRising rs → (o : Report) (child : ℕ) → report_among options rs ≡ o → child_named o ≡ Some child → (r : Process) × (lookup r.pid rs ≡ Some r) × (report_of options r ≡ o)
 in_found options [] up o child e named = let no : None ≡ Some child = ap child_named e ∙ named in absurd (cc)
 in_found options (x ∷ xs) up o child e named =
-    elim (find (reports options) (x ∷ xs)) as (λ f. find (reports options) (x ∷ xs) ≡ f → report_found options f ≡ o → InFound options (x ∷ xs) o) [
+    elim (find (reports options) (x ∷ xs)) as (λ f. find (reports options) (x ∷ xs) ≡ f → report_found options f ≡ o → (r : Process) × (lookup r.pid (x ∷ xs) ≡ Some r) × (report_of options r ≡ o)) [
       | None ↦ λ t k. let no : None ≡ Some child = ap child_named k ∙ named in absurd (cc)
-      | Some r ↦ λ t k. record { what = r; found = find_looked (reports options) (x ∷ xs) up r t; says = k }
+      | Some r ↦ λ t k. (r, find_looked (reports options) (x ∷ xs) up r t, k)
     ] refl e
 
 -- a child of the caller that reports this
@@ -78,10 +69,10 @@ reporting rs up caller group choice options o child e named =
     let kids = filter (is_child caller) rs in
     let kids_up = rising_filter (is_child caller) rs up in
     let f = in_found options (filter (is_named group choice) kids) (rising_filter (is_named group choice) kids kids_up) o child e named in
-    let a = in_filter (is_named group choice) kids kids_up f.what.pid f.what f.found in
-    let b = in_filter (is_child caller) rs up f.what.pid f.what a.found in
-    let here : f.what.pid ≡ child = of_named options f.what child (ap child_named f.says ∙ named) in
-    record { what = f.what; found = subst (λ n. lookup n rs ≡ Some f.what) here b.found; parent = eqb-true _ _ b.passes; says = f.says }
+    let a = in_filter (is_named group choice) kids kids_up f.0.pid f.0 f.1 in
+    let b = in_filter (is_child caller) rs up f.0.pid f.0 a.found in
+    let here : f.0.pid ≡ child = of_named options f.0 child (ap child_named f.2 ∙ named) in
+    record { what = f.0; found = subst (λ n. lookup n rs ≡ Some f.0) here b.found; parent = eqb-true _ _ b.passes; says = f.2 }
 
 -- a child of the caller, a zombie or not
 pub record IsChild (rs : List Process) (caller child : ℕ) (ended : Bool) : Type 0 where
@@ -109,10 +100,7 @@ not_first s i caller child ended least h same =
 -- the caller is there after a zombie is gone
 pub caller_stays : (rs : List Process) (caller child : ℕ) → IsPlaced rs caller → IsChild rs caller child true → IsSome (lookup caller (removed child rs))
 caller_stays rs caller child me h =
-    let apart : caller ≢ child = (λ same.
-    let one : me.what ≡ h.what = let both = sym me.found ∙ ap (λ n. lookup n rs) same ∙ h.found in cc in
-    let no : false ≡ true = sym me.living ∙ ap (λ (r : Process). is_zombie r.life) one ∙ h.dead in
-    absurd (cc)) in
+    let apart : caller ≢ child = λ same. grind (arith, same, me.found, me.living, h.found, h.dead) in
     subst IsSome (sym (lookup_kept child caller rs apart ∙ me.found)) refl
 
 -- who is there is there after a change

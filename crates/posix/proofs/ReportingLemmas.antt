@@ -45,20 +45,15 @@ report_none_meant rs p group options = ap (report_among options) (none_named (ch
 -- ---- those that it wants
 
 -- the least that passes a test is there, and is found
-record IsFirst (t : Process → Bool) (c : ℕ) (rs : List Process) : Type 0 where
-  what : Process
-  found : lookup c rs ≡ Some what
-  is : find t rs ≡ Some what
-
-first_found : (t : Process → Bool) (c : ℕ) (rs : List Process) → IsRising rs → first_pid (filter t rs) ≡ Some c → IsFirst t c rs
+first_found : (t : Process → Bool) (c : ℕ) (rs : List Process) → IsRising rs → first_pid (filter t rs) ≡ Some c → (r : Process) × (lookup c rs ≡ Some r) × (find t rs ≡ Some r)
 unfolding lookup IsRising
 first_found t c [] up e = absurd (cc)
-first_found t c (x ∷ xs) up e = elim (t x) as (λ b. t x ≡ b → first_pid (cond b (x ∷ filter t xs) (filter t xs)) ≡ Some c → IsFirst t c (x ∷ xs)) [
-  | true ↦ λ k e. let same : x.pid ≡ c = cc in record { what = x; found = rw (eq-eqb x.pid c same) refl; is = rw k refl }
+first_found t c (x ∷ xs) up e = elim (t x) as (λ b. t x ≡ b → first_pid (cond b (x ∷ filter t xs) (filter t xs)) ≡ Some c → (r : Process) × (lookup c (x ∷ xs) ≡ Some r) × (find t (x ∷ xs) ≡ Some r)) [
+  | true ↦ λ k e. let same : x.pid ≡ c = cc in (x, rw (eq-eqb x.pid c same) refl, rw k refl)
   | false ↦ λ k e.
       let h = first_found t c xs up.1 e in
-      let low = found_above x.pid c xs h.what up.0 h.found in
-      record { what = h.what; found = rw (ne_eqb x.pid c (λ same. omega (arith, low, same))) h.found; is = rw k h.is }
+      let low = found_above x.pid c xs h.0 up.0 h.1 in
+      (h.0, rw (ne_eqb x.pid c (λ same. omega (arith, low, same))) h.1, rw k h.2)
 ] refl e
 
 -- where there is none, nobody is found
@@ -78,8 +73,8 @@ wanted_some rs up p means options c e =
     let kids = filter (is_child p) rs in
     let kids_up = rising_filter (is_child p) rs up in
     let h = first_found (reports options) c (filter means kids) (rising_filter means kids kids_up) (ap first_pid (sym (filters_commute means (reports options) kids)) ∙ e) in
-    let found = in_filter (is_child p) rs up c h.what (in_filter means kids kids_up c h.what h.found).found in
-    record { what = h.what; found = found.found; says = among (filter means kids) h.what h.is }
+    let found = in_filter (is_child p) rs up c h.0 (in_filter means kids kids_up c h.0 h.1).found in
+    record { what = h.0; found = found.found; says = among (filter means kids) h.0 h.2 }
   where
     among : (ks : List Process) (r : Process) → find (reports options) ks ≡ Some r → report_among options ks ≡ report_of options r
     among [] r e = absurd (cc)

@@ -17,10 +17,9 @@ use Rattle.posix.specs.Tables.{children_in, reparented}
 use Rattle.posix.specs.States.{State}
 use Rattle.posix.specs.Consoles.{Console}
 use Rattle.posix.specs.Transfers.{span_in}
-use Rattle.posix.specs.Outcomes.{Attempted}
 use Rattle.posix.specs.declared.waits.WaitCall.{WaitCall}
 use Rattle.posix.specs.declared.waits.Asked.{Asked}
-use Rattle.posix.specs.Waits.{wait_by, wait_for, wait_with, asked_by, is_named, report, report_of, report_found, report_among, reports, has_option, WNOWAIT}
+use Rattle.posix.specs.Waits.{wait_by, wait_for, wait_with, asked_by, is_named, report, report_of, report_found, report_among, reports}
 use Rattle.posix.specs.Generation.{is_pending}
 use Rattle.posix.specs.Choice.{chosen}
 use Rattle.posix.specs.Terminals.{terminal, read, read_on, read_in, waits_in, waits_on, waits_to_read}
@@ -57,11 +56,8 @@ unsee e = record first_process { pid = e.pid; group = e.group; life = e.life; ne
 
 named_seen : (group : ℕ) (target : Target) (r : Process) → is_named group target (unsee (seen r)) ≡ is_named group target r
 unfolding unsee
-named_seen group (whom.Process p) r = refl
-named_seen group whom.OwnGroup r = refl
-named_seen group (whom.Group p) r = refl
 named_seen group whom.All r = refl
-named_seen group whom.Nobody r = refl
+named_seen group _ r = refl
 
 report_seen : (options : ℕ) (r : Process) → report_of options (unsee (seen r)) ≡ report_of options r
 unfolding unsee report_of
@@ -88,17 +84,10 @@ report_sees rs ts p group target options e =
 
 -- ---- whether a call needn't wait
 
--- a test that both make alike
-block_if : (b : Bool) (x y u v : Attempted) → is_block x ≡ is_block u → is_block y ≡ is_block v → is_block (cond b x y) ≡ is_block (cond b u v)
-block_if true x y u v h k = h
-block_if false x y u v h k = k
-
 -- what was found decides alone
 block_with : (s t : State) (p : ℕ) (call : WaitCall) (options : ℕ) (what : Report) → is_block (wait_with s p call options what) ≡ is_block (wait_with t p call options what)
 block_with s t p call options found.NoChild = refl
-block_with s t p call options found.Nothing = block_if (has_option options 1) _ _ _ _ refl refl
-block_with s t p call options (found.End c status) = block_if (has_option options WNOWAIT) _ _ _ _ refl refl
-block_with s t p call options (found.Change c status) = block_if (has_option options WNOWAIT) _ _ _ _ refl refl
+block_with s t p call options _ = grind arith
 
 block_for : (s t : State) (me : Process) (n : ℕ) (call : WaitCall) (asks : Option Asked) → sees me.pid t.processes ≡ sees me.pid s.processes → is_block (wait_for t me.pid me.group call asks) ≡ is_block (wait_for s me.pid me.group call asks)
 block_for s t me n call None e = refl
@@ -128,11 +117,9 @@ block_read s me = block_on s me (terminal s me)
 go_on_alike : (s t : State) (me : Process) (n : ℕ) (b : Option Blocked) → waits_to_read t.consoles me ≡ waits_to_read s.consoles me → sees me.pid t.processes ≡ sees me.pid s.processes
     → can_go_on t (record me { parent = n }) b ≡ can_go_on s me b
 unfolding attempt_again waits_to_read
-go_on_alike s t me n None same e = refl
 go_on_alike s t me n (Some (blocked.Wait call)) same e = ap not (block_wait s t me n call e)
 go_on_alike s t me n (Some blocked.Read) same e = ap not (block_read t (record me { parent = n }) ∙ same ∙ sym (block_read s me))
-go_on_alike s t me n (Some blocked.Pause) same e = refl
-go_on_alike s t me n (Some (blocked.Sigsuspend mask)) same e = refl
+go_on_alike s t me n _ same e = refl
 
 -- and can act as before
 pub can_act_waits : (s t : State) (old new : Process) → Alike old new → waits_to_read t.consoles old ≡ waits_to_read s.consoles old → sees old.pid t.processes ≡ sees old.pid s.processes → can_act t new ≡ can_act s old
@@ -154,14 +141,7 @@ can_act_order s o r = can_act_alike s (record s { order = o }) r r (record { par
 -- one that goes on in its call only where it did
 pub acts_less : (s t : State) (r : Process) → (is_running r.life ≡ true → can_go_on t r r.blocked ≡ true → can_go_on s r r.blocked ≡ true) → can_act t r ≡ true → can_act s r ≡ true
 unfolding can_act
-acts_less s t r h e = less (is_living r && is_pending r.signals KILL) (is_running r.life) (can_go_on t r r.blocked) (can_go_on s r r.blocked) (is_some (chosen r.life r.signals)) h e
-  where
-    less : (k l a b c : Bool) → (l ≡ true → a ≡ true → b ≡ true) → (k || l && (a || c)) ≡ true → (k || l && (b || c)) ≡ true
-    less true l a b c h e = refl
-    less false false a b c h e = e
-    less false true true b c h e = rw (h refl refl) refl
-    less false true false true c h e = refl
-    less false true false false c h e = e
+acts_less s t r h e = grind (arith, h, e)
 
 -- one whose read waits where it did, the processes being the same
 pub acts_reading : (s t : State) (r : Process) → t.processes ≡ s.processes → (is_running r.life ≡ true → r.blocked ≡ Some blocked.Read → waits_to_read s.consoles r ≡ true → waits_to_read t.consoles r ≡ true) → can_act t r ≡ true → can_act s r ≡ true
@@ -173,8 +153,6 @@ acts_reading s t r same h e = acts_less s t r (λ l k. goes r.blocked (h l) k) e
     less false b k e = refl
 
     goes : (b : Option Blocked) → (b ≡ Some blocked.Read → waits_to_read s.consoles r ≡ true → waits_to_read t.consoles r ≡ true) → can_go_on t r b ≡ true → can_go_on s r b ≡ true
-    goes None k e = refl
     goes (Some (blocked.Wait call)) k e = sym (ap not (block_wait s t r r.parent call (ap (sees r.pid) same))) ∙ e
     goes (Some blocked.Read) k e = less (is_block (read s r)) (is_block (read t r)) (λ w. block_read t r ∙ k refl (sym (block_read s r) ∙ w)) e
-    goes (Some blocked.Pause) k e = e
-    goes (Some (blocked.Sigsuspend mask)) k e = e
+    goes _ k e = e

@@ -6,7 +6,7 @@ use Rattle.std.proofs.lemmas.Bool.{eqb-true}
 use Rattle.std.proofs.lemmas.Bool.Decides.{nat_tests}
 use Rattle.std.proofs.lemmas.List.{map-append}
 use Rattle.posix.specs.declared.process.Life.{Life}
-use Rattle.posix.specs.declared.process.Life.TheVariants.{Running, Stopped, Zombie}
+use Rattle.posix.specs.declared.process.Life.TheVariants.{Zombie}
 use Rattle.posix.specs.SignalNumbers.{KILL}
 use Rattle.posix.specs.Processes.{Process, is_running, is_zombie}
 use Rattle.posix.specs.Tables.{IsRising, IsNext, lookup, pids, above, left_of}
@@ -24,9 +24,8 @@ use Rattle.posix.proofs.WalkLemmas.{numbered, numbered_one, numbered_none, rest_
 
 -- a zombie can't act, whatever else
 zombie_rests : (l : Life) (k g : Bool) → (not (is_zombie l) && k || is_running l && g) ≡ true → is_zombie l ≡ false
-zombie_rests Running k g e = refl
-zombie_rests Stopped k g e = refl
 zombie_rests (Zombie status) k g e = absurd (cc)
+zombie_rests _ k g e = refl
 
 -- who can act is no zombie
 pub can_act_lives : (s : State) (r : Process) → can_act s r ≡ true → is_zombie r.life ≡ false

@@ -1,10 +1,11 @@
 -- Facts on the table of processes as a list in rising pid order.
-use Rattle.std.proofs.Common.{◌≡◌, ℕ, zero, suc, ◌+◌, ◌<◌, Bool, true, false, cond, refl, ap, arith, subst, List, [], ◌∷◌, length, map, filter, slice_get, slice_set, Some, None, option_map, ◌==◌, nat_lt}
+use Rattle.std.proofs.Common.{◌≡◌, ℕ, zero, suc, ◌+◌, ◌<◌, Bool, true, false, cond, refl, ap, arith, subst, List, [], ◌∷◌, length, map, filter, slice_get, Some, None, option_map, ◌==◌, nat_lt}
 use Rattle.std.specs.List.{AllByRecursion, list_any}
-use Rattle.std.proofs.lemmas.Bool.{eqb-true, eqb-false, eq-eqb, ne_eqb}
+use Rattle.std.proofs.lemmas.Bool.{eqb-true, eqb-false, ne_eqb}
 use Rattle.std.proofs.lemmas.Bool.Decides.{nat_tests}
 use Rattle.posix.specs.Processes.{Process}
 use Rattle.posix.specs.Tables.{IsRising, lookup, at, changed, inserted, removed, reparented, adopted}
+use Rattle.posix.proofs.MapLemmas.{at_pid}
 
 -- each pid is above n
 abbrev pub Above : ℕ → List Process → Type 0
@@ -61,30 +62,7 @@ unfolding removed lookup IsRising
 length_removed p r [] up e = absurd (cc)
 length_removed p r (x ∷ xs) up e = grind (arith, λ (i : x.pid ≡ p). ap length (remove_above p xs (subst (λ n. Above n xs) i up.0)), length_removed p r xs up.1, eqb-true x.pid p)
 
--- ---- at the place of a process
-
--- a change of a process is a change at its place
-pub changed_at : (rs : List Process) → IsRising rs → (p i : ℕ) (r : Process) (f : Process → Process) → slice_get rs i ≡ Some r → r.pid ≡ p → changed p f rs ≡ slice_set rs i (f r)
-unfolding changed IsRising
-changed_at [] up p i r f e here = absurd (cc)
-changed_at (x ∷ xs) up p zero r f e here = grind (arith, here, λ (i : x.pid ≡ p). changed_above p f xs (subst (λ n. Above n xs) i up.0), eq-eqb x.pid p)
-changed_at (x ∷ xs) up p (suc i) r f e here = grind (arith, here, above_get x.pid xs up.0 i r e, changed_at xs up.1 p i r f e here, eqb-true x.pid p)
-
 -- ---- what stays in rising order
-
--- all stay above n where one record changes and keeps its pid
-pub above_changed : (n p : ℕ) (f : Process → Process) → ((r : Process) → (f r).pid ≡ r.pid) → (rs : List Process) → Above n rs → Above n (changed p f rs)
-unfolding changed
-above_changed n p f keeps [] h = tt
-above_changed n p f keeps (r ∷ rs) h = grind (arith, keeps r, h.0, above_changed n p f keeps rs h.1)
-
--- the order stays where one record changes and keeps its pid
-pub rising_changed : (p : ℕ) (f : Process → Process) → ((r : Process) → (f r).pid ≡ r.pid) → (rs : List Process) → IsRising rs → IsRising (changed p f rs)
-unfolding IsRising changed
-rising_changed p f keeps [] h = tt
-rising_changed p f keeps (r ∷ rs) h =
-    let same : (at p f r).pid ≡ r.pid = grind (arith, keeps r) in
-    (rw same (above_changed r.pid p f keeps rs h.0), rising_changed p f keeps rs h.1)
 
 -- all stay above n where each record keeps its pid
 above_map : (n : ℕ) (f : Process → Process) → ((r : Process) → (f r).pid ≡ r.pid) → (rs : List Process) → Above n rs → Above n (map f rs)
@@ -96,6 +74,11 @@ pub rising_map : (f : Process → Process) → ((r : Process) → (f r).pid ≡ 
 unfolding IsRising
 rising_map f keeps [] h = tt
 rising_map f keeps (r ∷ rs) h = (rw (keeps r) (above_map r.pid f keeps rs h.0), rising_map f keeps rs h.1)
+
+-- so it does where one record changes and keeps its pid
+pub rising_changed : (p : ℕ) (f : Process → Process) → ((r : Process) → (f r).pid ≡ r.pid) → (rs : List Process) → IsRising rs → IsRising (changed p f rs)
+unfolding changed
+rising_changed p f keeps rs up = rising_map (at p f) (at_pid p f keeps) rs up
 
 -- a process that gets another parent keeps all that does not depend on the parent
 pub reparented_keeps : {A : Type 0} (field : Process → A) (from to : ℕ) → ((r : Process) → field (record r { parent = to }) ≡ field r) → (r : Process) → field (reparented from to r) ≡ field r

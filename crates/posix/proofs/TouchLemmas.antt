@@ -1,15 +1,15 @@
 -- Whom a change of the state can let act, who couldn't before.
-use Rattle.std.proofs.Common.{◌≡◌, ◌≢◌, ℕ, true, false, cond, not, refl, ap, sym, ◌∙◌, subst, List, [], ◌∷◌, ◌++◌, map, filter, Option, Some, None, arith}
+use Rattle.std.proofs.Common.{◌≡◌, ◌≢◌, ℕ, true, false, not, refl, ap, sym, ◌∙◌, subst, List, [], ◌∷◌, ◌++◌, map, filter, Option, Some, None, arith}
 use Rattle.std.specs.Option.{IfSome, IsSome}
-use Rattle.std.proofs.lemmas.Bool.{eqb-true, ne_eqb, cond_both, not-true, and_parts, or_parts}
+use Rattle.std.proofs.lemmas.Bool.{eqb-true, ne_eqb, not-true, and_parts, or_parts}
 use Rattle.posix.specs.declared.process.PendingSignal.{PendingSignal}
 use Rattle.posix.specs.Processes.{Process, Cpu}
 use Rattle.posix.specs.Tables.{IsRising, lookup, at, changed, inserted, removed, is_child, children_in, reparented, adopted}
 use Rattle.posix.specs.States.{State, process, is_in, change, lose_place, go_last, without}
 use Rattle.posix.specs.Settle.{Covers, can_act}
 use Rattle.posix.specs.Generation.{signalled}
-use Rattle.posix.specs.Notices.{noticed, ignores_children}
-use Rattle.posix.specs.Alarms.{is_due, with_alarm, rung, ring_at}
+use Rattle.posix.specs.Notices.{noticed}
+use Rattle.posix.specs.Alarms.{with_alarm, rung, ring_at}
 use Rattle.posix.specs.Step.{set_cpu}
 use Rattle.posix.proofs.MemberLemmas.{in_append, others_stay, apart_first, apart_rest}
 use Rattle.posix.proofs.TableLemmas.{Above, above_filter, lookup_above, changed_absent, remove_none, pid_looked, pid_reparented}
@@ -122,13 +122,7 @@ unseen_signalled signal = record { pid = λ r. refl; parent = λ r. refl; group 
 -- and an alarm that rings
 pub unseen_ring : (now : ℕ) → Unseen (ring_at now)
 unfolding rung with_alarm signalled
-unseen_ring now = record {
-  pid = λ r. cond_both (is_due now r.alarm) (rung r) r (λ q. q.pid ≡ r.pid) (λ e. refl) (λ e. refl);
-  parent = λ r. cond_both (is_due now r.alarm) (rung r) r (λ q. q.parent ≡ r.parent) (λ e. refl) (λ e. refl);
-  group = λ r. cond_both (is_due now r.alarm) (rung r) r (λ q. q.group ≡ r.group) (λ e. refl) (λ e. refl);
-  life = λ r. cond_both (is_due now r.alarm) (rung r) r (λ q. q.life ≡ r.life) (λ e. refl) (λ e. refl);
-  news = λ r. cond_both (is_due now r.alarm) (rung r) r (λ q. q.news ≡ r.news) (λ e. refl) (λ e. refl);
-}
+unseen_ring now = record { pid = λ r. grind arith; parent = λ r. grind arith; group = λ r. grind arith; life = λ r. grind arith; news = λ r. grind arith }
 
 -- or is set
 pub unseen_with_alarm : (due : Option ℕ) → Unseen (with_alarm due)
@@ -138,13 +132,7 @@ unseen_with_alarm due = record { pid = λ r. refl; parent = λ r. refl; group = 
 -- and a notice of an end
 pub unseen_noticed : (signal : PendingSignal) → Unseen (noticed signal)
 unfolding noticed signalled
-unseen_noticed signal = record {
-  pid = λ r. elim (ignores_children r.signals) as (λ b. (cond b r (signalled signal r)).pid ≡ r.pid) [ true ↦ refl | false ↦ refl ];
-  parent = λ r. elim (ignores_children r.signals) as (λ b. (cond b r (signalled signal r)).parent ≡ r.parent) [ true ↦ refl | false ↦ refl ];
-  group = λ r. elim (ignores_children r.signals) as (λ b. (cond b r (signalled signal r)).group ≡ r.group) [ true ↦ refl | false ↦ refl ];
-  life = λ r. elim (ignores_children r.signals) as (λ b. (cond b r (signalled signal r)).life ≡ r.life) [ true ↦ refl | false ↦ refl ];
-  news = λ r. elim (ignores_children r.signals) as (λ b. (cond b r (signalled signal r)).news ≡ r.news) [ true ↦ refl | false ↦ refl ];
-}
+unseen_noticed signal = record { pid = λ r. grind arith; parent = λ r. grind arith; group = λ r. grind arith; life = λ r. grind arith; news = λ r. grind arith }
 
 seen_same : (f : Process → Process) → Unseen f → (r : Process) → seen (f r) ≡ seen r
 seen_same f u r = rw (u.pid r, u.group r, u.life r, u.news r) refl

@@ -1,6 +1,6 @@
 -- Where nothing is left to settle, to settle does nothing; nor does it after a change of one process that others see nothing of.
-use Rattle.std.proofs.Common.{◌≡◌, ℕ, true, false, not, ◌&&◌, refl, ap, sym, ◌∙◌, [], ◌∷◌, ◌++◌, append-nil, Some}
-use Rattle.std.proofs.lemmas.Bool.{not-true, and_parts}
+use Rattle.std.proofs.Common.{◌≡◌, ℕ, true, false, not, ◌&&◌, ap, sym, ◌∙◌, [], ◌∷◌, ◌++◌, append-nil, Some}
+use Rattle.std.proofs.lemmas.Bool.{not-true, and_parts, false_from_ne_true}
 use Rattle.posix.specs.Processes.{Process}
 use Rattle.posix.specs.Tables.{IsRising, pids}
 use Rattle.posix.specs.States.{State, process, is_in, change}
@@ -23,11 +23,8 @@ covers_none s placed p r e w =
 give_none : (s : State) → IsRising s.processes → Covers s [] → give_places s ≡ s
 unfolding give_places
 give_none s up covers =
-    ap (λ rs. record s { order = s.order ++ pids rs }) (none_passes (wakes s) s.processes (all_looked _ s.processes up (λ p r e. sleeps p r e)))
+    ap (λ rs. record s { order = s.order ++ pids rs }) (none_passes (wakes s) s.processes (all_looked _ s.processes up (λ p r e. false_from_ne_true _ (λ w. in_none p (covers p r e w)))))
     ∙ ap (λ o. record s { order = o }) (append-nil s.order)
-  where
-    sleeps : (p : ℕ) (r : Process) → process s p ≡ Some r → wakes s r ≡ false
-    sleeps p r e = elim (wakes s r) as (λ b. wakes s r ≡ b → b ≡ false) [ true ↦ λ w. absurd (in_none p (covers p r e w)) | false ↦ λ w. refl ] refl
 
 -- and where each foreground process group has a member, to settle does nothing
 pub settle_none : (s : State) → IsRising s.processes → AreFresh s → Covers s [] → settle s ≡ s

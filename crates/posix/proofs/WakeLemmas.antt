@@ -1,15 +1,14 @@
 -- What an event comes to, and that nothing is left to settle then: who can act has a place.
-use Rattle.std.proofs.Common.{◌≡◌, ℕ, ◌+◌, Bool, true, false, cond, not, ◌&&◌, ◌||◌, refl, ap, sym, ◌∙◌, arith, subst, List, [], ◌∷◌, ◌++◌, filter, Some, None, ◌==◌}
-use Rattle.std.proofs.lemmas.Bool.{or_left, or_right}
+use Rattle.std.proofs.Common.{◌≡◌, ℕ, ◌+◌, Bool, true, false, refl, ap, sym, ◌∙◌, arith, subst, List, [], ◌∷◌, filter, Some}
 use Rattle.posix.specs.declared.event.Event.{Event}
 use Rattle.posix.specs.declared.entry.Entry.{Entry}
-use Rattle.posix.specs.Processes.{Process, first_process}
+use Rattle.posix.specs.Processes.{Process}
 use Rattle.posix.specs.Tables.{lookup, pids}
 use Rattle.posix.specs.States.{State, World, boot, is_in}
 use Rattle.posix.specs.Outcomes.{Outcome}
 use Rattle.posix.specs.Entries.{Line}
 use Rattle.posix.specs.Runs.{RunsFrom}
-use Rattle.posix.specs.Settle.{give_places, clear_foregrounds, settle, wakes, can_act, IsSettled, NoWakeIsLost, AreFresh}
+use Rattle.posix.specs.Settle.{give_places, clear_foregrounds, settle, wakes, can_act, IsSettled, NoWakeIsLost}
 use Rattle.posix.specs.Step.{IsStep, next, happens, act}
 use Rattle.posix.proofs.MemberLemmas.{in_append}
 use Rattle.posix.proofs.TableLemmas.{pid_looked}
@@ -47,40 +46,14 @@ among t (x ∷ xs) p r e k = grind (arith, k, among t xs p r)
 -- who can act is given a place
 places_given : (s : State) (p : ℕ) (r : Process) → lookup p s.processes ≡ Some r → can_act s r ≡ true → is_in p (give_places s).order ≡ true
 unfolding give_places
-places_given s p r e c =
-    elim (is_in p s.order) as (λ b. is_in p s.order ≡ b → is_in p (s.order ++ pids (filter (wakes s) s.processes)) ≡ true) [
-      | true ↦ λ t. in_append p s.order _ ∙ or_left _ _ t
-      | false ↦ λ t.
-          let named : r.pid ≡ p = pid_looked p s.processes r e in
-          let w : wakes s r ≡ true = ap (λ n. not (is_in n s.order) && can_act s r) named ∙ ap (λ b. not b && can_act s r) t ∙ c in
-          in_append p s.order _ ∙ or_right _ _ (among (wakes s) s.processes p r e w)
-    ] refl
-
--- nobody can act by places that are given
-act_given : (s : State) (r : Process) → can_act (give_places s) r ≡ can_act s r
-unfolding give_places
-act_given s r = can_act_order s _ r
-
--- the processes stay
-processes_given : (s : State) → (give_places s).processes ≡ s.processes
-unfolding give_places
-processes_given s = refl
-
--- so that after it who can act has a place
-pub awake_given : (s : State) → NoWakeIsLost (give_places s)
-awake_given s p r e c = places_given s p r (sym (ap (lookup p) (processes_given s)) ∙ e) (sym (act_given s r) ∙ c)
-
--- and foreground process groups keep a member
-fresh_given : (s : State) → AreFresh s → AreFresh (give_places s)
-unfolding give_places
-fresh_given s fresh = fresh
-
--- ---- a settled state
+places_given s p r e c = in_append p s.order _ ∙ grind (arith, pid_looked p s.processes r e, c, among (wakes s) s.processes p r e)
 
 -- to settle leaves nothing to settle
 pub is_settled : (s : State) → IsSettled (settle s)
-unfolding settle
-is_settled s = record { awake = awake_given (clear_foregrounds s); fresh = fresh_given (clear_foregrounds s) (fresh_cleared s) }
+unfolding settle give_places
+is_settled s =
+    let t = clear_foregrounds s in
+    record { awake = λ p r e c. places_given t p r e (sym (can_act_order t _ r) ∙ c); fresh = fresh_cleared s }
 
 -- after an event nothing is left
 pub next_settled : (old new : State) (event : Event) (entries : List Entry) → IsStep old event entries new → old.halted ≡ false → IsSettled new
@@ -102,11 +75,7 @@ act_has_place old new event entries h awake = (next_settled old new event entrie
 -- at the start
 pub first_has_place : (w : World) → NoWakeIsLost (boot w)
 unfolding lookup is_in
-first_has_place w p r e act =
-    elim (1 == p) as (λ b. cond b (Some first_process) None ≡ Some r → (b || false) ≡ true) [
-      | true ↦ λ k. refl
-      | false ↦ λ k. absurd (cc)
-    ] e
+first_has_place w p r e act = grind (arith, e)
 
 -- and nothing is left to settle
 pub first_settled : (w : World) → IsSettled (boot w)

@@ -1,13 +1,13 @@
 -- Processes of a table in rising order, and children, read off one after another.
-use Rattle.std.proofs.Common.{◌≡◌, ℕ, ◌+◌, length, is_some, ◌<◌, ◌≤◌, Bool, true, false, not, ◌&&◌, ◌||◌, cond, refl, ap, sym, ◌∙◌, arith, subst, List, [], ◌∷◌, ◌++◌, filter, find, Option, Some, None, ◌==◌, ◌-◌, nat_lt, nat_le, inl, inr}
+use Rattle.std.proofs.Common.{◌≡◌, ℕ, ◌+◌, length, is_some, ◌<◌, ◌≤◌, Bool, true, false, not, ◌&&◌, ◌||◌, cond, refl, ap, sym, ◌∙◌, arith, subst, List, [], ◌∷◌, ◌++◌, filter, Option, Some, None, ◌==◌, ◌-◌, nat_lt, nat_le, inl, inr}
 use Rattle.std.specs.List.{AllByRecursion, list_any}
 use Rattle.std.specs.Option.{IfSome, IsSome}
 use Rattle.std.proofs.lemmas.List.Elements.{filter-append}
-use Rattle.std.proofs.lemmas.Bool.{eqb-true, eq-eqb, ne_eqb, ltb-true, ltb-false, cases_order, and_parts, or_cases}
+use Rattle.std.proofs.lemmas.Bool.{eqb-true, eq-eqb, ne_eqb, ltb-true, cases_order, and_parts, or_cases, false_from_ne_true}
 use Rattle.std.proofs.lemmas.Bool.Decides.{nat_tests}
 use Rattle.std.proofs.lemmas.Option.{IfSome_then}
 use Rattle.posix.specs.Processes.{Process}
-use Rattle.posix.specs.Tables.{IsRising, IsNext, has_pid, lookup, pids, removed, is_child, children_in, first_pid, above, next_above, left_of, parent_of, next_sibling}
+use Rattle.posix.specs.Tables.{IsRising, IsNext, has_pid, lookup, pids, removed, is_child, children_in, first_pid, above, next_above, left_of}
 use Rattle.posix.specs.States.{is_in}
 use Rattle.posix.proofs.TableLemmas.{Above, above_less, lookup_above, pid_looked, rising_filter}
 
@@ -81,10 +81,7 @@ here (x ∷ xs) up c e =
             left = rw (t, u) (i.left ∙ ap (λ l. i.what ∷ l) (sym (skip _ x xs (weaker _ x.pid c lt (head_above c xs)))));
             found = rw (ne_eqb x.pid c (λ k. omega (arith, k))) i.found;
           }
-      | inr (inr gt) ↦
-          let t : nat_le c x.pid ≡ true = grind (arith, nat_tests) in
-          let e' : Some x.pid ≡ Some c = rw t at e in
-          let k : x.pid ≡ c = cc in absurd (omega arith)
+      | inr (inr gt) ↦ absurd (grind (arith, nat_tests, e, gt))
     ]
 
 -- where y is the first above n, what is left from y begins with y
@@ -94,11 +91,7 @@ head_from (x ∷ xs) n y e = grind (arith, nat_tests, head_above n xs, head_from
 
 -- what is left from the first above n, if there is one, begins with it
 pub head_left_of : (rs : List Process) (n : ℕ) → first_pid (left_of (first_pid (above n rs)) rs) ≡ first_pid (above n rs)
-head_left_of rs n =
-    elim (first_pid (above n rs)) as (λ o. first_pid (above n rs) ≡ o → first_pid (left_of o rs) ≡ o) [
-      | None ↦ λ e. refl
-      | Some y ↦ λ e. head_from rs n y e
-    ] refl
+head_left_of rs n = elim (first_pid (above n rs)) as (λ o. first_pid (above n rs) ≡ o → first_pid (left_of o rs) ≡ o) [ None ↦ λ e. refl | Some y ↦ λ e. head_from rs n y e ] refl
 
 -- who is found in a list above n lies above n
 pub found_above : (n q : ℕ) (xs : List Process) (r : Process) → Above n xs → lookup q xs ≡ Some r → n < q
@@ -126,29 +119,16 @@ pub record AtChild (rs : List Process) (p c : ℕ) : Type 0 where
   pub named : what.pid ≡ c
   pub found : lookup c rs ≡ Some what
   pub parent : what.parent ≡ p
-  pub left : left_of (Some c) (children_in p rs) ≡ what ∷ left_of (next_sibling c rs) (children_in p rs)
-  pub next : first_pid (left_of (next_sibling c rs) (children_in p rs)) ≡ next_sibling c rs
-
--- the parent of who is found is the one in its record
-parent_found : (rs : List Process) (c : ℕ) (r : Process) → lookup c rs ≡ Some r → parent_of c rs ≡ r.parent
-parent_found rs c r e = rw e refl
+  pub left : left_of (Some c) (children_in p rs) ≡ what ∷ left_of (first_pid (above c (children_in p rs))) (children_in p rs)
+  pub next : first_pid (left_of (first_pid (above c (children_in p rs))) (children_in p rs)) ≡ first_pid (above c (children_in p rs))
 
 -- where what is left of the children from c begins with c, a walk knows this
 pub at_child : (rs : List Process) → IsRising rs → (p c : ℕ) → first_pid (left_of (Some c) (children_in p rs)) ≡ Some c → AtChild rs p c
-unfolding next_sibling children_in
+unfolding children_in
 at_child rs up p c e =
     let h = here (filter (is_child p) rs) (rising_filter (is_child p) rs up) c e in
     let i = in_filter (is_child p) rs up c h.what h.found in
-    let parent : h.what.parent ≡ p = eqb-true _ _ i.passes in
-    let q : p ≡ parent_of c rs = sym (parent_found rs c h.what i.found ∙ parent) in
-    record {
-      what = h.what;
-      named = h.named;
-      found = i.found;
-      parent = parent;
-      left = subst (λ q. left_of (Some c) (filter (is_child p) rs) ≡ h.what ∷ left_of (first_pid (above c (filter (is_child q) rs))) (filter (is_child p) rs)) q h.left;
-      next = subst (λ q. first_pid (left_of (first_pid (above c (filter (is_child q) rs))) (filter (is_child p) rs)) ≡ first_pid (above c (filter (is_child q) rs))) q (head_left_of (filter (is_child p) rs) c);
-    }
+    record { what = h.what; named = h.named; found = i.found; parent = eqb-true _ _ i.passes; left = h.left; next = head_left_of (filter (is_child p) rs) c }
 
 -- where a walk over the children begins
 pub at_first : (rs : List Process) → IsRising rs → (p : ℕ) → left_of (first_pid (children_in p rs)) (children_in p rs) ≡ children_in p rs
@@ -163,10 +143,7 @@ unfolding lookup IsRising
 all_looked P [] up h = tt
 all_looked P (x ∷ xs) up h = (
   h x.pid x (rw (eq-eqb x.pid x.pid refl) refl),
-  all_looked P xs up.1 (λ p r e. h p r (elim (x.pid == p) as (λ b. (x.pid == p) ≡ b → cond b (Some x) (find (has_pid p) xs) ≡ Some r) [
-    | true ↦ λ t. let none : find (has_pid p) xs ≡ None = lookup_above p xs (subst (λ n. Above n xs) (eqb-true _ _ t) up.0) in let no = sym none ∙ e in absurd (cc)
-    | false ↦ λ t. e
-  ] refl)),
+  all_looked P xs up.1 (λ p r e. let low = found_above x.pid p xs r up.0 e in h p r (rw (ne_eqb x.pid p (λ s. omega (arith, low, s))) e)),
 )
 
 -- who passes a test is one that does
@@ -242,25 +219,10 @@ left_is None [] = refl
 left_is None (x ∷ xs) = left_is None xs
 left_is (Some n) rs = refl
 
--- who isn't left lies before the one that comes next
-lies_before : (o : Option ℕ) (q : ℕ) → is_left o q ≡ false → IfSome o (λ m. q < m)
-lies_before None q e = tt
-lies_before (Some m) q e = grind (arith, nat_tests)
-
--- and so does who isn't above n
-before_next : (o : Option ℕ) (n q : ℕ) → q ≤ n → IfSome o (λ m. n < m) → is_left o q ≡ false
-before_next None n q l h = refl
-before_next (Some m) n q l h = let t : nat_le m q ≡ false = grind (arith, nat_tests, h) in t
-
 -- who passes is left just where it lies above n
 is_left_above : (t : Process → Bool) (n : ℕ) (rs : List Process) (next : Option ℕ) → IsNext t n rs next → (r : Process) → lookup r.pid rs ≡ Some r → t r ≡ true → is_left next r.pid ≡ nat_lt n r.pid
-is_left_above t n rs next i r e k = elim (nat_lt n r.pid) as (λ b. nat_lt n r.pid ≡ b → is_left next r.pid ≡ b) [
-  | true ↦ λ u. elim (is_left next r.pid) as (λ b. is_left next r.pid ≡ b → b ≡ true) [
-    | true ↦ λ v. refl
-    | false ↦ λ v. let no : true ≡ false = sym k ∙ i.between r.pid r e (ltb-true _ _ u) (lies_before next r.pid v) in absurd (cc)
-  ] refl
-  | false ↦ λ u. before_next next n r.pid (ltb-false _ _ u) i.above
-] refl
+is_left_above t n rs None i r e k = let none = i.between r.pid r e in grind (arith, nat_tests, k, none)
+is_left_above t n rs (Some m) i r e k = let none = i.between r.pid r e in let above = i.above in grind (arith, nat_tests, k, none, above)
 
 -- from the one that comes next after n on, those that pass are left that lie above n
 pub rest_of_walk : (t : Process → Bool) (n : ℕ) (rs : List Process) (next : Option ℕ) → IsRising rs → IsNext t n rs next → filter t (left_of next rs) ≡ filter t (above n rs)
@@ -314,10 +276,7 @@ first_is_next t w n rs up high wide =
     record {
       there = IfSome_then _ {P = Passes w rs} first (λ q i. subst IsSome (sym i.1) refl);
       above = IfSome_then _ {P = Passes w rs} first (λ q i. subst (λ m. n < m) (pid_looked q rs i.0 i.1) (high i.0 i.2));
-      between = λ q r e l h. elim (t r) as (λ b. t r ≡ b → b ≡ false) [
-        | true ↦ λ k. absurd (none_passes_before w rs up q r e (wide r (subst (λ m. n < m) (sym (pid_looked q rs r e)) l) k) h)
-        | false ↦ λ k. refl
-      ] refl;
+      between = λ q r e l h. false_from_ne_true (t r) (λ k. none_passes_before w rs up q r e (wide r (subst (λ m. n < m) (sym (pid_looked q rs r e)) l) k) h);
     }
 
 -- the least number above n comes next, whatever the test

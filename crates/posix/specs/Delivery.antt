@@ -67,9 +67,8 @@ stop_or_discard s r n = if not (n == STOP) && is_orphaned r.group s.processes th
 
 abbrev pub act_by_default : State → Process → ℕ → DefaultAction → Outcome
 act_by_default s r n default.Terminate = end_process s r (killed n)
-act_by_default s r n default.Ignore = discard s r.pid n
 act_by_default s r n default.Stop = stop_or_discard s r n
-act_by_default s r n default.Continue = discard s r.pid n
+act_by_default s r n _ = discard s r.pid n
 
 -- default actions have no effect on process 1, kill(2)
 abbrev pub act_on : State → Process → PendingSignal → Handler → Outcome
@@ -90,8 +89,7 @@ abbrev pub fault_with : State → Process → ℕ → Handler → Outcome
 fault_with s r n (handler.At address) =
     if has r.signals.mask n then end_process s r (killed n)
     else handle s r (record { sig = n; carried = from_kernel }) address
-fault_with s r n handler.Ignore = end_process s r (killed n)
-fault_with s r n handler.Default = end_process s r (killed n)
+fault_with s r n _ = end_process s r (killed n)
 
 unfoldable pub fault : State → Process → ℕ → Outcome
 fault s r n = fault_with s r n (action r.signals n).handler

@@ -3,7 +3,7 @@ use Rattle.std.specs.Prelude.{ℕ, ◌+◌, ◌==◌, Bool, true, false, not, �
 use Rattle.std.specs.Option.{option_map_or}
 use Rattle.posix.specs.declared.entry.Entry.TheVariants.{Ended, Halted}
 use Rattle.posix.specs.declared.process.Life.{Life}
-use Rattle.posix.specs.declared.process.Life.TheVariants.{Running, Stopped, Zombie}
+use Rattle.posix.specs.declared.process.Life.TheVariants.{Zombie}
 use Rattle.posix.specs.declared.process.News.TheVariants as news
 use Rattle.posix.specs.declared.process.PendingSignal.{PendingSignal}
 use Rattle.posix.specs.SignalNumbers.{HUP, CHLD, CONT}
@@ -67,8 +67,7 @@ notice_of_end s parent child status =
 
 abbrev pub status_of : Life → ℕ
 status_of (Zombie status) = status
-status_of Running = 0
-status_of Stopped = 0
+status_of _ = 0
 
 -- the zombies among the children of p, in rising order
 unfoldable pub zombies_of : ℕ → List Process → List Process

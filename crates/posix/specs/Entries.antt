@@ -34,19 +34,8 @@ process_of Halted = None
 
 -- a wait reports that a process ended, and collects it
 abbrev pub reports_end : Entry → Bool
-reports_end (Noted pid value) = false
-reports_end (Called pid call result) = false
-reports_end (Moved pid call bytes) = false
 reports_end (Reported pid call child status) = tells_end status
-reports_end (Looked pid child status) = false
-reports_end (NoMemory pid call) = false
-reports_end (Marked pid mark) = false
-reports_end (Handled pid sig value sender) = false
-reports_end (Discarded pid sig) = false
-reports_end (Stopped pid sig) = false
-reports_end (Returned pid) = false
-reports_end (Ended pid status) = false
-reports_end Halted = false
+reports_end _ = false
 
 -- how many ends the lines report
 abbrev pub reported : List Line → ℕ

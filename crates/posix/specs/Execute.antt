@@ -114,7 +114,6 @@ exec_one program c = execute_fetched c (fetched program c.pc)
 
 -- a call and a fault leave a thing as it was
 abbrev pub StaysUnlessRun : {A : Type 0} → Trap → A → A → Type 0
-StaysUnlessRun trap.Next old new = Unit {0}
-StaysUnlessRun (trap.Note value) old new = Unit {0}
 StaysUnlessRun (trap.Call call) old new = new ≡ old
 StaysUnlessRun (trap.Fault sig) old new = new ≡ old
+StaysUnlessRun _ old new = Unit {0}

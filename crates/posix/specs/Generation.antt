@@ -21,21 +21,18 @@ abbrev pub action : Signals → ℕ → Action
 action g s = slice_index_or g.actions (s - 1) initial_action
 
 abbrev pub is_caught : Handler → Bool
-is_caught handler.Default = false
-is_caught handler.Ignore = false
 is_caught (handler.At address) = true
+is_caught _ = false
 
 abbrev pub is_ignored : Handler → Bool
-is_ignored handler.Default = false
 is_ignored handler.Ignore = true
-is_ignored (handler.At address) = false
+is_ignored _ = false
 
 -- the default is to ignore the signal or to continue
 abbrev pub is_harmless : DefaultAction → Bool
-is_harmless default.Terminate = false
 is_harmless default.Ignore = true
-is_harmless default.Stop = false
 is_harmless default.Continue = true
+is_harmless _ = false
 
 -- the action does nothing with the signal
 abbrev pub does_nothing : Handler → ℕ → Bool

@@ -73,12 +73,9 @@ setpgid_with s me target (Err why) = refused s me.pid Setpgid why
 setpgid_with s me None (Ok group) = refused s me.pid Setpgid ESRCH
 setpgid_with s me (Some r) (Ok group) = finish_with (change s r.pid (in_group group)) me.pid Setpgid (pos 0)
 
-abbrev pub setpgid_to : State → Process → Option Process → ℤ → Attempted
-setpgid_to s me target group = setpgid_with s me target (move_to me target group s.processes)
-
 -- the process is in r1, the group in r2
 unfoldable pub setpgid : State → Process → Attempted
-setpgid s me = setpgid_to s me (named me (argument me 1) s.processes) (argument me 2)
+setpgid s me = let target = named me (argument me 1) s.processes in setpgid_with s me target (move_to me target (argument me 2) s.processes)
 
 -- ---- setsid
 

@@ -24,8 +24,7 @@ use Rattle.posix.specs.Choice.{discarded}
 abbrev pub is_restarted : Blocked → Action → Bool
 is_restarted (blocked.Wait call) a = has_flag a SA_RESTART
 is_restarted blocked.Read a = has_flag a SA_RESTART
-is_restarted blocked.Pause a = false
-is_restarted (blocked.Sigsuspend earlier) a = false
+is_restarted _ a = false
 
 -- it is in a call that isn't
 abbrev pub is_interrupted : Option Blocked → Action → Bool
@@ -38,11 +37,8 @@ leave_call b a c = if is_interrupted b a then move_on (set_register c 0 (refusal
 
 -- the mask to go back to: of sigsuspend the one before it
 abbrev pub mask_before : Option Blocked → ℕ → ℕ
-mask_before None mask = mask
-mask_before (Some (blocked.Wait call)) mask = mask
-mask_before (Some blocked.Read) mask = mask
-mask_before (Some blocked.Pause) mask = mask
 mask_before (Some (blocked.Sigsuspend earlier)) mask = earlier
+mask_before _ mask = mask
 
 -- ---- a handler is entered
 

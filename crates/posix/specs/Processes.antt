@@ -51,19 +51,16 @@ pub record Process : Type 0 where
   pub cpu : Cpu
 
 abbrev pub is_zombie : Life → Bool
-is_zombie Running = false
-is_zombie Stopped = false
 is_zombie (Zombie status) = true
+is_zombie _ = false
 
 abbrev pub is_running : Life → Bool
 is_running Running = true
-is_running Stopped = false
-is_running (Zombie status) = false
+is_running _ = false
 
 abbrev pub is_stopped : Life → Bool
-is_stopped Running = false
 is_stopped Stopped = true
-is_stopped (Zombie status) = false
+is_stopped _ = false
 
 abbrev pub is_living : Process → Bool
 is_living r = not (is_zombie r.life)

@@ -14,9 +14,8 @@ use Rattle.posix.specs.Credentials.{on_exec}
 
 -- a handler of the old program is gone; what is ignored stays so
 abbrev pub handler_on_exec : Handler → Handler
-handler_on_exec handler.Default = handler.Default
 handler_on_exec handler.Ignore = handler.Ignore
-handler_on_exec (handler.At address) = handler.Default
+handler_on_exec _ = handler.Default
 
 -- masks and flags of actions go, too (own)
 abbrev pub action_on_exec : Action → Action

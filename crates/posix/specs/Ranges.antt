@@ -2,9 +2,9 @@
 use Rattle.std.specs.Prelude.{◌≡◌, ℕ, ◌≤◌, ◌<◌, ◌&&◌, Bool, true, Option, Some, None, nat_le, nat_lt, ℤ, pos, negsuc}
 use Rattle.std.specs.List.{list_all}
 use Rattle.posix.specs.declared.event.Event.{Event}
-use Rattle.posix.specs.declared.event.Event.TheVariants.{Step, Tick, Key, Hangup}
+use Rattle.posix.specs.declared.event.Event.TheVariants.{Key}
 use Rattle.posix.specs.declared.instr.Instr.{Instr}
-use Rattle.posix.specs.declared.instr.Instr.TheVariants.{Set, Move, Compute, Load, Store, Jump, JumpIf, Note, Sys}
+use Rattle.posix.specs.declared.instr.Instr.TheVariants.{Set}
 use Rattle.posix.specs.States.{World, Program}
 
 abbrev pub is_i64 : ℤ → Bool
@@ -21,14 +21,7 @@ is_own_id (Some n) = is_id n
 
 abbrev pub is_instruction : Instr → Bool
 is_instruction (Set a z) = is_i64 z
-is_instruction (Move a b) = true
-is_instruction (Compute operator a b) = true
-is_instruction (Load a b) = true
-is_instruction (Store a b) = true
-is_instruction (Jump address) = true
-is_instruction (JumpIf condition a address) = true
-is_instruction (Note a) = true
-is_instruction (Sys call) = true
+is_instruction _ = true
 
 abbrev pub is_program : Program → Bool
 is_program p = is_own_id p.setuid && (is_own_id p.setgid && list_all is_instruction p.instructions)
@@ -39,7 +32,5 @@ pub record IsWorld (w : World) : Type 0 where
 
 -- a key brings a byte
 abbrev pub IsEvent : Event → Type 0
-IsEvent Step = Unit {0}
-IsEvent Tick = Unit {0}
 IsEvent (Key console byte) = byte < 256
-IsEvent (Hangup console) = Unit {0}
+IsEvent _ = Unit {0}

@@ -7,7 +7,7 @@ use Rattle.posix.specs.Processes.{Process, is_running, is_living}
 use Rattle.posix.specs.Tables.{pids}
 use Rattle.posix.specs.States.{State, process, is_in, has_place}
 use Rattle.posix.specs.Consoles.{Console, with_foreground}
-use Rattle.posix.specs.Outcomes.{Attempted, Done, Block, Again}
+use Rattle.posix.specs.Outcomes.{Attempted, Block}
 use Rattle.posix.specs.Generation.{is_pending}
 use Rattle.posix.specs.Choice.{chosen}
 use Rattle.posix.specs.GroupCalls.{is_group_of}
@@ -15,8 +15,7 @@ use Rattle.posix.specs.Attempts.{attempt_again}
 
 abbrev pub is_block : Attempted → Bool
 is_block (Block b) = true
-is_block (Done outcome) = false
-is_block (Again t) = false
+is_block _ = false
 
 -- it is in no call, or its call needn't wait any longer
 abbrev pub can_go_on : State → Process → Option Blocked → Bool

@@ -13,7 +13,7 @@ use Rattle.posix.specs.declared.process.Handler.TheVariants as handler
 use Rattle.posix.specs.SignalSets.{set_in, word_of}
 use Rattle.posix.specs.Processes.{Process, Credentials, Signals, argument}
 use Rattle.posix.specs.Outcomes.{Reply, refusing, written}
-use Rattle.posix.specs.Generation.{action, is_pending}
+use Rattle.posix.specs.Generation.{action, is_pending, SA_NOCLDSTOP, SA_NOCLDWAIT, SA_SIGINFO, SA_RESTART, SA_NODEFER, SA_RESETHAND}
 use Rattle.posix.specs.Handlers.{set_action, set_mask}
 use Rattle.posix.specs.Sends.{signal_in}
 
@@ -50,7 +50,7 @@ is_question (pos n) = false
 is_question (negsuc n) = n == 0
 
 abbrev pub all_flags : ℕ
-all_flags = 1 + 2 + 4 + 268435456 + 1073741824 + 2147483648
+all_flags = SA_NOCLDSTOP + SA_NOCLDWAIT + SA_SIGINFO + SA_RESTART + SA_NODEFER + SA_RESETHAND
 
 -- other flags are EINVAL (own); in Linux they are accepted
 abbrev pub are_flags : ℕ → Bool
@@ -90,8 +90,7 @@ abbrev pub how_in : ℤ → Option How
 how_in (pos zero) = Some how.Block
 how_in (pos (suc zero)) = Some how.Unblock
 how_in (pos (suc (suc zero))) = Some how.Set
-how_in (pos (suc (suc (suc n)))) = None
-how_in (negsuc n) = None
+how_in _ = None
 
 -- the set is in r2, and the call gives the old mask there
 abbrev pub sigprocmask_with : Process → Option How → Reply

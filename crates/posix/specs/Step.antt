@@ -34,10 +34,8 @@ set_cpu c r = record r { cpu = c }
 
 -- sigsuspend begins with the mask in r1
 abbrev pub waiting_signals : Blocked → ℤ → Signals → Signals
-waiting_signals (blocked.Wait call) z g = g
-waiting_signals blocked.Read z g = g
-waiting_signals blocked.Pause z g = g
 waiting_signals (blocked.Sigsuspend earlier) z g = give_mask (set_in z) g
+waiting_signals _ z g = g
 
 unfoldable pub enter : Blocked → Process → Process
 enter b r = record r { blocked = Some b; signals = waiting_signals b (argument r 1) r.signals }

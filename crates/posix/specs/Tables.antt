@@ -58,10 +58,6 @@ children_in p rs = filter (is_child p) rs
 abbrev pub parent_of : ℕ → List Process → ℕ
 parent_of p rs = option_map_or (λ r. r.parent) (lookup p rs) 0
 
--- the next of the children of its parent
-unfoldable pub next_sibling : ℕ → List Process → Option ℕ
-next_sibling c rs = first_pid (above c (children_in (parent_of c rs) rs))
-
 abbrev pub reparented : ℕ → ℕ → Process → Process
 reparented from to r = if r.parent == from then record r { parent = to } else r
 

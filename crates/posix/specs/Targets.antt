@@ -17,17 +17,10 @@ target_in (negsuc (suc n)) = if nat_le (n + 2) greatest_pid then whom.Group (n +
 
 -- A call that means one process by its number means nobody else.
 abbrev pub process_in : ℤ → Target
-process_in (pos zero) = whom.Nobody
 process_in (pos (suc n)) = if nat_le (suc n) greatest_pid then whom.Process (suc n) else whom.Nobody
-process_in (negsuc n) = whom.Nobody
+process_in _ = whom.Nobody
 
 -- ---- whom waitid means by a kind and a number, and nothing where the call refuses them; kinds and numbers are (own)
-
--- the process with this number
-abbrev pub numbered_process : ℤ → Option Target
-numbered_process (pos zero) = None
-numbered_process (pos (suc n)) = Some (target_in (pos (suc n)))
-numbered_process (negsuc n) = None
 
 -- the process group with this number, 0 being the caller's
 abbrev pub numbered_group : ℤ → Option Target
@@ -38,7 +31,6 @@ numbered_group (negsuc n) = None
 -- kind 0 is any child, 1 a process, 2 a process group
 abbrev pub target_of_kind : ℤ → ℤ → Option Target
 target_of_kind (pos zero) z = Some whom.All
-target_of_kind (pos (suc zero)) z = numbered_process z
+target_of_kind (pos (suc zero)) (pos (suc n)) = Some (target_in (pos (suc n)))
 target_of_kind (pos (suc (suc zero))) z = numbered_group z
-target_of_kind (pos (suc (suc (suc n)))) z = None
-target_of_kind (negsuc n) z = None
+target_of_kind _ _ = None

@@ -176,11 +176,8 @@ unfoldable pub waits_to_read : List Console → Process → Bool
 waits_to_read cs me = waits_on me (console_of me.session cs)
 
 abbrev pub is_in_read : Option Blocked → Bool
-is_in_read None = false
-is_in_read (Some (blocked.Wait call)) = false
 is_in_read (Some blocked.Read) = true
-is_in_read (Some blocked.Pause) = false
-is_in_read (Some (blocked.Sigsuspend earlier)) = false
+is_in_read _ = false
 
 -- it is blocked in a read of the terminal of this session, and not stopped
 abbrev pub is_reader : ℕ → Process → Bool

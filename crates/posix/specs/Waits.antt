@@ -8,7 +8,7 @@ use Rattle.posix.specs.declared.waits.WaitCall.{WaitCall}
 use Rattle.posix.specs.declared.waits.WaitCall.TheVariants as wait
 use Rattle.posix.specs.declared.waits.Asked.{Asked}
 use Rattle.posix.specs.declared.process.Life.{Life}
-use Rattle.posix.specs.declared.process.Life.TheVariants.{Running, Stopped, Zombie}
+use Rattle.posix.specs.declared.process.Life.TheVariants.{Zombie}
 use Rattle.posix.specs.declared.process.News.{News}
 use Rattle.posix.specs.declared.process.News.TheVariants as news
 use Rattle.posix.specs.declared.process.Blocked.TheVariants as blocked
@@ -104,19 +104,17 @@ report_change options p (news.StoppedBy s) = if has_option options WSTOPPED then
 report_change options p news.Continued = if has_option options WCONTINUED then found.Change p continued else found.Nothing
 
 abbrev pub report_life : ℕ → ℕ → Life → News → Report
-report_life options p Running change = report_change options p change
-report_life options p Stopped change = report_change options p change
 report_life options p (Zombie status) change = if has_option options WEXITED then found.End p status else found.Nothing
+report_life options p _ change = report_change options p change
 
 -- what a child has to report
 unfoldable pub report_of : ℕ → Process → Report
 report_of options r = report_life options r.pid r.life r.news
 
 abbrev pub is_something : Report → Bool
-is_something found.NoChild = false
-is_something found.Nothing = false
 is_something (found.End p status) = true
 is_something (found.Change p status) = true
+is_something _ = false
 
 abbrev pub reports : ℕ → Process → Bool
 reports options r = is_something (report_of options r)

@@ -111,25 +111,19 @@ key_put a b c u v i console console_then byte bytes bytes_then h k same more =
     subst (λ (l : List Event). AddsFirst a u (replicate (i + 1) (Key console byte)) c l) waits
     (subst (λ (es : List Event). AddsFirst a u es c (wait ++ key)) (replicate-append-replicate i 1 (Key console byte)) done)
 
-pub counted_put : (a b c : List ℕ) (u : List Event) (console n : ℕ) (bytes : List ℕ) (event is : Event) → AddsFirst a u [] b (map (Key console) bytes) → bytes ≡ [] → is ≡ event
-    → AddsLines b (replicate n event) c → AddsFirst a u (replicate n is) c (map (Key console) bytes)
-counted_put a b c u console n [] event is h none same k =
-    subst (λ (e : Event). AddsFirst a u (replicate n e) c []) (sym same) (first_joined a b c u [] [] [] (replicate n event) h (first_said b c (replicate n event) k))
-counted_put a b c u console n (x ∷ xs) event is h none same k = cc
+-- lines behind those of the keys that waited
+pub ended_put : {T E : Type 0} (r : Result T E) (a b c : List ℕ) (u es : List Event) (console : ℕ) (bytes : List ℕ) → AddsFirst a u [] b (map (Key console) bytes) → bytes ≡ []
+    → OnOk r (AddsLines b es c) → OnOk r (AddsFirst a u es c (map (Key console) bytes))
+ended_put (Ok x) a b c u es console [] h none k = first_joined a b c u [] [] [] es h (first_said b c es k)
+ended_put (Ok x) a b c u es console (y ∷ ys) h none k = cc
+ended_put (Err e) a b c u es console bytes h none k = k
 
--- a hangup
-pub hangup_added : (a b : List ℕ) (console : ℕ) → console < 256 → b ≡ a ++ line (codes "hangup" ∷ decimal console ∷ []) → AddsLines a (Hangup console ∷ []) b
-hangup_added a b console small e = (line (codes "hangup" ∷ decimal console ∷ []), e, hangup_says console small)
-
--- one more
-pub hangups_more : (a b c : List ℕ) (console i : ℕ) → AddsLines a (replicate i (Hangup console)) b → AddsLines b (Hangup console ∷ []) c → AddsLines a (replicate (i + 1) (Hangup console)) c
-hangups_more a b c console i p q = subst (λ (es : List Event). AddsLines a es c) (replicate-append-replicate i 1 (Hangup console)) (adds_joined a b c (replicate i (Hangup console)) (Hangup console ∷ []) p q)
-
-pub hangups_put_ok : {T E : Type 0} (r : Result T E) (a b c : List ℕ) (u : List Event) (console n : ℕ) (bytes : List ℕ) (event is : Event)
-    → AddsFirst a u [] b (map (Key console) bytes) → bytes ≡ [] → is ≡ event → OnOk r (AddsLines b (replicate n event) c)
-    → OnOk r (AddsFirst a u (replicate n is) c (map (Key console) bytes))
-hangups_put_ok (Ok x) a b c u console n bytes event is h none same k = counted_put a b c u console n bytes event is h none same k
-hangups_put_ok (Err e) a b c u console n bytes event is h none same k = k
+-- one hangup more
+pub hangups_more : (a b c : List ℕ) (console i : ℕ) → console < 256 → AddsLines a (replicate i (Hangup console)) b → c ≡ b ++ line (codes "hangup" ∷ decimal console ∷ [])
+    → AddsLines a (replicate (i + 1) (Hangup console)) c
+hangups_more a b c console i small p more =
+    subst (λ (es : List Event). AddsLines a es c) (replicate-append-replicate i 1 (Hangup console))
+    (adds_joined a b c (replicate i (Hangup console)) (Hangup console ∷ []) p (line (codes "hangup" ∷ decimal console ∷ []), more, hangup_says console small))
 
 -- a run more
 pub run_put : (a b c : List ℕ) (u v : List Event) (runs : List CountedEvent) (i : ℕ) (d : CountedEvent) → i < length runs → AddsFirst a [] (expanded (take i runs)) b u
@@ -137,13 +131,6 @@ pub run_put : (a b c : List ℕ) (u v : List Event) (runs : List CountedEvent) (
 run_put a b c u v runs i d lt h k =
     subst (λ (es : List Event). AddsFirst a [] es c v) (sym (ap expanded (take_more runs i d lt) ∙ expanded_push (take i runs) (get_or runs i d)))
     (first_joined a b c [] u v (expanded (take i runs)) (replicate (get_or runs i d).count (get_or runs i d).event) h k)
-
--- where that succeeds
-pub counted_put_ok : {T E : Type 0} (r : Result T E) (a b c : List ℕ) (u : List Event) (console n : ℕ) (bytes word : List ℕ) (event is : Event) → IsWordOf event word
-    → AddsFirst a u [] b (map (Key console) bytes) → bytes ≡ [] → is ≡ event → OnOk r ((e : Event) → IsWordOf e word → AddsLines b (replicate n e) c)
-    → OnOk r (AddsFirst a u (replicate n is) c (map (Key console) bytes))
-counted_put_ok (Ok x) a b c u console n bytes word event is named h none same k = counted_put a b c u console n bytes event is h none same (k event named)
-counted_put_ok (Err e) a b c u console n bytes word event is named h none same k = k
 
 -- so many more
 pub many_put : (a b c : List ℕ) (u v w : List Event) (event : Event) (m n k : ℕ) → m + n ≡ k → AddsFirst a u (replicate m event) b v → AddsFirst b v (replicate n event) c w → AddsFirst a u (replicate k event) c w

@@ -1,17 +1,18 @@
 -- Which schedules a family has, and in which order.
-use Rattle.std.proofs.Common.{◌≡◌, ◌≢◌, ◌↔◌, ℕ, zero, suc, ◌+◌, ◌-◌, ◌<◌, ◌≤◌, ◌==◌, Bool, true, false, cond, inl, inr, refl, sym, ap, ◌∙◌, subst, arith, ⊎_elim, List, [], ◌∷◌, ◌++◌, length, map, get_or, take, drop}
+use Rattle.std.proofs.Common.{◌≡◌, ◌≢◌, ◌↔◌, ℕ, zero, suc, ◌+◌, ◌<◌, ◌≤◌, ◌==◌, Bool, true, false, cond, inl, inr, refl, sym, ap, ◌∙◌, subst, arith, ⊎_elim, List, [], ◌∷◌, ◌++◌, length, map, get_or, take, drop}
 use Rattle.std.proofs.Math.Nat.{add-mul, one-mul}
 use Rattle.std.specs.List.{All, AllPairs, Contains, count_by, remove}
 use Rattle.std.specs.List.Sorted.{IsNonDecreasing}
 use Rattle.std.proofs.lemmas.Bool.{cases_lt, eq-eqb, ne_eqb}
 use Rattle.std.proofs.lemmas.Bool.Decides.{eqb_tells}
-use Rattle.std.proofs.lemmas.List.{length-append, length-map, get_or_append_left, get_or-append_right, get_or-map}
+use Rattle.std.proofs.lemmas.List.{length-map, get_or-map}
 use Rattle.std.proofs.lemmas.List.Edits.{length-remove}
+use Rattle.std.proofs.lemmas.List.Kept.{AllPairs-cons}
 use Rattle.std.proofs.lemmas.List.Elements.{All-nil, All-cons, All-head, All-tail, All-append, All-map, All-push, All-take, All-drop, All-weaker, All-contains, Contains-append_left, Contains-append_right}
 use Rattle.std.proofs.lemmas.List.Quantifiers.{all_pairs_push, all_pairs_remove}
 use Rattle.std.proofs.lemmas.List.Sums.{sum_by-cons, sum_by_push, sum_by-remove}
 use Rattle.std.proofs.lemmas.Nat.{div-mul-add, mod-mul-add, div-add-mod', mod_below, mul-le}
-use Rattle.schedules.specs.Families.{Spots, spot, place_of, kind_of, with_spot, each_kind, from_each, of_spots, of_at_most, kinds_of, family, IsSchedule, IsEarlier, IsBefore}
+use Rattle.schedules.specs.Families.{Spots, spot, place_of, kind_of, with_spot, each_kind, from_each, of_spots, of_at_most, kinds_of, family, IsSchedule, IsEarlier, IsBefore, RisesFrom}
 
 -- ---- spots
 
@@ -36,11 +37,6 @@ spot_up : (loose p q : ℕ) → p ≤ q → spot loose p 0 ≤ spot loose q 0
 spot_up loose p q l = omega (arith, mul-le p (suc loose) q (suc loose) l (omega arith))
 
 -- ---- rising places, by recursion
-
--- the places of the spots rise from low on, and stay below high
-abbrev pub RisesFrom : ℕ → ℕ → ℕ → Spots → Type 0
-RisesFrom loose low high [] = Unit {0}
-RisesFrom loose low high (q ∷ ps) = (low ≤ place_of loose q) × (place_of loose q < high) × RisesFrom loose (place_of loose q) high ps
 
 pub rises_lower : (loose low lower high : ℕ) (ps : Spots) → lower ≤ low → RisesFrom loose low high ps → RisesFrom loose lower high ps
 rises_lower loose low lower high [] l r = tt
@@ -142,18 +138,6 @@ next_all P loose n kinds p places high tick event e =
     (each_kind_all P (at_kind loose n q more) kinds (length kinds)
     (λ i d. All-map P (λ ps. spot loose q (get_or kinds i 0) ∷ ps) (of_spots loose n (remove kinds i) q more) (event q more i l m s d))))
     p places (omega arith) e
-
--- all schedules of a level rise from its first place
-pub level_rises : (loose n : ℕ) (kinds : List ℕ) (p places high : ℕ) → All (λ k. k ≤ loose) kinds → p + places ≡ high → All (RisesFrom loose p high) (of_spots loose n kinds p places)
-level_rises loose zero [] p places high b e = All-cons (RisesFrom loose p high) [] [] tt (All-nil (RisesFrom loose p high))
-level_rises loose zero (k ∷ kinds) p places high b e = All-nil (RisesFrom loose p high)
-level_rises loose (suc n) kinds p places high b e =
-    next_all (RisesFrom loose p high) loose n kinds p places high
-    (λ q more l m s. All-weaker (RisesFrom loose q high) (λ ps. RisesFrom loose p high (spot loose q 0 ∷ ps)) (λ ps r. rises_at loose p q high 0 ps (omega arith) l m r)
-    (of_spots loose n kinds q more) (level_rises loose n kinds q more high b s))
-    (λ q more i l m s d. All-weaker (RisesFrom loose q high) (λ ps. RisesFrom loose p high (spot loose q (get_or kinds i 0) ∷ ps)) (λ ps r. rises_at loose p q high (get_or kinds i 0) ps (b i 0 d) l m r)
-    (of_spots loose n (remove kinds i) q more) (level_rises loose n (remove kinds i) q more high (All-remove (λ k. k ≤ loose) kinds i b) s))
-    e
 
 -- ---- which schedules there are
 
@@ -321,15 +305,15 @@ too_few loose (suc n) kinds p places l =
 -- ---- which ones a family has
 
 -- of at most n spots
-record IsAtMost (loose n : ℕ) (kinds : List ℕ) (low high : ℕ) (ps : Spots) : Type 0 where
-  few : length ps ≤ n
-  rise : RisesFrom loose low high ps
-  counts : Counts loose kinds ps
+pub record IsAtMost (loose n : ℕ) (kinds : List ℕ) (low high : ℕ) (ps : Spots) : Type 0 where
+  pub few : length ps ≤ n
+  pub rise : RisesFrom loose low high ps
+  pub counts : Counts loose kinds ps
 
 at_most : (loose n k : ℕ) (kinds : List ℕ) (low high : ℕ) (ps : Spots) → k ≤ n → IsLevel loose k kinds low high ps → IsAtMost loose n kinds low high ps
 at_most loose n k kinds low high ps l i = record { few = omega (arith, i.many); rise = i.rise; counts = i.counts }
 
-at_most_is : (loose n : ℕ) (kinds : List ℕ) (p places high : ℕ) → AreKinds loose kinds → p + places ≡ high → All (IsAtMost loose n kinds p high) (of_at_most loose n kinds p places)
+pub at_most_is : (loose n : ℕ) (kinds : List ℕ) (p places high : ℕ) → AreKinds loose kinds → p + places ≡ high → All (IsAtMost loose n kinds p high) (of_at_most loose n kinds p places)
 unfolding of_at_most
 at_most_is loose zero kinds p places high a e =
     All-weaker (IsLevel loose zero kinds p high) (IsAtMost loose zero kinds p high) (λ ps i. at_most loose zero zero kinds p high ps (omega arith) i)
@@ -392,24 +376,11 @@ members upto ticks loose ps = (
 -- ---- in which order
 
 all_pairs_append : (R : Spots → Spots → Type 0) (xs ys : List Spots) → AllPairs R xs → AllPairs R ys → All (λ x. All (R x) ys) xs → AllPairs R (xs ++ ys)
-all_pairs_append R xs ys h g cross i j d l m =
-    ⊎_elim
-    (λ (front : j < length xs).
-    let low : get_or (xs ++ ys) i d ≡ get_or xs i d = get_or_append_left xs ys d i (omega arith) in
-    let high : get_or (xs ++ ys) j d ≡ get_or xs j d = get_or_append_left xs ys d j front in
-    rw (low, high) (h i j d l front))
-    (λ (back : length xs ≤ j).
-    let high : get_or (xs ++ ys) j d ≡ get_or ys (j - length xs) d = get_or-append_right xs ys (length xs) j d refl back in
-    let within : j - length xs < length ys = omega (arith, length-append xs ys) in
-    ⊎_elim
-    (λ (before : i < length xs).
-    let low : get_or (xs ++ ys) i d ≡ get_or xs i d = get_or_append_left xs ys d i before in
-    rw (low, high) (cross i d before (j - length xs) d within))
-    (λ (behind : length xs ≤ i).
-    let low : get_or (xs ++ ys) i d ≡ get_or ys (i - length xs) d = get_or-append_right xs ys (length xs) i d refl behind in
-    rw (low, high) (g (i - length xs) (j - length xs) d (omega arith) within))
-    (cases_lt i (length xs)))
-    (cases_lt j (length xs))
+all_pairs_append R [] ys h g cross = g
+all_pairs_append R (x ∷ xs) ys h g cross =
+    AllPairs-cons R x (xs ++ ys)
+    (All-append (R x) xs ys (λ k d l. h 0 (suc k) d (omega arith) (omega (arith, l))) (All-head (λ z. All (R z) ys) x xs cross))
+    (all_pairs_append R xs ys (λ i j d l m. h (suc i) (suc j) d (omega (arith, l)) (omega (arith, m))) g (All-tail (λ z. All (R z) ys) x xs cross))
 
 before_with : (p : ℕ) (xs ys : Spots) → IsBefore xs ys → IsBefore (p ∷ xs) (p ∷ ys)
 before_with p xs ys (inl fewer) = inl (omega (arith, fewer))

@@ -1,7 +1,6 @@
 pub mod FamilyLemmas
 pub mod SizeLemmas
 pub mod ScheduledLemmas
-pub mod GivenLemmas
 mod AdvanceLemmas
 pub mod WalkLemmas
 pub mod Rows

@@ -21,31 +21,10 @@ two_events_in_one : family 1 0 2 ≡ (1 ∷ 2 ∷ []) ∷ (2 ∷ 1 ∷ []) ∷ [
 unfolding of_at_most
 two_events_in_one = refl
 
--- 5 over 3, 9 over 3, 10 over 4, 47 over 2
-size_2_3 : length (family 2 3 0) ≡ 10
+-- 5 over 3, 9 over 3, 10 over 4, 47 over 2; with loose events 3 places for the first, 4 for the second, and 5 over 1 for a tick
+sizes : (length (family 2 3 0) ≡ 10) × (length (family 6 3 0) ≡ 84) × (length (family 6 4 0) ≡ 210) × (length (family 45 2 0) ≡ 1081) × (length (family 0 8 0) ≡ 1) × (length (family 3 1 2) ≡ 72)
 unfolding of_at_most
-size_2_3 = refl
-
-size_6_3 : length (family 6 3 0) ≡ 84
-unfolding of_at_most
-size_6_3 = refl
-
-size_6_4 : length (family 6 4 0) ≡ 210
-unfolding of_at_most
-size_6_4 = refl
-
-size_45_2 : length (family 45 2 0) ≡ 1081
-unfolding of_at_most
-size_45_2 = refl
-
-size_0_8 : length (family 0 8 0) ≡ 1
-unfolding of_at_most
-size_0_8 = refl
-
--- 3 places for the first loose event, 4 for the second, and 5 over 1 for a tick
-size_3_1_2 : length (family 3 1 2) ≡ 72
-unfolding of_at_most
-size_3_1_2 = refl
+sizes = (refl, refl, refl, refl, refl, refl)
 
 placed : scheduled [] (Step ∷ Step ∷ Step ∷ []) (1 ∷ 1 ∷ 2 ∷ []) ≡ Step ∷ Tick ∷ Tick ∷ Step ∷ Tick ∷ Step ∷ []
 unfolding scheduled

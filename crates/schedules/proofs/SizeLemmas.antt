@@ -235,17 +235,17 @@ more_ways of k =
     let things : choose (of + suc k) (suc k) ≡ choose (suc (of + k)) (suc k) = ap (λ n. choose n (suc k)) (omega arith) in
     omega (arith, things, pascal (of + k) k)
 
-pub grows : (of k more : ℕ) → k ≤ more → choose (of + k) k ≤ choose (of + more) more
-grows of k zero l =
-    let same : k ≡ 0 = omega (arith, l) in
-    let e = ap (λ n. choose (of + n) n) same in omega (arith, e)
-grows of k (suc more) l =
+-- what doesn't fall from any number to the next rises
+rises : (f : ℕ → ℕ) → ((k : ℕ) → f k ≤ f (suc k)) → (k more : ℕ) → k ≤ more → f k ≤ f more
+rises f step k zero l = let same : k ≡ 0 = omega (arith, l) in let e = ap f same in omega (arith, e)
+rises f step k (suc more) l =
     ⊎_elim
-    (λ (fewer : k < suc more). omega (arith, more_ways of more, grows of k more (omega (arith, fewer))))
-    (λ (all : suc more ≤ k).
-    let same : k ≡ suc more = omega (arith, l, all) in
-    let e = ap (λ n. choose (of + n) n) same in omega (arith, e))
+    (λ (fewer : k < suc more). let before = rises f step k more (omega (arith, fewer)) in omega (arith, before, step more))
+    (λ (all : suc more ≤ k). let same : k ≡ suc more = omega (arith, l, all) in let e = ap f same in omega (arith, e))
     (cases_lt k (suc more))
+
+pub grows : (of k more : ℕ) → k ≤ more → choose (of + k) k ≤ choose (of + more) more
+grows of k more l = rises (λ n. choose (of + n) n) (more_ways of) k more l
 
 pub one_at_least : (of chosen : ℕ) → 1 ≤ choose (of + chosen) chosen
 one_at_least of chosen = omega (arith, grows of 0 chosen (omega arith), choose_none (of + 0))
@@ -266,17 +266,7 @@ no_ways zero l = absurd (omega (arith, l))
 no_ways (suc loose) l = sym (shifted 0 loose) ∙ omega arith
 
 pub ways_grow : (n k more : ℕ) → 1 ≤ n → k ≤ more → ways n k ≤ ways n more
-ways_grow n k zero some l = let same : k ≡ 0 = omega (arith, l) in let e = ap (ways n) same in omega (arith, e)
-ways_grow n k (suc more) some l =
-    ⊎_elim
-    (λ (fewer : k < suc more).
-    let before = ways_grow n k more some (omega (arith, fewer)) in
-    let larger : ways n more * 1 ≤ ways n more * (n + more) = mul-le-mul_left (ways n more) (omega (arith, some)) in
-    omega (arith, before, larger))
-    (λ (all : suc more ≤ k).
-    let same : k ≡ suc more = omega (arith, l, all) in
-    let e = ap (ways n) same in omega (arith, e))
-    (cases_lt k (suc more))
+ways_grow n k more some l = rises (ways n) (λ m. let larger : ways n m * 1 ≤ ways n m * (n + m) = mul-le-mul_left (ways n m) (omega (arith, some)) in omega (arith, larger)) k more l
 
 -- without places there is no loose event
 some_ways : (upto loose : ℕ) → (upto ≡ 0 → loose ≡ 0) → 1 ≤ ways upto loose

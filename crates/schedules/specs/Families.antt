@@ -70,6 +70,11 @@ pub record IsSchedule (upto ticks loose : ℕ) (ps : Spots) : Type 0 where
   pub few : length ps ≤ ticks + loose
   pub each : (kind : ℕ) → 1 ≤ kind → kind ≤ loose → count_by (λ q. kind_of loose q == kind) ps ≡ 1
 
+-- The places of the spots rise from low on, not strictly, and stay below high.
+abbrev pub RisesFrom : ℕ → ℕ → ℕ → Spots → Type 0
+RisesFrom loose low high [] = Unit {0}
+RisesFrom loose low high (q ∷ ps) = (low ≤ place_of loose q) × (place_of loose q < high) × RisesFrom loose (place_of loose q) high ps
+
 -- where two schedules of as many spots first differ, the one has the earlier spot
 abbrev pub IsEarlier : Spots → Spots → Type 0
 IsEarlier (p ∷ ps) (q ∷ qs) = (p < q) ⊎ ((p ≡ q) × IsEarlier ps qs)

@@ -1,5 +1,5 @@
 -- The events of a schedule: a list of events with ticks and loose events put in.
-use Rattle.std.specs.Prelude.{ℕ, zero, suc, ◌-◌, ◌<◌, ◌≤◌, List, [], ◌∷◌, ◌++◌, length, take, drop, slice_index, slice_index_or}
+use Rattle.std.specs.Prelude.{ℕ, zero, suc, ◌-◌, List, [], ◌∷◌, ◌++◌, length, take, drop, slice_index_or}
 use Rattle.posix.specs.declared.event.Event.{Event}
 use Rattle.posix.specs.declared.event.Event.TheVariants.{Tick}
 use Rattle.schedules.specs.Families.{Spots, kind_of, place_of}
@@ -28,15 +28,3 @@ from_front loose i events [] = events
 from_front loose i events (q ∷ ps) =
     let p = place_of (length loose) q in
     take (p - i) events ++ put_at loose q ∷ from_front loose p (drop (p - i) events) ps
-
--- ---- schedules that are given bit by bit
-
--- what is given of a schedule, once the first i events of the list and what is put in at the first j spots are
-abbrev pub given : List Event → ℕ → ℕ → List Event → Spots → List Event
-given loose i j events ps = scheduled loose (take i events) (take j ps)
-
--- The first i events and the first j spots can be given before all others: those spots are before the event with index i or an earlier one,
--- and the others there or later.
-pub record IsGiven (loose i j : ℕ) (ps : Spots) : Type 0 where
-  pub used : (k : ℕ) → k < j → place_of loose (slice_index ps k) ≤ i
-  pub left : (k : ℕ) → j ≤ k → k < length ps → i ≤ place_of loose (slice_index ps k)

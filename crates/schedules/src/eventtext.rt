@@ -44,7 +44,7 @@ struct Keys {
 
 /// Writes so many steps or ticks.
 fn write_counted(text: &mut String, word: &str, count: u64) -> Result<(), AllocError>
-    ensures { OnOk result ((event : AnEvent) → IsWordOf event word.now → AddsLines (string_bytes text.old) (replicate count event) (string_bytes text.new)) }
+    ensures { (event : AnEvent) → IsWordOf event word.now → OnOk result (AddsLines (string_bytes text.old) (replicate count event) (string_bytes text.new)) }
 {
     let mut left = count;
     while left > 0 {
@@ -55,20 +55,12 @@ fn write_counted(text: &mut String, word: &str, count: u64) -> Result<(), AllocE
     Ok(())
 }
 
-/// Writes a hangup.
-fn write_hangup(text: &mut String, console: u8) -> Result<(), AllocError>
-    ensures { OnOk result (AddsLines (string_bytes text.old) (Hangup console ∷ []) (string_bytes text.new)) }
-{
-    writeln!(text, "    hangup {console}")?;
-    Ok(())
-}
-
 /// Writes so many hangups.
 fn write_hangups(text: &mut String, console: u8, count: u64) -> Result<(), AllocError>
     ensures { OnOk result (AddsLines (string_bytes text.old) (replicate count (Hangup console)) (string_bytes text.new)) }
 {
     for _i in 0..count {
-        write_hangup(text, console)?;
+        writeln!(text, "    hangup {console}")?;
     }
     Ok(())
 }

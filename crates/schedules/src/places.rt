@@ -1,6 +1,6 @@
 //! Spots of as many ticks, one list after another.
 
-ghost use Rattle.std.specs.Prelude.{◌≡◌, ◌+◌, ◌<◌, suc, length, drop, replicate, slice_index, IfSome, None};
+ghost use Rattle.std.specs.Prelude.{◌≡◌, ◌+◌, ◌<◌, suc, length, drop, slice_index, IfSome, None};
 ghost use Rattle.schedules.specs.Walks.{Advances, next_of_ticks};
 
 /// Which of the places is the last that can go to the one after it, which has to be below `upto`.
@@ -18,13 +18,6 @@ fn last_to_go(places: &[u64], upto: u64) -> Option<usize>
     None
 }
 
-/// Goes to one place with all.
-fn go_to(places: &mut [u64], place: u64)
-    ensures { places.new ≡ replicate (length places.old) place }
-{
-    places.fill(place);
-}
-
 /// Goes to the next list of as many places, all below `upto`; at `false` there is none, and nothing changed.
 ///
 /// The last place that can goes to the one after it, and those behind it go along.
@@ -35,6 +28,6 @@ pub(crate) fn advance(places: &mut [u64], upto: u64) -> bool
         return false;
     };
     let later = places[at] + 1;
-    go_to(&mut places[at..], later);
+    places[at..].fill(later);
     true
 }

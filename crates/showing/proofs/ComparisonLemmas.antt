@@ -12,8 +12,8 @@ use Rattle.posix.specs.declared.event.Event.{Event}
 use Rattle.posix.specs.Entries.{Line}
 use Rattle.posix.specs.Printing.{print}
 use Rattle.posix.specs.States.{State, World}
-use Rattle.sink.proofs.SinkLemmas.{put_fits, slice_more}
-use Rattle.sink.specs.Sinks.{Seen}
+use Rattle.trace.proofs.SinkLemmas.{put_fits, slice_more}
+use Rattle.trace.specs.Sinks.{Seen}
 use Rattle.text.specs.EventTexts.{event_text}
 use Rattle.showing.specs.Comparisons.{Compares, OfRun, held, taken_beside}
 use Rattle.showing.specs.declared.comparing_sink.ComparingSink.{ComparingSink}

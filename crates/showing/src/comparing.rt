@@ -9,8 +9,8 @@ ghost use Rattle.showing.specs.Comparing.{IsCompared, IsUnread, Means, said};
 use crate::comparison::first_difference;
 use crate::serving::serve_trace;
 use inputs::{InputFault, Inputs, ReadFiles, read_inputs, tell};
-use sink::{Sink, put_all};
 use std::alloc::{AllocError, Global};
+use trace::{Sink, put_all};
 use warning::put_warnings;
 use wording::Prose;
 

@@ -3,7 +3,7 @@
 ghost use Rattle.std.specs.Prelude.{◌≡◌, ◌≢◌, ◌≤◌, ◌<◌, ◌++◌, ℕ, List, true, length, slice_get, take, None, Some};
 ghost use Rattle.showing.specs.Comparisons.{Compares, held, line_at as line_of_place, taken_beside};
 
-use sink::{Sink, SinkFault};
+use trace::{Sink, SinkFault};
 
 /// How many bytes two slices have in common at their beginnings.
 fn count_same(one: &[u8], other: &[u8]) -> usize

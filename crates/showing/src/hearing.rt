@@ -46,37 +46,16 @@ fn read(
     Ok(())
 }
 
-/// Reads all processes, before an event.
-fn read_all(alloc: Global, kernel: &mut Kernel, reading: &mut Reading) -> Result<(), AllocError>
-    ensures { IsSame kernel.old kernel.new }
-{
-    let pids = processes(alloc, kernel)?;
-    read(kernel, pids.as_slice(), None, reading)
-}
-
 /// Has whoever tells know all processes, before an event.
 fn learn(teller: &mut Teller<'_, '_>, kernel: &mut Kernel) -> Result<(), AllocError>
     ensures { IsSame kernel.old kernel.new }
 {
     let alloc = teller.view.alloc;
     let mut all = Reading::new(alloc, turns(alloc, kernel)?);
-    read_all(alloc, kernel, &mut all)?;
+    let pids = processes(alloc, kernel)?;
+    read(kernel, pids.as_slice(), None, &mut all)?;
     teller.rows.set(kernel.events(), all);
     Ok(())
-}
-
-/// Reads those whom an event may have changed, which showed these entries and sent this.
-fn read_concerned(
-    teller: &Teller<'_, '_>,
-    kernel: &mut Kernel,
-    entries: &[Entry],
-    sent: Option<Sent>,
-    reading: &mut Reading,
-) -> Result<(), AllocError>
-    ensures { IsSame kernel.old kernel.new }
-{
-    let pids = teller.concerned(entries, sent, reading)?;
-    read(kernel, pids.as_slice(), sent.as_ref(), reading)
 }
 
 /// What the current process is about to do; none where no process can act.
@@ -129,7 +108,8 @@ impl Observer for Telling<'_, '_> {
         let (alloc, kernel) = (self.teller.view.alloc, &mut replay.kernel);
         let sent = self.teller.sent(event, entries, self.told, kernel.ticks());
         let mut reading = Reading::new(alloc, turns(alloc, kernel)?);
-        read_concerned(&self.teller, kernel, entries, sent, &mut reading)?;
+        let pids = self.teller.concerned(entries, sent, &reading)?;
+        read(kernel, pids.as_slice(), sent.as_ref(), &mut reading)?;
         let number = kernel.events();
         self.teller
             .tell(number, event, entries, &reading, sent.as_ref())?;

@@ -114,12 +114,8 @@ impl Observer for Silent {
 
 /// Whether entries tell that the host had no memory for a call.
 fn deny_memory(entries: &[Entry]) -> bool {
-    for entry in entries {
-        if let Entry::NoMemory { .. } = entry {
-            return true;
-        }
-    }
-    false
+    let mut entries = entries.iter();
+    entries.any(|entry| matches!(entry, Entry::NoMemory { .. }))
 }
 
 /// Gives an event. An error where there is no memory for what a process of the world asks, or to note what the event

@@ -106,9 +106,7 @@ fn processes_of<'a>(alloc: Global, words: &[&str]) -> Result<Vec<Pid>, Failure<'
         let Some(pid) = number(word).and_then(process_of) else {
             return Err(Failure::Process);
         };
-        if pids.push(pid).is_err() {
-            return Err(Failure::Memory);
-        }
+        pids.push(pid).map_err(|_| Failure::Memory)?;
     }
     Ok(pids)
 }
@@ -177,29 +175,8 @@ fn serve_calls<'a, 't, O: Sink>(
     done
 }
 
-/// Does what is asked for of a run, of which this is the listing: lets a person go through it, or puts a line for each
-/// event up to the one with number `last`, or puts the state.
-fn serve_past<'a, 'l, 't, O: Sink, A: Ask>(
-    view: View<'l, 't>,
-    request: &Request<'a>,
-    replay: &mut Replay,
-    inputs: &'t Inputs,
-    last: u64,
-    out: &mut O,
-    ask: &mut A,
-) -> Result<(), Failure<'a>>
-    requires { length inputs.now.events ≤ most_events }
-{
-    if request.step {
-        serve_steps(view, replay, inputs, out, ask)
-    } else if request.tells() {
-        serve_calls(view, replay, inputs, last, out)
-    } else {
-        put_now(view, replay, out)
-    }
-}
-
-/// Does what is asked for of a world and its events.
+/// Does what is asked for of a world and its events: lets a person go through the run, or puts a line for each event up to
+/// the one that is named, or puts the state.
 fn serve_inputs<'a, 't, O: Sink, A: Ask>(
     alloc: Global,
     request: &Request<'a>,
@@ -220,13 +197,16 @@ fn serve_inputs<'a, 't, O: Sink, A: Ask>(
         only,
     };
     // Where events are told, they are from the first one on.
-    let from = if request.step || request.tells() {
-        0
-    } else {
-        last
-    };
+    let is_told = request.step || request.tells();
+    let from = if is_told { 0 } else { last };
     let mut replay = past_at(alloc, &inputs.world, &inputs.events, from)?;
-    let done = serve_past(view, request, &mut replay, inputs, last, out, ask);
+    let done = if request.step {
+        serve_steps(view, &mut replay, inputs, out, ask)
+    } else if is_told {
+        serve_calls(view, &mut replay, inputs, last, out)
+    } else {
+        put_now(view, &mut replay, out)
+    };
     drop(replay);
     done
 }
@@ -265,30 +245,6 @@ pub fn serve_trace<O: Sink, E: Sink>(alloc: Global, inputs: &Inputs, out: &mut O
     }
 }
 
-/// Does what is asked for.
-fn serve_request<'a, F: ReadFiles, O: Sink, A: Ask>(
-    alloc: Global,
-    request: &Request<'a>,
-    files: &F,
-    out: &mut O,
-    ask: &mut A,
-) -> Result<(), Failure<'a>> {
-    if request.step && (request.tells() || request.at.is_some() || !ask.is_terminal()) {
-        return Err(Failure::Step);
-    }
-    let only = processes_of(alloc, request.processes.as_slice())?;
-    let inputs = read_inputs(alloc, files, request.world, request.events)?;
-    serve_inputs(alloc, request, only.as_slice(), &inputs, out, ask)
-}
-
-/// Tells a failure, as far as the error output takes it. It takes no memory.
-fn tell_failure<E: Sink>(failure: Failure<'_>, err: &mut E) {
-    match failure {
-        Failure::Input(why) => why.tell(err),
-        _ => tell(failure, err),
-    }
-}
-
 /// Does what the words ask for.
 fn serve_words<'a, F: ReadFiles, O: Sink, A: Ask>(
     alloc: Global,
@@ -297,7 +253,21 @@ fn serve_words<'a, F: ReadFiles, O: Sink, A: Ask>(
     out: &mut O,
     ask: &mut A,
 ) -> Result<(), Failure<'a>> {
-    serve_request(alloc, &requested(alloc, words)?, files, out, ask)
+    let request = requested(alloc, words)?;
+    if request.step && (request.tells() || request.at.is_some() || !ask.is_terminal()) {
+        return Err(Failure::Step);
+    }
+    let only = processes_of(alloc, request.processes.as_slice())?;
+    let inputs = read_inputs(alloc, files, request.world, request.events)?;
+    serve_inputs(alloc, &request, only.as_slice(), &inputs, out, ask)
+}
+
+/// Tells a failure, as far as the error output takes it. It takes no memory.
+fn tell_failure<E: Sink>(failure: Failure<'_>, err: &mut E) {
+    match failure {
+        Failure::Input(why) => why.tell(err),
+        _ => tell(failure, err),
+    }
 }
 
 /// Does what the words of the command line ask for, without the program's name, and gives the status of the program: 0

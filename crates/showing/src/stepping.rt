@@ -68,10 +68,7 @@ fn command_with(word: &str, number: u64) -> Command {
         "n" => Command::Next(number),
         "b" => Command::Back(number),
         "g" => Command::Go(number),
-        "p" => match process_of(number) {
-            Some(pid) => Command::Until(Some(pid)),
-            None => Command::NoProcess,
-        },
+        "p" => process_of(number).map_or(Command::NoProcess, |pid| Command::Until(Some(pid))),
         _ => Command::Help,
     }
 }

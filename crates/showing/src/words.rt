@@ -1,6 +1,6 @@
 //! The words of the command line.
 
-use clap::{ArgAction, ArgMatches};
+use clap::ArgAction;
 use inputs::{NoRequest, command, named_files, words_behind};
 use posix::Pid;
 use std::alloc::Global;
@@ -35,28 +35,22 @@ const OPTIONS: [(&str, ArgAction); 5] = [
     ("step", ArgAction::SetTrue),
 ];
 
-/// What the words ask for, once they are told apart.
-fn request_of<'a>(alloc: Global, matches: &ArgMatches<'a>) -> Result<Request<'a>, NoRequest> {
-    let (world, events) = named_files(matches)?;
+/// What the words ask for; the program's name isn't one of them.
+pub fn requested<'a>(alloc: Global, words: &'a [&'a str]) -> Result<Request<'a>, NoRequest> {
+    let matches = command(alloc, "show", &OPTIONS)?.try_get_matches_from(words)?;
+    let (world, events) = named_files(&matches)?;
     Ok(Request {
         world,
         events,
         at: matches.get_str("at"),
-        processes: words_behind(alloc, matches, "process")?,
+        processes: words_behind(alloc, &matches, "process")?,
         calls: matches.get_flag("calls"),
         trace: matches.get_flag("trace"),
         step: matches.get_flag("step"),
     })
 }
 
-/// What the words ask for; the program's name isn't one of them.
-pub fn requested<'a>(alloc: Global, words: &'a [&'a str]) -> Result<Request<'a>, NoRequest> {
-    let command = command(alloc, "show", &OPTIONS)?;
-    request_of(alloc, &command.try_get_matches_from(words)?)
-}
-
 /// The process with a number; none where no process can have it.
 pub fn process_of(number: u64) -> Option<Pid> {
-    let pid = Pid::new(u32::try_from(number).ok()?)?;
-    if pid == Pid::NONE { None } else { Some(pid) }
+    Pid::new(u32::try_from(number).ok()?).filter(|pid| *pid != Pid::NONE)
 }

@@ -10,8 +10,8 @@ use std::alloc::AllocError;
 use std::fmt::Write;
 use trace::print_entry;
 use wording::{
-    Arguments, Prose, Written, place_of, put_call, put_look, put_moved, put_report, put_result,
-    put_signal, put_status, signal_in,
+    Arguments, Prose, Source, Written, place_of, put_call, put_look, put_moved, put_report,
+    put_result, put_signal, put_status, signal_in,
 };
 
 /// What the current process was about to do.
@@ -208,26 +208,25 @@ impl<'l, 't> Teller<'l, 't> {
         }
     }
 
+    /// The program of an actor, as its world writes it.
+    fn source_of(&self, actor: &Actor) -> Option<&'l Source<'t>> {
+        let listing = self.view.listing;
+        listing.program(usize::from(actor.snapshot.program))
+    }
+
     /// The instruction of an actor, as its world writes it.
     fn written_of(&self, actor: &Actor) -> Option<Written<'t>> {
-        let source = self
-            .view
-            .listing
-            .program(usize::from(actor.snapshot.program))?;
-        source.at(actor.place?)
+        self.source_of(actor)?.at(actor.place?)
     }
 
     /// Writes the call or the instruction of an actor.
     fn put_instruction(&mut self, actor: &Actor) {
         if let Some(call) = self.call_of_actor(actor) {
-            let listing = self.view.listing;
-            let source = listing.program(usize::from(actor.snapshot.program));
+            let (source, listing) = (self.source_of(actor), self.view.listing);
             return put_call(&mut self.line, call, actor.with, source, listing);
         }
-        let text = match self.written_of(actor) {
-            Some(written) => written.text,
-            None => "no instruction",
-        };
+        let written = self.written_of(actor);
+        let text = written.map_or("no instruction", |written| written.text);
         self.line.push_str(text);
     }
 
@@ -236,10 +235,7 @@ impl<'l, 't> Teller<'l, 't> {
         if self.view.traced {
             return;
         }
-        let source = self
-            .view
-            .listing
-            .program(usize::from(actor.snapshot.program));
+        let source = self.source_of(actor);
         put_name(&mut self.line, actor.snapshot.pid, source);
         let start = self.line.len();
         if let Some(written) = self.written_of(actor) {
@@ -263,10 +259,8 @@ impl<'l, 't> Teller<'l, 't> {
     /// Writes what an actor did.
     fn put_act(&mut self, new: &[Row], actor: &Actor, entries: &[Entry]) {
         self.put_actor(actor);
-        let is_other = entries
-            .first()
-            .is_some_and(|first| !is_of_instruction(first));
-        let is_signal = is_other && actor.snapshot.chosen.is_some();
+        let is_signal = actor.snapshot.chosen.is_some()
+            && matches!(entries, [first, ..] if !is_of_instruction(first));
         if !is_signal {
             self.put_instruction(actor);
         }
@@ -298,28 +292,24 @@ impl<'l, 't> Teller<'l, 't> {
     fn put_discarded(&mut self, old: &Row, new: &Row, entries: &[Entry]) -> bool {
         let pid = new.snapshot.pid;
         let mut is_told = false;
-        for number in 1..65u8 {
-            if let Some(sig) = Sig::new(number) {
-                let is_gone = old.pending.contains(sig) && !new.pending.contains(sig);
-                if is_gone && !is_taken(entries, pid, sig) {
-                    put_signal_of(&mut self.line, "; discards ", sig, " pending for ", pid);
-                    is_told = true;
-                }
+        for sig in (1..65u8).filter_map(|number| Sig::new(number)) {
+            let is_gone = old.pending.contains(sig) && !new.pending.contains(sig);
+            if is_gone && !is_taken(entries, pid, sig) {
+                put_signal_of(&mut self.line, "; discards ", sig, " pending for ", pid);
+                is_told = true;
             }
         }
         is_told
     }
 
-    /// Writes which signals a process was sent, the one with number `sent` among them. Whether there are such.
-    fn put_sent(&mut self, old: &Row, new: &Row, hears: bool, sent: u8) -> bool {
+    /// Writes which signals a process was sent, `sent` among them. Whether there are such.
+    fn put_sent(&mut self, old: &Row, new: &Row, hears: bool, sent: Option<Sig>) -> bool {
         let mut is_told = false;
-        for number in 1..65u8 {
-            if let Some(sig) = Sig::new(number) {
-                if let Some(words) = words_behind(old, new, hears, number == sent, sig) {
-                    put_signal_of(&mut self.line, "; sends ", sig, " to ", new.snapshot.pid);
-                    self.line.push_str(words);
-                    is_told = true;
-                }
+        for sig in (1..65u8).filter_map(|number| Sig::new(number)) {
+            if let Some(words) = words_behind(old, new, hears, sent == Some(sig), sig) {
+                put_signal_of(&mut self.line, "; sends ", sig, " to ", new.snapshot.pid);
+                self.line.push_str(words);
+                is_told = true;
             }
         }
         is_told
@@ -334,13 +324,10 @@ impl<'l, 't> Teller<'l, 't> {
         all: &[Row],
         sent: Option<&Sent>,
     ) -> bool {
-        let sent = match sent {
-            Some(sent) if sent.is_to(old) => sent.sig.number(),
-            _ => 0,
-        };
+        let sent = sent.filter(|sent| sent.is_to(old)).map(|sent| sent.sig);
         let hears = old.pending.contains(Sig::CHLD) && self.hears(new, entries, all);
         let is_same = old.pending.bits() == new.pending.bits() && old.queued == new.queued;
-        if is_same && sent == 0 && !hears {
+        if is_same && sent.is_none() && !hears {
             return false;
         }
         let is_zombie = matches!(new.snapshot.life, Life::Zombie(_));
@@ -400,7 +387,10 @@ impl<'l, 't> Teller<'l, 't> {
         let mut is_shown = false;
         for pid in gone {
             is_shown = is_shown || self.view.has(*pid);
-            if !is_reported(entries, *pid) {
+            let mut entries = entries.iter();
+            if !entries.any(
+                |entry| matches!(entry, Entry::Reported { child, .. } if child == pid),
+            ) {
                 self.line.push_with("; drops ", pid.number());
             }
         }
@@ -572,10 +562,4 @@ impl<'l, 't> Teller<'l, 't> {
         }
         is_shown
     }
-}
-
-/// Whether a wait reported a process.
-fn is_reported(entries: &[Entry], pid: Pid) -> bool {
-    let mut entries = entries.iter();
-    entries.any(|entry| matches!(*entry, Entry::Reported { child, .. } if child == pid))
 }

@@ -153,7 +153,7 @@ fn put_caught(
     }
     if action.flags.bits() != 0 {
         text.push_str(", ");
-        put_flags(text, action.flags);
+        put_flags(text, &action.flags);
     }
     text.push_str("\n");
 }
@@ -161,14 +161,12 @@ fn put_caught(
 /// Writes the signals that a process catches, and those that it ignores by their actions.
 fn put_actions(text: &mut Prose, source: Option<&Source<'_>>, own: &OwnPart) {
     let mut ignored = SigSet::EMPTY;
-    for number in 1..65u8 {
-        if let Some(sig) = Sig::new(number) {
-            let action = own.signals.action(sig);
-            match action.handler {
-                Handler::At(address) => put_caught(text, source, sig, action, address),
-                Handler::Ignore => ignored = ignored.union(SigSet::just(sig)),
-                Handler::Default => {}
-            }
+    for sig in (1..65u8).filter_map(|number| Sig::new(number)) {
+        let action = own.signals.action(sig);
+        match action.handler {
+            Handler::At(address) => put_caught(text, source, sig, action, address),
+            Handler::Ignore => ignored = ignored.union(SigSet::just(sig)),
+            Handler::Default => {}
         }
     }
     if !ignored.is_empty() {
@@ -227,17 +225,15 @@ fn put_registers(text: &mut Prose, own: &OwnPart) {
 /// Writes the words of its memory that aren't 0, each behind its address.
 fn put_memory(text: &mut Prose, own: &OwnPart) {
     let mut mark = "    memory ";
-    let mut is_zero = true;
     for address in 0..=u8::MAX {
         let word = own.cpu.word(address);
         if word != 0 {
             text.push_with(mark, address);
             text.push_with(": ", word);
             mark = ", ";
-            is_zero = false;
         }
     }
-    if !is_zero {
+    if mark == ", " {
         text.push_str("\n");
     }
 }

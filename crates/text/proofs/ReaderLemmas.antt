@@ -120,23 +120,6 @@ answer_fault r f h = rw h refl
 answer_fine : (r : Reading) → r.fault ≡ None → answer r ≡ Ok r.events
 answer_fine r h = rw h refl
 
--- ---- what a reader keeps, by whether it has a fault
-
--- where there is no fault, what is kept is that of a reader without one
-read_fine : (o : Option TextFault) (text : List ℕ) (p : Progress) → o ≡ None → HasReadTo o text p → HasReadTo None text p
-read_fine None text p e h = h
-read_fine (Some f) text p e h = cc
-
--- and the other way round
-fine_read : (o : Option TextFault) (text : List ℕ) (p : Progress) → o ≡ None → HasReadTo None text p → HasReadTo o text p
-fine_read None text p e h = h
-fine_read (Some f) text p e h = cc
-
--- where there is a fault, what is kept is that of a reader with it
-was_fault : (o : Option TextFault) (f : TextFault) (text : List ℕ) (p : Progress) → o ≡ Some f → HasReadTo o text p → HasReadTo (Some f) text p
-was_fault None f text p e h = cc
-was_fault (Some g) f text p e h = let same : f ≡ g = cc in rw same h
-
 -- ---- after a fault
 
 -- with a fault, what is kept stays where one more byte comes
@@ -156,10 +139,12 @@ kept_all (c ∷ more) text p e h = let k = kept_all more (text ++ c ∷ []) p e 
 -- it is the text's
 read_fault : (text : List ℕ) (p : Progress) (f : TextFault) → p.reading.fault ≡ Some f → HasRead text p → IsFaultOf (event_text p.consoles text) f
 unfolding event_text
-read_fault text p f e h = elim (was_fault p.reading.fault f text p e h) [
-  | inl m ↦ inl m
-  | inr q ↦ inr (answer_fault (read_lines p.consoles start (all_lines text)) f (fault_at_end p.consoles text (lines_of text).rest f q))
-]
+read_fault text p f e h =
+    let was : HasReadTo (Some f) text p = subst (λ o. HasReadTo o text p) e h in
+    elim was [
+      | inl m ↦ inl m
+      | inr q ↦ inr (answer_fault (read_lines p.consoles start (all_lines text)) f (fault_at_end p.consoles text (lines_of text).rest f q))
+    ]
 
 -- whatever comes
 pub fault_answers : (text more : List ℕ) (n : ℕ) (p : Progress) (f : TextFault) → p.reading.fault ≡ Some f → p.consoles ≡ n → HasRead text p → IsFaultOf (event_text n (text ++ more)) f
@@ -205,7 +190,7 @@ ended_to (Some fault) text c old new e fine same f why = rw same (elim why [ inl
 -- after the end of a line the reader keeps what it should
 pub line_ended : (text : List ℕ) (c : ℕ) (old new : Progress) → (c == 10) ≡ true → old.reading.fault ≡ None → new.consoles ≡ old.consoles →
     HasRead text old → EndsLine old new → HasRead (text ++ c ∷ []) new
-line_ended text c old new e fine same h ends = ended_to new.reading.fault text c old new e fine same (read_fine old.reading.fault text old fine h) ends
+line_ended text c old new e fine same h ends = ended_to new.reading.fault text c old new e fine same (subst (λ o. HasReadTo o text old) fine h) ends
 
 -- ---- another byte of a line
 
@@ -213,17 +198,12 @@ line_ended text c old new e fine same h ends = ended_to new.reading.fault text c
 pub byte_kept : (text : List ℕ) (c : ℕ) (old : Progress) (more : List ℕ) → (c == 10) ≡ false → old.reading.fault ≡ None → HasRead text old →
     ((xs : List ℕ) → old.partial ≡ take 201 xs → more ≡ take 201 (xs ++ c ∷ [])) → HasRead (text ++ c ∷ []) (record old { partial = more })
 byte_kept text c old more e fine h taken =
-    let f = read_fine old.reading.fault text old fine h in
+    let f : HasReadTo None text old = subst (λ o. HasReadTo o text old) fine h in
     let same : lines_of (text ++ c ∷ []) ≡ extended c (lines_of text) = lines_more [] text c e in
-    fine_read old.reading.fault (text ++ c ∷ []) (record old { partial = more }) fine
+    subst (λ o. HasReadTo o (text ++ c ∷ []) (record old { partial = more })) (sym fine)
     (f.0 ∙ sym (ap (λ (ls : Lines). read_lines old.consoles start ls.whole) same), taken (lines_of text).rest f.1 ∙ sym (ap (λ (ls : Lines). take 201 ls.rest) same))
 
 -- ---- the end of a text
-
--- without a fault, the events are to be what the text means
-meets_to_none : (o : Option TextFault) (n : ℕ) (text : List ℕ) (events : List Event) → o ≡ None → event_text n text ≡ Ok events → MeetsTo o events (event_text n text)
-meets_to_none None n text events e h = h
-meets_to_none (Some g) n text events e h = cc
 
 -- with a fault, by that fault, it is what the text means
 meets_to : (o : Option TextFault) (text : List ℕ) (p : Progress) → o ≡ p.reading.fault → is_some o ≡ true → HasRead text p → MeetsTo o p.reading.events (event_text p.consoles text)
@@ -238,10 +218,10 @@ meets_fault text p e h = meets_to p.reading.fault text p refl e h
 pub meets_no_last : (text : List ℕ) (p : Progress) → p.reading.fault ≡ None → length p.partial ≡ 0 → HasRead text p → Meets p.reading (event_text p.consoles text)
 unfolding event_text
 meets_no_last text p e none h =
-    let f = read_fine p.reading.fault text p e h in
+    let f : HasReadTo None text p = subst (λ o. HasReadTo o text p) e h in
     let rest : length (lines_of text).rest ≡ 0 = empty_taken 201 (lines_of text).rest (omega arith) (ap length (sym f.1) ∙ none) in
     let lines : all_lines text ≡ (lines_of text).whole = ap (λ (l : List (List ℕ)). (lines_of text).whole ++ l) (no_last (lines_of text).rest rest) ∙ append-nil (lines_of text).whole in
-    meets_to_none p.reading.fault p.consoles text p.reading.events e
+    subst (λ o. MeetsTo o p.reading.events (event_text p.consoles text)) (sym e)
     (ap (λ (ls : List (List ℕ)). answer (read_lines p.consoles start ls)) lines ∙ ap answer (sym f.0) ∙ answer_fine p.reading e)
 
 -- all lines are read where a last line that is begun is judged
@@ -263,4 +243,4 @@ meets_ends (Some g) text old new same e some why f = elim why [
 
 -- so it is where a last line that is begun is judged
 pub meets_last : (text : List ℕ) (old new : Progress) → old.reading.fault ≡ None → 0 < length old.partial → EndsLine old new → HasRead text old → Meets new.reading (event_text old.consoles text)
-meets_last text old new e some ends h = meets_ends new.reading.fault text old new refl e some ends (read_fine old.reading.fault text old e h)
+meets_last text old new e some ends h = meets_ends new.reading.fault text old new refl e some ends (subst (λ o. HasReadTo o text old) e h)

@@ -8,3 +8,4 @@ pub mod FormLemmas
 pub mod EntryLemmas
 pub mod ReadingLemmas
 pub mod LineLemmas
+pub mod SinkLemmas

@@ -1,3 +1,4 @@
 pub mod Words
 pub mod Guesses
 pub mod Lines
+pub mod Sinks

@@ -1,4 +1,4 @@
-//! Lines of a trace, printed and read.
+//! Lines of a trace, printed and read, and where they go.
 //!
 //! A trace has one line for each thing that an event shows: the number of the event and some words, with
 //! one space between two and a line feed at the end.
@@ -10,13 +10,17 @@
 
 mod forms;
 mod guesses;
+pub mod line_buffer;
 mod lines;
 pub mod notes;
 pub mod print;
 mod reading;
+pub mod sinks;
 mod words;
 
+pub use line_buffer::LineBuffer;
 pub use lines::next_line;
 pub use notes::{NoteWords, write_note};
 pub use print::{print_entry, write_entry};
 pub use reading::read_line;
+pub use sinks::{Sink, SinkFault, WriteSink, put_all};

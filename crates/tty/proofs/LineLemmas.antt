@@ -13,46 +13,39 @@ use Rattle.tty.specs.Lines.{cut, AreLines, TakesLine}
 rest_of : (n : ℕ) (ns bs : List ℕ) → sum (n ∷ ns) ≡ length bs → (n ≤ length bs) × (sum ns ≡ length (drop n bs))
 rest_of n ns bs e = let first = sum_by-cons (λ (x : ℕ). x) n ns in (omega (arith, e, first), omega (arith, e, first, length-drop n bs))
 
-pub cut-length : (ns bs : List ℕ) → length (cut ns bs) ≡ length ns
-cut-length [] bs = refl
-cut-length (n ∷ ns) bs = omega (arith, cut-length ns (drop n bs))
+pub cut_length : (ns bs : List ℕ) → length (cut ns bs) ≡ length ns
+cut_length [] bs = refl
+cut_length (n ∷ ns) bs = omega (arith, cut_length ns (drop n bs))
 
 -- the lines have all the bytes
-pub cut-waiting : (ns bs : List ℕ) → sum ns ≡ length bs → waiting (cut ns bs) ≡ length bs
+pub cut_waiting : (ns bs : List ℕ) → sum ns ≡ length bs → waiting (cut ns bs) ≡ length bs
 unfolding waiting
-cut-waiting [] bs e = e
-cut-waiting (n ∷ ns) bs e =
+cut_waiting [] bs e = e
+cut_waiting (n ∷ ns) bs e =
     let rest = rest_of n ns bs e in
-    omega (arith, sum_by-cons length (take n bs) (cut ns (drop n bs)), cut-waiting ns (drop n bs) rest.1, length-take n bs, length-drop n bs, rest.0)
+    omega (arith, sum_by-cons length (take n bs) (cut ns (drop n bs)), cut_waiting ns (drop n bs) rest.1, length-take n bs, length-drop n bs, rest.0)
 
-pub cut-short : (ns bs : List ℕ) → AllByRecursion (λ n. n ≤ most_in_line) ns → AllByRecursion IsShort (cut ns bs)
-cut-short [] bs a = tt
-cut-short (n ∷ ns) bs a = (omega (arith, a.0, length-take n bs), cut-short ns (drop n bs) a.1)
+pub cut_short : (ns bs : List ℕ) → AllByRecursion (λ n. n ≤ most_in_line) ns → AllByRecursion IsShort (cut ns bs)
+cut_short [] bs a = tt
+cut_short (n ∷ ns) bs a = (omega (arith, a.0, length-take n bs), cut_short ns (drop n bs) a.1)
 
 -- one more line
-pub cut-append : (ns bs line : List ℕ) → sum ns ≡ length bs → cut (ns ++ length line ∷ []) (bs ++ line) ≡ cut ns bs ++ line ∷ []
-cut-append [] [] line e = ap (λ l. l ∷ []) (take_all (length line) line (omega arith))
-cut-append [] (b ∷ bs) line e = absurd (omega (arith, e))
-cut-append (n ∷ ns) bs line e =
+pub cut_append : (ns bs line : List ℕ) → sum ns ≡ length bs → cut (ns ++ length line ∷ []) (bs ++ line) ≡ cut ns bs ++ line ∷ []
+cut_append [] [] line e = ap (λ l. l ∷ []) (take_all (length line) line (omega arith))
+cut_append [] (b ∷ bs) line e = absurd (omega (arith, e))
+cut_append (n ∷ ns) bs line e =
     let rest = rest_of n ns bs e in
     (λ i. take-append-le n bs line rest.0 i ∷ cut (ns ++ length line ∷ []) (drop-append-le n bs line rest.0 i))
-    ∙ ap (λ ls. take n bs ∷ ls) (cut-append ns (drop n bs) line rest.1)
+    ∙ ap (λ ls. take n bs ∷ ls) (cut_append ns (drop n bs) line rest.1)
 
 -- what is known of the lines of a queue
-pub cut-few : (ns bs : Buffer ℕ) → AreLines ns bs → AreFew (cut ns.items bs.items)
+pub cut_few : (ns bs : Buffer ℕ) → AreLines ns bs → AreFew (cut ns.items bs.items)
 unfolding waiting
-cut-few ns bs is = record {
-  count = omega (arith, cut-length ns.items bs.items, is.few);
-  bytes = omega (arith, cut-waiting ns.items bs.items is.all, is.few_bytes);
-  each = cut-short ns.items bs.items is.each;
+cut_few ns bs is = record {
+  count = omega (arith, cut_length ns.items bs.items, is.few);
+  bytes = omega (arith, cut_waiting ns.items bs.items is.all, is.few_bytes);
+  each = cut_short ns.items bs.items is.each;
 }
-
--- whether a line has room, by how many lengths and bytes there are
-pub cut-has_room : (ns bs : List ℕ) (lines : List (List ℕ)) (n a b : ℕ) → sum ns ≡ length bs → cut ns bs ≡ lines → a ≡ length ns → b ≡ length bs
-    → (nat_lt a most_lines && nat_le (b + n) most_waiting) ≡ (nat_lt (length lines) most_lines && nat_le (waiting lines + n) most_waiting)
-cut-has_room ns bs lines n a b e is is_a is_b =
-    (λ i. nat_lt ((is_a ∙ sym (cut-length ns bs)) i) most_lines && nat_le ((is_b ∙ sym (cut-waiting ns bs e)) i + n) most_waiting)
-    ∙ ap (λ (ls : List (List ℕ)). nat_lt (length ls) most_lines && nat_le (waiting ls + n) most_waiting) is
 
 -- a line of two parts
 pub room_of : (lines : List (List ℕ)) (line end : List ℕ) → (nat_lt (length lines) most_lines && nat_le (waiting lines + (length line + length end)) most_waiting) ≡ has_room (line ++ end) lines
@@ -102,8 +95,8 @@ pub pushed : (ns bs ns2 bs1 bs2 : Buffer ℕ) (lines : List (List ℕ)) (line en
 pushed ns bs ns2 bs1 bs2 lines line end m n are is room short is_m is_bs1 is_n is_bs2 is_ns2 =
     let parts = has_room_parts lines (line ++ end) room in
     let long = length-append line end in
-    let few : length ns.items < most_lines = omega (arith, parts.0, cut-length ns.items bs.items, ap (λ (ls : List (List ℕ)). length ls) is) in
-    let fits : length bs.items + (length line + length end) ≤ most_waiting = omega (arith, parts.1, long, cut-waiting ns.items bs.items are.all, ap waiting is) in
+    let few : length ns.items < most_lines = omega (arith, parts.0, cut_length ns.items bs.items, ap (λ (ls : List (List ℕ)). length ls) is) in
+    let fits : length bs.items + (length line + length end) ≤ most_waiting = omega (arith, parts.1, long, cut_waiting ns.items bs.items are.all, ap waiting is) in
     let new_bytes = appended_both bs bs1 bs2 line end m n (omega (arith, fits, are.room_for_bytes)) is_m is_bs1 is_n is_bs2 in
     let new_lengths = pushed_one ns ns2 (length line + length end) (omega (arith, few, are.room)) is_ns2 in
     let ns' = buffer (ns.items ++ (length line + length end) ∷ []) ns.capacity in
@@ -119,7 +112,7 @@ pushed ns bs ns2 bs1 bs2 lines line end m n are is room short is_m is_bs1 is_n i
       subst (λ (b : Buffer ℕ). AreLines ns2 b) (sym new_bytes) (subst (λ (a : Buffer ℕ). AreLines a bs') (sym new_lengths) known),
       (λ i. cut (new_lengths i).items (new_bytes i).items)
           ∙ ap (λ k. cut (ns.items ++ k ∷ []) (bs.items ++ (line ++ end))) (sym long)
-          ∙ cut-append ns.items bs.items (line ++ end) are.all
+          ∙ cut_append ns.items bs.items (line ++ end) are.all
           ∙ ap (λ ls. ls ++ (line ++ end) ∷ []) is,
     )
 
@@ -155,8 +148,8 @@ is_first ns bs n are e =
     }
 
 -- what is left of a line goes before the others
-cut-partial : (n k : ℕ) (ns bs : List ℕ) → k ≤ n → cut ((n - k) ∷ ns) (drop k bs) ≡ drop k (take n bs) ∷ cut ns (drop n bs)
-cut-partial n k ns bs within =
+cut_partial : (n k : ℕ) (ns bs : List ℕ) → k ≤ n → cut ((n - k) ∷ ns) (drop k bs) ≡ drop k (take n bs) ∷ cut ns (drop n bs)
+cut_partial n k ns bs within =
     let whole : k + (n - k) ≡ n = omega (arith, within) in
     λ i. (sym (drop-take k (n - k) bs) ∙ ap (λ m. drop k (take m bs)) whole) i ∷ cut ns ((drop-drop (n - k) k bs ∙ ap (λ m. drop m bs) whole) i)
 
@@ -214,7 +207,7 @@ left_partly ns bs ns1 bs1 ns2 lines out n k r are is e is_k all part is_ns1 is_b
     } in (
       subst (λ (b : Buffer ℕ). AreLines ns2 b) (sym bytes) (subst (λ (a : Buffer ℕ). AreLines a (buffer (drop k bs.items) bs.capacity)) (sym lengths) known),
       (λ i. cut (lengths i).items (bytes i).items)
-          ∙ cut-partial n k later bs.items (omega (arith, part))
+          ∙ cut_partial n k later bs.items (omega (arith, part))
           ∙ ap (λ m. drop m line ∷ cut later (drop n bs.items)) count
           ∙ sym (left_long (length out) line (cut later (drop n bs.items)) (omega (arith, long, count, part)))
           ∙ ap (lines_left (length out)) (sym first.is ∙ is),

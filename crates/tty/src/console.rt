@@ -81,6 +81,7 @@ impl Model for Console {
 
 impl Console {
     /// A console that nobody uses, with nothing typed; an error where the host has no memory for it.
+    #[tactic(auto, using(crate::proofs::LimitLemmas::few_none))]
     pub fn new(alloc: Global) -> Result<Console, AllocError>
         ensures { IfOk result (λ c. c ≡ unused_console) }
     {
@@ -241,7 +242,7 @@ impl Console {
     }
 
     /// Discards all input.
-    #[tactic(auto, unfolding(posix::specs::Consoles::flushed))]
+    #[tactic(auto, using(crate::proofs::LimitLemmas::few_none), unfolding(posix::specs::Consoles::flushed))]
     fn flush(&mut self)
         ensures { self.new ≡ flushed self.old }
     {

@@ -47,6 +47,7 @@ impl LineQueue {
     }
 
     /// Whether there is no line.
+    #[tactic(auto, using(crate::proofs::LineLemmas::cut_length, crate::proofs::LineLemmas::cut_few))]
     pub fn is_empty(&self) -> bool
         ensures is { result ≡ (length self.now == 0) }
         ensures limits { AreFew self.now }
@@ -55,6 +56,7 @@ impl LineQueue {
     }
 
     /// How many lines there are.
+    #[tactic(auto, using(crate::proofs::LineLemmas::cut_length))]
     pub fn len(&self) -> usize
         ensures { result ≡ length self.now }
     {
@@ -77,6 +79,7 @@ impl LineQueue {
     }
 
     /// Whether a line of so many bytes has room.
+    #[tactic(auto, using(crate::proofs::LineLemmas::cut_length, crate::proofs::LineLemmas::cut_waiting))]
     fn has_room(&self, len: usize) -> bool
         requires { len ≤ 256 }
         ensures { result ≡ (nat_lt (length self.now) most_lines && nat_le (waiting self.now + len) most_waiting) }
@@ -86,10 +89,11 @@ impl LineQueue {
     }
 
     /// Appends the line of these bytes and an end; without room nothing changes.
-    #[tactic(auto, using(crate::proofs::LineLemmas::room_of))]
+    #[tactic(auto, using(crate::proofs::LineLemmas::room_of, crate::proofs::LineLemmas::cut_few))]
     pub fn push(&mut self, line: &[u8], end: &[u8])
         requires { length line.now + length end.now ≤ 256 }
-        ensures { self.new ≡ (if has_room (line.now ++ end.now) self.old then self.old ++ (line.now ++ end.now) ∷ [] else self.old) }
+        ensures lines { self.new ≡ (if has_room (line.now ++ end.now) self.old then self.old ++ (line.now ++ end.now) ∷ [] else self.old) }
+        ensures limits { AreFew self.new }
     {
         let len = line.len() + end.len();
         if !self.has_room(len) {

@@ -4,13 +4,13 @@ ghost use Rattle.std.specs.Prelude.{◌≡◌, ◌+◌, ◌<ℤ◌, IfSome, None
 ghost use Rattle.posix.specs.Waits.{asked};
 
 use crate::listing::{Listing, Source};
-use crate::names::{
-    errno_name, put_action_flags, put_name, put_set, put_signal_word, put_status,
-    put_waitid_options, put_waitpid_options,
-};
+use crate::names::{put_flags_or, put_name, put_set, put_signal_word, put_status};
 use crate::prose::Prose;
 use crate::table::{Kind, name_of};
-use posix::{Asked, Bytes, Call, Register, SigSet, Status, WaitCall};
+use bitflags::Flags;
+use posix::{
+    Asked, Bytes, Call, Register, SaFlags, SigSet, Status, WaitCall, WaitOptions, WaitidOptions,
+};
 use std::fmt::Write;
 use umach::Cpu;
 
@@ -53,13 +53,6 @@ pub fn place_of(address: i64) -> Option<usize>
     usize::try_from(address.checked_sub(FIRST_ADDRESS)?).ok()
 }
 
-/// Writes how far a place is behind a label; nothing where it is right behind it.
-fn put_distance(text: &mut Prose, distance: usize) {
-    if distance != 0 {
-        text.push_with("+", distance);
-    }
-}
-
 /// Writes the label nearest before a place, and how far behind it the place is: `loop`, `loop+2`; nothing where no label
 /// stands before it. Whether one does.
 pub fn put_label(text: &mut Prose, source: Option<&Source<'_>>, place: usize, mark: &str) -> bool {
@@ -68,7 +61,9 @@ pub fn put_label(text: &mut Prose, source: Option<&Source<'_>>, place: usize, ma
     };
     text.push_str(mark);
     text.push_str(label.name);
-    put_distance(text, place.saturating_sub(label.place));
+    if place > label.place {
+        text.push_with("+", place - label.place);
+    }
     true
 }
 
@@ -96,20 +91,10 @@ pub fn put_address(text: &mut Prose, source: Option<&Source<'_>>, address: i64) 
     text.push_number(address);
 }
 
-/// Writes the handler in r2 of sigaction.
-fn put_handler(text: &mut Prose, source: Option<&Source<'_>>, word: i64) {
-    match name_of(Kind::Handler, word) {
-        Some(name) => text.push_str(name),
-        None => put_address(text, source, word),
-    }
-}
-
 /// Writes the program that a word names.
 fn put_program(text: &mut Prose, listing: &Listing<'_>, word: i64) {
-    let source = usize::try_from(word)
-        .ok()
-        .and_then(|number| listing.program(number));
-    match source {
+    let number = usize::try_from(word).ok();
+    match number.and_then(|number| listing.program(number)) {
         Some(source) => text.push_str(source.name),
         None => text.push_number(word),
     }
@@ -183,12 +168,20 @@ fn put_word(
         Word::Number => text.push_number(word),
         Word::Signal => put_signal_word(text, word),
         Word::Set => put_set(text, SigSet::from_word(word)),
-        Word::Options => put_waitpid_options(text, word),
-        Word::WaitidOptions => put_waitid_options(text, word),
+        Word::Options => put_flags_or(text, WaitOptions::from_bits(word.cast_unsigned()), word),
+        Word::WaitidOptions => {
+            put_flags_or(text, WaitidOptions::from_bits(word.cast_unsigned()), word);
+        }
         Word::Children => put_name(text, Kind::Children, word),
         Word::How => put_name(text, Kind::How, word),
-        Word::Handler => put_handler(text, source, word),
-        Word::Flags => put_action_flags(text, word),
+        Word::Handler => match name_of(Kind::Handler, word) {
+            Some(name) => text.push_str(name),
+            None => put_address(text, source, word),
+        },
+        Word::Flags => {
+            let flags = u32::try_from(word).ok().and_then(SaFlags::from_bits);
+            put_flags_or(text, flags, word);
+        }
         Word::Program => put_program(text, listing, word),
     }
 }
@@ -215,7 +208,7 @@ pub fn put_call(
 /// Writes the result of a call, with the name of an error.
 pub fn put_result(text: &mut Prose, value: i64) {
     text.push_with(" = ", value);
-    if let Some(name) = errno_name(value.saturating_neg()) {
+    if let Some(name) = name_of(Kind::Errno, value.saturating_neg()) {
         text.push_str(" ");
         text.push_str(name);
     }

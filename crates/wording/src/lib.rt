@@ -14,9 +14,7 @@ pub use arguments::{
     put_quoted, put_report, put_result,
 };
 pub use listing::{Label, Listing, Source, Written};
-pub use names::{
-    errno_name, put_flags, put_set, put_set_or_none, put_signal, put_status, signal_in,
-};
-pub use nearest::{Nearest, distance, meant};
+pub use names::{put_flags, put_set, put_set_or_none, put_signal, put_status, signal_in};
+pub use nearest::{distance, meant, nearest_name};
 pub use prose::Prose;
-pub use table::{Kind, SIGRTMIN, named};
+pub use table::{Kind, SIGRTMIN, name_of, named};

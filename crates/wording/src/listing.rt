@@ -2,7 +2,7 @@
 
 use std::alloc::{AllocError, Global};
 use std::str;
-use text::{is_separator, split_comment};
+use text::{Lines, is_separator, split_comment};
 
 /// An instruction as its world writes it.
 #[derive(Clone, Copy)]
@@ -67,13 +67,8 @@ impl<'t> Source<'t> {
 
     /// The label that stands nearest before the instruction at a place, or right before it.
     pub fn label_of(&self, place: usize) -> Option<Label<'t>> {
-        let mut nearest = None;
-        for label in &self.labels {
-            if label.place <= place {
-                nearest = Some(*label);
-            }
-        }
-        nearest
+        let before = self.labels.iter().filter(|label| label.place <= place);
+        before.last().copied()
     }
 
     /// Takes one of its lines, in their order.
@@ -96,9 +91,7 @@ impl<'t> Listing<'t> {
             programs: Vec::new(alloc),
         };
         let mut is_open = false;
-        let mut number = 0u64;
-        for line in text.split(|byte| *byte == b'\n') {
-            number = number.saturating_add(1);
+        for (number, line) in (1u64..).zip(Lines(text)) {
             let code = code_of(line);
             match first_words(code) {
                 ("", _) => {}

@@ -1,5 +1,7 @@
 //! Which name is meant by a word that is none.
 
+ghost use Rattle.std.specs.Iterator.{IsFinite};
+
 use crate::table::NAMES;
 use std::alloc::{AllocError, Global};
 use std::str;
@@ -25,69 +27,38 @@ pub fn distance(alloc: Global, word: &[u8], name: &[u8]) -> Result<Option<usize>
         return Ok(None);
     }
     let distance = osa_distance(alloc, word, name)?;
-    if distance > limit {
-        return Ok(None);
-    }
-    Ok(Some(distance))
+    Ok(Some(distance).filter(|distance| *distance <= limit))
 }
 
-/// The name that is nearest to a word, of those that were offered, if one is near; of several the first with the word's
-/// first letter.
-#[derive(Clone, Copy)]
-pub struct Nearest<'w, 'n> {
-    word: &'w [u8],
-    least: usize,
-    found: Option<&'n [u8]>,
-}
-
-impl<'w, 'n> Nearest<'w, 'n> {
-    /// No name was offered for a word.
-    pub fn new(word: &'w [u8]) -> Nearest<'w, 'n> {
-        Nearest {
-            word,
-            least: usize::MAX,
-            found: None,
-        }
-    }
-
-    /// Offers a name.
-    pub fn offer(&mut self, alloc: Global, name: &'n [u8]) -> Result<(), AllocError> {
-        let Some(distance) = distance(alloc, self.word, name)? else {
-            return Ok(());
+/// The one of some names that is nearest to a word, if one is near; of several the first with the word's first letter.
+pub fn nearest_name<'n, I: Iterator<Item = &'n [u8]> + Drop>(
+    alloc: Global,
+    word: &[u8],
+    names: I,
+) -> Result<Option<&'n [u8]>, AllocError>
+    requires can { I.can_next names }
+    requires ends { IsFinite (I.remaining names) }
+{
+    let mut least = usize::MAX;
+    let mut found = None;
+    for name in names {
+        let Some(distance) = distance(alloc, word, name)? else {
+            continue;
         };
-        let differs = usize::from(self.word.first() != name.first());
+        let differs = usize::from(word.first() != name.first());
         let rank = distance.saturating_mul(2).saturating_add(differs);
-        if rank < self.least {
-            self.least = rank;
-            self.found = Some(name);
+        if rank < least {
+            least = rank;
+            found = Some(name);
         }
-        Ok(())
     }
-
-    /// The nearest name.
-    pub fn found(self) -> Option<&'n [u8]> {
-        self.found
-    }
-}
-
-/// The name of a number that is nearest to a word, if one is near.
-fn nearest_known(alloc: Global, word: &[u8]) -> Result<Option<&'static [u8]>, AllocError> {
-    let mut nearest = Nearest::new(word);
-    for (_, name, _) in &NAMES {
-        nearest.offer(alloc, name.as_bytes())?;
-    }
-    Ok(nearest.found())
+    Ok(found)
 }
 
 /// The name that is a word behind these letters.
 fn name_behind(letters: &[u8], word: &[u8]) -> Option<&'static [u8]> {
-    for (_, name, _) in &NAMES {
-        let name = name.as_bytes();
-        if name.strip_prefix(letters) == Some(word) {
-            return Some(name);
-        }
-    }
-    None
+    let mut names = NAMES.iter().map(|(_, name, _)| name.as_bytes());
+    names.find(|name| name.strip_prefix(letters) == Some(word))
 }
 
 /// The letters that names of one kind begin with.
@@ -95,12 +66,9 @@ const BEGINNINGS: [&str; 6] = ["SIG", "SIG_", "SA_", "W", "E", "P_"];
 
 /// The name of which a word lacks the letters at the front.
 fn name_without_beginning(word: &[u8]) -> Option<&'static [u8]> {
-    for beginning in BEGINNINGS {
-        if let Some(name) = name_behind(beginning.as_bytes(), word) {
-            return Some(name);
-        }
-    }
-    None
+    BEGINNINGS
+        .iter()
+        .find_map(|letters| name_behind(letters.as_bytes(), word))
 }
 
 /// The name that is meant by a word that is none; none is where the word isn't UTF-8.
@@ -111,5 +79,9 @@ pub fn meant(alloc: Global, word: &[u8]) -> Result<Option<&'static [u8]>, AllocE
     if word.starts_with(b"SIGRT") {
         return Ok(Some(b"SIGRTMIN+1"));
     }
-    nearest_known(alloc, word)
+    nearest_name(
+        alloc,
+        word,
+        NAMES.iter().map(|(_, name, _)| name.as_bytes()),
+    )
 }

@@ -66,6 +66,7 @@ impl Prose {
     }
 
     /// Adds a piece and a word.
+    #[tactic(auto, using(crate::proofs::ProseLemmas::adds_then))]
     pub fn push_word(&mut self, piece: &str, word: &[u8])
         ensures { Adds (piece.now ++ word.now) self.old self.new }
     {
@@ -74,6 +75,7 @@ impl Prose {
     }
 
     /// Adds a word between two pieces.
+    #[tactic(auto, using(crate::proofs::ProseLemmas::adds_then))]
     pub fn push_around(&mut self, before: &str, word: &[u8], behind: &str)
         ensures { Adds ((before.now ++ word.now) ++ behind.now) self.old self.new }
     {
@@ -89,6 +91,7 @@ impl Prose {
     }
 
     /// Adds a piece and a number.
+    #[tactic(auto, using(crate::proofs::ProseLemmas::adds_then))]
     pub fn push_with<N: Integer>(&mut self, piece: &str, number: N)
         ensures { Adds (piece.now ++ N.text number) self.old self.new }
     {
@@ -156,11 +159,8 @@ impl Prose {
         ensures whole { is_ok result ≡ self.is_whole }
         ensures text { IfOk result (λ bytes. bytes.items ≡ self.text) }
     {
-        if self.is_whole {
-            Ok(self.text)
-        } else {
-            Err(AllocError)
-        }
+        self.as_bytes()?;
+        Ok(self.text)
     }
 }
 

@@ -96,20 +96,14 @@ pub const SIGRTMIN: u8 = 34;
 
 /// The kind and the number that a name is of; none where a word is no name in the table.
 pub fn named(word: &[u8]) -> Option<(Kind, i64)> {
-    for (kind, name, number) in &NAMES {
-        if name.as_bytes() == word {
-            return Some((*kind, *number));
-        }
-    }
-    None
+    let (kind, _, number) = NAMES.iter().find(|(_, name, _)| name.as_bytes() == word)?;
+    Some((*kind, *number))
 }
 
 /// The name that is shown for a number of a kind; none where it has none.
 pub fn name_of(kind: Kind, number: i64) -> Option<&'static str> {
-    for (other, name, named) in &NAMES {
-        if *other == kind && *named == number {
-            return Some(name);
-        }
-    }
-    None
+    let (_, name, _) = NAMES
+        .iter()
+        .find(|(of, _, known)| *of == kind && *known == number)?;
+    Some(*name)
 }

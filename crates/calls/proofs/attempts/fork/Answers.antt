@@ -1,6 +1,7 @@
-use Rattle.std.proofs.Common.{◌≡◌, ◌∙◌, ◌+◌, ap, sym, refl, subst, true, false, pos, rules, to_z, of_z, w64, Some, None}
+use Rattle.std.proofs.Common.{◌≡◌, ◌∙◌, ◌+◌, ap, sym, refl, subst, true, false, pos, rules, to_z, of_z, w64, Some, None, [], ◌∷◌}
 use Rattle.std.specs.Option.{IsSome}
 use Rattle.posix.specs.declared.call.Call.TheVariants.{Fork}
+use Rattle.posix.specs.declared.entry.Entry.TheVariants.{NoMemory}
 use Rattle.posix.specs.declared.errno.Errno.TheVariants.{EAGAIN}
 use Rattle.posix.specs.States.{State, process, next_pid}
 use Rattle.posix.specs.Outcomes.{refusal, finish_with, no_memory}
@@ -9,7 +10,7 @@ use Rattle.posix.specs.Attempts.{attempt}
 use Rattle.posix.proofs.OrderLemmas.{placed_some}
 use Rattle.posix.proofs.TableLemmas.{pid_looked}
 use Rattle.life.proofs.ViewLemmas.{state_is}
-use Rattle.calls.proofs.CallLemmas.{gives_is, wants_memory}
+use Rattle.calls.proofs.CallLemmas.{gives_is, shows_is}
 use Rattle.posix.proofs.RegularLemmas.{some_inserted}
 use Rattle.calls.proofs.attempts.fork.Goals as goal
 
@@ -62,5 +63,5 @@ returns-in-Err-clause-attempts g c = λ me e.
     let named = pid_looked c.args.pid s.processes me e in
     let some : next_pid s ≡ Some c.in-Some.child = sym c.next_pid.ensures.value ∙ c.in-Some.is in (
       false,
-      wants_memory s _ _ _ c.args.pid Fork _ _ _ (ap (fork_as false s me) some ∙ ap (λ q. no_memory s q Fork) named) c.refuse_memory.ensures.done c.refuse_memory.ensures.state (c.in-Err.ensures.err.state ∙ state_is c.next_pid.ensures.same) c.refuse_memory.ensures.shown,
+      shows_is s s _ _ _ c.args.pid ((0, refusal EAGAIN) ∷ []) (NoMemory c.args.pid Fork) _ _ _ (ap (fork_as false s me) some ∙ ap (λ q. no_memory s q Fork) named) c.refuse_memory.ensures.done c.refuse_memory.ensures.state (c.in-Err.ensures.err.state ∙ state_is c.next_pid.ensures.same) c.refuse_memory.ensures.shown,
     )

@@ -1,11 +1,12 @@
 use Rattle.std.proofs.Common.{◌∙◌, ap, sym, ◌==◌, ◌++◌, ◌∷◌, [], List, true, false}
 use Rattle.posix.specs.declared.entry.Entry.{Entry}
 use Rattle.posix.specs.declared.entry.Entry.TheVariants.{Discarded}
+use Rattle.posix.specs.Delivery.{act_by_default}
 use Rattle.posix.specs.Ends.{end_process}
 use Rattle.posix.proofs.TableLemmas.{pid_looked}
 use Rattle.life.proofs.SoundLemmas.{is_there}
 use Rattle.calls.proofs.CallLemmas.{outcome_of}
-use Rattle.calls.proofs.DeliveryLemmas.{default_ends, default_stops, shown_alone, by_default_if, default_rests}
+use Rattle.calls.proofs.DeliveryLemmas.{default_ends, shown_alone, by_default_if, default_rests}
 use Rattle.calls.proofs.delivery.act_by_default.Goals as goal
 
 pub end-requires-clause-there : goal.end-requires-clause-there
@@ -32,7 +33,7 @@ pub returns-in-Stop-clause-state : goal.returns-in-Stop-clause-state
 returns-in-Stop-clause-state g c = λ me e.
     let s = c.args.machine.now.state in
     let named = pid_looked c.args.pid s.processes me e in
-    default_stops s me c.args.sig (ap (λ n. n == 1) named ∙ sym c.eq.ensures ∙ c.if-eq.false) (sym c.default_action.ensures ∙ c.in-Stop.is) ∙ c.stop.ensures.state me e
+    by_default_if s me c.args.sig false (ap (λ n. n == 1) named ∙ sym c.eq.ensures ∙ c.if-eq.false) ∙ ap (act_by_default s me c.args.sig) (sym c.default_action.ensures ∙ c.in-Stop.is) ∙ c.stop.ensures.state me e
 
 pub returns-in-Ignore-clause-state : goal.returns-in-Ignore-clause-state
 returns-in-Ignore-clause-state g c = λ me e.

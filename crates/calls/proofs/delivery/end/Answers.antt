@@ -1,4 +1,4 @@
-use Rattle.std.proofs.Common.{◌≡◌, ℕ, ◌+◌, ◌≤◌, ◌∙◌, ap, sym, subst, arith, append_assoc, ◌==◌, ◌++◌, ◌∷◌, [], List, true, false}
+use Rattle.std.proofs.Common.{◌≡◌, ℕ, ◌+◌, ◌≤◌, ◌∙◌, ap, sym, refl, subst, arith, cond, ◌==◌, ◌++◌, ◌∷◌, [], List}
 use Rattle.std.proofs.Math.Nat.{le_trans}
 use Rattle.posix.specs.declared.entry.Entry.{Entry}
 use Rattle.posix.specs.declared.entry.Entry.TheVariants.{Ended, Halted}
@@ -25,35 +25,18 @@ pub end-requires-clause-heir : goal.end-requires-clause-heir
 end-requires-clause-heir g c = λ other. subst (CanInherit c.heir-heir.new.self.state.processes c.args.pid) (sym (c.heir-heir.ensures.heir ∙ ap (λ (t : State). heir_in t.processes c.args.pid) (sym c.heir-heir.ensures.same.state)))
     (heir_inherits c.heir-heir.new.self.state.processes c.args.pid)
 
-pub returns-then-eq-clause-state : goal.returns-then-eq-clause-state
-returns-then-eq-clause-state g c = λ me e.
+pub returns-clause-state : goal.returns-clause-state
+returns-clause-state g c = λ me e.
     end_hung c.args.machine.now.state c.heir-heir.new.self.state _ me c.args.pid c.heir-heir.result c.args.status e (c.heir-heir.ensures.same.state ∙ c.hang_up.ensures.state me e)
     (c.heir-heir.ensures.heir ∙ ap (λ (t : State). heir_in t.processes c.args.pid) (sym c.heir-heir.ensures.same.state)) c.end.ensures.state
 
-pub returns-else-eq-clause-state : goal.returns-else-eq-clause-state
-returns-else-eq-clause-state g c = λ me e.
-    end_hung c.args.machine.now.state c.heir-heir.new.self.state _ me c.args.pid c.heir-heir.result c.args.status e (c.heir-heir.ensures.same.state ∙ c.hang_up.ensures.state me e)
-    (c.heir-heir.ensures.heir ∙ ap (λ (t : State). heir_in t.processes c.args.pid) (sym c.heir-heir.ensures.same.state)) c.end.ensures.state
-
-pub returns-then-eq-clause-entries : goal.returns-then-eq-clause-entries
-returns-then-eq-clause-entries g c = λ me e.
+pub returns-clause-entries : goal.returns-clause-entries
+returns-clause-entries g c = λ me e.
     let s = c.args.machine.now.state in
-    let old = c.args.entries.now.items in
+    let status = c.args.status in
     let named = pid_looked c.args.pid s.processes me e in
-    c.push-then-eq.ensures.items
-    ∙ ap (λ (l : List Entry). l ++ Halted ∷ []) c.push.ensures.items
-    ∙ append_assoc old (Ended c.args.pid c.args.status ∷ []) (Halted ∷ [])
-    ∙ ap (λ n. old ++ Ended n c.args.status ∷ Halted ∷ []) (sym named)
-    ∙ ap (λ (l : List Entry). old ++ l) (sym (end_entries s me c.args.status true (ap (λ n. n == 1) named ∙ sym c.eq.ensures ∙ c.if-eq.true)))
-
-pub returns-else-eq-clause-entries : goal.returns-else-eq-clause-entries
-returns-else-eq-clause-entries g c = λ me e.
-    let s = c.args.machine.now.state in
-    let old = c.args.entries.now.items in
-    let named = pid_looked c.args.pid s.processes me e in
-    c.push.ensures.items
-    ∙ ap (λ n. old ++ Ended n c.args.status ∷ []) (sym named)
-    ∙ ap (λ (l : List Entry). old ++ l) (sym (end_entries s me c.args.status false (ap (λ n. n == 1) named ∙ sym c.eq.ensures ∙ c.if-eq.false)))
+    let shown = ap (λ n. cond (n == 1) (Ended n status ∷ Halted ∷ []) (Ended n status ∷ [])) (sym named) ∙ sym (end_entries s me status (me.pid == 1) refl) in
+    c.show_end.ensures ∙ ap (λ (l : List Entry). c.args.entries.now.items ++ l) shown
 
 -- what the three calls read, where the terminal was hung up first and then the heir was found
 read : (hung found : State) (me : Process) (p heir status before mid walked after hangup : ℕ) → me.pid ≡ p → found ≡ hung → heir ≡ heir_in hung.processes p → mid ≤ before + (1 + hangup) → walked ≤ mid + slots_of_heir hung.processes p → after ≤ walked + slots_of_ending found p heir status
@@ -63,28 +46,15 @@ read hung found me p heir status before mid walked after hangup named same is a 
     let ending = ap (λ (t : State). slots_of_ending t p heir status) same ∙ ap (λ n. slots_of_ending hung p n status) is ∙ ap (λ n. slots_of_ending hung n (heir_in hung.processes n) status) (sym named) in
     omega (arith, a, b, c, walk, ending)
 
-pub returns-then-eq-clause-visits : goal.returns-then-eq-clause-visits
-returns-then-eq-clause-visits g c = λ me e.
+pub returns-clause-visits : goal.returns-clause-visits
+returns-clause-visits g c = λ me e.
     let s = c.args.machine.now.state in
     let p = c.args.pid in
     let hung = c.hang_up.ensures.state me e in
     let walk = subst (λ (t : State). c.heir-heir.new.self.visits ≤ c.hang_up.new.self.visits + slots_of_heir t.processes p) hung c.heir-heir.ensures.visits in
     read (hang_up s me) c.heir-heir.new.self.state me p c.heir-heir.result c.args.status c.args.machine.now.visits c.hang_up.new.self.visits c.heir-heir.new.self.visits c.end.new.self.visits _ (pid_looked p s.processes me e) (c.heir-heir.ensures.same.state ∙ hung) (c.heir-heir.ensures.heir ∙ ap (λ (t : State). heir_in t.processes p) hung) (c.hang_up.ensures.costs me e).visits walk (omega (arith, c.end.ensures.visits))
 
-pub returns-else-eq-clause-visits : goal.returns-else-eq-clause-visits
-returns-else-eq-clause-visits g c = λ me e.
-    let s = c.args.machine.now.state in
-    let p = c.args.pid in
-    let hung = c.hang_up.ensures.state me e in
-    let walk = subst (λ (t : State). c.heir-heir.new.self.visits ≤ c.hang_up.new.self.visits + slots_of_heir t.processes p) hung c.heir-heir.ensures.visits in
-    read (hang_up s me) c.heir-heir.new.self.state me p c.heir-heir.result c.args.status c.args.machine.now.visits c.hang_up.new.self.visits c.heir-heir.new.self.visits c.end.new.self.visits _ (pid_looked p s.processes me e) (c.heir-heir.ensures.same.state ∙ hung) (c.heir-heir.ensures.heir ∙ ap (λ (t : State). heir_in t.processes p) hung) (c.hang_up.ensures.costs me e).visits walk (omega (arith, c.end.ensures.visits))
-
-pub returns-then-eq-clause-no_fewer : goal.returns-then-eq-clause-no_fewer
-returns-then-eq-clause-no_fewer g c =
-    let me = there _ c.requires.there in
-    le_trans (c.hang_up.ensures.costs me.what me.found).no_fewer (le_trans c.heir-heir.ensures.no_fewer c.end.ensures.no_fewer)
-
-pub returns-else-eq-clause-no_fewer : goal.returns-else-eq-clause-no_fewer
-returns-else-eq-clause-no_fewer g c =
+pub returns-clause-no_fewer : goal.returns-clause-no_fewer
+returns-clause-no_fewer g c =
     let me = there _ c.requires.there in
     le_trans (c.hang_up.ensures.costs me.what me.found).no_fewer (le_trans c.heir-heir.ensures.no_fewer c.end.ensures.no_fewer)

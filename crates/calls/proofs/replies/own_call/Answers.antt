@@ -1,6 +1,6 @@
 use Rattle.std.proofs.Common.{◌≡◌, rules, to_z, of_z, w64}
 use Rattle.calls.specs.Outcomes.{with_own}
-use Rattle.calls.proofs.ReplyLemmas.{answers_reply}
+use Rattle.calls.proofs.OwnLemmas.{answers_reply}
 use Rattle.calls.proofs.replies.own_call.Goals as goal
 
 pub returns-clause-answers : goal.returns-clause-answers

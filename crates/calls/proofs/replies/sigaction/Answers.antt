@@ -9,7 +9,7 @@ use Rattle.posix.specs.Sends.{signal_in}
 use Rattle.posix.specs.SignalCalls.{is_question, are_flags, give_signals, holding}
 use Rattle.proctable.specs.Records.{give_own}
 use Rattle.calls.specs.Outcomes.{Replies}
-use Rattle.calls.proofs.ReplyLemmas.{sigaction_unflagged, sigaction_sets}
+use Rattle.calls.proofs.OwnLemmas.{sigaction_unflagged, sigaction_sets}
 use Rattle.calls.proofs.replies.sigaction.Goals as goal
 
 pub returns-in_default-action_in : goal.returns-in_default-action_in

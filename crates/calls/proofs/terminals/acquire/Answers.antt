@@ -1,4 +1,4 @@
-use Rattle.std.proofs.Common.{rules, ◌≡◌, ◌∙◌, ap, sym, subst}
+use Rattle.std.proofs.Common.{◌≡◌, ◌∙◌, ap, sym, subst}
 use Rattle.std.specs.Option.{IsSome, IfSome}
 use Rattle.posix.specs.Consoles.{Console, console_of}
 use Rattle.posix.specs.States.{State, process}
@@ -29,9 +29,3 @@ pub finish_with-requires-clause-there : goal.finish_with-requires-clause-there
 finish_with-requires-clause-there g c =
     let console = session_read _ c.args.session c.requires.console_index in
     subst (λ (t : State). IsSome (process t c.args.me.now.pid)) (sym (c.acquire_console.ensures.state console.what console.found)) c.requires.there
-
-pub returns-then-not-may_acquire-clause-comes : goal.returns-then-not-may_acquire-clause-comes
-returns-then-not-may_acquire-clause-comes g c = search rules
-
-pub returns-clause-comes : goal.returns-clause-comes
-returns-clause-comes g c = search rules

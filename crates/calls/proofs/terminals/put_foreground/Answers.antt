@@ -49,6 +49,3 @@ returns-clause-comes g c = λ r e.
     ∙ ap (λ (n : ℕ). change_console s n (with_foreground c.in-Some-group_of.group)) session
     ∙ ap (λ (n : ℕ). change_console s r.session (with_foreground n)) (sym found.1) in
     gives_is s now _ _ _ me.pid Tcsetpgrp (pos 0) (pos 0) _ _ _ is c.finish_with.ensures.done c.finish_with.ensures.state state c.finish_with.ensures.shown refl
-
-pub returns-in_default-clause-comes : goal.returns-in_default-clause-comes
-returns-in_default-clause-comes g c = search rules

@@ -1,6 +1,6 @@
 use Rattle.std.proofs.Common.{◌∙◌, ℕ, ap, arith, to_z, w64, pos, List, length}
 use Rattle.std.proofs.lemmas.Int.{to_z_pos}
-use Rattle.calls.proofs.TransferLemmas.{moved_is}
+use Rattle.calls.proofs.TerminalCallLemmas.{moved_is}
 use Rattle.calls.proofs.transfers.finish_moved.Goals as goal
 
 pub returns-clause-comes : goal.returns-clause-comes

@@ -10,8 +10,7 @@ use Rattle.life.specs.declared.caller.Caller.{Caller}
 use Rattle.calls.specs.declared.outcome.Attempt.TheVariants as came
 use Rattle.calls.specs.Outcomes.{Comes}
 use Rattle.calls.specs.Terminals.{first_bytes}
-use Rattle.calls.proofs.TerminalCallLemmas.{in_session}
-use Rattle.calls.proofs.TransferLemmas.{console_there, moved_since, none_first, few_first, none_taken, read_none, read_some, after_read, pid_with_bytes}
+use Rattle.calls.proofs.TerminalCallLemmas.{in_session, console_there, moved_since, none_first, few_first, none_taken, read_none, read_some, after_read, pid_with_bytes}
 use Rattle.calls.proofs.transfers.read_line.Goals as goal
 
 pub take_bytes-requires-clause-session : goal.take_bytes-requires-clause-session

@@ -1,5 +1,5 @@
 use Rattle.std.proofs.Common.{◌∙◌, ap, arith, length-take, Some}
-use Rattle.calls.proofs.TransferLemmas.{console_there, as_many, are_first}
+use Rattle.calls.proofs.TerminalCallLemmas.{console_there, as_many, are_first}
 use Rattle.calls.proofs.transfers.take_bytes.Goals as goal
 
 pub slice_bounds-new-end : goal.slice_bounds-new-end

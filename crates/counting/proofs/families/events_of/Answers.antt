@@ -1,9 +1,12 @@
-use Rattle.std.proofs.Common.{arith}
-use Rattle.text.specs.EventTexts.{most_events}
-use Rattle.counting.proofs.PlacingLemmas.{short_schedule}
+use Rattle.std.proofs.Common.{◌≡◌, List, ap, arith, length}
+use Rattle.std.proofs.lemmas.Result.{IfOk-weaker}
+use Rattle.posix.specs.declared.event.Event.{Event}
+use Rattle.schedules.specs.Schedules.{scheduled}
+use Rattle.schedules.proofs.ScheduledLemmas.{length_scheduled}
 use Rattle.counting.proofs.families.events_of.Goals as goal
 
 pub returns-clause-len : goal.returns-clause-len
 returns-clause-len c =
     let f = c.args.family.now in
-    short_schedule c.scheduled.result f.loose.now f.events.now c.args.spots.now most_events c.scheduled.ensures (omega (arith, f.short, c.requires.few))
+    let ps = c.args.spots.now in
+    IfOk-weaker c.scheduled.result _ _ (λ (list : List Event) (is : list ≡ scheduled f.loose.now f.events.now ps). omega (arith, ap length is, length_scheduled f.loose.now f.events.now ps, f.short, c.requires.few)) c.scheduled.ensures

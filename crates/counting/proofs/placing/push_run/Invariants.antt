@@ -1,20 +1,20 @@
-use Rattle.std.proofs.Common.{◌≡◌, ◌+◌, ◌-◌, ◌≤◌, ◌++◌, List, length}
+use Rattle.std.proofs.Common.{◌≡◌, ℕ, ◌+◌, ◌-◌, ◌≤◌, ◌++◌, List, length}
 use Rattle.std.specs.Prelude.{replicate}
 use Rattle.posix.specs.declared.event.Event.{Event}
-use Rattle.schedules.specs.Schedules.{given, IsGiven}
+use Rattle.schedules.specs.Families.{RisesFrom}
+use Rattle.schedules.specs.Schedules.{from_front}
 use Rattle.counting.proofs.placing.push_run.Given as goal
 
--- the events up to the one with index done and what is put in at the first spots are given
-abbrev pub invariant-loop-used : goal.invariant-loop-used
-invariant-loop-used l = record {
-  placed : IsGiven (length l.loose) l.done l.used l.spots;
-  known : l.used ≤ length l.spots;
+-- the events before the one with index done and what is put in at the first spots are there, and the others are to come
+abbrev pub invariant-loop-spot : goal.invariant-loop-spot
+invariant-loop-spot l = record {
+  rising : (high : ℕ) → RisesFrom (length l.loose) l.start high l.spots → RisesFrom (length l.loose) l.done high l.rest;
   from : l.start ≤ l.done;
   within : l.done ≤ l.start + l.run.count;
-  len : length l.list ≡ l.done + l.used;
-  list : (before behind events : List Event) → events ≡ before ++ replicate l.run.count l.run.event ++ behind → length before ≡ l.start
-      → l.fn.list ≡ given l.loose l.start l.fn.used events l.spots → l.list ≡ given l.loose l.done l.used events l.spots;
+  len : length l.list + (l.start + l.run.count) + length l.rest ≡ length l.fn.list + l.run.count + length l.spots + l.done;
+  list : (behind : List Event) → l.list ++ from_front l.loose l.done (replicate (l.start + l.run.count - l.done) l.run.event ++ behind) l.rest
+      ≡ l.fn.list ++ from_front l.loose l.start (replicate l.run.count l.run.event ++ behind) l.spots;
 }
 
-abbrev pub decreases-loop-used : goal.decreases-loop-used
-decreases-loop-used l = length l.spots - l.used
+abbrev pub decreases-loop-spot : goal.decreases-loop-spot
+decreases-loop-spot l = length l.rest

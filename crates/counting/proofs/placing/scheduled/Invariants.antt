@@ -1,14 +1,14 @@
-use Rattle.std.proofs.Common.{◌≡◌, ◌+◌, ◌≤◌, length, take}
+use Rattle.std.proofs.Common.{◌≡◌, ◌+◌, ◌++◌, drop, length, take}
 use Rattle.text.specs.EventLists.{expanded}
-use Rattle.schedules.specs.Schedules.{given, IsGiven}
+use Rattle.schedules.specs.Families.{RisesFrom}
+use Rattle.schedules.specs.Schedules.{from_front, scheduled}
 use Rattle.counting.proofs.placing.scheduled.Given as goal
 
--- the events of the runs before this one and what is put in before them are given
+-- the events of the runs before this one and what is put in before them are there, and the others are to come
 abbrev pub invariant-loop-run : goal.invariant-loop-run
 invariant-loop-run l = record {
-  placed : IsGiven (length l.loose) l.given l.used l.spots;
-  known : l.used ≤ length l.spots;
-  at : l.given ≡ length (expanded (take l.run-index l.run-items));
-  len : length l.list ≡ l.given + l.used;
-  list : l.list ≡ given l.loose l.given l.used l.events l.spots;
+  at : l.start ≡ length (expanded (take l.run-index l.run-items));
+  rising : RisesFrom (length l.loose) l.start (length l.events) l.rest;
+  len : length l.list + length l.rest ≡ l.start + length l.spots;
+  list : l.list ++ from_front l.loose l.start (expanded (drop l.run-index l.run-items)) l.rest ≡ scheduled l.loose l.events l.spots;
 }

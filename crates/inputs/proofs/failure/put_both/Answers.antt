@@ -1,4 +1,4 @@
-use Rattle.sink.proofs.SinkLemmas.{break_on, on_err}
+use Rattle.trace.proofs.SinkLemmas.{break_on, on_err}
 use Rattle.inputs.proofs.PutLemmas.{break_behind}
 use Rattle.inputs.proofs.failure.put_both.Goals as goal
 

@@ -4,7 +4,7 @@ use Rattle.posix.specs.Tables.{lookup}
 use Rattle.posix.proofs.WalkLemmas.{at_child}
 use Rattle.pidset.proofs.AnchorLemmas.{turned_none, turned_one}
 use Rattle.jobs.specs.Indexes.{child_key}
-use Rattle.jobs.proofs.ChildLemmas.{first_kid, sibling_is}
+use Rattle.jobs.proofs.ChildLemmas.{first_kid}
 use Rattle.jobs.proofs.anchors.update_anchors_of_children.Goals as goal
 
 pub loop-next-init : goal.loop-next-init
@@ -31,7 +31,7 @@ update_anchor-requires-clause-within g c = rw (c.loop-next.invariant.sizes, c.lo
 pub loop-next-smaller : goal.loop-next-smaller
 loop-next-smaller g c =
     let i = at_child _ c.requires.kin.rising c.args.pid c.in-Some.child (rw c.in-Some.is at c.loop-next.invariant.begins) in
-    rw (c.next_child-next-in-Some.ensures _ c.requires.kin c.requires.there ∙ sibling_is c.args.pid c.in-Some.child _ i, c.in-Some.is, i.left) (omega arith)
+    rw (c.next_child-next-in-Some.ensures _ c.requires.kin c.requires.there, c.in-Some.is, i.left) (omega arith)
 
 pub loop-next-preserved : goal.loop-next-preserved
 loop-next-preserved g c =
@@ -39,7 +39,7 @@ loop-next-preserved g c =
     let l = c.loop-next.invariant in
     let i = at_child rs c.requires.kin.rising c.args.pid c.in-Some.child (rw c.in-Some.is at l.begins) in
     let put = c.update_anchor.ensures in
-    rw (c.next_child-next-in-Some.ensures rs c.requires.kin c.requires.there ∙ sibling_is c.args.pid c.in-Some.child rs i) record {
+    rw (c.next_child-next-in-Some.ensures rs c.requires.kin c.requires.there) record {
       contents = put.contents ∙ l.contents;
       room = put.costs.room ∙ l.room;
       sizes = put.sizes ∙ l.sizes;

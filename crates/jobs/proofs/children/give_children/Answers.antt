@@ -7,7 +7,7 @@ use Rattle.pidset.proofs.AnchorLemmas.{turned_none, turned_one}
 use Rattle.proctable.specs.Records.{with_parent}
 use Rattle.jobs.specs.Indexes.{anchor_in, child_key}
 use Rattle.jobs.proofs.AnchorLemmas.{number_within}
-use Rattle.jobs.proofs.ChildLemmas.{all_adopted, first_kid, key_read, key_within, one_adopted, one_left, sibling_is, still_there}
+use Rattle.jobs.proofs.ChildLemmas.{all_adopted, first_kid, key_read, key_within, one_adopted, one_left, still_there}
 use Rattle.jobs.proofs.children.give_children.Goals as goal
 
 pub loop-next-init : goal.loop-next-init
@@ -48,7 +48,7 @@ put-requires-clause-list g c =
 pub loop-next-smaller : goal.loop-next-smaller
 loop-next-smaller g c =
     let i = at_child _ c.requires.kin.rising c.args.from c.in-Some.child (rw c.in-Some.is at c.loop-next.invariant.begins) in
-    rw (c.next_child-next-in-Some.ensures _ c.requires.kin c.requires.there ∙ sibling_is c.args.from c.in-Some.child _ i, c.in-Some.is, i.left) (omega arith)
+    rw (c.next_child-next-in-Some.ensures _ c.requires.kin c.requires.there, c.in-Some.is, i.left) (omega arith)
 
 pub loop-next-preserved : goal.loop-next-preserved
 loop-next-preserved g c =
@@ -59,7 +59,7 @@ loop-next-preserved g c =
     let i = at_child rs up c.args.from c.in-Some.child (rw c.in-Some.is at l.begins) in
     let moved = c.set_parent.ensures in
     let key = c.anchor_key.ensures ∙ ap (λ w. anchor_in w (Some heir)) c.of_snapshot-it.ensures ∙ key_read c.args.from c.args.to c.in-Some.child rs _ heir c.set_parent.result l.rising i (rw c.in-Some.is at l.left) moved.value in
-    rw (c.next_child-next-in-Some.ensures rs c.requires.kin c.requires.there ∙ sibling_is c.args.from c.in-Some.child rs i) record {
+    rw (c.next_child-next-in-Some.ensures rs c.requires.kin c.requires.there) record {
       rising = rw moved.contents (rising_changed c.in-Some.child (with_parent c.args.to) (λ r. refl) _ l.rising);
       adopted = ap (adopted c.args.from c.args.to) moved.contents ∙ one_adopted c.args.from c.args.to c.in-Some.child _ _ i.what up i.found i.parent l.adopted;
       left = ap (children_in c.args.from) moved.contents ∙ one_left c.args.from c.args.to c.in-Some.child _ _ c.requires.apart up i (rw c.in-Some.is at l.left);

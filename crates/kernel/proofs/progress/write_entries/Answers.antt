@@ -4,7 +4,7 @@ use Rattle.posix.specs.declared.entry.Entry.{Entry}
 use Rattle.posix.specs.Entries.{line, reports_end}
 use Rattle.posix.specs.Printing.{printed}
 use Rattle.kernel.proofs.RunLemmas.{line_gathered, line_broken, ends_more}
-use Rattle.sink.proofs.SinkLemmas.{on_err}
+use Rattle.trace.proofs.SinkLemmas.{on_err}
 use Rattle.kernel.proofs.progress.write_entries.Goals as goal
 
 pub loop-entry-preserved : goal.loop-entry-preserved

@@ -1,7 +1,7 @@
 use Rattle.std.proofs.Common.{◌≡◌, take}
 use Rattle.posix.specs.Entries.{numbered, reported}
 use Rattle.posix.specs.Printing.{print}
-use Rattle.sink.specs.Sinks.{Gathers}
+use Rattle.trace.specs.Sinks.{Gathers}
 use Rattle.kernel.proofs.progress.write_entries.Given as goal
 
 abbrev pub invariant-loop-entry : goal.invariant-loop-entry

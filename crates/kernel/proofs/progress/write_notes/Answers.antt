@@ -4,7 +4,7 @@ use Rattle.posix.specs.Printing.{printed}
 use Rattle.life.specs.declared.noted_bursts.Note.{Note}
 use Rattle.kernel.specs.Steps.{note_line}
 use Rattle.kernel.proofs.RunLemmas.{line_gathered, line_broken}
-use Rattle.sink.proofs.SinkLemmas.{on_err}
+use Rattle.trace.proofs.SinkLemmas.{on_err}
 use Rattle.kernel.proofs.progress.write_notes.Goals as goal
 
 pub loop-note-preserved : goal.loop-note-preserved

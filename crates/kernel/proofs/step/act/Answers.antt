@@ -1,24 +1,23 @@
-use Rattle.std.proofs.Common.{subst, ◌≡◌, ◌≢◌, ◌∙◌, ap, sym, true, Some, None, option_map, List, ◌++◌}
+use Rattle.std.proofs.Common.{subst, ◌≡◌, ◌≢◌, ◌∙◌, ap, sym, true, Some, None, List, ◌++◌}
 use Rattle.posix.specs.declared.entry.Entry.{Entry}
 use Rattle.posix.specs.SignalNumbers.{KILL}
 use Rattle.posix.specs.Statuses.{killed}
 use Rattle.posix.specs.Choice.{chosen}
 use Rattle.posix.specs.Ends.{end_process}
 use Rattle.proctable.specs.declared.snapshot.Snapshot.{Snapshot}
-use Rattle.proctable.specs.Records.{snapshot_of}
+use Rattle.life.proofs.SoundLemmas.{snapshot_are}
 use Rattle.calls.proofs.CallLemmas.{same_outcome}
 use Rattle.calls.proofs.ChosenLemmas.{act_killed, act_blocked, act_delivers, act_runs, kill_chosen, no_kill_chosen, chosen_is, chosen_not}
 use Rattle.std.specs.Option.{IfSome}
 use Rattle.calls.specs.Outcomes.{CostsWithRechecks}
 use Rattle.kernel.specs.Counts.{slots_of_acting}
-use Rattle.kernel.proofs.CallCountLemmas.{acting_blocked}
+use Rattle.kernel.proofs.CountLemmas.{acting_blocked}
 use Rattle.kernel.proofs.step.act.Goals as goal
 
 pub returns-then-eq-clause-acts : goal.returns-then-eq-clause-acts
 returns-then-eq-clause-acts g c = λ me e.
     let s = c.args.machine.now.state in
-    let told : Some c.args.snapshot ≡ Some (snapshot_of me) = c.requires.snapshot ∙ ap (option_map snapshot_of) e in
-    let is : c.args.snapshot ≡ snapshot_of me = cc in
+    let is = snapshot_are _ me c.args.snapshot c.requires.snapshot e in
     let takes : chosen me.life me.signals ≡ Some KILL = ap (λ (f : Snapshot). f.chosen) (sym is) ∙ chosen_is c.args.snapshot.chosen KILL (sym c.eq.ensures ∙ c.if-eq.true) in (
       true,
       act_killed true s me (kill_chosen me.life me.signals takes)
@@ -30,8 +29,7 @@ returns-then-eq-clause-acts g c = λ me e.
 pub returns-in-Some-clause-acts : goal.returns-in-Some-clause-acts
 returns-in-Some-clause-acts g c = λ me e.
     let s = c.args.machine.now.state in
-    let told : Some c.args.snapshot ≡ Some (snapshot_of me) = c.requires.snapshot ∙ ap (option_map snapshot_of) e in
-    let is : c.args.snapshot ≡ snapshot_of me = cc in
+    let is = snapshot_are _ me c.args.snapshot c.requires.snapshot e in
     let other : chosen me.life me.signals ≢ Some KILL = λ k. chosen_not c.args.snapshot.chosen KILL (sym c.eq.ensures ∙ c.if-eq.false) (ap (λ (f : Snapshot). f.chosen) is ∙ k) in
     let in_call : me.blocked ≡ Some c.in-Some.blocked = ap (λ (f : Snapshot). f.blocked) (sym is) ∙ c.in-Some.is in
     (true, act_blocked true s me c.in-Some.blocked (no_kill_chosen me.life me.signals other) in_call ∙ c.go_on.ensures.goes_on me e)
@@ -39,8 +37,7 @@ returns-in-Some-clause-acts g c = λ me e.
 pub returns-in-Some-chosen-clause-acts : goal.returns-in-Some-chosen-clause-acts
 returns-in-Some-chosen-clause-acts g c = λ me e.
     let s = c.args.machine.now.state in
-    let told : Some c.args.snapshot ≡ Some (snapshot_of me) = c.requires.snapshot ∙ ap (option_map snapshot_of) e in
-    let is : c.args.snapshot ≡ snapshot_of me = cc in
+    let is = snapshot_are _ me c.args.snapshot c.requires.snapshot e in
     let other : chosen me.life me.signals ≢ Some KILL = λ k. chosen_not c.args.snapshot.chosen KILL (sym c.eq.ensures ∙ c.if-eq.false) (ap (λ (f : Snapshot). f.chosen) is ∙ k) in
     let free : me.blocked ≡ None = ap (λ (f : Snapshot). f.blocked) (sym is) ∙ c.in_default.is in
     let takes : chosen me.life me.signals ≡ Some c.in-Some-chosen.sig = ap (λ (f : Snapshot). f.chosen) (sym is) ∙ c.in-Some-chosen.is in
@@ -48,20 +45,14 @@ returns-in-Some-chosen-clause-acts g c = λ me e.
 
 pub returns-in-None-clause-acts : goal.returns-in-None-clause-acts
 returns-in-None-clause-acts g c = λ me e.
-    let s = c.args.machine.now.state in
-    let told : Some c.args.snapshot ≡ Some (snapshot_of me) = c.requires.snapshot ∙ ap (option_map snapshot_of) e in
-    let is : c.args.snapshot ≡ snapshot_of me = cc in
-    let other : chosen me.life me.signals ≢ Some KILL = λ k. chosen_not c.args.snapshot.chosen KILL (sym c.eq.ensures ∙ c.if-eq.false) (ap (λ (f : Snapshot). f.chosen) is ∙ k) in
-    let free : me.blocked ≡ None = ap (λ (f : Snapshot). f.blocked) (sym is) ∙ c.in_default.is in
-    let none : chosen me.life me.signals ≡ None = ap (λ (f : Snapshot). f.chosen) (sym is) ∙ c.in-None.is in
+    let is = snapshot_are _ me c.args.snapshot c.requires.snapshot e in
     let ran = c.run_instruction.ensures.runs me e in
-    (ran.0, act_runs ran.0 s me (no_kill_chosen me.life me.signals other) free none ∙ ran.1)
+    (ran.0, act_runs ran.0 c.args.machine.now.state me (ap (λ (f : Snapshot). f.blocked) (sym is) ∙ c.in_default.is) (ap (λ (f : Snapshot). f.chosen) (sym is) ∙ c.in-None.is) ∙ ran.1)
 
 pub returns-in-Some-clause-brief : goal.returns-in-Some-clause-brief
 returns-in-Some-clause-brief g c = λ me e quiet.
     let old = c.args.machine.now in
-    let told : Some c.args.snapshot ≡ Some (snapshot_of me) = c.requires.snapshot ∙ ap (option_map snapshot_of) e in
-    let is : c.args.snapshot ≡ snapshot_of me = cc in
+    let is = snapshot_are _ me c.args.snapshot c.requires.snapshot e in
     let in_call : me.blocked ≡ Some c.in-Some.blocked = ap (λ (f : Snapshot). f.blocked) (sym is) ∙ c.in-Some.is in
     subst (λ b. IfSome (slots_of_acting old.state me b) (λ n. CostsWithRechecks n old c.go_on.new.machine)) (sym in_call)
     (acting_blocked old.state me c.in-Some.blocked (λ n. CostsWithRechecks n old c.go_on.new.machine)

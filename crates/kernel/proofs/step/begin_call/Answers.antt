@@ -6,18 +6,17 @@ use Rattle.posix.specs.declared.waits.WaitCall.{WaitCall}
 use Rattle.posix.specs.Calls.{wait_in}
 use Rattle.posix.specs.Processes.{Process}
 use Rattle.posix.specs.Waits.{wait_by}
-use Rattle.std.proofs.lemmas.Option.{same_Some}
+use Rattle.std.proofs.lemmas.Option.{same_Some, IfSome_then}
 use Rattle.posix.specs.States.{State, change, lose_place, process}
 use Rattle.posix.specs.Attempts.{attempt}
 use Rattle.posix.specs.Step.{begin_call, enter}
 use Rattle.posix.proofs.TableLemmas.{pid_looked}
 use Rattle.calls.proofs.CallLemmas.{block_is, same_outcome}
 use Rattle.std.specs.Option.{IfSome}
-use Rattle.std.proofs.lemmas.Option.{IfSome_then}
 use Rattle.calls.specs.Outcomes.{CostsWithRechecks, slots_of_brief}
 use Rattle.calls.proofs.BriefLemmas.{brief_more, brief_on, brief_visits, quiet_on}
 use Rattle.kernel.specs.Counts.{slots_of_blocking}
-use Rattle.kernel.proofs.CallCountLemmas.{brief_call, wait_reads}
+use Rattle.kernel.proofs.CountLemmas.{brief_call, wait_reads}
 use Rattle.kernel.proofs.step.begin_call.Goals as goal
 
 -- a call that is a wait is attempted as one

@@ -1,22 +1,31 @@
-use Rattle.std.proofs.Common.{◌≡◌, Some, true, false, not, arith, ◌∙◌, ap, sym, subst, is_some, []}
-use Rattle.posix.specs.States.{State, process, change, lose_place}
+use Rattle.std.proofs.Common.{◌≡◌, Some, true, false, not, arith, ◌∙◌, ap, sym, subst, is_some, [], ℕ, inl, inr}
+use Rattle.posix.specs.Processes.{Process}
+use Rattle.posix.specs.States.{State, process, change, lose_place, is_in}
 use Rattle.posix.specs.declared.process.Blocked.{Blocked}
-use Rattle.posix.specs.Outcomes.{Attempted}
+use Rattle.posix.specs.Outcomes.{Attempted, silent, Again}
 use Rattle.posix.specs.Waits.{wait_by}
 use Rattle.posix.specs.Settle.{is_block, can_go_on}
 use Rattle.life.specs.Rechecks.{is_in_wait}
 use Rattle.calls.specs.Outcomes.{IsActing}
 use Rattle.calls.proofs.BriefLemmas.{brief_on, brief_visits, quiet_on}
-use Rattle.kernel.proofs.CallCountLemmas.{nothing_delivered}
-use Rattle.posix.specs.Regular.{IsPlaced}
-use Rattle.posix.specs.Outcomes.{silent}
+use Rattle.kernel.proofs.CountLemmas.{nothing_delivered}
+use Rattle.posix.specs.Regular.{IsPlaced, IsRegular}
 use Rattle.posix.specs.Attempts.{attempt_again}
 use Rattle.posix.specs.Step.{go_on, deliver_or, out_of_call}
 use Rattle.posix.proofs.TableLemmas.{pid_looked}
 use Rattle.life.proofs.LoanLemmas.{was_written}
 use Rattle.calls.proofs.CallLemmas.{block_is, again_is, same_outcome}
-use Rattle.kernel.proofs.AgainLemmas.{placed_again}
+use Rattle.posix.specs.SignalNumbers.{TTIN, TTOU}
+use Rattle.posix.proofs.ConsoleLemmas.{regular_signalled_group}
+use Rattle.laws.proofs.AgainLemmas.{again_begins_again}
 use Rattle.kernel.proofs.step.go_on.Goals as goal
+
+-- a call that is taken up and begins again signals a process group, and changes nothing else: who has a place is there then
+placed_again : (s t : State) (p : ℕ) (me : Process) (b : Blocked) → IsRegular s → is_in p s.order ≡ true → attempt_again s me b ≡ Again t → IsPlaced t.processes p
+placed_again s t p me b i place e = elim (again_begins_again s me b t e).1 [
+  | inl reads ↦ subst (λ (x : State). IsPlaced x.processes p) (sym reads) ((regular_signalled_group TTIN me.group s i).placed p place)
+  | inr writes ↦ subst (λ (x : State). IsPlaced x.processes p) (sym writes) ((regular_signalled_group TTOU me.group s i).placed p place)
+]
 
 pub own-requires : goal.own-requires
 own-requires g c =
@@ -36,19 +45,12 @@ returns-in-Again-clause-goes_on g c = λ me e.
     (ap (λ n. change t n out_of_call) named
     ∙ sym (was_written t c.args.pid c.own.result.now c.leave.new.self out_of_call c.own.ensures.regular c.own.ensures.value c.leave.ensures)) (sym c.requires.none ∙ sym a.1)
 
-pub deliver-requires-clause-placed : goal.deliver-requires-clause-placed
-deliver-requires-clause-placed g c =
+pub deliver-requires : goal.deliver-requires
+deliver-requires g c =
     let s = c.args.machine.now.state in
     let me = c.requires.acting.placed in
     let b = block_is s (attempt_again s me.what c.args.blocked) c.in-Block.field-0 c.args.entries.now.items c.attempt_again.new.entries.items c.attempt_again.new.machine.state (c.in-Block.ensures.comes me.what me.found) in
-    subst (λ (t : State). IsPlaced t.processes c.args.pid) (sym b.2) me
-
-pub deliver-requires-clause-none : goal.deliver-requires-clause-none
-deliver-requires-clause-none g c =
-    let s = c.args.machine.now.state in
-    let me = c.requires.acting.placed in
-    let b = block_is s (attempt_again s me.what c.args.blocked) c.in-Block.field-0 c.args.entries.now.items c.attempt_again.new.entries.items c.attempt_again.new.machine.state (c.in-Block.ensures.comes me.what me.found) in
-    b.1 ∙ c.requires.none
+    record { placed = subst (λ (t : State). IsPlaced t.processes c.args.pid) (sym b.2) me; none = b.1 ∙ c.requires.none }
 
 pub returns-in-None-clause-goes_on : goal.returns-in-None-clause-goes_on
 returns-in-None-clause-goes_on g c = λ me e.
@@ -60,32 +62,19 @@ returns-in-None-clause-goes_on g c = λ me e.
     ∙ same_outcome (lose_place s me.pid) c.wait_on.new.machine.state [] c.attempt_again.new.entries.items
     (ap (lose_place s) named ∙ ap (λ (t : State). lose_place t c.args.pid) (sym b.2) ∙ sym c.wait_on.ensures.state) (sym (b.1 ∙ c.requires.none))
 
-pub wait_on-requires-clause-acting : goal.wait_on-requires-clause-acting
-wait_on-requires-clause-acting g c =
-    let me = c.requires.acting.placed in
-    let b = block_is _ (attempt_again c.args.machine.now.state me.what c.args.blocked) c.in-Block.field-0 c.args.entries.now.items c.attempt_again.new.entries.items c.attempt_again.new.machine.state (c.in-Block.ensures.comes me.what me.found) in
-    subst (λ (t : State). IsActing t c.args.pid) (sym b.2) c.requires.acting
-
-pub wait_on-requires-clause-none_chosen : goal.wait_on-requires-clause-none_chosen
-wait_on-requires-clause-none_chosen g c = λ me e.
-    let it = c.requires.acting.placed in
-    let b = block_is _ (attempt_again c.args.machine.now.state it.what c.args.blocked) c.in-Block.field-0 c.args.entries.now.items c.attempt_again.new.entries.items c.attempt_again.new.machine.state (c.in-Block.ensures.comes it.what it.found) in
-    sym (c.requires.signal me (ap (λ (t : State). process t c.args.pid) (sym b.2) ∙ e)) ∙ c.in-None.is
-
-pub wait_on-requires-clause-blocked : goal.wait_on-requires-clause-blocked
-wait_on-requires-clause-blocked g c = λ me e waits.
-    let it = c.requires.acting.placed in
-    let b = block_is _ (attempt_again c.args.machine.now.state it.what c.args.blocked) c.in-Block.field-0 c.args.entries.now.items c.attempt_again.new.entries.items c.attempt_again.new.machine.state (c.in-Block.ensures.comes it.what it.found) in
-    ap is_in_wait (c.requires.blocked me (ap (λ (t : State). process t c.args.pid) (sym b.2) ∙ e)) ∙ sym c.is_wait-waits.ensures ∙ waits
-
-pub wait_on-requires-clause-waits : goal.wait_on-requires-clause-waits
-wait_on-requires-clause-waits g c = λ me e waits.
+pub wait_on-requires : goal.wait_on-requires
+wait_on-requires g c =
     let s = c.args.machine.now.state in
     let it = c.requires.acting.placed in
-    let b = block_is s (attempt_again s it.what c.args.blocked) c.in-Block.field-0 c.args.entries.now.items c.attempt_again.new.entries.items c.attempt_again.new.machine.state (c.in-Block.ensures.comes it.what it.found) in
-    let here = ap (λ (t : State). process t c.args.pid) (sym b.2) ∙ e in
-    let d = block_is s (attempt_again s me c.args.blocked) c.in-Block.field-0 c.args.entries.now.items c.attempt_again.new.entries.items c.attempt_again.new.machine.state (c.in-Block.ensures.comes me here) in
-    subst (λ (t : State). can_go_on t me me.blocked ≡ false) (sym b.2) (ap (can_go_on s me) (c.requires.blocked me here) ∙ ap (λ (a : Attempted). not (is_block a)) d.0)
+    let came = λ (me : Process) (e : process s c.args.pid ≡ Some me). block_is s (attempt_again s me c.args.blocked) c.in-Block.field-0 c.args.entries.now.items c.attempt_again.new.entries.items c.attempt_again.new.machine.state (c.in-Block.ensures.comes me e) in
+    let same = (came it.what it.found).2 in
+    let here = λ (me : Process) (e : process c.attempt_again.new.machine.state c.args.pid ≡ Some me). ap (λ (t : State). process t c.args.pid) (sym same) ∙ e in
+    record {
+      acting = subst (λ (t : State). IsActing t c.args.pid) (sym same) c.requires.acting;
+      none_chosen = λ me e. sym (c.requires.signal me (here me e)) ∙ c.in-None.is;
+      blocked = λ me e waits. ap is_in_wait (c.requires.blocked me (here me e)) ∙ sym c.is_wait-waits.ensures ∙ waits;
+      waits = λ me e waits. subst (λ (t : State). can_go_on t me me.blocked ≡ false) (sym same) (ap (can_go_on s me) (c.requires.blocked me (here me e)) ∙ ap (λ (a : Attempted). not (is_block a)) (came me (here me e)).0);
+    }
 
 pub returns-in-Done-clause-brief : goal.returns-in-Done-clause-brief
 returns-in-Done-clause-brief g c = λ me e quiet call is nothing. c.attempt_again.ensures.brief (ap (λ (b : Blocked). is_in_wait (Some b)) is) quiet

@@ -1,8 +1,10 @@
-use Rattle.std.proofs.Common.{sym, subst}
+use Rattle.std.proofs.Common.{◌+◌, ◌*◌, ◌∙◌, None, length, sym, subst, arith}
 use Rattle.std.specs.Option.{IfSome}
 use Rattle.posix.specs.declared.event.Event.{Event}
 use Rattle.kernel.specs.Counts.{ReadsAtMost, slots_of_event}
-use Rattle.kernel.proofs.CountLemmas.{step_reads, key_reads, hangup_reads}
+use Rattle.life.specs.Consoles.{foreground_members}
+use Rattle.calls.proofs.CountLemmas.{rechecks_brief}
+use Rattle.kernel.proofs.CountLemmas.{key_slots, step_reads, settling_rechecks}
 use Rattle.kernel.proofs.step.happen.Goals as goal
 
 pub returns-in-Step-clause-cost : goal.returns-in-Step-clause-cost
@@ -16,11 +18,15 @@ returns-in-Key-clause-cost g c = λ rest.
     let old = c.args.machine.now in
     let new = c.key.new.self in
     subst (λ (e : Event). IfSome (slots_of_event e old.state) (λ n. ReadsAtMost n old new)) (sym c.in-Key.is)
-    (key_reads c.in-Key.console c.in-Key.byte old new rest c.key.ensures.costs.visits c.key.ensures.foregrounds_unchecked (c.key.ensures.brief rest.none rest.settled.awake))
+    (let few = c.key.ensures.brief rest.none rest.settled.awake in
+    settling_rechecks (3 * length (foreground_members c.in-Key.console old.state)) (2 * length new.to_recheck) old new (c.key.ensures.foregrounds_unchecked ∙ rest.checked) (rechecks_brief new.state.processes None new.to_recheck few.0)
+    (omega (arith, c.key.ensures.costs.visits, key_slots c.in-Key.console c.in-Key.byte old, few.1)))
 
 pub returns-in-Hangup-clause-cost : goal.returns-in-Hangup-clause-cost
 returns-in-Hangup-clause-cost g c = λ rest.
     let old = c.args.machine.now in
     let new = c.hangup.new.self in
     subst (λ (e : Event). IfSome (slots_of_event e old.state) (λ n. ReadsAtMost n old new)) (sym c.in-Hangup.is)
-    (hangup_reads c.in-Hangup.console old new rest c.hangup.ensures.costs.visits c.hangup.ensures.foregrounds_unchecked (c.hangup.ensures.brief rest.none rest.settled.awake))
+    (let few = c.hangup.ensures.brief rest.none rest.settled.awake in
+    settling_rechecks (4 + 2 * length (foreground_members c.in-Hangup.console old.state)) (2 * length new.to_recheck) old new (c.hangup.ensures.foregrounds_unchecked ∙ rest.checked) (rechecks_brief new.state.processes None new.to_recheck few.0)
+    (omega (arith, c.hangup.ensures.costs.visits, few.1)))

@@ -1,5 +1,4 @@
-use Rattle.kernel.proofs.HeadlineLemmas.{answered, ok_holds}
-use Rattle.kernel.proofs.AccountLemmas.{all_accounts}
+use Rattle.kernel.proofs.HeadlineLemmas.{answered, ok_holds, all_accounts}
 use Rattle.kernel.proofs.texts.run_on.Goals as goal
 
 pub returns-clause-headline : goal.returns-clause-headline

@@ -1,7 +1,6 @@
 use Rattle.std.specs.Prelude.{Result, Ok, Err}
 use Rattle.std.specs.Result.{IfOk}
-use Rattle.kernel.proofs.AccountLemmas.{world_least}
-use Rattle.kernel.proofs.HeadlineLemmas.{ok_holds}
+use Rattle.kernel.proofs.HeadlineLemmas.{world_least, ok_holds}
 use Rattle.kernel.proofs.texts.run_read.Goals as goal
 
 pub returns-clause-headline : goal.returns-clause-headline

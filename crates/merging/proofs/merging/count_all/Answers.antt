@@ -1,6 +1,7 @@
-use Rattle.std.proofs.Common.{length, refl}
+use Rattle.std.proofs.Common.{Some, length, refl}
+use Rattle.std.proofs.lemmas.List.Elements.{All-pop}
 use Rattle.merging.specs.Merging.{IsNode, counted_all, texts_of}
-use Rattle.merging.proofs.NodeCountLemmas.{counted_more, events_fit, of_last, of_others}
+use Rattle.merging.proofs.NodeCountLemmas.{counted_more, events_fit}
 use Rattle.merging.proofs.merging.count_all.Goals as goal
 
 pub loop-node-init : goal.loop-node-init
@@ -14,7 +15,7 @@ count_node-requires c =
     let before = l.nodes.items in
     let rest = c.pop.new.self.items in
     let n = c.in-Some.node in
-    let is = of_last (IsNode s f.upto 0) before rest n c.in-Some.ensures.items l.invariant.nodes in
+    let is = (All-pop (IsNode s f.upto 0) before rest (Some n) c.in-Some.ensures.items l.invariant.nodes).1 in
     record {
       few = events_fit s f.upto 0 (length c.args.events.now) n is c.requires.few f.short;
       regular = is.regular;
@@ -34,6 +35,6 @@ loop-node-preserved c =
     let i = l.invariant in
     let one = c.in_ok-count_node.ensures in
     record {
-      nodes = of_others (IsNode s s.family.now.upto 0) before rest n is i.nodes;
+      nodes = (All-pop (IsNode s s.family.now.upto 0) before rest (Some n) is i.nodes).0;
       all = counted_more texts events before rest n l.book c.count_node.new.book (counted_all texts events c.args.nodes.now.items c.args.book.now) is one i.all;
     }

@@ -1,6 +1,6 @@
-use Rattle.std.proofs.Common.{◌∙◌, sym}
-use Rattle.merging.specs.Merging.{most_of, outlook_of}
-use Rattle.merging.proofs.RowLemmas.{one_row, one_row_tally}
+use Rattle.std.proofs.Common.{◌∙◌, ap, sym}
+use Rattle.merging.specs.Merging.{nodes_tally}
+use Rattle.merging.proofs.RowLemmas.{nodes_of_one, one_row}
 use Rattle.merging.proofs.merging.reach.Goals as goal
 
 pub loop-place-init : goal.loop-place-init
@@ -9,7 +9,7 @@ loop-place-init g c =
     let none = c.new-rows.ensures.items in
     record {
       rows = one_row s 0 c.new-rows.result.items c.push_row.new.rows.items c.args.first none c.in_ok-push_row.ensures c.requires.nodes;
-      tally = λ has. one_row_tally (outlook_of has s 0) (most_of s) c.new-rows.result.items c.push_row.new.rows.items c.args.first none c.in_ok-push_row.ensures;
+      tally = λ has. ap (nodes_tally has s 0) (nodes_of_one c.new-rows.result.items c.push_row.new.rows.items c.args.first none c.in_ok-push_row.ensures);
     }
 
 pub rows_behind-requires-clause-event : goal.rows_behind-requires-clause-event

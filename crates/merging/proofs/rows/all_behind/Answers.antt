@@ -1,6 +1,6 @@
 use Rattle.std.proofs.Common.{◌≡◌, ◌+◌, ◌<◌, ap, arith, length, subst, sym}
 use Rattle.std.specs.List.{All}
-use Rattle.merging.specs.Merging.{AreRows, IsNode, most_of, outlook_of}
+use Rattle.merging.specs.Merging.{AreRows, IsNode, most_of}
 use Rattle.merging.proofs.RowLemmas.{rows_begin, rows_end}
 use Rattle.merging.proofs.rows.all_behind.Goals as goal
 
@@ -14,8 +14,7 @@ loop-spots-init c =
       nodes = subst (λ n. All (IsNode s c.args.place n) c.take_row-row.result.nodes.items) (sym none) taken.0;
       rows = subst (λ n. AreRows s c.args.place (n + 1) c.take_row-row.new.rows.items) (sym none) taken.1;
       next = subst (AreRows s (c.args.place + 1) 0) (sym c.requires.none) tt;
-      tally = λ has. rows_begin has s c.args.place c.take_row-row.result.nodes.items c.args.rows.now.items c.take_row-row.new.rows.items c.args.next.now.items c.requires.none
-          (c.take_row-row.ensures.tally (outlook_of has s c.args.place) (most_of s));
+      tally = λ has. rows_begin has s c.args.place c.take_row-row.result.nodes.items c.args.rows.now.items c.take_row-row.new.rows.items c.args.next.now.items c.requires.none c.take_row-row.ensures.nodes;
     }
 
 pub returns-clause-tally : goal.returns-clause-tally

@@ -1,6 +1,6 @@
 use Rattle.std.proofs.Common.{◌≡◌, ◌+◌, arith, length, subst, sym}
 use Rattle.std.specs.List.{All}
-use Rattle.merging.specs.Merging.{AreRows, IsNode, most_of, outlook_of}
+use Rattle.merging.specs.Merging.{AreRows, IsNode}
 use Rattle.merging.proofs.RowLemmas.{one_longer, row_goes_on, rows_more}
 use Rattle.merging.proofs.rows.row_behind.Goals as goal
 
@@ -38,4 +38,4 @@ pub returns-in-Ok-push_row-clause-tally : goal.returns-in-Ok-push_row-clause-tal
 returns-in-Ok-push_row-clause-tally c = λ has.
     let s = c.args.search.now in
     row_goes_on has s c.args.place c.args.row.nodes.items c.take_row-more.result.nodes.items c.spread_row.new.more.nodes.items c.args.rows.now.items c.take_row-more.new.rows.items c.args.next.now.items c.push_row.new.rows.items c.in-Ok.behind
-    (c.take_row-more.ensures.tally (outlook_of has s c.args.place) (most_of s)) (c.in-Ok.ensures.tally has) c.in-Ok-push_row.ensures
+    c.take_row-more.ensures.nodes (c.in-Ok.ensures.tally has) c.in-Ok-push_row.ensures

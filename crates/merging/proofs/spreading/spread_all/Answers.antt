@@ -1,8 +1,9 @@
-use Rattle.std.proofs.Common.{◌∙◌, ap, sym}
+use Rattle.std.proofs.Common.{◌∙◌, ℕ, Some, ap, sym}
+use Rattle.std.specs.List.{All}
+use Rattle.std.proofs.lemmas.List.Elements.{All-pop}
 use Rattle.counting.specs.Tallies.{both}
 use Rattle.merging.specs.Merging.{IsNode, most_of, outlook_of, tally_around, tally_of_node, tally_of_nodes}
 use Rattle.merging.proofs.LayerLemmas.{tallies_more}
-use Rattle.merging.proofs.NodeCountLemmas.{of_last, of_others}
 use Rattle.merging.proofs.TallyLemmas.{both_regrouped, both_swapped}
 use Rattle.merging.proofs.spreading.spread_all.Goals as goal
 
@@ -11,7 +12,7 @@ spread-requires-clause-node c =
     let l = c.loop-node in
     let r = c.requires.nodes in (
       r.0,
-      of_last (IsNode c.args.search.now c.args.place r.0) l.nodes.items c.pop.new.self.items c.in-Some.node c.in-Some.ensures.items (l.invariant.nodes r.0 r.1),
+      (All-pop (IsNode c.args.search.now c.args.place r.0) l.nodes.items c.pop.new.self.items (Some c.in-Some.node) c.in-Some.ensures.items (l.invariant.nodes r.0 r.1)).1,
       l.invariant.more r.0 r.1 r.2,
       l.invariant.next r.0 r.1 r.3,
     )
@@ -25,10 +26,11 @@ loop-node-preserved c =
     let n = c.in-Some.node in
     let is = c.in-Some.ensures.items in
     let e = c.in_ok-spread.ensures in
+    let parts = λ (least : ℕ) (all : All (IsNode s place least) c.args.nodes.now.items). All-pop (IsNode s place least) l.nodes.items rest (Some n) is (l.invariant.nodes least all) in
     record {
-      nodes = λ least all. of_others (IsNode s place least) l.nodes.items rest n is (l.invariant.nodes least all);
-      more = λ least all above. e.more least (of_last (IsNode s place least) l.nodes.items rest n is (l.invariant.nodes least all)) (l.invariant.more least all above);
-      next = λ least all later. e.next least (of_last (IsNode s place least) l.nodes.items rest n is (l.invariant.nodes least all)) (l.invariant.next least all later);
+      nodes = λ least all. (parts least all).0;
+      more = λ least all above. e.more least (parts least all).1 (l.invariant.more least all above);
+      next = λ least all later. e.next least (parts least all).1 (l.invariant.next least all later);
       tally = λ has.
           let go_on = outlook_of has s place in
           let here = tally_of_node go_on (most_of s) n in

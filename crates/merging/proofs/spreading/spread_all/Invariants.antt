@@ -1,15 +1,17 @@
 use Rattle.std.proofs.Common.{◌≡◌, ◌+◌, ℕ, length}
 use Rattle.std.specs.List.{All}
 use Rattle.counting.specs.Tallies.{both}
-use Rattle.merging.specs.Merging.{AreKept, IsNode, Property, nodes_tally, tally_around}
+use Rattle.merging.specs.Merging.{IsNode, Property, nodes_tally, tally_around}
 use Rattle.merging.proofs.spreading.spread_all.Given as goal
 
 -- the nodes that are left, and those that went on so far, tell what all did
 abbrev pub invariant-loop-node : goal.invariant-loop-node
 invariant-loop-node l = record {
-  nodes : (least : ℕ) → AreKept l.search l.place least l.fn.nodes.items l.nodes.items;
-  more : (least : ℕ) → All (IsNode l.search l.place least) l.fn.nodes.items → AreKept l.search l.place (least + 1) l.fn.more.nodes.items l.more.nodes.items;
-  next : (least : ℕ) → All (IsNode l.search l.place least) l.fn.nodes.items → AreKept l.search (l.place + 1) least l.fn.next.nodes.items l.next.nodes.items;
+  nodes : (least : ℕ) → All (IsNode l.search l.place least) l.fn.nodes.items → All (IsNode l.search l.place least) l.nodes.items;
+  more : (least : ℕ) → All (IsNode l.search l.place least) l.fn.nodes.items → All (IsNode l.search l.place (least + 1)) l.fn.more.nodes.items
+      → All (IsNode l.search l.place (least + 1)) l.more.nodes.items;
+  next : (least : ℕ) → All (IsNode l.search l.place least) l.fn.nodes.items → All (IsNode l.search (l.place + 1) least) l.fn.next.nodes.items
+      → All (IsNode l.search (l.place + 1) least) l.next.nodes.items;
   tally : (has : Property) → both (tally_around has l.search l.place l.more.nodes.items l.next.nodes.items) (nodes_tally has l.search l.place l.nodes.items)
       ≡ both (tally_around has l.search l.place l.fn.more.nodes.items l.fn.next.nodes.items) (nodes_tally has l.search l.place l.fn.nodes.items);
 }

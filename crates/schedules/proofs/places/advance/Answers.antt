@@ -8,5 +8,5 @@ returns c =
     let places = c.args.places.now in
     let at = c.in-Some.at in
     let sum : at + (length places - at) ≡ length places = omega (arith, within) in
-    let are = same_from at (length places - at) _ places c.go_to.new.places sum c.go_to.ensures in
+    let are = same_from at (length places - at) _ places c.fill.new.self sum (c.fill.ensures.after (λ y same. same)) in
     (goes_on c.args.upto at (length places - at) places within sum early none ∙ ap Some (sym are), grind (arith, are))

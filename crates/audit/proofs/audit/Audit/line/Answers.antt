@@ -1,6 +1,6 @@
-use Rattle.std.proofs.Common.{◌≡◌, sym, ◌∙◌, subst, Some, Err}
+use Rattle.std.proofs.Common.{◌≡◌, refl, sym, ◌∙◌, subst, Some, Err}
 use Rattle.audit.specs.Knowing.{AuditView, IsRead, StaysWith}
-use Rattle.audit.proofs.KnowLemmas.{ok_read, memory_read, new_read, refused_read, first_read, remembers}
+use Rattle.audit.proofs.KnowLemmas.{ok_read, memory_read, new_read, refused_read, first_read}
 use Rattle.audit.proofs.ViewLemmas.{view_of}
 use Rattle.audit.proofs.audit.Audit.line.Goals as goal
 
@@ -16,7 +16,7 @@ returns-then-ne-clause-refused c = λ f same other.
     let new : AuditView = c.read-answer.new.self in
     let read : IsRead c.args.line.now (Err c.in-Err.fault) c.args.self.now new = subst (λ r. IsRead c.args.line.now r c.args.self.now new) c.in-Err.is c.read-answer.ensures in
     let stays : StaysWith (Some c.in-Err.fault) c.args.self.now (view_of c.self-2.inside.known c.self-2.inside.last c.self-2.inside.phase (Some c.in-Err.fault)) =
-    subst (λ (v : AuditView). StaysWith (Some c.in-Err.fault) c.args.self.now (record v { fault = Some c.in-Err.fault })) (sym c.self-2.view_is) (remembers c.in-Err.fault c.args.self.now new read.stays) in (
+    subst (λ (v : AuditView). StaysWith (Some c.in-Err.fault) c.args.self.now (record v { fault = Some c.in-Err.fault })) (sym c.self-2.view_is) (record { kept = read.stays.kept; last = read.stays.last; phase = read.stays.phase; fault = refl }) in (
       subst (λ g. StaysWith (Some g) c.args.self.now (view_of c.self-2.inside.known c.self-2.inside.last c.self-2.inside.phase (Some c.in-Err.fault))) fault stays,
       refused_read c.args.line.now c.in-Err.fault c.args.self.now new (λ e. other (sym fault ∙ e)) read,
     )

@@ -14,21 +14,21 @@ pub put_in-requires-clause-linked : goal.put_in-requires-clause-linked
 put_in-requires-clause-linked c = c.in_ok-begin.ensures.ok.linked
 
 pub put_in-requires-clause-apart : goal.put_in-requires-clause-apart
-put_in-requires-clause-apart c = begun_apart c.args.pid c.newborn.result c.self.inside.records.entries c.begin.new.records.entries c.in_ok-begin.ensures.ok
+put_in-requires-clause-apart c = begun_apart c.args.pid c.self.inside.records.entries c.begin.new.records.entries c.in_ok-begin.ensures.ok
 
 pub put_in-requires-clause-there : goal.put_in-requires-clause-there
-put_in-requires-clause-there c = begun_there c.args.pid c.newborn.result c.self.inside.records.entries c.begin.new.records.entries c.in_ok-begin.ensures.ok
+put_in-requires-clause-there c = begun_there c.args.pid c.self.inside.records.entries c.begin.new.records.entries c.in_ok-begin.ensures.ok
 
 pub put_in-requires-clause-parent : goal.put_in-requires-clause-parent
 put_in-requires-clause-parent c = λ two.
-    begun_others c.args.pid c.args.parent c.newborn.result c.self.inside.records.entries c.begin.new.records.entries c.in_ok-begin.ensures.ok
+    begun_others c.args.pid c.args.parent c.self.inside.records.entries c.begin.new.records.entries c.in_ok-begin.ensures.ok
     (there_by_life c.self.inside.records.entries c.args.parent (subst (λ es. lives_now (kept_by es c.args.parent) ≡ true) (sym c.self.view_is) c.requires.parent))
 
 pub invariant_of-self-2 : goal.invariant_of-self-2
 invariant_of-self-2 c =
-    sound_birth c.args.pid c.args.parent c.newborn.result c.self.inside.may_be_marked c.self.inside.records.entries c.begin.new.records.entries c.put_in.new.records.entries c.newborn.ensures c.in_ok-begin.ensures.ok c.put_in.ensures c.self.invariant
+    sound_birth c.args.pid c.args.parent c.self.inside.may_be_marked c.self.inside.records.entries c.begin.new.records.entries c.put_in.new.records.entries c.in_ok-begin.ensures.ok c.put_in.ensures c.self.invariant
 
 pub returns-clause-ok : goal.returns-clause-ok
 returns-clause-ok c = λ n.
-    born_kept c.args.pid c.args.parent c.newborn.result c.self.inside.records.entries c.begin.new.records.entries c.put_in.new.records.entries c.newborn.ensures c.in_ok-begin.ensures.ok c.put_in.ensures n
+    born_kept c.args.pid c.args.parent c.self.inside.records.entries c.begin.new.records.entries c.put_in.new.records.entries c.in_ok-begin.ensures.ok c.put_in.ensures n
     ∙ ap (λ es. if c.args.pid == n then newborn c.args.parent else kept_by es n) c.self.view_is

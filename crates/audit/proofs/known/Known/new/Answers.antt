@@ -1,7 +1,7 @@
 use Rattle.std.proofs.Common.{ap, ◌∙◌}
 use Rattle.audit.specs.Records.{record_in, has_mark_now}
 use Rattle.audit.proofs.ChildLemmas.{no_links}
-use Rattle.audit.proofs.KeptLemmas.{first_kept, first_said, first_unmarked}
+use Rattle.audit.proofs.KeptLemmas.{first_kept, first_unmarked}
 use Rattle.audit.proofs.known.Known.new.Goals as goal
 
 pub begin-requires-clause-linked : goal.begin-requires-clause-linked
@@ -10,8 +10,8 @@ begin-requires-clause-linked c = no_links (record_in c.with_hasher-records.resul
 pub invariant_of-result : goal.invariant_of-result
 invariant_of-result c = (
   c.in_ok-begin.ensures.ok.linked,
-  λ e q. ap has_mark_now (first_kept c.newborn.result c.with_hasher-records.result.entries c.begin.new.records.entries c.with_hasher-records.ensures.empty c.newborn.ensures c.in_ok-begin.ensures.ok q) ∙ first_unmarked q,
+  λ e q. ap has_mark_now (first_kept c.with_hasher-records.result.entries c.begin.new.records.entries c.with_hasher-records.ensures.empty c.in_ok-begin.ensures.ok q) ∙ first_unmarked q,
 )
 
 pub returns : goal.returns
-returns c = λ n. first_kept c.newborn.result c.with_hasher-records.result.entries c.begin.new.records.entries c.with_hasher-records.ensures.empty c.newborn.ensures c.in_ok-begin.ensures.ok n ∙ first_said n
+returns c = λ n. first_kept c.with_hasher-records.result.entries c.begin.new.records.entries c.with_hasher-records.ensures.empty c.in_ok-begin.ensures.ok n

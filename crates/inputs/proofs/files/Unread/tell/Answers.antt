@@ -1,5 +1,5 @@
 use Rattle.std.proofs.Common.{[], ◌∷◌, ◌++◌, codes}
-use Rattle.sink.proofs.SinkLemmas.{break_on, on_err}
+use Rattle.trace.proofs.SinkLemmas.{break_on, on_err}
 use Rattle.inputs.proofs.PutLemmas.{break_behind, take_behind}
 use Rattle.inputs.proofs.files.Unread.tell.Goals as goal
 

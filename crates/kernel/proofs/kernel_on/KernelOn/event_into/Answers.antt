@@ -6,7 +6,6 @@ use Rattle.kernel.specs.Counts.{CountsOne}
 use Rattle.kernel.specs.Views.{KernelView}
 use Rattle.kernel.proofs.EventLemmas.{counts_on}
 use Rattle.posix.specs.NextPid.{is_free}
-use Rattle.laws.specs.Agree.{Agree}
 use Rattle.laws.proofs.AgreeRuns.{step_agrees, step_orderly}
 use Rattle.laws.proofs.FormStays.{step_formed}
 use Rattle.laws.proofs.RefusalLemmas.{birth_free}
@@ -34,18 +33,17 @@ returns-clause-halted g c = λ e.
 pub returns-clause-settled : goal.returns-clause-settled
 returns-clause-settled g c = settled_stays c.self.inside.machine.state c.next.new.machine.state c.args.event _ c.next.ensures.step c.self.invariant.2
 
-pub returns-clause-orderly : goal.returns-clause-orderly
-returns-clause-orderly g c = step_orderly c.self.inside.machine.state c.next.new.machine.state c.args.event _ c.next.ensures.step c.range_holds.ensures c.self.invariant.3 c.self.invariant.6
-
-pub returns-clause-forms : goal.returns-clause-forms
-returns-clause-forms g c =
-    step_formed c.self.inside.machine.state c.next.new.machine.state c.args.event _ c.next.ensures.step c.self.invariant.3 c.self.invariant.6.kinds c.range_holds.ensures c.self.inside.events
-    (subst (λ (k : KernelView). k.events < 1000000000000) (sym c.self.view_is) c.requires.few)
-
-pub returns-clause-agrees : goal.returns-clause-agrees
-returns-clause-agrees g c = λ lines a.
-    step_agrees c.self.inside.machine.state c.next.new.machine.state c.args.event _ c.next.ensures.step c.self.invariant.3 c.self.invariant.6.turns lines c.self.inside.events
-    (subst (λ (k : KernelView). Agree lines k.events k.state) (sym c.self.view_is) a)
+pub returns-clause-tells : goal.returns-clause-tells
+returns-clause-tells g c =
+    let old = c.self.invariant in
+    let s = c.self.inside.machine.state in
+    let t = c.next.new.machine.state in
+    let step = c.next.ensures.step in
+    rw (← c.self.view_is) (record {
+      orderly = step_orderly s t c.args.event _ step c.range_holds.ensures old.3 old.6;
+      forms = step_formed s t c.args.event _ step old.3 old.6.kinds c.range_holds.ensures c.self.inside.events (subst (λ (k : KernelView). k.events < 1000000000000) (sym c.self.view_is) c.requires.few);
+      agrees = λ lines a. step_agrees s t c.args.event _ step old.3 old.6.turns lines c.self.inside.events a;
+    })
 
 pub returns-clause-no_number_is_given_out_twice : goal.returns-clause-no_number_is_given_out_twice
 returns-clause-no_number_is_given_out_twice g c = λ e n shown born.

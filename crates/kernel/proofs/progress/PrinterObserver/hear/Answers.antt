@@ -3,7 +3,7 @@ use Rattle.kernel.proofs.RunLemmas.{lines_broken, prints_both}
 use Rattle.posix.specs.Entries.{numbered}
 use Rattle.kernel.specs.PrintLaws.{lines_break}
 use Rattle.kernel.specs.Steps.{noted_lines}
-use Rattle.sink.proofs.SinkLemmas.{on_err}
+use Rattle.trace.proofs.SinkLemmas.{on_err}
 use Rattle.kernel.proofs.progress.PrinterObserver.hear.Goals as goal
 
 pub returns-in_err-write_notes-clause-err : goal.returns-in_err-write_notes-clause-err

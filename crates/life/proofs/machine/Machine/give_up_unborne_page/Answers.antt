@@ -2,7 +2,7 @@ use Rattle.std.proofs.Common.{ap, sym, ◌∙◌, subst}
 use Rattle.posix.proofs.TableLemmas.{pid_looked}
 use Rattle.pidset.specs.Lists.{ListsView}
 use Rattle.pidset.specs.Rows.{IsOnAnotherPage, sizes_without}
-use Rattle.sched.specs.Places.{Places}
+use Rattle.pidalloc.specs.Places.{Places}
 use Rattle.jobs.proofs.ReadLemmas.{processes_of}
 use Rattle.life.specs.Machines.{MachineView}
 use Rattle.life.proofs.PageLemmas.{apart, machine_left, same_rows}

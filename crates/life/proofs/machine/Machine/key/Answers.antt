@@ -4,15 +4,15 @@ use Rattle.posix.specs.States.{State}
 use Rattle.posix.specs.Step.{signalled_from}
 use Rattle.life.specs.Machines.{MachineView}
 use Rattle.life.proofs.TakingLemmas.{brief_none, brief_group}
-use Rattle.life.proofs.ConsoleLemmas.{lent_at, key_nowhere, key_past, key_on_it, slots_of_signalled, typed_key}
+use Rattle.life.proofs.ConsoleLemmas.{key_nowhere, key_past, key_on_it, slots_of_signalled, typed_key}
 use Rattle.posix.proofs.RealtimeLemmas.{key_standard}
 use Rattle.life.proofs.ViewLemmas.{state_is, costs_then, cost_more}
 use Rattle.life.proofs.machine.Machine.key.Goals as goal
-use Rattle.life.proofs.CodeLemmas.{past_none}
+use Rattle.life.proofs.CodeLemmas.{get_some, past_none}
 
 -- the console that was read is the one in its place
 there : {m n : MachineView} {cs : List Console} → m ≡ n → cs ≡ m.state.consoles → (k : ℕ) (c : Console) → true ≡ nat_lt k (length cs) → c ≡ slice_index_or cs k c → slice_get n.state.consoles k ≡ Some c
-there same all k c within is = ap (λ cs. slice_get cs k) (sym (all ∙ ap (λ (s : State). s.consoles) (state_is same))) ∙ lent_at _ k c within is
+there same all k c within is = ap (λ cs. slice_get cs k) (sym (all ∙ ap (λ (s : State). s.consoles) (state_is same))) ∙ get_some _ k c (within, is)
 
 pub signal_group-requires : goal.signal_group-requires
 signal_group-requires g c =

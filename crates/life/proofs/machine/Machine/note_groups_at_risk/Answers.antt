@@ -1,4 +1,4 @@
-use Rattle.std.proofs.Common.{rules, ◌≡◌, ◌||◌, arith, ap, refl, ◌∙◌, subst, cond, length, List, ℕ}
+use Rattle.std.proofs.Common.{rules, ◌≡◌, ◌||◌, arith, ap, sym, refl, ◌∙◌, subst, cond, length, List, ℕ}
 use Rattle.std.specs.List.{list_any}
 use Rattle.posix.specs.Numbers.{with_number}
 use Rattle.posix.specs.Tables.{above, children_in, is_child, first_pid}
@@ -6,14 +6,16 @@ use Rattle.posix.proofs.PassingLemmas.{filter_at_most}
 use Rattle.posix.specs.States.{State, process, is_in}
 use Rattle.posix.specs.Regular.{IsRegular}
 use Rattle.posix.specs.Groups.{is_anchor}
+use Rattle.pidset.specs.Numbers.{Rises}
 use Rattle.life.proofs.SoundLemmas.{there}
 use Rattle.life.proofs.ChildLemmas.{child_here, first_here, first_todo, child_less, next_here}
-use Rattle.life.proofs.AtRiskLemmas.{noted_again, few_noted, keeps, begin_noted, step_noted, noted_cleared}
+use Rattle.life.proofs.AtRiskLemmas.{noted_again, few_noted, keeps, begin_noted, step_noted}
 use Rattle.life.proofs.ViewLemmas.{state_is}
 use Rattle.life.proofs.machine.Machine.note_groups_at_risk.Goals as goal
 
 pub invariant_of-self : goal.invariant_of-self
-invariant_of-self g c = noted_again c.self.invariant (noted_cleared _ _ _ c.self.invariant.noted c.clear.ensures.pids c.clear.ensures.room)
+unfolding Rises
+invariant_of-self g c = noted_again c.self.invariant (subst Rises (sym c.clear.ensures.pids) tt) c.clear.ensures.room
 
 pub note_anchor-requires : goal.note_anchor-requires
 note_anchor-requires g c = let none = ap (λ (ns : List ℕ). length ns) c.clear.ensures.pids in omega (arith, none)

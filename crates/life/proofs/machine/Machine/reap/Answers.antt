@@ -1,6 +1,7 @@
 use Rattle.std.proofs.lemmas.Option.{same_Some}
 use Rattle.std.proofs.Common.{◌≡◌, option_map, Some, None, rules, subst, ◌∙◌, ap, sym, arith, refl, List, length}
 use Rattle.posix.specs.Processes.{Process}
+use Rattle.posix.proofs.RegularLemmas.{lookup_kept}
 use Rattle.posix.proofs.TableLemmas.{length_removed}
 use Rattle.posix.specs.States.{State}
 use Rattle.posix.specs.Tables.{lookup, removed}
@@ -9,7 +10,7 @@ use Rattle.proctable.specs.declared.snapshot.Snapshot.{Snapshot}
 use Rattle.life.specs.Machines.{IsNoted}
 use Rattle.life.specs.Foregrounds.{AreFreshBut, also_in}
 use Rattle.life.specs.Rechecks.{without_gone}
-use Rattle.life.proofs.ForegroundLemmas.{fresh_removed}
+use Rattle.life.proofs.ForegroundLemmas.{fresh_but_one}
 use Rattle.life.proofs.SoundLemmas.{found_in}
 use Rattle.life.proofs.PartLemmas.{can_go, sound_gone, within_removed}
 use Rattle.life.proofs.RecheckLemmas.{has_room, listed_removed, pids_of, room_of}
@@ -42,7 +43,7 @@ invariant_of-self g c =
       listed = listed_removed _ c.args.pid _ _ it.0 _ _ c.self.invariant.sound.regular (listed_zombie _ c.args.pid it.0 _ c.self.invariant.listed found it.2 c.put.ensures.moved) found up
           (pids_of c.forget.ensures ∙ ap (λ n. without_gone c.args.pid n c.self.inside.order.pids c.self.inside.to_recheck.pids) parent) (room_of c.forget.ensures) (none_marked c.args.pid _ _ c.put.ensures.moved);
       noted = subst (λ n. IsNoted n c.self.inside.groups_at_risk) (sym (room_of c.forget.ensures)) c.self.invariant.noted;
-      fresh = subst (λ u. AreFreshBut u (removed c.args.pid c.self.inside.table.processes) c.self.inside.consoles.items) (sym (c.also_in-self-inside.ensures ∙ ap (λ g. also_in g c.self.inside.foregrounds_unchecked) session)) (fresh_removed _ c.args.pid it.0 _ _ c.self.invariant.sound.regular.rising found c.self.invariant.fresh);
+      fresh = subst (λ u. AreFreshBut u (removed c.args.pid c.self.inside.table.processes) c.self.inside.consoles.items) (sym (c.also_in-self-inside.ensures ∙ ap (λ g. also_in g c.self.inside.foregrounds_unchecked) session)) (fresh_but_one _ c.args.pid it.0 c.self.inside.table.processes (removed c.args.pid c.self.inside.table.processes) _ c.self.invariant.sound.regular.rising found (λ q r ne e. lookup_kept c.args.pid q _ ne ∙ e) c.self.invariant.fresh);
       indexed = c.self.invariant.indexed;
       within = within_removed c.args.pid _ (none_marked c.args.pid _ _ c.put.ensures.moved) (within_marked c.args.pid None c.put.ensures.moved c.put.ensures.sizes (λ k e. absurd (cc)) c.self.invariant.within);
     })

@@ -41,6 +41,8 @@ loop-next-preserved g c =
     let now : t.ticks + 1 ≡ first.ticks + 1 = ap (λ (t : State). t.ticks + 1) rung ∙ tick in
     let n = c.next_due-next-in-Some.ensures in
     let next = subst (λ k. IsNext (λ (r : Process). is_due k r.alarm) pid t.processes c.next_due-next-in-Some.result) now n.next in
+    let fewer = fewer_due (first.ticks + 1) pid s.processes it.what it.found (h.due pid it.what c.in-Some.is it.found) in
+    let left = ap (λ (t : State). length (filter (λ (r : Process). is_due (first.ticks + 1) r.alarm) t.processes)) rung in
     record {
       there = n.next.there;
       ringing = subst (λ (t : State). IsRinging (first.ticks + 1) first.processes t.processes c.next_due-next-in-Some.result) (sym rung)
@@ -49,10 +51,7 @@ loop-next-preserved g c =
           (subst (λ (o : Option ℕ). IsRinging (first.ticks + 1) first.processes s.processes o) c.in-Some.is h.ringing));
       rising = n.regular.rising;
       due = λ p r e found. subst (λ k. is_due k r.alarm ≡ true) now (n.due p r e found);
-      costs =
-          let fewer = fewer_due (first.ticks + 1) pid s.processes it.what it.found (h.due pid it.what c.in-Some.is it.found) in
-          let left = ap (λ (t : State). length (filter (λ (r : Process). is_due (first.ticks + 1) r.alarm) t.processes)) rung in
-          omega (arith, fewer, left, c.ring.ensures.costs.visits, h.costs);
+      costs = omega (arith, fewer, left, c.ring.ensures.costs.visits, h.costs);
       no_fewer = le_trans h.no_fewer c.ring.ensures.costs.no_fewer;
       groups_at_risk = c.ring.ensures.costs.groups_at_risk ∙ h.groups_at_risk;
       foregrounds_unchecked = c.ring.ensures.foregrounds_unchecked ∙ h.foregrounds_unchecked;
@@ -62,8 +61,6 @@ loop-next-preserved g c =
           let was = h.taking none in
           let list = c.ring.ensures.to_recheck ∙ ap (λ (t : State). rechecking_by_signals (process t pid) s.order c.loop-next.self.to_recheck) rung in
           let on = taking_on (first.ticks + 1) pid c.next_due-next-in-Some.result s.order s.processes _ _ (subst (λ o. IsTakingBelow o s.processes c.loop-next.self.to_recheck) c.in-Some.is was.0) n.next.above list in
-          let fewer = fewer_due (first.ticks + 1) pid s.processes it.what it.found (h.due pid it.what c.in-Some.is it.found) in
-          let left = ap (λ (t : State). length (filter (λ (r : Process). is_due (first.ticks + 1) r.alarm) t.processes)) rung in
           (subst (λ ts. IsTakingBelow c.next_due-next-in-Some.result ts c.ring.new.self.to_recheck) (sym t_is) on.0, omega (arith, fewer, left, on.1, was.1));
       quiet = λ q. let none = sym (h.quiet q).0 ∙ c.in-Some.is in absurd (cc);
     }

@@ -1,8 +1,9 @@
-use Rattle.std.proofs.Common.{◌∙◌, true, length, filter}
-use Rattle.posix.specs.Sends.{queuers_among, number_of, sending, sending_granted}
+use Rattle.std.proofs.Common.{ap, ◌∙◌, true, length, filter}
+use Rattle.std.specs.List.{list_any}
+use Rattle.posix.specs.Sends.{has_full_queue, queuers_among, number_of, sending, sending_granted}
 use Rattle.life.specs.Callers.{process_like}
 use Rattle.life.specs.Rechecks.{is_candidate, slots_of_survey}
-use Rattle.life.proofs.QueueLemmas.{room_none, sends_found, sends_more, standard_goes, standard_queuers}
+use Rattle.life.proofs.QueueLemmas.{goes_on, room_none, sends_found, sends_more, standard_queuers}
 use Rattle.life.proofs.machine.Machine.send.Goals as goal
 
 pub send_from_pools-requires : goal.send_from_pools-requires
@@ -16,7 +17,7 @@ returns-in-None-clause-sending g c =
     let r = process_like c.args.me.now in
     let rs = c.args.self.now.state.processes in
     let none = standard_queuers r c.args.target c.args.signal rs (c.realtime.ensures.none c.in-None.is) in
-    (true, c.send_from_pools.ensures.sending ∙ standard_goes (queuers_among r c.args.target (number_of c.args.signal) rs) (sending r c.args.target (number_of c.args.signal) rs) none)
+    (true, c.send_from_pools.ensures.sending ∙ goes_on (queuers_among r c.args.target (number_of c.args.signal) rs) (sending r c.args.target (number_of c.args.signal) rs) (ap (list_any has_full_queue) none))
 
 pub returns-in-None-clause-changes : goal.returns-in-None-clause-changes
 returns-in-None-clause-changes g c =

@@ -7,7 +7,7 @@ use Rattle.life.specs.Queues.{survey_of}
 use Rattle.life.specs.Rechecks.{is_candidate}
 use Rattle.life.proofs.ViewLemmas.{read_more}
 use Rattle.life.proofs.SendLemmas.{all_candidates, targets_numbered, targets_nobody}
-use Rattle.life.proofs.SurveyLemmas.{survey_none}
+use Rattle.life.proofs.SurveyLemmas.{survey_missed}
 use Rattle.life.proofs.machine.Machine.survey.Goals as goal
 
 -- process 1 is there
@@ -35,8 +35,7 @@ returns-in-Nobody-clause-finds g c =
     let rs = c.args.self.now.state.processes in
     record {
       value =
-          survey_none r c.args.sig
-          ∙ ap (survey_of r c.args.sig) (sym (targets_nobody r rs))
+          survey_missed r c.args.sig _ (targets_nobody r rs)
           ∙ ap (λ target. survey_of r c.args.sig (targets r target rs)) (sym c.in-Nobody.is);
       looks = search (rules, arith);
     }

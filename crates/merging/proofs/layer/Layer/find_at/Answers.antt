@@ -1,11 +1,8 @@
 use Rattle.std.proofs.Common.{◌<◌, arith, length, refl}
 use Rattle.std.proofs.lemmas.Option.{slice_get_read}
-use Rattle.merging.proofs.LayerLemmas.{all_same_put, all_same_themselves, one_still, put_there}
+use Rattle.merging.proofs.LayerLemmas.{all_same_put, one_still, put_there}
 use Rattle.merging.proofs.layer.Layer.find_at.Goals.{else-number-len-via-else-number-len, else-number-len-via-then-number-len+else-is_one}
 use Rattle.merging.proofs.layer.Layer.find_at.Goals as goal
-
-pub returns-in_err-number-clause-nodes : goal.returns-in_err-number-clause-nodes
-returns-in_err-number-clause-nodes c = all_same_themselves c.args.self.now.nodes.items
 
 pub returns-then-is_one-clause-one : goal.returns-then-is_one-clause-one
 returns-then-is_one-clause-one c =
@@ -31,5 +28,5 @@ returns-clause-nodes c = elim c.else-number-len.branch [
       rw w.self-is
       (all_same_put xs c.in_ok-number.field-0.now w.index_mut.result.now w.is_one.new.self
       (slice_get_read xs (length xs) c.in_ok-number.field-0.now w.index_mut.result.now refl within w.index_mut.ensures.value) w.is_one.ensures.same)
-  | else-number-len-via-else-number-len w ↦ rw w.self-is (all_same_themselves c.args.self.now.nodes.items)
+  | else-number-len-via-else-number-len w ↦ rw w.self-is refl
 ]

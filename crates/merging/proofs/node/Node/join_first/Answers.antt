@@ -1,7 +1,6 @@
-use Rattle.std.proofs.Common.{◌≡◌, ◌+◌, ap, arith, rules, inl, inr, ◌∙◌, ℕ}
+use Rattle.std.proofs.Common.{◌≡◌, ◌+◌, ap, arith, rules, inl, inr, ◌∙◌}
 use Rattle.std.proofs.lemmas.Result.{on_ok_weaker}
 use Rattle.merging.specs.declared.node.Node.{Node}
-use Rattle.merging.specs.Merging.{ForgetsHalted, Outlook}
 use Rattle.merging.proofs.NodeLemmas.{IsFirstOf, joined_node, joined_tally}
 use Rattle.merging.proofs.node.Node.join_first.Goals.{else-is_before, then-is_before}
 use Rattle.merging.proofs.node.Node.join_first.Goals as goal
@@ -21,8 +20,7 @@ returns c =
       | else-is_before w ↦ omega (arith, ap (λ (n : Node). n.count) w.self-is, ap (λ (n : Node). n.count) w.other-is)
     ] in
     record {
-      tally = on_ok_weaker c.add.result
-          (λ (is : c.add.new.self ≡ mid.count + last.count) (go_on : Outlook) (most : ℕ) (forgets : ForgetsHalted go_on). joined_tally old other mid c.add.new.self c.requires which (is ∙ sum) go_on most forgets)
-          c.add.ensures.ok;
+      tally = λ go_on most forgets. on_ok_weaker c.add.result
+          (λ (is : c.add.new.self ≡ mid.count + last.count). joined_tally old other mid c.add.new.self c.requires which (is ∙ sum) go_on most forgets) c.add.ensures.ok;
       node = λ search place least i j. joined_node old other mid c.add.new.self which search place least i j;
     }

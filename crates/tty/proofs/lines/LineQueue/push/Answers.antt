@@ -2,7 +2,7 @@ use Rattle.std.proofs.Common.{◌≡◌, ◌∙◌, ◌++◌, ◌∷◌, [], sym
 use Rattle.std.proofs.lemmas.Bool.{cond-true}
 use Rattle.posix.specs.Consoles.{has_room}
 use Rattle.tty.specs.Lines.{AreLines, cut}
-use Rattle.tty.proofs.LineLemmas.{room_of, pushed}
+use Rattle.tty.proofs.LineLemmas.{cut_few, room_of, pushed}
 use Rattle.tty.proofs.lines.LineQueue.push.Goals as goal
 
 room : (c : goal.After-push_back) → has_room (c.args.line.now ++ c.args.end.now) c.args.self.now ≡ true
@@ -17,5 +17,8 @@ one_more c =
 pub invariant_of-self : goal.invariant_of-self
 invariant_of-self c = (one_more c).0
 
-pub returns : goal.returns
-returns c = (one_more c).1 ∙ sym (cond-true _ _ _ (room c))
+pub returns-clause-lines : goal.returns-clause-lines
+returns-clause-lines c = (one_more c).1 ∙ sym (cond-true _ _ _ (room c))
+
+pub returns-clause-limits : goal.returns-clause-limits
+returns-clause-limits c = cut_few _ _ (one_more c).0

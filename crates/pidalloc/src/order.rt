@@ -1,0 +1,228 @@
+//! Which processes have a place, and in which order.
+
+ghost use Rattle.std.specs.Prelude.{ℕ, ◌≡◌, ◌+◌, ◌≤◌, ◌==◌, cond, true, false, [], ◌∷◌, ◌++◌, length, slice_get, OnOk};
+ghost use Rattle.posix.specs.States.{is_in, without};
+ghost use Rattle.posix.specs.Regular.{IsDistinct};
+ghost use Rattle.pidset.specs.Rows.{Grows, HasRoom, HasRow, IsOnAnotherPage, sizes_without};
+ghost use Rattle.pidalloc.specs.Places.{next_behind};
+ghost use Rattle.pidalloc.specs.Rings.{IsJoined};
+
+use pidset::Rows;
+use posix::Pid;
+use std::alloc::{AllocError, Global};
+use std::marker::Model;
+
+/// Who stands before and after a process. After the last comes the first.
+#[derive(Clone, Copy)]
+struct Node {
+    prev: Pid,
+    next: Pid,
+}
+
+impl Node {
+    /// The node of a process that has no place.
+    const NOWHERE: Node = Node {
+        prev: Pid::NONE,
+        next: Pid::NONE,
+    };
+}
+
+/// The processes that have a place, by their numbers. The first is current (own).
+///
+/// They stand in a ring, in which the last one gets to its place by a look at the first. Memory is taken in
+/// [`Order::reserve`] alone.
+#[derive(Drop)]
+pub struct Order {
+    nodes: Rows<Node>,
+    /// The current process; number 0 for none.
+    first: Pid,
+    len: usize,
+}
+
+impl Model for Order {
+    ghost use Rattle.pidset.specs.Rows.{sizes_of};
+    ghost use Rattle.pidalloc.specs.Places.{Places};
+    ghost use Rattle.pidalloc.specs.Rings.{IsKept, read_off};
+
+    ghost Value = { Places };
+
+    ghost view = { λ o. record { pids = read_off o.len o.nodes o.first; sizes = sizes_of o.nodes } };
+
+    ghost invariant = { λ o. IsKept o.nodes o.first (read_off o.len o.nodes o.first) };
+}
+
+impl Order {
+    /// An order of nobody. It takes no memory.
+    #[tactic(auto, using(crate::proofs::RingLemmas::kept_new), unfolding(crate::specs::Rings::read_off))]
+    pub fn new(alloc: Global) -> Order
+        ensures { result ≡ record { pids = []; sizes = [] } }
+    {
+        Order {
+            nodes: Rows::new(alloc),
+            first: Pid::NONE,
+            len: 0,
+        }
+    }
+
+    /// Makes room for the process with a number. The order stays, and room that was there, also at the error that there
+    /// is no memory.
+    #[inline]
+    pub fn reserve(&mut self, pid: Pid) -> Result<(), AllocError>
+        ensures room { OnOk result (HasRoom self.new.sizes pid) }
+        ensures grows { Grows self.old.sizes self.new.sizes }
+        ensures pids { self.new.pids ≡ self.old.pids }
+    {
+        self.nodes.reserve(pid, Node::NOWHERE)
+    }
+
+    /// The room for a number goes, and that for all others on its page of 1,024 numbers. None of them has a place.
+    pub fn give_up_page(&mut self, pid: Pid)
+        requires { (p : ℕ) → is_in p self.old.pids ≡ true → IsOnAnotherPage p pid }
+        ensures { self.new ≡ record { pids = self.old.pids; sizes = sizes_without self.old.sizes pid } }
+    {
+        self.nodes.give_up_page(pid);
+    }
+
+    /// How many processes have a place. Each has one.
+    #[tactic(auto, using(crate::proofs::LinkLemmas::read_length))]
+    pub fn len(&self) -> usize
+        ensures value { result ≡ length self.now.pids }
+        ensures distinct { IsDistinct self.now.pids }
+    {
+        self.len
+    }
+
+    /// The current process: the first; none where nobody has a place.
+    #[inline]
+    pub fn current(&self) -> Option<Pid>
+        ensures { result ≡ slice_get self.now.pids 0 }
+    {
+        if self.first == Pid::NONE {
+            None
+        } else {
+            Some(self.first)
+        }
+    }
+
+    /// Who comes after a process; none after the last one, and after one that has no place.
+    pub fn behind(&self, pid: Pid) -> Option<Pid>
+        ensures { result ≡ next_behind pid self.now.pids }
+    {
+        if !self.has(pid) {
+            return None;
+        }
+        let next = self.nodes.get(pid).next;
+        if next == self.first { None } else { Some(next) }
+    }
+
+    /// Whether the same processes have a place in another order, one after another as here.
+    pub fn is_same(&self, other: &Order) -> bool
+        ensures { result ≡ true → self.now.pids ≡ other.now.pids }
+    {
+        let len = self.len();
+        if other.len() != len {
+            return false;
+        }
+        let mut here = self.current();
+        let mut there = other.current();
+        for index in 0..len {
+            let (Some(mine), Some(theirs)) = (here, there) else {
+                return false;
+            };
+            if mine != theirs {
+                return false;
+            }
+            here = self.behind(mine);
+            there = other.behind(theirs);
+        }
+        true
+    }
+
+    /// Whether a process has a place.
+    #[inline]
+    pub fn has(&self, pid: Pid) -> bool
+        ensures { result ≡ is_in pid self.now.pids }
+    {
+        self.nodes.has(pid) && self.nodes.get(pid).next != Pid::NONE
+    }
+
+    /// Gives a process the last place.
+    #[inline]
+    pub fn place(&mut self, pid: Pid)
+        requires some { 1 ≤ pid }
+        requires room { HasRoom self.old.sizes pid }
+        requires none { is_in pid self.old.pids ≡ false }
+        ensures pids { self.new.pids ≡ self.old.pids ++ pid ∷ [] }
+        ensures sizes { self.new.sizes ≡ self.old.sizes }
+    {
+        self.len += 1;
+        if self.first == Pid::NONE {
+            self.first = pid;
+            join(&mut self.nodes, pid, pid);
+        } else {
+            let last = self.nodes.get(self.first).prev;
+            join(&mut self.nodes, last, pid);
+            join(&mut self.nodes, pid, self.first);
+        }
+    }
+
+    /// A process loses its place, where it has one.
+    #[inline]
+    pub fn drop_place(&mut self, pid: Pid)
+        ensures pids { self.new.pids ≡ without pid self.old.pids }
+        ensures sizes { self.new.sizes ≡ self.old.sizes }
+    {
+        if !self.has(pid) {
+            return;
+        }
+        let Node { prev, next } = self.nodes.get(pid);
+        join(&mut self.nodes, prev, next);
+        self.nodes.set(pid, Node::NOWHERE);
+        self.len -= 1;
+        self.first = first_without(self.first, pid, next);
+    }
+
+    /// A process that has a place gets the last one. For the current one the ring is turned.
+    #[inline]
+    pub fn go_last(&mut self, pid: Pid)
+        requires { is_in pid self.old.pids ≡ true }
+        ensures pids { self.new.pids ≡ without pid self.old.pids ++ pid ∷ [] }
+        ensures sizes { self.new.sizes ≡ self.old.sizes }
+    {
+        if pid == self.first {
+            self.first = self.nodes.get(pid).next;
+        } else {
+            self.drop_place(pid);
+            self.place(pid);
+        }
+    }
+}
+
+/// Who is first once a process has lost its place, where `next` came after it.
+#[inline]
+fn first_without(first: Pid, pid: Pid, next: Pid) -> Pid
+    ensures { result ≡ cond (pid == first) (cond (next == pid) 0 next) first }
+{
+    if pid != first {
+        first
+    } else if next == pid {
+        Pid::NONE
+    } else {
+        next
+    }
+}
+
+/// `next` comes right after `prev` from now on.
+#[inline]
+fn join(nodes: &mut Rows<Node>, prev: Pid, next: Pid)
+    requires prev_inside { HasRow nodes.old prev }
+    requires next_inside { HasRow nodes.old next }
+    ensures { IsJoined nodes.old nodes.new prev next }
+{
+    let mut node = nodes.get(prev);
+    node.next = next;
+    nodes.set(prev, node);
+    let mut node = nodes.get(next);
+    node.prev = prev;
+    nodes.set(next, node);
+}

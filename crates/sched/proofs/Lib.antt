@@ -1,4 +1,0 @@
-pub mod MemberLemmas
-pub mod LinkLemmas
-pub mod RingLemmas
-pub mod BehindLemmas

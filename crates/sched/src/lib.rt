@@ -1,6 +1,0 @@
-//! The order in which processes act.
-#![tactic(auto)]
-
-pub mod order;
-
-pub use order::Order;

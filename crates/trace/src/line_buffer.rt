@@ -1,0 +1,101 @@
+//! Lines of a trace that wait to be put.
+
+ghost use Rattle.std.specs.Prelude.{◌≡◌, ◌<◌, ◌≤◌, ◌++◌, [], take, OnOk, OnErr};
+ghost use Rattle.posix.specs.Printing.{printed};
+ghost use Rattle.trace.specs.Sinks.{TakesAll, BreaksOff, Gathers};
+
+use crate::sinks::{Sink, SinkFault, put_all};
+use crate::{NoteWords, write_entry, write_note};
+use posix::Entry;
+use std::marker::Model;
+
+/// At least so many bytes are put at once, but for the last put: a put may be a system call, which
+/// costs more than a line.
+const PIECE: usize = 8192;
+
+/// Puts the first `len` bytes once they are 8 KiB or more. Then none of them wait any more, even after a
+/// failure.
+#[inline(always)]
+fn put_if_full<S: Sink>(bytes: &[u8; 8320], len: &mut usize, out: &mut S) -> Result<(), SinkFault>
+    requires { len.old ≤ 8320 }
+    ensures ok { OnOk result (Gathers (S.seen out.old) (take len.old bytes.now) (S.seen out.new) (take len.new bytes.now) []) }
+    ensures err { OnErr result (BreaksOff (S.seen out.old) (S.seen out.new) (take len.old bytes.now)) }
+    ensures empty { OnErr result (len.new ≡ 0) }
+    ensures left { len.new < 8192 }
+{
+    if *len < PIECE {
+        return Ok(());
+    }
+    let put = put_all(out, &bytes[..*len]);
+    *len = 0;
+    put
+}
+
+/// Less than 8 KiB of printed lines that wait to be put, and room for a line behind them.
+#[derive(Drop)]
+pub struct LineBuffer {
+    bytes: [u8; 8320],
+    len: usize,
+}
+
+impl Model for LineBuffer {
+    ghost use Rattle.std.specs.Prelude.{List, ℕ, ◌<◌, take};
+
+    ghost Value = { List ℕ };
+
+    ghost view = { λ p. take p.len p.bytes };
+
+    ghost invariant = { λ p. p.len < 8192 };
+}
+
+impl LineBuffer {
+    /// No bytes.
+    pub fn new() -> Self
+        ensures { result ≡ [] }
+    {
+        LineBuffer {
+            bytes: [0; 8320],
+            len: 0,
+        }
+    }
+
+    /// Adds the line of what an event shows, which is written where it waits. All that waits is put once
+    /// it is 8 KiB or more; after a failure nothing waits.
+    #[inline(never)]
+    pub fn add<S: Sink>(&mut self, event: u64, entry: &Entry, out: &mut S) -> Result<(), SinkFault>
+        ensures ok { OnOk result (Gathers (S.seen out.old) self.old (S.seen out.new) self.new (printed event entry.now)) }
+        ensures err { OnErr result (BreaksOff (S.seen out.old) (S.seen out.new) (self.old ++ printed event entry.now)) }
+        ensures empty { OnErr result (self.new ≡ []) }
+    {
+        self.len = write_entry(&mut self.bytes, self.len, event, entry);
+        put_if_full(&self.bytes, &mut self.len, out)
+    }
+
+    /// Adds the line of a note as [`LineBuffer::add`] adds it, from the words of the process's notes.
+    #[inline]
+    pub fn add_note<S: Sink>(
+        &mut self,
+        event: u64,
+        words: &NoteWords,
+        value: i64,
+        out: &mut S,
+    ) -> Result<(), SinkFault>
+        ensures ok { OnOk result (Gathers (S.seen out.old) self.old (S.seen out.new) self.new (printed event (Entry.Noted words.now value))) }
+        ensures err { OnErr result (BreaksOff (S.seen out.old) (S.seen out.new) (self.old ++ printed event (Entry.Noted words.now value))) }
+        ensures empty { OnErr result (self.new ≡ []) }
+    {
+        self.len = write_note(&mut self.bytes, self.len, event, words, value);
+        put_if_full(&self.bytes, &mut self.len, out)
+    }
+
+    /// Puts all that waits.
+    pub fn flush<S: Sink>(&mut self, out: &mut S) -> Result<(), SinkFault>
+        ensures ok { OnOk result (TakesAll (S.seen out.old) (S.seen out.new) self.old) }
+        ensures err { OnErr result (BreaksOff (S.seen out.old) (S.seen out.new) self.old) }
+        ensures empty { self.new ≡ [] }
+    {
+        let put = put_all(out, &self.bytes[..self.len]);
+        self.len = 0;
+        put
+    }
+}
