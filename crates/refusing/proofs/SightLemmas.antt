@@ -56,26 +56,20 @@ before_end text rest (front, e) =
 
 -- ---- marks
 
-pub marked_words : (line code rest after : List ℕ) (first count : ℕ) → code ≡ before_comment line → rest ≡ from_word (behind_words first code) → 1 ≤ count
-    → 0 < length rest → after ≡ behind_words count rest → IsMarked line (take (length code - length rest) code) (take (length rest - length after) rest)
-marked_words line code rest after first count is_code is_rest some word is_after =
+pub marked_cut : (line code rest after before marked : List ℕ) (first count : ℕ) → code ≡ before_comment line → rest ≡ from_word (behind_words first code) → 1 ≤ count
+    → 0 < length rest → after ≡ behind_words count rest → before ≡ take (length code - length rest) code → marked ≡ take (length rest - length after) rest → IsMarked line before marked
+marked_cut line code rest after before marked first count is_code is_rest some word is_after before_is marked_is =
     let within : Ends code rest = rw is_rest (both code (behind_words first code) (from_word (behind_words first code)) (behind_words_ends first code) (from_word_ends (behind_words first code))) in
     let of_rest : Ends rest after = rw is_after (behind_words_ends count rest) in
-    let cut : rest ≡ take (length rest - length after) rest ++ after = before_end rest after of_rest in
-    let whole : code ≡ take (length code - length rest) code ++ rest = before_end code rest within in
+    let cut : rest ≡ marked ++ after = before_end rest after of_rest ∙ ap (λ (x : List ℕ). x ++ after) (sym marked_is) in
+    let whole : code ≡ before ++ rest = before_end code rest within ∙ ap (λ (x : List ℕ). x ++ rest) (sym before_is) in
     record {
       first = first;
       count = count;
       some = some;
       is_word = rw (is_rest ∙ ap (λ (x : List ℕ). from_word (behind_words first x)) is_code) at word;
       after = after;
-      whole = sym is_code ∙ whole ∙ ap (λ (x : List ℕ). take (length code - length rest) code ++ x) cut;
+      whole = sym is_code ∙ whole ∙ ap (λ (x : List ℕ). before ++ x) cut;
       begins = sym cut ∙ is_rest ∙ ap (λ (x : List ℕ). from_word (behind_words first x)) is_code;
       ends = is_after ∙ ap (behind_words count) cut;
     }
-
--- the same, by what a cut gives
-pub marked_cut : (line code rest after before marked : List ℕ) (first count : ℕ) → code ≡ before_comment line → rest ≡ from_word (behind_words first code) → 1 ≤ count
-    → 0 < length rest → after ≡ behind_words count rest → before ≡ take (length code - length rest) code → marked ≡ take (length rest - length after) rest → IsMarked line before marked
-marked_cut line code rest after before marked first count is_code is_rest some word is_after before_is marked_is =
-    rw (before_is, marked_is) (marked_words line code rest after first count is_code is_rest some word is_after)

@@ -2,7 +2,7 @@
 
 ghost use Rattle.std.specs.Prelude.{◌≡◌, ◌∷◌, ◌++◌, IfOk, OnOk};
 ghost use Rattle.std.specs.List.{list_all};
-ghost use Rattle.refusing.specs.Marks.{blanks, bytes_behind as bytes_behind_of, by_number, column, columns, continues as continues_of, go_on as go_on_of, is_control as is_control_of, is_shown as is_shown_of, marks, more_of as more_of_letter, piece, shown, shown_from};
+ghost use Rattle.refusing.specs.Marks.{blanks, bytes_behind as bytes_behind_of, column, columns, continues as continues_of, go_on as go_on_of, is_control as is_control_of, is_shown as is_shown_of, marks, more_of as more_of_letter, piece, shown, shown_from};
 
 use naming::push_byte;
 use std::alloc::AllocError;
@@ -70,24 +70,16 @@ fn is_shown(byte: u8) -> bool
     byte == b'\t' || (b' ' <= byte && byte <= b'~')
 }
 
-/// Adds a byte by its number, as `\x1B`.
-fn write_number(out: &mut Vec<u8>, byte: u8) -> Result<(), AllocError>
-    ensures { OnOk result (out.new.items ≡ out.old.items ++ by_number byte) }
-{
-    out.extend_from_slice(b"\\x")?;
-    push_byte(out, byte)
-}
-
-/// Adds the first byte of a letter that has so many more, or a byte by its number.
+/// Adds the first byte of a letter that has so many more, or a byte by its number, as `\x1B`.
 fn write_piece(out: &mut Vec<u8>, byte: u8, more: usize) -> Result<(), AllocError>
     ensures { OnOk result (out.new.items ≡ out.old.items ++ piece byte more) }
 {
     if is_shown(byte) || more > 0 {
         out.push(byte)?;
-        Ok(())
-    } else {
-        write_number(out, byte)
+        return Ok(());
     }
+    out.extend_from_slice(b"\\x")?;
+    push_byte(out, byte)
 }
 
 /// Adds a byte, where so many belong to a letter that has begun. How many do then.

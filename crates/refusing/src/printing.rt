@@ -3,12 +3,11 @@
 ghost use Rattle.std.specs.Prelude.{◌≡◌, ◌++◌, IfOk, OnOk, decimal};
 ghost use Rattle.std.specs.String.{string_bytes};
 ghost use Rattle.refusing.specs.Marks.{shown};
-ghost use Rattle.refusing.specs.Sections.{section_line};
 ghost use Rattle.refusing.specs.Printing.{behind_marks, file_line, first_lines, mark_line, note_line, place_line, printed as printed_of, sentence_line, text_line};
 
 use crate::marks::{write_blanks, write_marks, write_shown};
 use crate::sight::Sight;
-use crate::telling::{Section, Shown, Told};
+use crate::telling::{Shown, Told};
 use std::alloc::{AllocError, Global};
 
 /// The decimal digits of a number.
@@ -112,13 +111,6 @@ fn write_note(out: &mut Vec<u8>, note: &[u8]) -> Result<(), AllocError>
     write_sentence(out, note)
 }
 
-/// Adds where docs/ERRORS.md tells more.
-fn write_section(out: &mut Vec<u8>, section: Section) -> Result<(), AllocError>
-    ensures { OnOk result (out.new.items ≡ out.old.items ++ section_line section) }
-{
-    out.extend_from_slice(section.line().as_bytes())
-}
-
 /// Adds the first lines.
 fn write_first(
     alloc: Global,
@@ -153,6 +145,6 @@ pub fn printed(alloc: Global, name: &str, told: &Told<'_>) -> Result<Vec<u8>, Al
     let mut out = Vec::new(alloc);
     write_first(alloc, &mut out, name, told.why.as_slice(), &told.shown)?;
     write_note(&mut out, told.note.as_slice())?;
-    write_section(&mut out, told.section)?;
+    out.extend_from_slice(told.section.line().as_bytes())?;
     Ok(out)
 }

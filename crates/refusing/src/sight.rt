@@ -128,20 +128,12 @@ impl<'a> Sight<'a> {
 /// The words of a line, as the user wrote it, that stand for one word of the line with numbers for names.
 pub fn words_at(line: &[u8], given: &[u8], place: usize) -> Words {
     let (line, given) = (Line::new(line), Line::new(given));
-    let first = if line.first() == b"set".as_slice() {
-        if place == 2 {
-            let more = given.count().saturating_sub(line.count());
-            return Words { first: place, more };
-        }
-        if place > 2 {
-            place.saturating_add(given.count().saturating_sub(line.count()))
-        } else {
-            place
-        }
-    } else if place > 2 && given.first() == b"type".as_slice() {
-        2
-    } else {
-        place
+    let others = given.count().saturating_sub(line.count());
+    let (first, more) = match line.first() {
+        b"set" if place == 2 => (2, others),
+        b"set" if place > 2 => (place.saturating_add(others), 0),
+        _ if place > 2 && given.first() == b"type".as_slice() => (2, 0),
+        _ => (place, 0),
     };
-    Words { first, more: 0 }
+    Words { first, more }
 }

@@ -12,7 +12,7 @@ use judging::{
     lower, mistake_of, no_text, refusal_of,
 };
 use std::alloc::{AllocError, Global};
-use text::{Reason, TextFault, next_line};
+use text::{Lines, Reason, TextFault};
 use wording::Prose;
 
 /// A text that is refused.
@@ -74,14 +74,7 @@ impl Section {
 /// The first thing that is wrong with the names of a line, if there is one.
 fn told_of<'a>(alloc: Global, told: &'a [u8], line: u64) -> Result<Option<&'a [u8]>, AllocError> {
     let begin = format!(in alloc; "jobk: line {line}: ")?;
-    let mut rest = told;
-    while let Some((fault, more)) = next_line(rest) {
-        if let Some(why) = fault.strip_prefix(begin.as_bytes()) {
-            return Ok(Some(why));
-        }
-        rest = more;
-    }
-    Ok(None)
+    Ok(Lines(told).find_map(|fault| fault.strip_prefix(begin.as_bytes())))
 }
 
 /// Whether a word of a line may be one that stands for a number.
@@ -140,9 +133,17 @@ fn sight_of<'a>(line: &[u8], given: &'a [u8], refusal: &Refusal<'_>) -> Sight<'a
 }
 
 /// What is shown of the line with a number, which has this text with numbers for names; nothing where there is none.
-fn shown_line<'a>(given: &'a [u8], number: u64, line: &[u8], refusal: &Refusal<'_>) -> Shown<'a>
-    ensures { IsLineShown number given.entry.now result }
+fn shown_of<'a>(
+    given: &'a [u8],
+    number: Option<u64>,
+    line: &[u8],
+    refusal: &Refusal<'_>,
+) -> Shown<'a>
+    ensures { MatchOption number (result ≡ Shown.File) (λ n. IsLineShown n given.entry.now result) }
 {
+    let Some(number) = number else {
+        return Shown::File;
+    };
     match line_at(given, number) {
         Some(written) => {
             let sight = sight_of(line, without_return(written), refusal);
@@ -211,7 +212,7 @@ pub fn told_of_events<'a>(
         world: None,
     };
     Ok(Told {
-        shown: shown_line(refused.given, number, line, &refusal),
+        shown: shown_of(refused.given, Some(number), line, &refusal),
         why: why_of(alloc, refused, &seen, number, &refusal)?,
         note: Vec::new(alloc),
         section: Section::Events,
@@ -257,21 +258,6 @@ fn number_of(refused: &Refused<'_>, mistake: &Mistake<'_>) -> Option<u64>
     match refused.fault.reason {
         Reason::EndMissing | Reason::NoProgram => last_with_words(refused.named, mistake.line),
         _ => Some(mistake.line),
-    }
-}
-
-/// What is shown of the line with a number, if there is one.
-fn shown_of<'a>(
-    given: &'a [u8],
-    number: Option<u64>,
-    line: &[u8],
-    refusal: &Refusal<'_>,
-) -> Shown<'a>
-    ensures { MatchOption number (result ≡ Shown.File) (λ n. IsLineShown n given.entry.now result) }
-{
-    match number {
-        Some(number) => shown_line(given, number, line, refusal),
-        None => Shown::File,
     }
 }
 

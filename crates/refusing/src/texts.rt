@@ -72,19 +72,6 @@ impl<'a> Input<'a> {
         Vec::from_slice(alloc, self.named.text.as_slice()).map_err(|_| Unread::Memory)
     }
 
-    /// The text, with its fault.
-    fn refused(&self, fault: TextFault) -> Refused<'_>
-        ensures given { result.given.now ≡ self.now.given.items }
-        ensures fault { result.fault ≡ fault }
-    {
-        Refused {
-            given: self.given.as_slice(),
-            named: self.named.text.as_slice(),
-            told: self.named.told.as_slice(),
-            fault,
-        }
-    }
-
     /// What is told of the text's first fault, and the line to leave out for the others: of events for a world of so many
     /// consoles, or else of a world.
     fn told_first(
@@ -95,7 +82,12 @@ impl<'a> Input<'a> {
     ) -> Result<(Vec<u8>, Option<u64>), AllocError>
         ensures { IfOk result (λ t. IsTold self.now.name.now self.now.given.items fault t.0.items) }
     {
-        let refused = self.refused(fault);
+        let refused = Refused {
+            given: self.given.as_slice(),
+            named: self.named.text.as_slice(),
+            told: self.named.told.as_slice(),
+            fault,
+        };
         let told = match consoles {
             Some(consoles) => told_of_events(alloc, &refused, consoles)?,
             None => told_of_world(alloc, &refused)?,

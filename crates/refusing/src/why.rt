@@ -96,12 +96,10 @@ fn put_unused(why: &mut Prose, is: Definition<'_>, used: NameUse<'_>) {
 /// Adds which programs of others have a label.
 fn put_elsewhere(why: &mut Prose, world: &World<'_>, name: &[u8]) -> bool {
     let mut is_there = false;
-    for label in &world.labels {
-        if label.is.name == name {
-            why.push_with("; that of line ", label.is.line);
-            why.push_str(" is of another program");
-            is_there = true;
-        }
+    for label in world.labels.iter().filter(|label| label.is.name == name) {
+        why.push_with("; that of line ", label.is.line);
+        why.push_str(" is of another program");
+        is_there = true;
     }
     is_there
 }

@@ -81,10 +81,8 @@ pub fn put_no_byte(why: &mut Prose, word: &[u8]) {
 /// Adds digits as bytes.
 fn put_pairs(why: &mut Prose, digits: &[u8]) {
     why.push_str("a word for each byte:");
-    let mut rest = digits;
-    while let [_, _, more @ ..] = rest {
-        why.push_word(" ", &rest[..2]);
-        rest = more;
+    for pair in digits.chunks(2) {
+        why.push_word(" ", pair);
     }
 }
 

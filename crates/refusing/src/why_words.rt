@@ -77,10 +77,7 @@ fn put_no_letter(why: &mut Prose, word: &[u8], named: Named) {
 
 /// What stands behind `@` or `$`.
 pub fn behind_mark(word: &[u8]) -> &[u8] {
-    match word {
-        [_, name @ ..] => name,
-        [] => word,
-    }
+    word.get(1..).unwrap_or(&[])
 }
 
 /// Adds that a number has no `@` or `$`.
