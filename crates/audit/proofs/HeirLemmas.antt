@@ -1,7 +1,7 @@
 -- Heirs by the records: the walk up the parents.
 use Rattle.std.proofs.Common.{◌≡◌, ◌≢◌, ℕ, true, false, ◌==◌, List, Option, Some, None, refl, ap, sym, ◌∙◌, arith, ◌≤◌, inl, inr, is_some}
 use Rattle.std.proofs.lemmas.Bool.{cond_both, ne_eqb, cases_eq}
-use Rattle.posix.specs.Heirs.{Forebear, nearest_marked, heir_among, most_processes}
+use Rattle.posix.specs.Common.{Forebear, nearest_marked, heir_among, most_processes}
 use Rattle.posix.proofs.HeirLemmas.{IsFound, heir_found, nearest_gone, nearest_none}
 use Rattle.laws.specs.Keeping.{Kept, NeverBorn, Lives, Died, forebear_kept, heir_of, lives_now}
 use Rattle.audit.specs.declared.records.Record.{Record}

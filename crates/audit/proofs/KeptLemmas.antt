@@ -1,7 +1,8 @@
 -- What is kept of each number, as it is born, as its parent is another and as its children are given on.
-use Rattle.std.proofs.Common.{◌≡◌, inl, inr, ℕ, Bool, true, false, if◌then◌else◌, refl, ap, sym, ◌∙◌, List, [], ◌==◌, Option, Some, None, option_map, is_some, Result, Ok, Err, OnErr}
+use Rattle.std.proofs.Common.{◌≡◌, inl, inr, ℕ, Bool, true, false, if◌then◌else◌, refl, ap, sym, ◌∙◌, List, [], ◌==◌, Option, Some, None, option_map, is_some}
 use Rattle.std.proofs.lemmas.Bool.{cases_eq, eq-eqb, ne_eqb}
 use Rattle.std.specs.Option.{option_map_or}
+use Rattle.posix.proofs.ResultLemmas.{some_mapped}
 use Rattle.laws.specs.Keeping.{Kept, NeverBorn, Lives, lives_now, kept_of, moved_from, given_on, newborn, ended_with}
 use Rattle.laws.specs.Lives.{newest_life, parents_from}
 use Rattle.audit.specs.declared.records.Record.{Record}
@@ -31,11 +32,7 @@ kept_is f c = by (f c)
 -- who is there has a state
 pub there_by_state : (f g : ℕ → Option Record) (i : ℕ) → state_in g i ≡ state_in f i → is_some (f i) ≡ true → is_some (g i) ≡ true
 unfolding state_in
-there_by_state f g i same there = by (g i) ∙ ap is_some same ∙ sym (by (f i)) ∙ there
-  where
-    by : (o : Option Record) → is_some o ≡ is_some (option_map (λ (r : Record). r.state) o)
-    by None = refl
-    by (Some r) = refl
+there_by_state f g i same there = sym (some_mapped (g i) (λ (r : Record). r.state)) ∙ ap is_some same ∙ some_mapped (f i) (λ (r : Record). r.state) ∙ there
 
 -- who lives is there
 pub there_by_life : (entries : List (ℕ × Record)) (p : ℕ) → lives_now (kept_by entries p) ≡ true → is_some (record_in entries p) ≡ true
@@ -65,11 +62,9 @@ begun_apart p old new h = h.parent p ∙ rw (eq-eqb p p refl) refl
 
 pub begun_there : (p : ℕ) (old new : List (ℕ × Record)) → IsBegun p old new → is_some (record_in new p) ≡ true
 unfolding state_in
-begun_there p old new h = by (record_in new p) (h.state p ∙ rw (eq-eqb p p refl) refl)
-  where
-    by : (o : Option Record) → option_map (λ (r : Record). r.state) o ≡ Some newborn_state → is_some o ≡ true
-    by None e = absurd (cc)
-    by (Some r) e = refl
+begun_there p old new h =
+    let state : state_in (record_in new) p ≡ Some newborn_state = h.state p ∙ rw (eq-eqb p p refl) refl in
+    sym (some_mapped (record_in new p) (λ (r : Record). r.state)) ∙ ap is_some state
 
 pub begun_others : (p q : ℕ) (old new : List (ℕ × Record)) → IsBegun p old new → is_some (record_in old q) ≡ true → is_some (record_in new q) ≡ true
 unfolding state_in
@@ -153,7 +148,3 @@ sound_birth p parent may old mid new b h sound = (h.linked, λ none c. ap has_ma
 pub unborn_there : (p : ℕ) (now old : List (ℕ × Record)) → old ≡ now → record_in old p ≡ None → kept_by now p ≡ NeverBorn
 unfolding kept_by
 unborn_there p now old same none = ap kept_record (ap (λ es. record_in es p) (sym same) ∙ none)
-
-pub on_err_too : {T E Q : Type 0} (r : Result T E) → Q → OnErr r Q
-on_err_too (Ok x) q = tt
-on_err_too (Err e) q = q

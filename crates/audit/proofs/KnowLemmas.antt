@@ -1,7 +1,7 @@
 -- What an audit that knows some texts knows after one more.
 use Rattle.std.proofs.Common.{◌≡◌, ℕ, true, false, List, [], ◌∷◌, ◌++◌, Some, None, is_none, ◌≢◌, inl, inr, refl, ap, sym, ◌∙◌, subst, Result, Ok, Err, OnOk}
 use mathlib.Core.Path.{fun_ext}
-use Rattle.posix.specs.Entries.{Line}
+use Rattle.posix.specs.Common.{Line}
 use Rattle.laws.specs.TraceLines.{Says}
 use Rattle.laws.specs.Lives.{Laws, laws, last_line}
 use Rattle.laws.specs.Keeping.{Kept, Phase, kept_of, kept_after, last_number, phase_of, fault_of}

@@ -1,6 +1,6 @@
 -- What a line that passes all tests says.
 use Rattle.std.proofs.Common.{◌≡◌, ◌≢◌, ℕ, Result, Ok, Err, Bool, true, false, if◌then◌else◌, Option, Some, None, IfSome, refl, ap, ◌∙◌}
-use Rattle.posix.specs.Entries.{Line, process_of}
+use Rattle.posix.specs.Common.{Line, process_of}
 use Rattle.posix.specs.declared.entry.Entry.{Entry}
 use Rattle.posix.specs.declared.entry.Entry.TheVariants.{Halted}
 use Rattle.laws.specs.Lives.{born_by}

@@ -6,9 +6,7 @@ use Rattle.std.specs.List.{list_all, join_with_byte}
 use Rattle.std.proofs.lemmas.List.Folds.{list_all-append}
 use Rattle.std.proofs.lemmas.Bool.{and_parts, cond_both}
 use Rattle.std.proofs.lemmas.Bool.Decides.{nat_tests}
-use Rattle.posix.specs.Printing.{digit, hex, words_of}
-use Rattle.posix.specs.Calls.{call_text}
-use Rattle.posix.specs.Entries.{Line}
+use Rattle.posix.specs.Common.{digit, hex, words_of, call_text, Line}
 use Rattle.posix.specs.declared.call.Call.{Call}
 use Rattle.posix.specs.declared.call.Call.TheVariants.{Exit}
 use Rattle.posix.specs.declared.entry.Entry.{Entry}

@@ -4,8 +4,7 @@ use Rattle.std.specs.List.{list_all}
 use Rattle.std.proofs.lemmas.List.Folds.{list_all-append}
 use Rattle.std.proofs.lemmas.Grind.{flat_map-append}
 use Rattle.std.proofs.lemmas.Bool.{and_parts, eqb-true}
-use Rattle.posix.specs.Entries.{Line}
-use Rattle.posix.specs.Printing.{print, print_line}
+use Rattle.posix.specs.Common.{Line, print, print_line}
 use Rattle.laws.specs.TraceLines.{is_line}
 use Rattle.laws.specs.Lives.{Laws}
 use Rattle.laws.proofs.LawfulLemmas.{laws_first}

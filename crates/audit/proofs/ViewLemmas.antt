@@ -3,7 +3,7 @@ use Rattle.std.proofs.Common.{◌≡◌, ℕ, List, Option, Some, None, refl, ap
 use Rattle.std.specs.Option.{unwrap_or}
 use Rattle.std.proofs.lemmas.Map.Made.{lookup-map_values}
 use mathlib.Core.Path.{fun_ext}
-use Rattle.posix.specs.Entries.{Line}
+use Rattle.posix.specs.Common.{Line}
 use Rattle.laws.specs.Keeping.{Kept, NeverBorn, kept_after, phase_after, fault_of}
 use Rattle.audit.specs.declared.fault.AuditFault.{AuditFault}
 use Rattle.audit.specs.declared.records.Record.{Record}

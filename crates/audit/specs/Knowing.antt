@@ -1,7 +1,7 @@
 -- What an audit knows of the texts that it heard.
 use Rattle.std.specs.Prelude.{ℕ, nat_eq, unwrap_or, IsSomeAnd, ◌≡◌, ◌⊎◌, List, [], ◌∷◌, Option, None, Result, Err, OnOk, OnErr}
 use Rattle.std.specs.Map.{lookup}
-use Rattle.posix.specs.Entries.{Line}
+use Rattle.posix.specs.Common.{Line}
 use Rattle.laws.specs.TraceLines.{Says}
 use Rattle.laws.specs.Lives.{Laws, last_line, born_by}
 use Rattle.laws.specs.Keeping.{Kept, NeverBorn, Phase, kept_of, kept_after, last_number, phase_of, phase_after, fault_of}

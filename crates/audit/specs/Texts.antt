@@ -1,8 +1,7 @@
 -- Whole traces as texts.
 use Rattle.std.specs.Prelude.{ℕ, ◌≡◌, ◌≢◌, ◌+◌, ◌⊎◌, true, List, [], ◌∷◌, ◌++◌, length, Err}
 use Rattle.std.specs.List.{list_all}
-use Rattle.posix.specs.Entries.{Line}
-use Rattle.posix.specs.Printing.{print}
+use Rattle.posix.specs.Common.{Line, print}
 use Rattle.laws.specs.TraceLines.{is_line}
 use Rattle.laws.specs.Lives.{Laws}
 use Rattle.audit.specs.declared.fault.AuditFault.{AuditFault}

@@ -1,10 +1,8 @@
 //! The auditor.
 
 ghost use Rattle.std.specs.Prelude.{◌≡◌, ◌≢◌, ◌++◌, ◌∷◌, ℕ, List, true, [], Some, Err, IfOk, OnOk, OnErr};
-ghost use Rattle.posix.specs.Entries.{line};
-ghost use Rattle.laws.specs.TraceLines.{is_entry};
-ghost use Rattle.posix.specs.Entries.{Line};
-ghost use Rattle.laws.specs.TraceLines.{Says};
+ghost use Rattle.posix.specs.Common.{line, Line};
+ghost use Rattle.laws.specs.TraceLines.{is_entry, Says};
 ghost use Rattle.laws.specs.Keeping.{kept_of, fault_of};
 ghost use Rattle.audit.specs.Knowing.{kept_at, AreLawful, Knows, Heard, StaysWith, IsRead, IsAnswer, IsNewBirth};
 ghost use Rattle.audit.specs.declared.fault.AuditFault.TheVariants.{Memory};

@@ -3,7 +3,7 @@
 ghost use Rattle.std.specs.Prelude.{◌≡◌, ◌≢◌, ◌==◌, ◌≤◌, ℕ, true, false, if◌then◌else◌, OnOk, OnErr, IfOk, IfSome, IsSomeAnd, []};
 ghost use Rattle.laws.specs.Keeping.{NeverBorn, kept_of, kept_after, lives_now, newborn, ended_with, given_on, heir_of};
 ghost use Rattle.laws.specs.TraceLines.{is_entry};
-ghost use Rattle.posix.specs.Entries.{process_of as process_said};
+ghost use Rattle.posix.specs.Common.{process_of as process_said};
 ghost use Rattle.laws.specs.Lives.{born_by as birth_said};
 ghost use Rattle.audit.specs.Records.{kept_record, kept_by, IsAfter};
 

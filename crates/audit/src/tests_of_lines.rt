@@ -1,7 +1,7 @@
 //! The tests of a line, by what is known of the numbers.
 
 ghost use Rattle.std.specs.Prelude.{◌≡◌, ◌≢◌, ℕ, true, Err};
-ghost use Rattle.posix.specs.Entries.{line};
+ghost use Rattle.posix.specs.Common.{line};
 ghost use Rattle.laws.specs.TraceLines.{is_entry};
 ghost use Rattle.laws.specs.Keeping.{number_fault, place_fault, birth_fault, report_fault, word_fault, fault_of_living, fault_of_ended, fault_of, phase_after as phase_said_after};
 ghost use Rattle.laws.specs.Lives.{born_by as birth_said};

@@ -3,11 +3,7 @@
 ghost use Rattle.std.specs.Prelude.{◌≡◌, ◌≢◌, ◌≤◌, length, List, Err, OnOk};
 ghost use Rattle.std.specs.List.{AllByRecursion};
 ghost use Rattle.posix.specs.declared.event.Event.{Event};
-ghost use Rattle.posix.specs.Entries.{Line};
-ghost use Rattle.posix.specs.Printing.{print};
-ghost use Rattle.posix.specs.Runs.{Runs};
-ghost use Rattle.posix.specs.States.{State, World};
-ghost use Rattle.posix.specs.Ranges.{IsEvent, IsWorld};
+ghost use Rattle.posix.specs.Common.{Line, print, Runs, State, World, IsEvent, IsWorld};
 ghost use Rattle.audit.specs.declared.fault.AuditFault.TheVariants.{Memory};
 ghost use Rattle.audit.specs.Texts.{IsLawful, IsLawfulBefore, IsFirstFault};
 

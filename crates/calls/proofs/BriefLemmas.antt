@@ -5,17 +5,10 @@ use Rattle.std.proofs.lemmas.List.{length-map}
 use Rattle.posix.specs.declared.target.Target.{Target}
 use Rattle.posix.specs.declared.target.Target.TheVariants as whom
 use Rattle.posix.specs.declared.errno.Errno.{Errno}
-use Rattle.posix.specs.Processes.{Process, argument}
-use Rattle.posix.specs.Tables.{IsRising, has_pid, lookup, at, changed, pids, removed}
-use Rattle.posix.specs.States.{State, is_in, without, has_place}
-use Rattle.posix.specs.Credentials.{may}
-use Rattle.posix.specs.Outcomes.{finish, finished}
+use Rattle.posix.specs.Common.{Process, argument, IsRising, has_pid, lookup, at, changed, pids, removed, State, is_in, without, has_place, may, finish, finished, signal_or_none, message, number_of, targets, permitted, sent, sent_among, IsRegular, CONT, is_realtime}
 use Rattle.posix.specs.declared.process.PendingSignal.{PendingSignal}
 use Rattle.posix.specs.declared.process.Sending.{Sending}
-use Rattle.posix.specs.Sends.{signal_or_none, message, number_of, targets, permitted, sent, sent_among}
-use Rattle.posix.specs.Regular.{IsRegular}
 use Rattle.posix.proofs.TableLemmas.{rising_filter}
-use Rattle.posix.specs.SignalNumbers.{CONT, is_realtime}
 use Rattle.posix.proofs.MapLemmas.{lookup_on, at_keeps, at_pid}
 use Rattle.calls.proofs.ContinueLemmas.{sent_slots}
 use Rattle.posix.proofs.WalkLemmas.{numbered_one, numbered_none}

@@ -8,18 +8,13 @@ use Rattle.posix.specs.declared.entry.Entry.{Entry}
 use Rattle.posix.specs.declared.entry.Entry.TheVariants.{Called, Ended, Halted}
 use Rattle.posix.specs.declared.process.Blocked.{Blocked}
 use Rattle.posix.specs.declared.process.Report.{Report}
-use Rattle.posix.specs.Processes.{Process}
-use Rattle.posix.specs.Tables.{at, changed}
-use Rattle.posix.specs.States.{State, change}
+use Rattle.posix.specs.Common.{Process, at, changed, State, change, end_process, wait_by, wait_for, wait_with, asked_by, report}
 use Rattle.posix.specs.Outcomes as outcome
-use Rattle.posix.specs.Ends.{end_process}
-use Rattle.posix.specs.Waits.{wait_by, wait_for, wait_with, asked_by, report}
 use Rattle.life.specs.declared.caller.Caller.{Caller}
-use Rattle.life.specs.Callers.{caller_of}
+use Rattle.life.specs.Callers.{caller_of, process_like}
 use Rattle.calls.specs.declared.outcome.Attempt.{Attempt}
 use Rattle.calls.specs.declared.outcome.Attempt.TheVariants as came
 use Rattle.calls.specs.Outcomes.{Comes}
-use Rattle.life.specs.Callers.{process_like}
 
 abbrev pub outcome_of : State → List Entry → outcome.Outcome
 outcome_of s xs = record { state = s; entries = xs }

@@ -2,24 +2,11 @@
 use Rattle.std.proofs.Common.{◌≡◌, ◌≢◌, ℕ, Bool, true, false, cond, not, ◌&&◌, ◌||◌, is_some, refl, ap, sym, ◌∙◌, arith, List, [], ◌∷◌, find, Option, Some, None, ◌==◌, ℤ}
 use Rattle.std.specs.Option.{option_eq}
 use Rattle.std.proofs.lemmas.Bool.{and_parts, eqb-true, eq-eqb}
-use Rattle.posix.specs.SignalSets.{has}
+use Rattle.posix.specs.Common.{has, KILL, is_realtime, Process, Signals, is_running, is_zombie, lookup, changed, at, State, is_pending, with_pending, with_queue, chosen, least_ready, is_ready, all_signals, taken, without_first, can_act, can_go_on, killed, exec_one, attempt_again, act, act_in, go_on, deliver_or, after_trap, code_of, hang_up, end_process, handle, take_out, deliver}
 use Rattle.posix.specs.declared.process.Life.{Life}
 use Rattle.posix.specs.declared.process.Life.TheVariants.{Running, Stopped}
 use Rattle.posix.specs.declared.process.PendingSignal.{PendingSignal}
-use Rattle.posix.specs.SignalNumbers.{KILL, is_realtime}
-use Rattle.posix.specs.Processes.{Process, Signals, is_running, is_zombie}
-use Rattle.posix.specs.Tables.{lookup, changed, at}
-use Rattle.posix.specs.States.{State}
-use Rattle.posix.specs.Generation.{is_pending, with_pending, with_queue}
-use Rattle.posix.specs.Choice.{chosen, least_ready, is_ready, all_signals, taken, without_first}
-use Rattle.posix.specs.Settle.{can_act, can_go_on}
-use Rattle.posix.specs.Statuses.{killed}
-use Rattle.posix.specs.Execute.{exec_one}
-use Rattle.posix.specs.Attempts.{attempt_again}
-use Rattle.posix.specs.Step.{act, act_in, go_on, deliver_or, after_trap, code_of}
 use Rattle.posix.specs.declared.process.Blocked.{Blocked}
-use Rattle.posix.specs.Ends.{hang_up, end_process}
-use Rattle.posix.specs.Delivery.{handle, take_out, deliver}
 use Rattle.posix.proofs.TableLemmas.{pid_looked}
 use Rattle.posix.proofs.MapLemmas.{at_pid, lookup_on}
 

@@ -9,19 +9,9 @@ use Rattle.posix.specs.declared.process.Report.{Report}
 use Rattle.posix.specs.declared.process.Report.TheVariants as found
 use Rattle.posix.specs.declared.target.Target.{Target}
 use Rattle.posix.specs.declared.target.Target.TheVariants as whom
-use Rattle.posix.specs.Processes.{Process}
+use Rattle.posix.specs.Common.{Process, IsRising, has_pid, is_child, lookup, at, changed, children_in, State, is_in, continued, may, Outcome, Done, finished, signalled, effect_of, acted_upon, child_signal, generated_for, noticed_of_change, resumed, told_of_change, signalled_all, targets, permitted, sent, sent_among, is_block, report, report_among, wait_for, wait_with, has_option, WNOWAIT, is_named, is_something, report_life, report_of, reports}
 use Rattle.posix.specs.declared.waits.WaitCall.{WaitCall}
 use Rattle.posix.specs.declared.waits.Asked.{Asked}
-use Rattle.posix.specs.Tables.{IsRising, has_pid, is_child, lookup, at, changed, children_in}
-use Rattle.posix.specs.States.{State, is_in}
-use Rattle.posix.specs.Statuses.{continued}
-use Rattle.posix.specs.Credentials.{may}
-use Rattle.posix.specs.Outcomes.{Outcome, Done, finished}
-use Rattle.posix.specs.Generation.{signalled, effect_of}
-use Rattle.posix.specs.Notices.{acted_upon, child_signal, generated_for, noticed_of_change, resumed, told_of_change, signalled_all}
-use Rattle.posix.specs.Sends.{targets, permitted, sent, sent_among}
-use Rattle.posix.specs.Settle.{is_block}
-use Rattle.posix.specs.Waits.{report, report_among, wait_for, wait_with, has_option, WNOWAIT, is_named, is_something, report_life, report_of, reports}
 use Rattle.posix.proofs.ChangeLemmas.{unseen_noticed_of_change}
 use Rattle.posix.proofs.MapLemmas.{at_keeps, at_pid, lookup_on}
 use Rattle.posix.proofs.SeeLemmas.{seen}

@@ -4,16 +4,12 @@ use Rattle.std.proofs.lemmas.Bool.{eq-eqb, or_left, or_right}
 use Rattle.posix.specs.declared.process.Blocked.{Blocked}
 use Rattle.posix.specs.declared.process.Blocked.TheVariants as blocked
 use Rattle.posix.specs.declared.waits.Asked.{Asked}
-use Rattle.posix.specs.Processes.{Process}
-use Rattle.posix.specs.Tables.{lookup}
-use Rattle.posix.specs.States.{is_in, without}
-use Rattle.posix.specs.Choice.{chosen}
+use Rattle.posix.specs.Common.{Process, lookup, is_in, without, chosen, asked_by}
 use Rattle.posix.proofs.OrderLemmas.{without_absent}
 use Rattle.pidset.specs.Numbers.{Rises, with_number}
 use Rattle.pidset.proofs.NumberLemmas.{not_in_above}
 use Rattle.life.specs.Rechecks.{AreTaking, NeedNoChild, is_in_wait, asked_in}
 use Rattle.calls.specs.Counts.{neighbour, slots_of_call, slots_of_rechecking, slots_of_rechecks, slots_of_asking, reports_first, slots_of_first}
-use Rattle.posix.specs.Waits.{asked_by}
 use Rattle.jobs.specs.IndexedTables.{takes_signal}
 
 -- ---- those to recheck

@@ -9,18 +9,7 @@ use Rattle.posix.specs.declared.process.Carried.{Carried}
 use Rattle.posix.specs.declared.process.Frame.{Frame}
 use Rattle.posix.specs.declared.process.Handler.TheVariants as handler
 use Rattle.posix.specs.declared.process.PendingSignal.{PendingSignal}
-use Rattle.posix.specs.SignalNumbers.{SEGV, STOP, default_action}
-use Rattle.posix.specs.Statuses.{killed}
-use Rattle.posix.specs.Processes.{Process}
-use Rattle.posix.specs.States.{State, process, change}
-use Rattle.posix.specs.Outcomes.{Outcome}
-use Rattle.posix.specs.Generation.{action}
-use Rattle.posix.specs.Notices.{told_of_change}
-use Rattle.posix.specs.Groups.{is_orphaned}
-use Rattle.posix.specs.Choice.{carried_by}
-use Rattle.posix.specs.Handlers.{handles, is_full, newest_frame, returned}
-use Rattle.posix.specs.Ends.{hang_up, end_process}
-use Rattle.posix.specs.Delivery.{interruption, handle, discard, stop_process, stop_or_discard, act_by_default, act_on, take_out, deliver, return_to, return_from_handler}
+use Rattle.posix.specs.Common.{SEGV, STOP, default_action, killed, Process, State, process, change, Outcome, action, told_of_change, is_orphaned, carried_by, handles, is_full, newest_frame, returned, hang_up, end_process, interruption, handle, discard, stop_process, stop_or_discard, act_by_default, act_on, take_out, deliver, return_to, return_from_handler}
 use Rattle.posix.proofs.RegularLemmas.{keeps_handles}
 use Rattle.calls.proofs.CallLemmas.{outcome_of, same_outcome}
 use Rattle.calls.proofs.ChosenLemmas.{handle_taken, end_taken, changed_there}

@@ -4,13 +4,10 @@ use Rattle.std.specs.Option.{IsSome}
 use Rattle.posix.specs.declared.call.Call.TheVariants.{Exec, Setpgid, Setsid}
 use Rattle.posix.specs.declared.errno.Errno.{Errno}
 use Rattle.posix.specs.declared.errno.Errno.TheVariants.{EPERM, ENOENT}
-use Rattle.posix.specs.Processes.{Process, argument}
-use Rattle.posix.specs.States.{State, Program, process, change}
+use Rattle.posix.specs.Common.{Process, argument, State, Program, process, change, named, move_to, in_group, in_session, is_group_of_others, setpgid, setpgid_with, setsid, executed, exec_as, exec_of, exec}
 use Rattle.posix.specs.Outcomes as outcome
-use Rattle.posix.specs.GroupCalls.{named, move_to, in_group, in_session, is_group_of_others, setpgid, setpgid_with, setsid}
-use Rattle.posix.specs.Programs.{executed, exec_as, exec_of, exec}
 use Rattle.posix.proofs.ReportLemmas.{some_changed}
-use Rattle.life.proofs.SoundLemmas.{There}
+use Rattle.posix.proofs.ResultLemmas.{There}
 use Rattle.life.specs.Machines.{MachineView, AreSame}
 
 -- ---- setpgid

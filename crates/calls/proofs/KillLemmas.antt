@@ -8,11 +8,8 @@ use Rattle.posix.specs.declared.process.PendingSignal.{PendingSignal}
 use Rattle.posix.specs.declared.process.Sending.{Sending}
 use Rattle.posix.specs.declared.process.Sending.TheVariants as found
 use Rattle.posix.specs.declared.target.Target.{Target}
-use Rattle.posix.specs.Processes.{Process, argument}
-use Rattle.posix.specs.Tables.{lookup, pids}
-use Rattle.posix.specs.States.{State, process}
+use Rattle.posix.specs.Common.{Process, argument, lookup, pids, State, process, targets, permitted, sending, sending_granted, queuers_among, sent, sent_among, message, number_of, signal_or_none, send, send_with}
 use Rattle.posix.specs.Outcomes as outcome
-use Rattle.posix.specs.Sends.{targets, permitted, sending, sending_granted, queuers_among, sent, sent_among, message, number_of, signal_or_none, send, send_with}
 use Rattle.life.specs.Machines.{with_processes}
 use Rattle.life.specs.Queues.{is_sent, sent_as}
 use Rattle.life.specs.declared.caller.Caller.{Caller}

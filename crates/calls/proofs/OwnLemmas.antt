@@ -3,10 +3,7 @@ use Rattle.std.proofs.Common.{◌≡◌, ℕ, true, Some, refl, ap, sym, subst, 
 use Rattle.std.specs.Option.{IsSome, IfSome}
 use Rattle.posix.specs.declared.call.Call.{Call}
 use Rattle.posix.specs.declared.entry.Entry.{Entry}
-use Rattle.posix.specs.Processes.{Process, Credentials, Signals, argument}
-use Rattle.posix.specs.Attempts.{attempt}
-use Rattle.posix.specs.States.{State, process, change}
-use Rattle.posix.specs.Regular.{IsRegular, IsPlaced}
+use Rattle.posix.specs.Common.{Process, Credentials, Signals, argument, attempt, State, process, change, IsRegular, IsPlaced, action, set_action, signal_in, give_credentials, set_credentials, is_question, are_flags, action_in, sigaction_with, sigaction}
 use Rattle.posix.specs.Outcomes as outcome
 use Rattle.posix.proofs.TableLemmas.{pid_looked}
 use Rattle.proctable.specs.declared.own_part.OwnPart.{OwnPart}
@@ -18,11 +15,7 @@ use Rattle.calls.specs.Outcomes.{Comes, Answers, with_own, Replies, RepliesTo, v
 use Rattle.posix.proofs.ReportLemmas.{some_changed}
 use Rattle.posix.specs.declared.errno.Errno.{Errno}
 use Rattle.posix.specs.declared.errno.Errno.TheVariants.{EINVAL}
-use Rattle.posix.specs.Generation.{action}
-use Rattle.posix.specs.Handlers.{set_action}
-use Rattle.posix.specs.Sends.{signal_in}
 use Rattle.std.specs.Int.{cast_unsigned, w64}
-use Rattle.posix.specs.SignalCalls.{give_credentials, set_credentials, is_question, are_flags, action_in, sigaction_with, sigaction}
 use Rattle.posix.specs.declared.entry.Entry.TheVariants.{Called}
 
 -- the process in the words of what was lent of it
@@ -55,15 +48,15 @@ answered s p o w me call xs ys regular lent e a =
 
 -- ---- replies
 
-abbrev pub Has : Process → Call → outcome.Reply → Type 0
-Has me call reply = (granted : Bool) (s : State) → attempt granted s me call ≡ outcome.finish_call s me.pid call reply
+abbrev pub IsAnsweredWith : Process → Call → outcome.Reply → Type 0
+IsAnsweredWith me call reply = (granted : Bool) (s : State) → attempt granted s me call ≡ outcome.finish_call s me.pid call reply
 
 -- a call that gives a value, and changes nothing else
-pub gives_plain : (me : Process) (call : Call) (o : OwnPart) (v z : ℤ) → v ≡ z → Has me call (outcome.plain z) → RepliesTo me call v o o
+pub gives_plain : (me : Process) (call : Call) (o : OwnPart) (v z : ℤ) → v ≡ z → IsAnsweredWith me call (outcome.plain z) → RepliesTo me call v o o
 gives_plain me call o v z is has = record { reply = outcome.plain z; attempts = has; replies = record { given = is; changed = λ r. refl } }
 
 -- a call whose reply another function gave
-pub gives_reply : (me : Process) (call : Call) (o w : OwnPart) (v z : ℤ) (reply : outcome.Reply) → v ≡ z → Replies reply z o w → Has me call reply → RepliesTo me call v o w
+pub gives_reply : (me : Process) (call : Call) (o w : OwnPart) (v z : ℤ) (reply : outcome.Reply) → v ≡ z → Replies reply z o w → IsAnsweredWith me call reply → RepliesTo me call v o w
 gives_reply me call o w v z reply is replies has = record { reply = reply; attempts = has; replies = record { given = is ∙ replies.given; changed = replies.changed } }
 
 -- a call that sets ids
@@ -76,7 +69,7 @@ sets o c (Err why) new ok err same =
     (subst (λ a. Replies (outcome.refusing why) (outcome.refusal why) o (record o { creds = a })) (sym same) (record { given = refl; changed = λ r. refl }))
 
 pub gives_ids : (me : Process) (call : Call) (o : OwnPart) (c : Credentials) (v : ℤ) (done : Result (Unit {0}) Errno) (new is : Result Credentials Errno) → v ≡ value_of done → new ≡ is
-    → OnOk done (new ≡ Ok c) → IfErr done (λ why. new ≡ Err why) → OnErr done (c ≡ o.creds) → Has me call (set_credentials is) → RepliesTo me call v o (record o { creds = c })
+    → OnOk done (new ≡ Ok c) → IfErr done (λ why. new ≡ Err why) → OnErr done (c ≡ o.creds) → IsAnsweredWith me call (set_credentials is) → RepliesTo me call v o (record o { creds = c })
 gives_ids me call o c v done new is value eq ok err same has =
     gives_reply me call o (record o { creds = c }) v (value_of done) (set_credentials is) value (subst (λ n. Replies (set_credentials n) (value_of done) o (record o { creds = c })) eq (sets o c done new ok err same)) has
 

@@ -4,24 +4,13 @@ use Rattle.std.specs.Option.{IsSome}
 use Rattle.std.proofs.lemmas.Bool.{cond_both}
 use Rattle.posix.specs.declared.process.Effect.TheVariants as effect
 use Rattle.posix.specs.declared.process.PendingSignal.{PendingSignal}
-use Rattle.posix.specs.SignalNumbers.{HUP}
-use Rattle.posix.specs.Processes.{Process}
-use Rattle.posix.specs.Tables.{lookup, at, changed, pids, members_in}
-use Rattle.posix.specs.States.{State, process}
-use Rattle.posix.specs.Consoles.{Console, console_of}
-use Rattle.posix.specs.Statuses.{continued}
-use Rattle.posix.specs.Generation.{signalled, effect_of}
-use Rattle.posix.specs.Notices.{child_signal, noticed_of_change, told_of_change, resumed, acted_upon, generated_for, signalled_all}
-use Rattle.posix.specs.Choice.{from_kernel}
+use Rattle.posix.specs.Common.{HUP, Process, lookup, at, changed, pids, members_in, State, process, Console, console_of, continued, signalled, effect_of, child_signal, noticed_of_change, told_of_change, resumed, acted_upon, generated_for, signalled_all, from_kernel, heir_in, signalled_members, signalled_group, hung_up, hang_up, end_process, end_with_heir, Outcome}
 use Rattle.posix.proofs.TableLemmas.{pid_looked}
-use Rattle.posix.specs.Heirs.{heir_in}
-use Rattle.posix.specs.Ends.{signalled_members, signalled_group, hung_up, hang_up, end_process, end_with_heir}
-use Rattle.posix.specs.Outcomes.{Outcome}
 use Rattle.posix.proofs.MapLemmas.{at_keeps, at_pid, lookup_on}
 use Rattle.posix.proofs.RegularLemmas.{keeps_signalled}
 use Rattle.posix.proofs.ChangeLemmas.{lives_resumed, unseen_noticed_of_change}
 use Rattle.posix.proofs.NoticeLemmas.{end_alike}
-use Rattle.life.proofs.SoundLemmas.{there}
+use Rattle.posix.proofs.ResultLemmas.{there}
 
 -- r is there, but for what a signal may change
 pub record Remains (o : Option Process) (r : Process) : Type 0 where

@@ -1,19 +1,13 @@
 -- Calls on the controlling terminal.
-use Rattle.std.proofs.Common.{◌≡◌, ◌≢◌, ℕ, Bool, true, false, cond, not, ◌&&◌, ◌==◌, is_some, refl, ap, sym, ◌∙◌, arith, option_map, Option, Some, None, ℤ, pos, negsuc, ◌≤◌, zero, suc, length-take, List, [], ◌∷◌, ◌++◌, length, take, slice_get, slice_set}
+use Rattle.std.proofs.Common.{◌≡◌, ◌≢◌, ℕ, Bool, true, false, cond, not, ◌&&◌, ◌==◌, is_some, refl, ap, sym, ◌∙◌, arith, Some, None, ℤ, pos, negsuc, ◌≤◌, zero, suc, length-take, List, [], ◌∷◌, ◌++◌, length, take, slice_get, slice_set}
 use Rattle.std.specs.Option.{IsSome}
 use Rattle.std.proofs.lemmas.Bool.{eqb-true}
 use Rattle.posix.specs.declared.call.Call.TheVariants.{Tcsetpgrp, Read}
 use Rattle.posix.specs.declared.errno.Errno.TheVariants.{EPERM}
-use Rattle.posix.specs.Processes.{Process}
-use Rattle.posix.specs.Consoles.{Console, console_of, with_foreground, changed_console, lines_left, line_taken}
-use Rattle.posix.specs.States.{State, process, change}
-use Rattle.posix.specs.Regular.{IsRegular, AreConsoles}
-use Rattle.posix.specs.Outcomes.{Attempted, finish_with, refused}
-use Rattle.posix.specs.GroupCalls.{is_group_of}
-use Rattle.posix.specs.Terminals.{change_console, may_acquire, put_foreground, finish_moved, with_bytes, read_from}
+use Rattle.posix.specs.Common.{Process, Console, console_of, with_foreground, changed_console, lines_left, line_taken, State, process, change, IsRegular, AreConsoles, Attempted, finish_with, refused, is_group_of, change_console, may_acquire, put_foreground, finish_moved, with_bytes, read_from}
 use Rattle.life.specs.declared.caller.Caller.{Caller}
 use Rattle.life.specs.Callers.{caller_of}
-use Rattle.life.proofs.SoundLemmas.{there}
+use Rattle.posix.proofs.ResultLemmas.{there}
 use Rattle.calls.specs.Terminals.{natural_in, first_bytes}
 use Rattle.posix.specs.declared.call.Call.{Call}
 use Rattle.posix.specs.declared.entry.Entry.{Entry}
@@ -36,21 +30,6 @@ in_session s p me i here is = λ none.
     omega (arith, least, same)
 
 -- ---- setctty
-
--- a console whose session was read
-pub record SessionRead (o : Option Console) (session : ℕ) : Type 0 where
-  pub what : Console
-  pub found : o ≡ Some what
-  pub session_is : session ≡ what.session
-
-pub session_read : (o : Option Console) (session : ℕ) → Some session ≡ option_map (λ (c : Console). c.session) o → SessionRead o session
-session_read None session e = absurd (cc)
-session_read (Some c) session e = record { what = c; found = refl; session_is = cc }
-
--- none was read
-pub none_read : (o : Option Console) → option_map (λ (c : Console). c.session) o ≡ None → o ≡ None
-none_read None e = refl
-none_read (Some c) e = absurd (cc)
 
 -- a console that may be acquired is nobody's, and the session has none
 pub acquirable : (s : State) (r : Process) (c : Console) → may_acquire s r c ≡ true → (console_of r.session s.consoles ≡ None) × (c.session ≡ 0)
@@ -84,15 +63,6 @@ none_found true g e = absurd (cc)
 none_found false g e = refl
 
 -- ---- bytes between a process and its terminal
-
--- the terminal of a session that has one
-pub record Has (o : Option Console) : Type 0 where
-  pub what : Console
-  pub found : o ≡ Some what
-
-pub console_there : (o : Option Console) → IsSome o → Has o
-console_there None h = absurd (cc)
-console_there (Some c) h = record { what = c; found = refl }
 
 -- ---- bytes moved
 

@@ -1,11 +1,6 @@
 -- Whether a process may use its terminal, XBD 11.1.4.
 use Rattle.std.specs.Prelude.{not, ◌||◌, if◌then◌else◌}
-use Rattle.posix.specs.SignalNumbers.{TTIN, TTOU}
-use Rattle.posix.specs.Processes.{Process}
-use Rattle.posix.specs.States.{State}
-use Rattle.posix.specs.Consoles.{Console}
-use Rattle.posix.specs.Groups.{is_orphaned}
-use Rattle.posix.specs.Terminals.{is_in_background, blocks_or_ignores}
+use Rattle.posix.specs.Common.{TTIN, TTOU, Process, State, Console, is_orphaned, is_in_background, blocks_or_ignores}
 use Rattle.calls.specs.declared.background.Access.{Access}
 use Rattle.calls.specs.declared.background.Access.TheVariants.{Allowed, Refused, Signalled}
 

@@ -9,23 +9,14 @@ use Rattle.posix.specs.declared.errno.Errno.TheVariants.{EPERM, ESRCH, EAGAIN}
 use Rattle.posix.specs.declared.process.Sending.{Sending}
 use Rattle.posix.specs.declared.process.Sending.TheVariants as found
 use Rattle.posix.specs.declared.target.Target.{Target}
-use Rattle.posix.specs.SignalNumbers.{CONT}
-use Rattle.posix.specs.Targets.{process_in, target_in}
-use Rattle.posix.specs.Sends.{signal_or_none}
+use Rattle.posix.specs.Common.{CONT, process_in, target_in, signal_or_none, has, action, is_full, Process, argument, State, process, has_place, IsPlaced, attempt}
 use Rattle.life.specs.declared.consoles.Unchecked.{Unchecked}
 use Rattle.life.specs.declared.consoles.Unchecked.TheVariants.{Nothing, In, All}
 use Rattle.life.specs.Rechecks.{is_one, slots_of_survey_of_one}
 use Rattle.calls.specs.Counts.{slots_of_rechecks, slots_of_checking}
 use Rattle.posix.specs.declared.process.Handler.{Handler}
 use Rattle.posix.specs.declared.process.Handler.TheVariants as handler
-use Rattle.posix.specs.SignalSets.{has}
-use Rattle.posix.specs.Generation.{action}
-use Rattle.posix.specs.Handlers.{is_full}
-use Rattle.posix.specs.Processes.{Process, argument}
-use Rattle.posix.specs.States.{State, process, has_place}
-use Rattle.posix.specs.Regular.{IsPlaced}
 use Rattle.posix.specs.Outcomes as outcome
-use Rattle.posix.specs.Attempts.{attempt}
 use Rattle.proctable.specs.declared.own_part.OwnPart.{OwnPart}
 use Rattle.proctable.specs.declared.snapshot.Snapshot.{Snapshot}
 use Rattle.proctable.specs.Records.{give_own}

@@ -1,11 +1,7 @@
 -- Parts of what the calls on the controlling terminal do.
 use Rattle.std.specs.Prelude.{ℕ, List, [], ◌∷◌, take, Option, Some, None, ℤ, pos, negsuc}
 use Rattle.posix.specs.declared.call.Call.TheVariants.{Settostop}
-use Rattle.posix.specs.Processes.{Process, argument}
-use Rattle.posix.specs.States.{State}
-use Rattle.posix.specs.Consoles.{with_tostop}
-use Rattle.posix.specs.Outcomes.{Attempted, finish_with}
-use Rattle.posix.specs.Terminals.{change_console, is_nonzero}
+use Rattle.posix.specs.Common.{Process, argument, State, with_tostop, Attempted, finish_with, change_console, is_nonzero}
 
 -- the number in a register, unless it is negative
 abbrev pub natural_in : ℤ → Option ℕ

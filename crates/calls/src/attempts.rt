@@ -2,16 +2,10 @@
 
 ghost use Rattle.std.specs.Prelude.{◌≡◌, ◌⊎◌, ◌≢◌, ◌+◌, ◌<◌, ◌≤◌, ◌^◌, ◌++◌, ◌∷◌, [], length, IsSome, IfSome, Some, is_some, true};
 ghost use Rattle.posix.specs.declared.entry.Entry.TheVariants.{Called, NoMemory};
-ghost use Rattle.posix.specs.Processes.{Process};
-ghost use Rattle.posix.specs.Calls.{wait_in};
+ghost use Rattle.posix.specs.Common.{Process, wait_in, process, has_place, IsPlaced, finish, refusal as refusal_of, most_ticks, ticks_in as ticks_in_word, attempt_again as attempting_again};
 ghost use Rattle.life.specs.Rechecks.{is_in_wait};
 ghost use Rattle.posix.specs.declared.process.Blocked.{Blocked as BlockedValue};
-ghost use Rattle.posix.specs.States.{process, has_place};
 ghost use Rattle.life.specs.Machines.{AreSame};
-ghost use Rattle.posix.specs.Regular.{IsPlaced};
-ghost use Rattle.posix.specs.Outcomes.{finish, refusal as refusal_of};
-ghost use Rattle.posix.specs.Alarms.{most_ticks, ticks_in as ticks_in_word};
-ghost use Rattle.posix.specs.Attempts.{attempt_again as attempting_again};
 ghost use Rattle.calls.specs.Outcomes.{Comes, Attempts, IsActing, IsQuiet, CostsWithRechecks, CostsAtMost, changes_caller_alone, slots_of_brief};
 
 use crate::delivery::{end, return_from_handler};

@@ -1,13 +1,7 @@
 //! Background process groups: who may use a terminal (XBD 11.1.4).
 
 ghost use Rattle.std.specs.Prelude.{◌≡◌, ◌≤◌, false, IsSome, Some};
-ghost use Rattle.posix.specs.Processes.{Process};
-ghost use Rattle.posix.specs.SignalNumbers.{is_realtime};
-ghost use Rattle.posix.specs.Consoles.{Console};
-ghost use Rattle.posix.specs.States.{process};
-ghost use Rattle.posix.specs.Generation.{is_ignored as is_ignored_by};
-ghost use Rattle.posix.specs.Terminals.{is_in_background as is_in_background_of, blocks_or_ignores as blocks_or_ignores_signal};
-ghost use Rattle.posix.specs.Ends.{signalled_group};
+ghost use Rattle.posix.specs.Common.{Process, is_realtime, Console, process, is_ignored as is_ignored_by, is_in_background as is_in_background_of, blocks_or_ignores as blocks_or_ignores_signal, signalled_group};
 ghost use Rattle.life.specs.Callers.{caller_of};
 ghost use Rattle.life.specs.Consoles.{terminal_of};
 ghost use Rattle.calls.specs.Access.{change_access_of, read_access_of, write_access_of};

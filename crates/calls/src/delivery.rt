@@ -2,16 +2,9 @@
 
 ghost use Rattle.std.specs.Prelude.{◌≡◌, ◌==◌, ◌&&◌, not, ◌+◌, ◌≤◌, ◌++◌, ◌∷◌, [], IsSome, Some, false, true, length, if◌then◌else◌};
 ghost use Rattle.posix.specs.declared.entry.Entry.TheVariants.{Ended, Halted};
-ghost use Rattle.posix.specs.Processes.{Process};
-ghost use Rattle.posix.specs.States.{process, has_place};
-ghost use Rattle.posix.specs.Handlers.{is_full};
+ghost use Rattle.posix.specs.Common.{Process, process, has_place, is_full, IsPlaced, is_orphaned, end_process, interruption as interruption_of, handle as handling, discard as discarding, stop_or_discard, act_by_default as acting_by_default, deliver as delivering, fault as faulting, return_from_handler as returning, STOP, default_action};
 ghost use Rattle.calls.specs.Outcomes.{CostsAtMost, enters_handler};
-ghost use Rattle.posix.specs.Regular.{IsPlaced};
-ghost use Rattle.posix.specs.Groups.{is_orphaned};
-ghost use Rattle.posix.specs.Ends.{end_process};
 ghost use Rattle.life.specs.Ends.{slots_of_end};
-ghost use Rattle.posix.specs.Delivery.{interruption as interruption_of, handle as handling, discard as discarding, stop_or_discard, act_by_default as acting_by_default, deliver as delivering, fault as faulting, return_from_handler as returning};
-ghost use Rattle.posix.specs.SignalNumbers.{STOP, default_action};
 
 use crate::entries::Entries;
 use crate::replies::refusal;

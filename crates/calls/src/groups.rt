@@ -1,10 +1,7 @@
 //! Process groups and sessions (XSH getpgid, getsid, setpgid, setsid).
 
 ghost use Rattle.std.specs.Prelude.{◌≡◌, ◌≤◌, length, IsSome, Some, option_map};
-ghost use Rattle.posix.specs.Processes.{Process, argument};
-ghost use Rattle.posix.specs.States.{process};
-ghost use Rattle.posix.specs.Regular.{IsPlaced};
-ghost use Rattle.posix.specs.GroupCalls.{named as named_by, tells};
+ghost use Rattle.posix.specs.Common.{Process, argument, process, IsPlaced, named as named_by, tells};
 ghost use Rattle.proctable.specs.Records.{snapshot_of};
 ghost use Rattle.calls.specs.Outcomes.{Attempts, Comes, id_told};
 

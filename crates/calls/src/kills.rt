@@ -1,12 +1,9 @@
 //! Signals that processes send (XSH kill, XSH sigqueue).
 
 ghost use Rattle.std.specs.Prelude.{◌≡◌, ◌+◌, ◌≤◌, Bool, length, IsSome, Some, true};
-ghost use Rattle.posix.specs.Sends.{message as message_of, signal_or_none as signal_number_or_none, send as sending};
-ghost use Rattle.posix.specs.States.{process};
+ghost use Rattle.posix.specs.Common.{message as message_of, signal_or_none as signal_number_or_none, send as sending, process, Process, argument, process_in, target_in};
 ghost use Rattle.life.specs.Callers.{process_like};
 ghost use Rattle.life.specs.Rechecks.{is_one};
-ghost use Rattle.posix.specs.Processes.{Process, argument};
-ghost use Rattle.posix.specs.Targets.{process_in, target_in};
 ghost use Rattle.calls.specs.Outcomes.{Attempts, Comes, IsQuiet, CostsWithRechecks, entry_of_sending, slots_of_kill, value_of_sending};
 
 use crate::attempts::{finish_shown, refuse};

@@ -1,7 +1,7 @@
 //! Programs that processes run in place of their own (XSH exec).
 
 ghost use Rattle.std.specs.Prelude.{◌≤◌, length, IsSome};
-ghost use Rattle.posix.specs.States.{process};
+ghost use Rattle.posix.specs.Common.{process};
 ghost use Rattle.calls.specs.Outcomes.{Attempts};
 
 use crate::attempts::refuse;

@@ -2,11 +2,7 @@
 
 ghost use Rattle.std.specs.Prelude.{◌≡◌, ◌≤◌, length, true, is_some, IfSome};
 ghost use Rattle.std.specs.Int.{cast_unsigned, w64};
-ghost use Rattle.posix.specs.Processes.{Process, argument};
-ghost use Rattle.posix.specs.Outcomes.{refusal as refusal_of};
-ghost use Rattle.posix.specs.Terminals.{is_nonzero};
-ghost use Rattle.posix.specs.Sends.{signal_in as signal_number_in};
-ghost use Rattle.posix.specs.SignalCalls.{handler_word as handler_word_of, handler_in as handler_held_in, is_question as is_question_in, are_flags, action_in as action_held_in, sigaction as sigaction_of, sigprocmask as sigprocmask_of, sigpending as sigpending_of, holding};
+ghost use Rattle.posix.specs.Common.{Process, argument, refusal as refusal_of, is_nonzero, signal_in as signal_number_in, handler_word as handler_word_of, handler_in as handler_held_in, is_question as is_question_in, are_flags, action_in as action_held_in, sigaction as sigaction_of, sigprocmask as sigprocmask_of, sigpending as sigpending_of, holding};
 ghost use Rattle.proctable.specs.Records.{give_own};
 ghost use Rattle.calls.specs.Outcomes.{Replies, RepliesTo, Answers, changes_caller_alone, value_of, with_own};
 

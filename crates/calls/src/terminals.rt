@@ -2,11 +2,7 @@
 //! 11.1, XSH tcgetpgrp, tcsetpgrp).
 
 ghost use Rattle.std.specs.Prelude.{◌≡◌, ◌≤◌, length, pos, IsSome, Some, option_map, slice_get};
-ghost use Rattle.posix.specs.Processes.{Process, argument};
-ghost use Rattle.posix.specs.Consoles.{Console};
-ghost use Rattle.posix.specs.States.{process};
-ghost use Rattle.posix.specs.Regular.{IsRegular};
-ghost use Rattle.posix.specs.Terminals.{console_named as console_named_by, setctty_of, may_acquire as may_acquire_by, foreground_told as foreground_told_of, put_foreground as putting_foreground, tcsetpgrp_on as tcsetpgrp_of, settostop_on as settostop_of};
+ghost use Rattle.posix.specs.Common.{Process, argument, Console, process, IsRegular, console_named as console_named_by, setctty_of, may_acquire as may_acquire_by, foreground_told as foreground_told_of, put_foreground as putting_foreground, tcsetpgrp_on as tcsetpgrp_of, settostop_on as settostop_of};
 ghost use Rattle.life.specs.Callers.{caller_of};
 ghost use Rattle.life.specs.Consoles.{terminal_of};
 ghost use Rattle.calls.specs.Outcomes.{Attempts, Comes};

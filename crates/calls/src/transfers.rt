@@ -1,11 +1,7 @@
 //! Bytes between a process and its terminal (XSH read, write).
 
 ghost use Rattle.std.specs.Prelude.{◌≡◌, ◌≢◌, ◌+◌, ◌≤◌, length, IsSome, Some, Ok, option_map};
-ghost use Rattle.posix.specs.Processes.{Process};
-ghost use Rattle.posix.specs.Consoles.{Console, console_of, line_taken};
-ghost use Rattle.posix.specs.States.{process, change};
-ghost use Rattle.posix.specs.Regular.{IsRegular};
-ghost use Rattle.posix.specs.Terminals.{change_console, finish_moved as finish_moved_of, with_bytes, read as reading, read_in, read_from, write as writing, write_in, waits_to_read};
+ghost use Rattle.posix.specs.Common.{Process, Console, console_of, line_taken, process, change, IsRegular, change_console, finish_moved as finish_moved_of, with_bytes, read as reading, read_in, read_from, write as writing, write_in, waits_to_read};
 ghost use Rattle.proctable.specs.Records.{snapshot_of};
 ghost use Rattle.life.specs.Callers.{caller_of};
 ghost use Rattle.life.specs.Consoles.{terminal_of};

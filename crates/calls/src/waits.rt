@@ -2,17 +2,10 @@
 
 ghost use Rattle.std.specs.Prelude.{◌≡◌, ◌≢◌, ◌+◌, ◌≤◌, ◌++◌, true, if◌then◌else◌, ◌∷◌, [], length, pos, IsSome, Some};
 ghost use Rattle.posix.specs.declared.entry.Entry.TheVariants.{Called, Looked, Reported};
-ghost use Rattle.posix.specs.Processes.{Process};
-ghost use Rattle.posix.specs.Calls.{call_of_wait};
-ghost use Rattle.posix.specs.States.{process};
-ghost use Rattle.posix.specs.Regular.{IsPlaced, IsRegular};
-ghost use Rattle.posix.specs.Outcomes.{finish};
-ghost use Rattle.posix.specs.Waits.{wait_by as waiting, results_of, results_of_nothing};
-ghost use Rattle.posix.specs.Settle.{is_block};
+ghost use Rattle.posix.specs.Common.{Process, call_of_wait, process, IsPlaced, IsRegular, finish, wait_by as waiting, results_of, results_of_nothing, is_block, has_place};
 ghost use Rattle.life.specs.Callers.{process_like};
 ghost use Rattle.life.specs.Machines.{AreSame};
 ghost use Rattle.posix.specs.declared.process.Blocked.{Blocked as BlockedValue};
-ghost use Rattle.posix.specs.States.{has_place};
 ghost use Rattle.calls.specs.Counts.{reports_first as reporting_first, slots_of_first, slots_of_waiting};
 ghost use Rattle.calls.specs.Outcomes.{Comes, CostsAtMost, IsQuiet, CostsWithRechecks};
 

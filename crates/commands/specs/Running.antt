@@ -2,7 +2,7 @@
 use Rattle.std.specs.Prelude.{◌≡◌, ◌≢◌, ◌⊎◌, ℕ, List, [], ◌∷◌, ◌++◌, codes, Option, Result, Ok, Err, IfSome, IsSomeAnd}
 use Rattle.std.specs.Borrow.{Bor}
 use Rattle.kernel.specs.declared.summary.Summary.{Summary}
-use Rattle.posix.specs.States.{World}
+use Rattle.posix.specs.Common.{World}
 use Rattle.text.specs.EventTexts.{event_text}
 use Rattle.text.specs.WorldTexts.{world_text}
 use Rattle.text.specs.declared.fault.Reason.TheVariants.{Memory}

@@ -8,7 +8,7 @@ ghost use Rattle.commands.specs.Words.{audit_asked, run_asked};
 
 use arrayvec::ArrayString;
 use audit::{AuditFault, TraceFault, audit_text};
-use inputs::{FileFailure, ReadFiles, Unread, named_file, named_world_and_events, tell};
+use inputs::{FileFailure, ReadFault, ReadFiles, named_file, named_world_and_events, tell};
 use judging::line_at;
 use kernel::{RunError, Sink, SinkFault, put_all, run};
 use std::alloc::Global;
@@ -18,7 +18,7 @@ use std::hash::RandomState;
 /// Why the program doesn't end with status 0.
 #[derive(Clone, Copy)]
 enum Failure<'a> {
-    Unread(Unread<'a>),
+    Unread(ReadFault<'a>),
     Run(RunError),
     /// An audit found a fault, and told it.
     Faulty,
@@ -120,7 +120,7 @@ fn audit_trace<'a, O: Sink>(
         out.old out.new (O.seen out.old) (O.seen out.new) result }
 {
     let Some(keys) = keys else {
-        return Err(Failure::Unread(Unread::CannotRead("random bytes")));
+        return Err(Failure::Unread(ReadFault::CannotRead("random bytes")));
     };
     match audit_text(alloc, keys, trace) {
         Ok(()) => put_answer(b"ok\n", out),

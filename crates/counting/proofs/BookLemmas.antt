@@ -6,7 +6,7 @@ use Rattle.std.specs.List.Sorted.{IsPermutation}
 use Rattle.std.proofs.lemmas.List.{take_more, take_all, take-append-le}
 use Rattle.std.proofs.lemmas.List.Folds.{list_any-append}
 use Rattle.std.proofs.lemmas.List.Sorted.{list_any-IsPermutation}
-use Rattle.posix.specs.Entries.{Line}
+use Rattle.posix.specs.Common.{Line}
 use Rattle.schedules.specs.Families.{Spots}
 use Rattle.counting.specs.declared.ending.Ending.{Ending}
 use Rattle.counting.specs.declared.ending.Endings.{Endings}

@@ -7,8 +7,7 @@ use Rattle.std.proofs.lemmas.List.{get_or_default}
 use Rattle.std.proofs.lemmas.List.Sums.{sum_by-append}
 use Rattle.std.proofs.lemmas.List.Folds.{find-append}
 use Rattle.posix.specs.declared.event.Event.{Event}
-use Rattle.posix.specs.States.{World}
-use Rattle.posix.specs.Entries.{Line}
+use Rattle.posix.specs.Common.{World, Line}
 use Rattle.schedules.specs.Families.{IsSchedule, Spots, family}
 use Rattle.schedules.proofs.FamilyLemmas.{schedule_of}
 use Rattle.schedules.specs.Schedules.{scheduled}

@@ -6,10 +6,7 @@ use Rattle.std.proofs.lemmas.List.Folds.{list_any-append, list_any_at}
 use Rattle.posix.specs.declared.event.Event.{Event}
 use Rattle.posix.specs.declared.entry.Entry.{Entry}
 use Rattle.posix.specs.declared.entry.Entry.TheVariants.{NoMemory}
-use Rattle.posix.specs.Entries.{Line, numbered}
-use Rattle.posix.specs.States.{State, World, boot}
-use Rattle.posix.specs.Step.{next}
-use Rattle.posix.specs.Runs.{RunsFrom}
+use Rattle.posix.specs.Common.{Line, numbered, State, World, boot, next, RunsFrom}
 use Rattle.laws.specs.Memory.{EntriesGrantAll}
 use Rattle.laws.proofs.MemoryLemmas.{step_determined, true_grants}
 use Rattle.schedules.specs.Families.{Spots}

@@ -4,7 +4,7 @@ use Rattle.std.specs.Prelude.{decimal}
 use Rattle.std.proofs.lemmas.Fmt.{decimal_digit}
 use Rattle.std.proofs.lemmas.List.{length-take-le, drop-take, take-take, take_all, take-append-le}
 use Rattle.posix.specs.declared.entry.Entry.{Entry}
-use Rattle.posix.specs.Printing.{printed}
+use Rattle.posix.specs.Common.{printed}
 use Rattle.posix.proofs.PrintingLemmas.{number_and_words}
 use Rattle.counting.specs.Texts.{shown}
 

@@ -1,8 +1,7 @@
 -- A walk through a family, and what the book tells on the way.
 use Rattle.std.proofs.Common.{◌≡◌, ℕ, ◌+◌, ◌<◌, Bool, true, false, List, [], ◌∷◌, ◌++◌, length, ap, sym, ◌∙◌, arith, length-append, append_assoc}
 use Rattle.posix.specs.declared.event.Event.{Event}
-use Rattle.posix.specs.States.{World}
-use Rattle.posix.specs.Entries.{Line}
+use Rattle.posix.specs.Common.{World, Line}
 use Rattle.schedules.specs.Families.{Spots}
 use Rattle.schedules.specs.Schedules.{scheduled}
 use Rattle.schedules.specs.Walks.{Comes}

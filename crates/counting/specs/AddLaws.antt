@@ -1,15 +1,12 @@
 -- Lines that are added, and those after them.
-use Rattle.std.proofs.Common.{◌≡◌, Bool, true, false, ◌||◌, List, [], ◌++◌, refl, ap, sym, ◌∙◌, append_assoc, append-nil}
+use Rattle.std.proofs.Common.{◌≡◌, false, List, [], ◌++◌, refl, ap, sym, ◌∙◌, append_assoc, append-nil}
+use Rattle.std.proofs.lemmas.Bool.{or_from}
 use Rattle.std.proofs.lemmas.List.Folds.{list_any-append}
-use Rattle.posix.specs.Entries.{Line}
+use Rattle.posix.specs.Common.{Line}
 use Rattle.counting.specs.Courses.{AddsGranted, denies_memory, one_denies_memory}
 
-none_of_both : (a b : Bool) → a ≡ false → b ≡ false → (a || b) ≡ false
-none_of_both false b p q = q
-none_of_both true b p q = cc
-
 pub both_grant : (ls ms : List Line) → one_denies_memory ls ≡ false → one_denies_memory ms ≡ false → one_denies_memory (ls ++ ms) ≡ false
-both_grant ls ms p q = list_any-append (λ (l : Line). denies_memory l.entry) ls ms ∙ none_of_both (one_denies_memory ls) (one_denies_memory ms) p q
+both_grant ls ms p q = list_any-append (λ (l : Line). denies_memory l.entry) ls ms ∙ or_from (one_denies_memory ls) (one_denies_memory ms) p q
 
 pub added_none : (lines : List Line) → AddsGranted lines lines []
 added_none lines = (sym (append-nil lines), refl)

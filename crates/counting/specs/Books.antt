@@ -1,6 +1,6 @@
 -- What is kept of the runs of schedules.
 use Rattle.std.specs.Prelude.{ℕ, ◌+◌, Bool, false, List, map}
-use Rattle.posix.specs.Entries.{Line}
+use Rattle.posix.specs.Common.{Line}
 use Rattle.schedules.specs.Families.{Spots}
 use Rattle.counting.specs.declared.ending.Ending.{Ending}
 use Rattle.counting.specs.declared.ending.Endings.{Endings}

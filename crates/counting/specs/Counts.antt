@@ -1,7 +1,7 @@
 -- What is counted of schedules: how many have a property, and which is the first.
 use Rattle.std.specs.Prelude.{ℕ, Bool, false, List, length, map, count_by, find}
 use Rattle.posix.specs.declared.event.Event.{Event}
-use Rattle.posix.specs.States.{World}
+use Rattle.posix.specs.Common.{World}
 use Rattle.schedules.specs.Families.{Spots}
 use Rattle.counting.specs.declared.ending.Ending.{Ending}
 use Rattle.counting.specs.declared.ending.Endings.{Endings}

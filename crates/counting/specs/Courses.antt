@@ -4,9 +4,7 @@ use Rattle.std.specs.List.{list_any}
 use Rattle.posix.specs.declared.event.Event.{Event}
 use Rattle.posix.specs.declared.entry.Entry.{Entry}
 use Rattle.posix.specs.declared.entry.Entry.TheVariants.{Noted, Called, Moved, Reported, Looked, NoMemory, Marked, Handled, Discarded, Stopped, Returned, Ended, Halted}
-use Rattle.posix.specs.Entries.{Line, numbered}
-use Rattle.posix.specs.States.{State, World, boot}
-use Rattle.posix.specs.Step.{next}
+use Rattle.posix.specs.Common.{Line, numbered, State, World, boot, next}
 use Rattle.kernel.specs.Progress.{Shows}
 use Rattle.schedules.specs.Families.{Spots}
 use Rattle.schedules.specs.Schedules.{scheduled}

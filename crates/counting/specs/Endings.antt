@@ -1,7 +1,6 @@
 -- How a run ends.
 use Rattle.std.specs.Prelude.{Bool, true, false, Option, Some, None, if◌then◌else◌, ℕ}
-use Rattle.posix.specs.States.{State, current}
-use Rattle.posix.specs.Alarms.{has_alarms}
+use Rattle.posix.specs.Common.{State, current, has_alarms}
 use Rattle.schedules.specs.Families.{Spots}
 use Rattle.counting.specs.declared.ending.Ending.{Ending}
 use Rattle.counting.specs.declared.ending.Ending.TheVariants.{Halted, AtRest, AwaitsAlarm, Going}

@@ -2,8 +2,7 @@
 use Rattle.std.specs.Prelude.{ℕ, ◌==◌, ◌||◌, ◌&&◌, Bool, true, false, List, [], ◌∷◌, map, if◌then◌else◌}
 use Rattle.std.specs.List.{join_with_byte, list_any}
 use Rattle.posix.specs.declared.entry.Entry.{Entry}
-use Rattle.posix.specs.Entries.{Line}
-use Rattle.posix.specs.Printing.{words_of}
+use Rattle.posix.specs.Common.{Line, words_of}
 use Rattle.schedules.specs.Families.{Spots}
 use Rattle.counting.specs.Tallies.{TallyView, both, with_schedule_if}
 

@@ -2,9 +2,7 @@
 
 ghost use Rattle.std.specs.Prelude.{◌≡◌, ◌+◌, ◌<◌, ◌≤◌, ◌++◌, [], ◌∷◌, ⊤, length, IfOk, OnOk, false};
 ghost use Rattle.std.specs.List.{list_any};
-ghost use Rattle.posix.specs.Entries.{numbered};
-ghost use Rattle.posix.specs.Regular.{IsRegular};
-ghost use Rattle.posix.specs.Settle.{IsSettled};
+ghost use Rattle.posix.specs.Common.{numbered, IsRegular, IsSettled};
 ghost use Rattle.text.specs.EventTexts.{most_events};
 ghost use Rattle.kernel.specs.Steps.{noted_lines};
 ghost use Rattle.counting.specs.AddLaws.{added_none, added_then};

@@ -1,7 +1,7 @@
 //! Lines of a trace that are kept.
 
 ghost use Rattle.std.specs.Prelude.{◌≡◌};
-ghost use Rattle.posix.specs.Entries.{line};
+ghost use Rattle.posix.specs.Common.{line};
 ghost use Rattle.counting.specs.Texts.{shown as shown_of};
 ghost use Rattle.counting.specs.Courses.{denies_memory as denies};
 

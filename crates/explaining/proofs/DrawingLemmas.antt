@@ -6,8 +6,7 @@ use Rattle.std.proofs.lemmas.List.Folds.{list_all-append}
 use Rattle.clap.specs.Words.{Row, Text, first_of, is_simple_and_free}
 use Rattle.inputs.specs.Words.{is_used}
 use Rattle.laws.specs.TraceLines.{Says, is_line}
-use Rattle.posix.specs.Entries.{Line}
-use Rattle.posix.specs.Printing.{print, print_line}
+use Rattle.posix.specs.Common.{Line, print, print_line}
 use Rattle.trace.specs.Lines.{IsCut, is_one_line}
 use Rattle.explaining.specs.Drawings.{BeginsOther, IsFirstOther, IsTrace, asked_in, command_line}
 

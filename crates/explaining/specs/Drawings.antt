@@ -8,8 +8,7 @@ use Rattle.inputs.specs.Words.{command_with_flag, is_used, unless_refused}
 use Rattle.inputs.specs.declared.failure.FileFailure.{FileFailure}
 use Rattle.inputs.specs.declared.failure.FileFailure.TheVariants.{Usage, Unread, Memory, Write}
 use Rattle.laws.specs.TraceLines.{Says, is_line}
-use Rattle.posix.specs.Entries.{Line}
-use Rattle.posix.specs.Printing.{print}
+use Rattle.posix.specs.Common.{Line, print}
 use Rattle.trace.specs.Lines.{IsCut, is_one_line}
 
 -- It is the print of lines, each of one of the forms.

@@ -3,7 +3,7 @@
 use crate::known::Known;
 use posix::{Bytes, Call, Entry, Pid, Sig, Status};
 use std::alloc::AllocError;
-use wording::{Kind, Prose, name_of, put_byte, put_signal, put_status};
+use wording::{Kind, Prose, name_of, process_in, put_byte, put_signal, put_status};
 
 /// Whether a status word is that of an end, of a stop by any signal, or of a continuation.
 fn is_status(status: Status) -> bool {
@@ -29,11 +29,6 @@ fn put_bytes(text: &mut Prose, bytes: &Bytes) {
         }
     }
     text.push_str("\"");
-}
-
-/// The process that a fork gave; none where it was refused.
-pub fn child_of(value: i64) -> Option<Pid> {
-    Pid::new(u32::try_from(value).ok()?).filter(|pid| *pid != Pid::NONE)
 }
 
 /// Writes why a call was refused, if it was.
@@ -64,7 +59,7 @@ fn put_called(
         Call::Waitpid | Call::Waitid if value == 0 => text.push_str("nothing to report"),
         Call::Read if value == 0 => text.push_str("end of file, or count 0"),
         Call::Fork => {
-            if let Some(child) = child_of(value) {
+            if let Some(child) = process_in(value.into()) {
                 known.bear(pid, child)?;
             }
         }

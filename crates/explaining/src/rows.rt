@@ -1,12 +1,11 @@
 //! The rows of a picture of a trace, and its lanes.
 
 use crate::known::Known;
-use crate::meaning::child_of;
 use crate::phrases::put_phrase;
 use posix::{Call, Entry, Pid};
 use std::alloc::{AllocError, Global};
 use std::collections::BTreeMap;
-use wording::Prose;
+use wording::{Prose, process_in};
 
 /// What stands in a row beside the words, in the lane of its process.
 #[derive(Clone, Copy)]
@@ -155,7 +154,7 @@ fn named(entry: &Entry) -> Option<(Pid, Cause)> {
             call: Call::Fork,
             result,
             ..
-        } => Some((child_of(result)?, Cause::Birth)),
+        } => Some((process_in(result.into())?, Cause::Birth)),
         Entry::Reported { child, .. } => Some((child, Cause::News)),
         Entry::Looked { child, .. } => Some((child, Cause::Look)),
         Entry::Handled { sender, .. } => Some((sender, Cause::News)),

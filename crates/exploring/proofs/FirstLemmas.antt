@@ -2,7 +2,7 @@
 use Rattle.std.proofs.Common.{◌≡◌, ℕ, List, length, sym, subst, get_or}
 use Rattle.std.proofs.lemmas.List.Elements.{All-map}
 use Rattle.posix.specs.declared.event.Event.{Event}
-use Rattle.posix.specs.States.{World}
+use Rattle.posix.specs.Common.{World}
 use Rattle.schedules.specs.Families.{IsSchedule, family}
 use Rattle.counting.specs.Books.{BookView}
 use Rattle.counting.specs.Counts.{book_over, ends_so, find_over, shows}

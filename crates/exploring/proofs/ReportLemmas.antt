@@ -12,8 +12,9 @@ use Rattle.std.proofs.lemmas.List.Folds.{concat-append}
 use Rattle.counting.specs.Books.{BookView}
 use Rattle.counting.specs.Numbers.{in_decimal}
 use Rattle.counting.specs.declared.ending.Endings.{Endings}
-use Rattle.exploring.specs.Reports.{Adds, Reports, at_rest_lines, ending_line, first_lines, first_that, plural, ShowsFind, ShowsFinds, ShowsFirst, find_line, first_that_has_it, size_line, states_line}
+use Rattle.exploring.specs.Reports.{Adds, Reports, at_rest_lines, ending_line, first_lines, first_that, ShowsFind, ShowsFinds, ShowsFirst, find_line, first_that_has_it, size_line, states_line}
 use Rattle.counting.specs.Texts.{FindView}
+use Rattle.wording.specs.Counted.{plural}
 
 four : (old a b c d s1 s2 s3 s4 : List ℕ) → s1 ≡ old ++ a → s2 ≡ s1 ++ b → s3 ≡ s2 ++ c → s4 ≡ s3 ++ d → s4 ≡ old ++ (a ++ (b ++ (c ++ d)))
 four old a b c d s1 s2 s3 s4 is1 is2 is3 is4 = is4 ∙ ap (λ s. s ++ d) (is3 ∙ ap (λ s. s ++ c) (is2 ∙ ap (λ s. s ++ b) is1)) ∙ simp append_assoc

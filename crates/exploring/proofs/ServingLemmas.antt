@@ -2,7 +2,7 @@
 use Rattle.std.proofs.Common.{◌≡◌, ◌⊎◌, ◌∙◌, ℕ, ◌+◌, Bool, true, false, Option, Some, None, List, length, refl, ap, sym, subst, arith, inl, inr, Result, Ok, Err}
 use Rattle.std.specs.Prelude.{◌||◌, IsErrAnd, IsSomeAnd}
 use Rattle.posix.specs.declared.event.Event.{Event}
-use Rattle.posix.specs.States.{World}
+use Rattle.posix.specs.Common.{World}
 use Rattle.inputs.specs.Reads.{AreRead, Contents}
 use Rattle.exploring.specs.declared.serving.Failure.{Failure}
 use Rattle.exploring.specs.declared.serving.Failure.TheVariants as failure

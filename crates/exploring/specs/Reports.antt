@@ -10,14 +10,11 @@ use Rattle.counting.specs.Books.{BookView}
 use Rattle.counting.specs.Numbers.{in_decimal}
 use Rattle.counting.specs.Tallies.{TallyView}
 use Rattle.counting.specs.Texts.{FindView}
+use Rattle.wording.specs.Counted.{plural}
 use Rattle.exploring.specs.declared.words.Written.{Written}
 use Rattle.exploring.specs.declared.words.Written.TheVariants as written
 
 -- ---- counts
-
--- `s`, or nothing behind one
-abbrev pub plural : ℕ → List ℕ
-plural count = if count == 1 then [] else codes "s"
 
 -- a count in digits, behind blanks up to eight places
 abbrev pub to_the_right : ℕ → List ℕ

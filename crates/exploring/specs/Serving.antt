@@ -2,7 +2,7 @@
 use Rattle.std.specs.Prelude.{◌≡◌, ◌⊎◌, ℕ, ◌==◌, ◌||◌, ◌&&◌, not, Bool, true, false, List, length, Option, None, Some, Result, Ok, Err, IfSome, IsSomeAnd}
 use Rattle.std.specs.List.{list_any}
 use Rattle.posix.specs.declared.event.Event.{Event}
-use Rattle.posix.specs.States.{World}
+use Rattle.posix.specs.Common.{World}
 use Rattle.schedules.specs.Families.{Spots, family}
 use Rattle.trace.specs.Sinks.{BreaksOff, Seen, TakesAll}
 use Rattle.inputs.specs.Reads.{AreRead, AreRefused, Contents, Text}

@@ -5,7 +5,8 @@ ghost use Rattle.std.specs.String.{string_bytes};
 ghost use Rattle.schedules.specs.Families.{IsSchedule};
 ghost use Rattle.schedules.specs.Schedules.{scheduled as scheduled_events};
 ghost use Rattle.schedules.specs.EventLines.{AddsText};
-ghost use Rattle.exploring.specs.Reports.{Adds, AreOfFamily, IsFirstOf, Reports, ShowsFind, ShowsFinds, ShowsFirst, at_rest_lines, ending_line, first_lines, first_that, plural as plural_of, size_line, states_line, to_the_right as right_aligned};
+ghost use Rattle.exploring.specs.Reports.{Adds, AreOfFamily, IsFirstOf, Reports, ShowsFind, ShowsFinds, ShowsFirst, at_rest_lines, ending_line, first_lines, first_that, size_line, states_line, to_the_right as right_aligned};
+ghost use Rattle.wording.specs.Counted.{plural as plural_of};
 
 use crate::apart::{Unlike, first_unlike};
 use crate::turns::turns_of;
@@ -17,7 +18,7 @@ use schedules::write_events;
 use std::alloc::{AllocError, Global};
 use std::fmt::Write;
 use trace::print_entry;
-use wording::Listing;
+use wording::{Listing, plural};
 
 /// So many outcomes are shown at most.
 const MOST_SHOWN: usize = 20;
@@ -26,13 +27,6 @@ const MOST_SHOWN: usize = 20;
 const LAST_LINES: usize = 6;
 
 /// `s`, or nothing behind one.
-pub fn plural(count: u64) -> &'static str
-    ensures { result.now ≡ plural_of count }
-{
-    if count == 1 { "" } else { "s" }
-}
-
-/// The same behind a count.
 fn plural_behind(count: &Count) -> &'static str
     ensures { result.now ≡ plural_of count.now }
 {

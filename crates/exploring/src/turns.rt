@@ -1,8 +1,7 @@
 //! Whose turn each tick takes that is put into a schedule.
 
 ghost use Rattle.std.specs.Prelude.{◌≡◌, ◌+◌, ◌≤◌, length};
-ghost use Rattle.posix.specs.Regular.{IsRegular};
-ghost use Rattle.posix.specs.Settle.{IsSettled};
+ghost use Rattle.posix.specs.Common.{IsRegular, IsSettled};
 ghost use Rattle.text.specs.EventTexts.{most_events};
 ghost use Rattle.schedules.specs.Families.{IsSchedule};
 

@@ -1,7 +1,7 @@
 -- Why a world and its events aren't read.
 use Rattle.std.proofs.Common.{◌≡◌, ℕ, List, Result, Ok, Err, inl, inr}
 use Rattle.std.specs.Prelude.{IsErrAnd}
-use Rattle.posix.specs.States.{World}
+use Rattle.posix.specs.Common.{World}
 use Rattle.text.specs.EventTexts.{event_text}
 use Rattle.text.specs.WorldTexts.{world_text}
 use Rattle.inputs.specs.declared.Inputs.{Inputs}

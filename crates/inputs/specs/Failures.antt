@@ -1,8 +1,8 @@
 -- The failures of programs that are given one file, what is told of them, and their statuses.
 use Rattle.std.specs.Prelude.{◌≡◌, ◌⊎◌, ℕ, List, [], ◌∷◌, ◌++◌, codes, None, Option}
 use Rattle.std.specs.Borrow.{Bor}
-use Rattle.inputs.specs.declared.files.Unread.{Unread as WhyUnread}
-use Rattle.inputs.specs.declared.files.Unread.TheVariants as unread
+use Rattle.inputs.specs.declared.files.ReadFault.{ReadFault}
+use Rattle.inputs.specs.declared.files.ReadFault.TheVariants as fault
 use Rattle.trace.specs.Sinks.{BreaksOff, Seen, TakesAll}
 use Rattle.inputs.specs.Reads.{Text}
 use Rattle.inputs.specs.declared.failure.FileFailure.{FileFailure}
@@ -11,9 +11,9 @@ use Rattle.inputs.specs.declared.words.NoRequest.{NoRequest}
 use Rattle.inputs.specs.declared.words.NoRequest.TheVariants as no_request
 
 -- why the file with this name isn't read
-abbrev pub IsUnread : Bor Text → WhyUnread → Type 0
-IsUnread name (unread.CannotRead other) = other ≡ name
-IsUnread name unread.Memory = Unit {0}
+abbrev pub IsReadFault : Bor Text → ReadFault → Type 0
+IsReadFault name (fault.CannotRead other) = other ≡ name
+IsReadFault name fault.Memory = Unit {0}
 
 abbrev pub failure_of_words : NoRequest → FileFailure
 failure_of_words no_request.Usage = Usage
@@ -27,9 +27,9 @@ status_of Memory = 3
 status_of Write = 3
 
 -- what is told of a file that isn't read
-abbrev pub message_unread : WhyUnread → List ℕ
-message_unread (unread.CannotRead name) = codes "jobk: cannot read " ++ (name.now ++ 10 ∷ [])
-message_unread unread.Memory = codes "jobk: out of memory\n"
+abbrev pub message_unread : ReadFault → List ℕ
+message_unread (fault.CannotRead name) = codes "jobk: cannot read " ++ (name.now ++ 10 ∷ [])
+message_unread fault.Memory = codes "jobk: out of memory\n"
 
 -- and of a failure, by a program that is used so
 abbrev pub message_of : List ℕ → FileFailure → List ℕ

@@ -26,11 +26,9 @@ pub fn read_words<R: Env + AllocGlobal>(rt: &R) -> Result<Vec<String>, WordsFaul
             WordsFault::NotText
         }
     })?;
-    let mut words = Vec::new(rt.alloc());
-    for word in args.skip(1) {
-        words.push(word).map_err(|_| WordsFault::Memory)?;
-    }
-    Ok(words)
+    args.skip(1)
+        .collect(rt.alloc())
+        .map_err(|_| WordsFault::Memory)
 }
 
 /// The texts of the words, in their order. An error where the host has no memory for the list of them.

@@ -4,7 +4,7 @@ ghost use Rattle.std.specs.Prelude.{◌≡◌, ◌++◌, OnErr, OnOk};
 ghost use Rattle.trace.specs.Sinks.{BreaksOff, TakesAll};
 ghost use Rattle.inputs.specs.Failures.{Tells, message_of, status_of};
 
-use crate::Unread;
+use crate::ReadFault;
 use crate::words::NoRequest;
 use arrayvec::ArrayString;
 use std::alloc::AllocError;
@@ -17,7 +17,7 @@ pub enum FileFailure<'a> {
     /// The words ask for no file.
     Usage,
     /// The file isn't read.
-    Unread(Unread<'a>),
+    Unread(ReadFault<'a>),
     /// There was no memory.
     Memory,
     /// The output took no more.

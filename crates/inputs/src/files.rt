@@ -1,18 +1,20 @@
 //! Files of the host.
 
-ghost use Rattle.std.specs.Prelude.{◌≡◌, ℕ, List, Option, IfErr, IfOk, IfSome, OnErr, OnOk};
+ghost use Rattle.std.specs.Prelude.{◌≡◌, ◌≢◌, ℕ, List, Option, IfErr, IfOk, IfSome, OnErr, OnOk};
+ghost use Rattle.std.specs.IoError.{error_kind};
 ghost use Rattle.trace.specs.Sinks.{BreaksOff, TakesAll};
-ghost use Rattle.inputs.specs.Failures.{IsUnread, message_unread};
+ghost use Rattle.inputs.specs.Failures.{IsReadFault, message_unread};
 
 use crate::failure::put_both;
+use std::fs;
+use std::io::{self, ErrorKind};
 use std::rt::Files;
-use std::{fs, io};
 use thiserror::Error;
 use trace::{Sink, SinkFault, put_all};
 
 /// Why a file isn't read.
 #[derive(Clone, Copy, Debug, Error)]
-pub enum Unread<'a> {
+pub enum ReadFault<'a> {
     /// There is no file with this name, or the device failed.
     #[error("cannot read {0}")]
     CannotRead(&'a str),
@@ -21,15 +23,17 @@ pub enum Unread<'a> {
     Memory,
 }
 
-impl<'a> Unread<'a> {
+impl<'a> ReadFault<'a> {
     /// Why the host doesn't read what has this name.
     pub fn of(error: &io::Error, name: &'a str) -> Self
-        ensures { IsUnread name.entry result }
+        ensures memory { error_kind error.now ≡ ErrorKind.OutOfMemory → result ≡ ReadFault.Memory }
+        ensures other { error_kind error.now ≢ ErrorKind.OutOfMemory → result ≡ ReadFault.CannotRead name.entry }
+        ensures named { IsReadFault name.entry result }
     {
-        if error.kind() == io::ErrorKind::OutOfMemory {
-            Unread::Memory
+        if error.kind() == ErrorKind::OutOfMemory {
+            ReadFault::Memory
         } else {
-            Unread::CannotRead(name)
+            ReadFault::CannotRead(name)
         }
     }
 
@@ -39,11 +43,11 @@ impl<'a> Unread<'a> {
         ensures err { OnErr result (BreaksOff (E.seen err.old) (E.seen err.new) (message_unread self.entry)) }
     {
         match self {
-            Unread::CannotRead(name) => {
+            ReadFault::CannotRead(name) => {
                 put_all(err, b"jobk: cannot read ")?;
                 put_both(err, name.as_bytes(), b"\n")
             }
-            Unread::Memory => put_all(err, b"jobk: out of memory\n"),
+            ReadFault::Memory => put_all(err, b"jobk: out of memory\n"),
         }
     }
 }
@@ -54,9 +58,9 @@ pub trait ReadFiles {
     ghost contents: { Self → List ℕ → Option (List ℕ) };
 
     /// The bytes of a file.
-    fn read_file<'a>(&self, name: &'a str) -> Result<Vec<u8>, Unread<'a>>
+    fn read_file<'a>(&self, name: &'a str) -> Result<Vec<u8>, ReadFault<'a>>
         ensures ok { IfOk result (λ read. IfSome (contents self.now name.entry.now) (λ known. read.items ≡ known)) }
-        ensures err { IfErr result (IsUnread name.entry) };
+        ensures err { IfErr result (IsReadFault name.entry) };
 }
 
 /// The files of the host.
@@ -70,7 +74,7 @@ impl<R: Files + AllocGlobal> ReadFiles for HostFiles<'_, R> {
 
     ghost contents = { λ files name. None };
 
-    fn read_file<'a>(&self, name: &'a str) -> Result<Vec<u8>, Unread<'a>> {
-        fs::read(self.rt, name).map_err(|e| Unread::of(&e, name))
+    fn read_file<'a>(&self, name: &'a str) -> Result<Vec<u8>, ReadFault<'a>> {
+        fs::read(self.rt, name).map_err(|e| ReadFault::of(&e, name))
     }
 }

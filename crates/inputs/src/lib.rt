@@ -16,7 +16,7 @@ ghost use Rattle.inputs.specs.Numbers.{number_of, number_up_to as number_up_to_o
 
 pub use command_line::{WordsFault, as_texts, read_words};
 pub use failure::{FileFailure, put_both, tell};
-pub use files::{HostFiles, ReadFiles, Unread};
+pub use files::{HostFiles, ReadFault, ReadFiles};
 use std::alloc::Global;
 use text::{EventList, TextFault, World, read_events, read_world};
 use thiserror::Error;
@@ -40,7 +40,7 @@ pub struct Inputs {
 pub enum InputFault<'a> {
     /// One of the files isn't read.
     #[error("{0}")]
-    Unread(Unread<'a>),
+    Unread(ReadFault<'a>),
     /// The world is refused.
     #[error("world: {0}")]
     World(TextFault),

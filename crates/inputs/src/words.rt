@@ -1,7 +1,7 @@
 //! The words of a command line that names one file, or a world and its events, and has options.
 
-ghost use Rattle.std.specs.Prelude.{◌≡◌, ◌≢◌, IfOk, MatchResult, None, Some, false, map, option_map};
-ghost use Rattle.clap.specs.Words.{app_of, first_of, found_of, kind_of, rows_of, rule_of};
+ghost use Rattle.std.specs.Prelude.{◌≡◌, ◌≢◌, [], IfOk, MatchResult, None, Some, false, map, option_map, unwrap_or};
+ghost use Rattle.clap.specs.Words.{app_of, first_of, found_of, kind_of, matched_of, raw_values, rows_of, rule_of};
 ghost use Rattle.inputs.specs.Words.{command_of, command_with_file, command_with_flag, file_in_words, file_rule, files_in, files_in_words, is_used as is_used_in, option_rule};
 
 use clap::error::ErrorKind;
@@ -165,7 +165,9 @@ pub fn words_behind<'a>(
     alloc: Global,
     matches: &ArgMatches<'a>,
     option: &str,
-) -> Result<Vec<&'a str>, AllocError> {
+) -> Result<Vec<&'a str>, AllocError>
+    ensures { IfOk result (λ words. map (λ w. w.now) words.items ≡ unwrap_or (option_map raw_values (matched_of (found_of matches.now) option.now)) []) }
+{
     match matches.get_strs(option) {
         Some(words) => Vec::from_slice(alloc, words),
         None => Ok(Vec::new(alloc)),

@@ -1,7 +1,7 @@
 //! The person at the terminal, if there is one.
 
 use exploring::Progress;
-use inputs::Unread;
+use inputs::ReadFault;
 use showing::Ask;
 use std::io::{Input, IsTerminal};
 use std::rt::Clock;
@@ -80,10 +80,10 @@ impl Ask for Person<'_> {
         self.rt.stdin().is_terminal()
     }
 
-    fn ask(&mut self, line: &mut String) -> Result<bool, Unread<'static>> {
+    fn ask(&mut self, line: &mut String) -> Result<bool, ReadFault<'static>> {
         match self.rt.stdin().read_line(line) {
             Ok(count) => Ok(count != 0),
-            Err(e) => Err(Unread::of(&e, "the terminal")),
+            Err(e) => Err(ReadFault::of(&e, "the terminal")),
         }
     }
 }

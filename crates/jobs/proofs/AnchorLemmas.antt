@@ -3,9 +3,7 @@ use Rattle.std.proofs.Common.{◌≡◌, ℕ, ◌<◌, ◌≤◌, ◌==◌, ◌&
 use Rattle.std.specs.Option.{IfSome, IsSome, option_map_or}
 use Rattle.std.specs.Prelude.{option_and_then}
 use Rattle.std.proofs.lemmas.Bool.{and_parts, cond_both, eqb-true, not-true}
-use Rattle.posix.specs.Processes.{Process, is_living, is_zombie}
-use Rattle.posix.specs.Groups.{is_anchor, is_outside as is_outside_of}
-use Rattle.posix.specs.Tables.{lookup, parent_of}
+use Rattle.posix.specs.Common.{Process, is_living, is_zombie, is_anchor, is_outside as is_outside_of, lookup, parent_of}
 use Rattle.posix.proofs.TableLemmas.{pid_looked}
 use Rattle.pidset.specs.declared.index.Pair.{Pair}
 use Rattle.pidset.specs.Rows.{HasRoom}
@@ -16,7 +14,7 @@ use Rattle.jobs.specs.declared.indexes.IndexedFields.{IndexedFields}
 use Rattle.jobs.specs.Indexes.{seen_of, anchor_in, child_key, keeps_group_and_session}
 use Rattle.jobs.specs.IndexedTables.{AreWithin}
 use Rattle.jobs.proofs.NumberLemmas.{least_number}
-use Rattle.jobs.proofs.SnapshotLemmas.{there as there_is}
+use Rattle.posix.proofs.ResultLemmas.{there as there_is}
 
 -- ---- by what is seen
 

@@ -6,9 +6,7 @@ use Rattle.std.proofs.lemmas.Bool.{cond_both, eq-eqb, eqb-true, eqb-false}
 use Rattle.std.proofs.lemmas.Bool.Decides.{nat_tests}
 use Rattle.std.proofs.lemmas.List.Elements.{filter_agree}
 use Rattle.std.proofs.Math.Bool.{and-false}
-use Rattle.posix.specs.Processes.{Process, is_zombie}
-use Rattle.posix.specs.Tables.{IsRising, lookup, at, changed, parent_of, above, first_pid, is_child, children_in, left_of, reparented, adopted, removed}
-use Rattle.posix.specs.Waits.{wanted_in}
+use Rattle.posix.specs.Common.{Process, is_zombie, IsRising, lookup, at, changed, parent_of, above, first_pid, is_child, children_in, left_of, reparented, adopted, removed, wanted_in}
 use Rattle.posix.proofs.TableLemmas.{changed_id, pid_reparented, remove_above, rising_adopted, rising_filter}
 use Rattle.posix.proofs.MapLemmas.{adopted_changed, lookup_on, at_pid, at_keeps}
 use Rattle.posix.proofs.WalkLemmas.{AtChild, at_first, in_filter, passing_above}
@@ -24,7 +22,7 @@ use Rattle.jobs.specs.Indexes.{anchor_in, child_key, is_outside, list_of_parent,
 use Rattle.jobs.specs.IndexedTables.{AreKin, AreWithin, IsParentIn}
 use Rattle.jobs.proofs.AnchorLemmas.{anchor_inside}
 use Rattle.jobs.proofs.NumberLemmas.{least_number}
-use Rattle.jobs.proofs.SnapshotLemmas.{there}
+use Rattle.posix.proofs.ResultLemmas.{there}
 
 -- ---- reading
 

@@ -1,9 +1,7 @@
 -- Members of a process group.
 use Rattle.std.proofs.Common.{◌≡◌, ℕ, cond, Bool, inl, refl, ap, ◌∙◌, List, filter, Option, Some, None, is_some}
 use Rattle.std.specs.List.{list_any}
-use Rattle.posix.specs.Processes.{Process, is_stopped}
-use Rattle.posix.specs.Tables.{IsRising, above, first_pid, members_in}
-use Rattle.posix.specs.Groups.{is_anchor}
+use Rattle.posix.specs.Common.{Process, is_stopped, IsRising, above, first_pid, members_in, is_anchor}
 use Rattle.posix.proofs.WalkLemmas.{has_first, passing_above as all_passing}
 use Rattle.pidset.specs.declared.index.Pair.{Pair}
 use Rattle.pidset.specs.Indexes.{IsIndex, IsNextPair, anchor_key}

@@ -11,10 +11,7 @@ use Rattle.posix.specs.declared.process.Life.TheVariants.{Running, Stopped as Ha
 use Rattle.posix.specs.declared.process.News.{News}
 use Rattle.posix.specs.declared.process.News.TheVariants as news
 use Rattle.std.proofs.lemmas.Option.{IfSome_then}
-use Rattle.posix.specs.Processes.{Process, is_stopped}
-use Rattle.posix.specs.Tables.{IsRising, lookup, adopted, reparented, above, first_pid, is_child, children_in, is_member, members_in}
-use Rattle.posix.specs.Waits.{WEXITED, WSTOPPED, WCONTINUED, has_option, is_something, report_life, report_of, reports, wanted_in}
-use Rattle.posix.specs.Alarms.{is_due}
+use Rattle.posix.specs.Common.{Process, is_stopped, IsRising, lookup, adopted, reparented, above, first_pid, is_child, children_in, is_member, members_in, WEXITED, WSTOPPED, WCONTINUED, has_option, is_something, report_life, report_of, reports, wanted_in, is_due}
 use Rattle.pidset.specs.Indexes.{IndexView, IsRekeyed, IsNextPair, IsAt, has_within, is_key, is_pair_in, key_of}
 use Rattle.pidset.specs.Lists.{ListsView}
 use Rattle.pidset.proofs.IndexLemmas.{IsElsewhere, can_replace, unmoved, indexed_moved, indexed_map, indexed_rekeyed, rekeyed_none, index_moved, index_map, index_empty, rekeyed, next_pair}

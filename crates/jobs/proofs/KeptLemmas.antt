@@ -6,9 +6,7 @@ use Rattle.std.specs.Prelude.{option_and_then}
 use Rattle.std.specs.Option.{IfSome, IsSome}
 use Rattle.std.proofs.lemmas.Bool.{eqb-true, eq-eqb, cases_eq, cases_lt}
 use Rattle.std.proofs.lemmas.List.{length-map}
-use Rattle.posix.specs.Processes.{Process, is_zombie}
-use Rattle.posix.specs.Tables.{IsRising, lookup, pids, at, changed, inserted, removed, adopted, reparented, parent_of, children_in, is_member}
-use Rattle.posix.specs.Targets.{greatest_pid}
+use Rattle.posix.specs.Common.{Process, is_zombie, IsRising, lookup, pids, at, changed, inserted, removed, adopted, reparented, parent_of, children_in, is_member, greatest_pid}
 use Rattle.posix.proofs.TableLemmas.{pid_looked, lookup_changed, remove_none, rising_inserted, rising_removed, rising_adopted, length_inserted, length_removed, pid_reparented, reparented_keeps}
 use Rattle.posix.proofs.MapLemmas.{lookup_map, lookup_back, at_pid, at_keeps}
 use Rattle.posix.proofs.RegularLemmas.{lookup_new, lookup_removed}
@@ -26,7 +24,7 @@ use Rattle.jobs.specs.declared.indexes.IndexedFields.{IndexedFields}
 use Rattle.jobs.specs.Indexes.{sizes_in, AreIndexes, IsNumber, AreMoved, CanMove, list_of_parent, parent_key, snapshot_seen, IsInside, anchor_in, child_key, member_in, member_key, record_seen, seen_of}
 use Rattle.jobs.specs.IndexedTables.{AreKin, AreNumbers, AreWithin, HasParent, IsGroupFor, IsKept, IsRun, StaysGrouped}
 use Rattle.proctable.specs.declared.snapshot.Snapshot.{Snapshot}
-use Rattle.jobs.proofs.SnapshotLemmas.{is_there, some_read, none_read, snapshot_are}
+use Rattle.posix.proofs.ResultLemmas.{back, is_there, none_mapped}
 use Rattle.jobs.proofs.IndexLemmas.{Fits, Sees, can_move, sees, sees_none, fits, indexes_moved, indexes_unmoved}
 use Rattle.pidset.proofs.AnchorLemmas.{anchors_apart, anchors_adopted}
 use Rattle.jobs.proofs.ChildLemmas.{kin_adopted, kin_record}
@@ -186,14 +184,14 @@ kept_inserted n rs new r old now set kin named inside fresh parent is free moved
     (index_moved parent_key r.pid rs (inserted r rs) old.children.pairs kin.pairs (elsewhere_inserted r rs) k.children (rw here child)) wide k)
 
 -- where p was read as nobody nothing goes, and else one process less is there
-pub ruleset leave_rules = (none_read, remove_none, length_removed)
+pub ruleset leave_rules = (none_mapped, remove_none, length_removed)
 
 -- a process of which this snapshot was read may go
 pub can_leave : {n p : ℕ} {rs : List Process} {f : Snapshot} {indexes : Indexes} → Some f ≡ option_map snapshot_of (lookup p rs) → IsKept n indexes rs → CanMove p f.parent (Some (snapshot_seen f)) indexes × ((1 ≤ p) × HasRoom (sizes_in indexes) p) × (n ≡ length (removed p rs) + 1)
 can_leave {p = p} {rs = rs} {f = f} {indexes = indexes} read k =
-    let it = some_read _ f read in
+    let it = back _ _ f read in
     let can = can_move p it.what.parent (Some (seen_of it.what)) rs indexes k.rising k.indexes (sees p it.what rs it.found) (λ none. let no = sym none ∙ it.found in absurd (cc)) in
-    (rw (snapshot_are (lookup p rs) it.what f read it.found) can, number_kept k (is_there _ it.what it.found), k.count ∙ length_removed p it.what rs k.rising it.found)
+    (rw it.is can, number_kept k (is_there _ it.what it.found), k.count ∙ length_removed p it.what rs k.rising it.found)
 
 pub kept_removed : (n : ℕ) (rs new : List Process) (p : ℕ) (f : Snapshot) (old now : Indexes) (set kin : ListsView) → Some f ≡ option_map snapshot_of (lookup p rs) → children_in p rs ≡ [] → new ≡ removed p rs → AreMoved p f.parent None old now
     → IsMoved p None old.anchors.pairs set.pairs → set.sizes ≡ old.anchors.sizes → IsMoved p None old.children.pairs kin.pairs → kin.sizes ≡ old.children.sizes → IsKept n old rs → IsKept (n - 1) (record now { anchors = set; children = kin }) new

@@ -1,8 +1,7 @@
 -- What a table lends of a process.
 use Rattle.std.proofs.Common.{◌≡◌, ℕ, refl, ◌∙◌, sym, subst, Option, Some, None, List}
 use Rattle.std.specs.Option.{IfSome}
-use Rattle.posix.specs.Processes.{Process}
-use Rattle.posix.specs.Tables.{IsRising, lookup, changed}
+use Rattle.posix.specs.Common.{Process, IsRising, lookup, changed}
 use Rattle.posix.proofs.TableLemmas.{changed_absent}
 use Rattle.proctable.specs.declared.own_part.OwnPart.{OwnPart}
 use Rattle.proctable.specs.Records.{own_of, give_own}

@@ -4,15 +4,11 @@ use Rattle.std.specs.List.{list_any}
 use Rattle.std.specs.Option.{IfSome, option_map_or}
 use Rattle.std.proofs.lemmas.Bool.{eqb-true, and_parts, false_from_ne_true}
 use Rattle.std.proofs.lemmas.Bool.Decides.{nat_tests}
-use Rattle.posix.specs.Processes.{Process}
-use Rattle.posix.specs.Tables.{IsRising, lookup, is_member, members_in, first_pid, above}
-use Rattle.posix.specs.GroupCalls.{is_group_of, is_group_of_others}
-use Rattle.posix.specs.Regular.{AreGrouped}
-use Rattle.posix.specs.Targets.{greatest_pid}
+use Rattle.posix.specs.Common.{Process, IsRising, lookup, is_member, members_in, first_pid, above, is_group_of, is_group_of_others, AreGrouped, greatest_pid}
+use Rattle.posix.proofs.ResultLemmas.{mapped_is}
 use Rattle.posix.proofs.TableLemmas.{pid_looked, rising_filter}
 use Rattle.posix.proofs.WalkLemmas.{Passes, any_filter, first_passes, any_looked, some_looked}
 use Rattle.jobs.specs.IndexedTables.{AreWithin}
-use Rattle.jobs.proofs.SnapshotLemmas.{snapshot_are}
 
 -- ---- whether there is a group
 
@@ -66,4 +62,4 @@ unfolding members_in
 others_of p rs me up found = rw (pid_looked p rs me found) (sym (any_filter (is_member p) (λ r. not (r.pid == p)) rs) ∙ other_among p (filter (is_member p) rs) (rising_filter (is_member p) rs up))
 
 -- whether a process leads a process group, by its snapshot
-pub ruleset lead_rules = (snapshot_are, pid_looked)
+pub ruleset lead_rules = (mapped_is, pid_looked)

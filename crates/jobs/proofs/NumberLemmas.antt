@@ -1,7 +1,6 @@
 -- No process has number 0.
 use Rattle.std.proofs.Common.{◌≡◌, ℕ, ◌≤◌, refl, ap, ◌∙◌, arith, List, [], Some, None, option_map}
-use Rattle.posix.specs.Processes.{Process}
-use Rattle.posix.specs.Tables.{lookup, at, changed}
+use Rattle.posix.specs.Common.{Process, lookup, at, changed}
 use Rattle.posix.proofs.TableLemmas.{pid_looked}
 use Rattle.posix.proofs.MapLemmas.{at_pid, lookup_map}
 

@@ -3,9 +3,8 @@ use Rattle.std.proofs.Common.{subst, sym, ◌≡◌, ap, ℕ, ◌+◌, ◌*◌, 
 use Rattle.std.specs.Option.{IfSome}
 use Rattle.std.proofs.lemmas.Bool.{eqb-true}
 use Rattle.std.proofs.lemmas.Bool.Decides.{nat_tests}
-use Rattle.posix.specs.Processes.{Process}
+use Rattle.posix.specs.Common.{Process, above, left_of, lookup}
 use Rattle.posix.proofs.WalkLemmas.{numbers_left, fewer_left}
-use Rattle.posix.specs.Tables.{above, left_of, lookup}
 use Rattle.jobs.specs.IndexedTables.{JobsView}
 
 -- what a table holds, by what it is

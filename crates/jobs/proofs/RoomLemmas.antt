@@ -4,9 +4,7 @@ use Rattle.std.specs.Prelude.{option_and_then}
 use Rattle.std.specs.Option.{IfSome}
 use Rattle.std.proofs.lemmas.Bool.{cond_both, eqb-false, eqb-true}
 use Rattle.std.proofs.lemmas.Bool.Decides.{nat_tests}
-use Rattle.posix.specs.Processes.{Process}
-use Rattle.posix.specs.Groups.{is_anchor}
-use Rattle.posix.specs.Tables.{lookup}
+use Rattle.posix.specs.Common.{Process, is_anchor, lookup}
 use Rattle.posix.proofs.TableLemmas.{pid_looked}
 use Rattle.pidset.specs.declared.index.Pair.{Pair}
 use Rattle.pidset.specs.Indexes.{IsIndex, anchor_key, is_key}
@@ -17,7 +15,7 @@ use Rattle.jobs.specs.declared.indexes.Indexes.{Indexes}
 use Rattle.jobs.specs.declared.indexes.IndexedFields.{IndexedFields}
 use Rattle.jobs.specs.Indexes.{IsInside, common, lesser, member_in, member_key, parent_key, sizes_in}
 use Rattle.jobs.specs.IndexedTables.{AreOnOtherPages, IsKept}
-use Rattle.jobs.proofs.SnapshotLemmas.{there}
+use Rattle.posix.proofs.ResultLemmas.{there}
 
 -- ---- the memory that all have
 
@@ -70,14 +68,14 @@ stays_apart key n rs pairs apart keyed index k p e = by (lookup p rs) refl (sym 
     by (Some r) f h = (under (key r) (keyed p r f) h, rw (pid_looked p rs r f) at (apart p r f).0)
 
 -- nor in one of those of a table
-pub members_apart : {m : ℕ} (n : ℕ) (rs : List Process) (b : Indexes) → AreOnOtherPages n rs → IsKept m b rs → IsPageUnused n b.members.pairs
-members_apart n rs b apart k = stays_apart member_key n rs b.members.pairs apart (λ p r f. (apart p r f).1) k.indexes.members
+pub members_unused : {m : ℕ} (n : ℕ) (rs : List Process) (b : Indexes) → AreOnOtherPages n rs → IsKept m b rs → IsPageUnused n b.members.pairs
+members_unused n rs b apart k = stays_apart member_key n rs b.members.pairs apart (λ p r f. (apart p r f).1) k.indexes.members
 
-pub anchors_apart : {m : ℕ} (n : ℕ) (rs : List Process) (b : Indexes) → AreOnOtherPages n rs → IsKept m b rs → IsPageUnused n b.anchors.pairs
-anchors_apart n rs b apart k = stays_apart (anchor_key rs) n rs b.anchors.pairs apart (λ p r f. cond_both (is_anchor rs r) (Some r.group) None (λ o. IfSome o (λ k. IsOnAnotherPage k n)) (λ _. (apart p r f).1) (λ _. tt)) k.anchors.index
+pub anchors_unused : {m : ℕ} (n : ℕ) (rs : List Process) (b : Indexes) → AreOnOtherPages n rs → IsKept m b rs → IsPageUnused n b.anchors.pairs
+anchors_unused n rs b apart k = stays_apart (anchor_key rs) n rs b.anchors.pairs apart (λ p r f. cond_both (is_anchor rs r) (Some r.group) None (λ o. IfSome o (λ k. IsOnAnotherPage k n)) (λ _. (apart p r f).1) (λ _. tt)) k.anchors.index
 
-pub children_apart : {m : ℕ} (n : ℕ) (rs : List Process) (b : Indexes) → AreOnOtherPages n rs → IsKept m b rs → IsPageUnused n b.children.pairs
-children_apart n rs b apart k = stays_apart parent_key n rs b.children.pairs apart (λ p r f. cond_both (r.parent == 0) None (Some r.parent) (λ o. IfSome o (λ k. IsOnAnotherPage k n)) (λ _. tt) (λ some.
+pub children_unused : {m : ℕ} (n : ℕ) (rs : List Process) (b : Indexes) → AreOnOtherPages n rs → IsKept m b rs → IsPageUnused n b.children.pairs
+children_unused n rs b apart k = stays_apart parent_key n rs b.children.pairs apart (λ p r f. cond_both (r.parent == 0) None (Some r.parent) (λ o. IfSome o (λ k. IsOnAnotherPage k n)) (λ _. tt) (λ some.
     let up = there _ (k.anchors.parents p r (eqb-false r.parent 0 some) f) in
     rw (pid_looked r.parent rs up.what up.found) at (apart r.parent up.what up.found).0)) k.children
 

@@ -2,8 +2,7 @@
 use Rattle.std.proofs.Common.{◌≡◌, ℕ, inl, refl, ap, sym, ◌∙◌, List, Some, true}
 use Rattle.std.specs.Borrow.{MutBor}
 use Rattle.std.specs.Fn.{Once, FnOnceReturnsAtMut}
-use Rattle.posix.specs.Processes.{Process}
-use Rattle.posix.specs.Tables.{IsRising, lookup, changed, parent_of}
+use Rattle.posix.specs.Common.{Process, IsRising, lookup, changed, parent_of}
 use Rattle.proctable.specs.declared.records.Record.{Record}
 use Rattle.proctable.specs.Records.{process_of, own_of}
 use Rattle.proctable.proofs.RecordLemmas.{changed_here}

@@ -3,10 +3,7 @@ use Rattle.std.specs.Prelude.{◌≡◌, Bool, is_some, true, ℕ, ◌+◌, ◌<
 use Rattle.std.specs.List.{list_any}
 use Rattle.std.specs.Borrow.{MutBor}
 use Rattle.std.specs.Fn.{Once, FnOnceReturnsAtMut}
-use Rattle.posix.specs.Processes.{Process}
-use Rattle.posix.specs.Tables.{IsRising, lookup, changed, parent_of, is_member}
-use Rattle.posix.specs.Targets.{greatest_pid}
-use Rattle.posix.specs.Choice.{chosen}
+use Rattle.posix.specs.Common.{Process, IsRising, lookup, changed, parent_of, is_member, greatest_pid, chosen}
 use Rattle.proctable.specs.declared.records.Record.{Record}
 use Rattle.proctable.specs.declared.own_part.OwnPart.{OwnPart}
 use Rattle.proctable.specs.Records.{give_own, process_of, with_record}

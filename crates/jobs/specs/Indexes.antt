@@ -1,12 +1,11 @@
 -- The indexes that a table of jobs keeps of its processes.
 use Rattle.std.specs.Prelude.{◌≡◌, ◌<◌, ◌≤◌, IfSome, ℕ, ◌-◌, ◌*◌, ◌+◌, Bool, false, not, ◌==◌, ◌&&◌, ◌||◌, if◌then◌else◌, nat_le, nat_lt, List, [], ◌∷◌, Option, Some, None, option_map}
 use Rattle.std.specs.Option.{option_map_or}
-use Rattle.posix.specs.Processes.{Process, is_living, is_zombie, is_stopped}
+use Rattle.posix.specs.Common.{Process, is_living, is_zombie, is_stopped, greatest_pid}
 use Rattle.posix.specs.declared.process.Life.{Life}
 use Rattle.posix.specs.declared.process.Life.TheVariants.{Running, Stopped, Zombie}
 use Rattle.posix.specs.declared.process.News.{News}
 use Rattle.posix.specs.declared.process.News.TheVariants as news
-use Rattle.posix.specs.Targets.{greatest_pid}
 use Rattle.pidset.specs.Rows.{HasRoom}
 use Rattle.pidset.specs.Indexes.{is_key, CanReplace, IsMoved, IsReplaced, IsIndex, IsIndexed}
 use Rattle.proctable.specs.declared.records.Record.{Record}

@@ -1,8 +1,7 @@
 //! Who keeps a process group from being orphaned (XBD 3): what moves in their index where a process changes.
 
 ghost use Rattle.std.specs.Prelude.{◌≡◌, ◌≢◌, ℕ, ◌+◌, ◌*◌, ◌<◌, ◌≤◌, ◌⊎◌, List, length, None, Some, IsSome, option_map, if◌then◌else◌};
-ghost use Rattle.posix.specs.Processes.{Process};
-ghost use Rattle.posix.specs.Tables.{lookup, children_in, parent_of};
+ghost use Rattle.posix.specs.Common.{Process, lookup, children_in, parent_of};
 ghost use Rattle.pidset.specs.Indexes.{AreTurned, IsAnchorIndex, IsMoved};
 ghost use Rattle.jobs.specs.Indexes.{seen_of, child_key, keeps_group_and_session as keeps_group_and_session_in};
 ghost use Rattle.jobs.specs.IndexedTables.{AreKin, AreWithin, Spends};

@@ -1,8 +1,7 @@
 //! The children of processes, one after another, and their adoption.
 
 ghost use Rattle.std.specs.Prelude.{◌≡◌, ◌≢◌, ◌+◌, ◌≤◌, List, length, None, IsSome};
-ghost use Rattle.posix.specs.Processes.{Process};
-ghost use Rattle.posix.specs.Tables.{lookup, above, adopted, children_in, first_pid};
+ghost use Rattle.posix.specs.Common.{Process, lookup, above, adopted, children_in, first_pid};
 ghost use Rattle.pidset.specs.Indexes.{AreTurned};
 ghost use Rattle.jobs.specs.Indexes.{child_key};
 ghost use Rattle.jobs.specs.IndexedTables.{AreKin, AreWithin, Spends};

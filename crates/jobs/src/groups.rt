@@ -3,8 +3,7 @@
 
 ghost use Rattle.std.specs.Prelude.{◌≡◌, false};
 ghost use Rattle.std.specs.Option.{option_map_or};
-ghost use Rattle.posix.specs.Tables.{IsRising, lookup, first_pid, above, is_member as is_member_of, members_in};
-ghost use Rattle.posix.specs.Groups.{is_orphaned as is_orphaned_of, has_stopped as has_stopped_of};
+ghost use Rattle.posix.specs.Common.{IsRising, lookup, first_pid, above, is_member as is_member_of, members_in, is_orphaned as is_orphaned_of, has_stopped as has_stopped_of};
 ghost use Rattle.pidset.specs.Indexes.{anchor_key, key_of};
 ghost use Rattle.jobs.specs.IndexedTables.{AreNumbers};
 

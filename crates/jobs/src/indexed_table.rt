@@ -4,12 +4,7 @@ ghost use Rattle.std.specs.Prelude.{◌≡◌, ◌≢◌, ◌+◌, ◌*◌, ◌<
 ghost use mathlib.Core.Option.{none};
 ghost use Rattle.std.specs.Borrow.{sem, Lends, follows_so};
 ghost use Rattle.std.specs.List.{list_any};
-ghost use Rattle.posix.specs.Processes.{Process, is_stopped as is_stopped_by};
-ghost use Rattle.posix.specs.Tables.{lookup, inserted, removed, children_in, first_pid, next_above, adopted, above, parent_of};
-ghost use Rattle.posix.specs.Alarms.{is_due};
-ghost use Rattle.posix.specs.Choice.{chosen};
-ghost use Rattle.posix.specs.Births.{child_of};
-ghost use Rattle.posix.specs.Waits.{wanted_in};
+ghost use Rattle.posix.specs.Common.{Process, is_stopped as is_stopped_by, lookup, inserted, removed, children_in, first_pid, next_above, adopted, above, parent_of, is_due, chosen, child_of, wanted_in};
 ghost use Rattle.pidset.specs.Rows.{HasRoom, sizes_without};
 ghost use Rattle.proctable.specs.Records.{process_of, snapshot_of, own_of, own_row};
 ghost use Rattle.jobs.specs.contracts.indexed_table.IndexedTable.{the_row as jobs_row};

@@ -1,9 +1,7 @@
 //! The indexes that a table of jobs keeps of its processes.
 
 ghost use Rattle.std.specs.Prelude.{◌≡◌, ◌≢◌, ◌<◌, ◌≤◌, ◌^◌, ◌&&◌, [], List, filter, Some, OnOk, true};
-ghost use Rattle.posix.specs.Processes.{Process, is_zombie};
-ghost use Rattle.posix.specs.Tables.{IsRising, above, adopted, children_in, first_pid};
-ghost use Rattle.posix.specs.Waits.{wanted_in};
+ghost use Rattle.posix.specs.Common.{Process, is_zombie, IsRising, above, adopted, children_in, first_pid, wanted_in};
 ghost use Rattle.pidset.specs.Indexes.{has_within, IsNextPair};
 ghost use Rattle.pidset.specs.Lists.{IsPageUnused, without_page_of};
 ghost use Rattle.pidset.specs.Rows.{Grows, HasRoom};

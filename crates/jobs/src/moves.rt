@@ -2,11 +2,8 @@
 
 ghost use Rattle.std.specs.Prelude.{◌≡◌, ◌==◌, ◌&&◌, ◌||◌, not, if◌then◌else◌, Option, Some, None, IsSome, IfSome, IfErr, ◌<◌, is_ok, option_map};
 ghost use Rattle.posix.specs.declared.errno.Errno.TheVariants.{EPERM};
-ghost use Rattle.posix.specs.Processes.{Process};
-ghost use Rattle.posix.specs.Tables.{lookup};
-ghost use Rattle.posix.specs.GroupCalls.{is_group_of, group_meant as group_meant_by, can_join as can_join_by, can_move as can_move_by, move_to, is_group_of_others as is_group_of_others_by};
+ghost use Rattle.posix.specs.Common.{Process, lookup, is_group_of, group_meant as group_meant_by, can_join as can_join_by, can_move as can_move_by, move_to, is_group_of_others as is_group_of_others_by, AreGrouped};
 ghost use Rattle.proctable.specs.Records.{snapshot_of};
-ghost use Rattle.posix.specs.Regular.{AreGrouped};
 ghost use Rattle.jobs.specs.IndexedTables.{Looks, Finds};
 
 use crate::indexed_table::IndexedTable;

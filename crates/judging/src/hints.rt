@@ -1,6 +1,7 @@
 //! What others call it, and what looks like something else.
 
 use crate::lines::is_listed;
+use memchr::memmem;
 
 /// What other systems have, and the call that is here in its place.
 static CALLS: [(&str, &str); 17] = [
@@ -144,18 +145,12 @@ pub fn other_instruction(word: &[u8]) -> Option<&'static str> {
     instead(&INSTRUCTIONS, word)
 }
 
-/// Whether a letter stands in a word.
-fn has_letter(word: &[u8], letter: &str) -> bool {
-    let letter = letter.as_bytes();
-    (0..word.len()).any(|place| word[place..].starts_with(letter))
-}
-
 /// What stands in a word and looks like something else.
 pub fn oddity(word: &[u8]) -> Option<&'static str> {
     let mut lookalikes = LOOKALIKES.iter();
     if let Some((_, what)) = lookalikes.find(|(letters, _)| letters
         .iter()
-        .any(|letter| has_letter(word, letter)))
+        .any(|letter| memmem::find(word, letter.as_bytes()).is_some()))
     {
         Some(*what)
     } else if !word.is_ascii() {

@@ -6,15 +6,10 @@ use Rattle.std.specs.List.{AllByRecursion}
 use Rattle.std.proofs.lemmas.List.{length-replicate}
 use Rattle.posix.specs.declared.event.Event.TheVariants.{Step}
 use Rattle.posix.specs.declared.entry.Entry.{Entry}
-use Rattle.posix.specs.Entries.{Line, numbered}
-use Rattle.posix.specs.Step.{IsStep}
-use Rattle.posix.specs.States.{State}
-use Rattle.posix.specs.Runs.{RunsFrom}
-use Rattle.posix.specs.Regular.{IsRegular}
+use Rattle.posix.specs.Common.{Line, numbered, IsStep, State, RunsFrom, IsRegular, IsEvent}
 use Rattle.life.specs.declared.noted_bursts.Note.{Note}
 use Rattle.kernel.specs.Accounts.{LinesTell}
 use Rattle.kernel.specs.Steps.{Bursts, noted_lines}
-use Rattle.posix.specs.Ranges.{IsEvent}
 use Rattle.laws.specs.Agree.{Agree, IsOrderly}
 use Rattle.text.specs.EventTexts.{most_events}
 use Rattle.laws.proofs.AgreeRuns.{runs_turns, runs_agree, runs_formed}

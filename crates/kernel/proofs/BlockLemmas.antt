@@ -4,17 +4,9 @@ use Rattle.std.proofs.Math.Bool.{and-false}
 use Rattle.posix.specs.declared.process.Blocked.{Blocked}
 use Rattle.posix.specs.declared.process.Blocked.TheVariants as blocked
 use Rattle.posix.specs.declared.waits.WaitCall.{WaitCall}
-use Rattle.posix.specs.Processes.{Process, is_running}
+use Rattle.posix.specs.Common.{Process, is_running, is_in_read, State, change, process, has_place, Block, wait_by, chosen, attempt_again, can_act, can_go_on, is_block, enter}
 use Rattle.life.specs.Rechecks.{is_in_wait}
 use Rattle.life.specs.Consoles.{reads}
-use Rattle.posix.specs.Terminals.{is_in_read}
-use Rattle.posix.specs.States.{State, change, process, has_place}
-use Rattle.posix.specs.Outcomes.{Block}
-use Rattle.posix.specs.Waits.{wait_by}
-use Rattle.posix.specs.Choice.{chosen}
-use Rattle.posix.specs.Attempts.{attempt_again}
-use Rattle.posix.specs.Settle.{can_act, can_go_on, is_block}
-use Rattle.posix.specs.Step.{enter}
 use Rattle.posix.proofs.SeeLemmas.{can_act_alike}
 use Rattle.posix.proofs.TouchLemmas.{Unseen, sees_unseen}
 use Rattle.posix.proofs.WaitLemmas.{by_wait}

@@ -1,5 +1,5 @@
 -- Instructions that are plain or give a note, one after another, are steps.
-use Rattle.std.proofs.Common.{◌≡◌, ◌==◌, ℕ, zero, suc, ◌+◌, ◌-◌, ◌≤◌, length, Bool, true, false, cond, not, ◌||◌, refl, ap, sym, ◌∙◌, arith, subst, List, [], ◌∷◌, ◌++◌, append-nil, add-zero, Option, Some, None, option_map, option_and_then, is_some}
+use Rattle.std.proofs.Common.{◌≡◌, ◌==◌, ℕ, zero, suc, ◌+◌, ◌-◌, ◌≤◌, length, Bool, true, false, cond, not, ◌||◌, refl, ap, sym, ◌∙◌, arith, subst, List, [], ◌∷◌, ◌++◌, append-nil, add-zero, Some, None, option_map, option_and_then, is_some}
 use Rattle.std.specs.Prelude.{replicate}
 use Rattle.std.specs.List.{list_any}
 use Rattle.std.proofs.lemmas.List.{length-replicate, map-append}
@@ -11,21 +11,10 @@ use Rattle.posix.specs.declared.call.Call.{Call}
 use Rattle.posix.specs.declared.event.Event.TheVariants.{Step}
 use Rattle.posix.specs.declared.entry.Entry.{Entry}
 use Rattle.posix.specs.declared.entry.Entry.TheVariants.{Noted}
-use Rattle.posix.specs.Processes.{Process, Cpu, is_zombie}
-use Rattle.posix.specs.Entries.{Line, line, numbered}
-use Rattle.posix.specs.NextPid.{is_free}
-use Rattle.posix.specs.Tables.{IsRising, at, bears, changed}
-use Rattle.posix.specs.States.{State, is_in, has_place, change, current, process, current_process}
-use Rattle.posix.specs.Execute.{exec_one}
-use Rattle.posix.specs.Outcomes.{Outcome, silent}
-use Rattle.posix.specs.Choice.{chosen}
-use Rattle.posix.specs.Runs.{RunsFrom}
-use Rattle.posix.specs.Attempts.{attempt}
-use Rattle.posix.specs.Step.{IsStep, next, happens, step, begin_call, after_trap, code_of, set_cpu, settled}
-use Rattle.posix.specs.Settle.{IsSettled}
-use Rattle.posix.specs.Regular.{IsRegular}
+use Rattle.posix.specs.Common.{Process, Cpu, is_zombie, Line, line, numbered, is_free, IsRising, at, bears, changed, State, is_in, has_place, change, current, process, current_process, exec_one, Outcome, silent, chosen, RunsFrom, attempt, IsStep, next, happens, step, begin_call, after_trap, code_of, set_cpu, settled, IsSettled, IsRegular}
 use Rattle.calls.specs.Outcomes.{IsActing}
 use Rattle.std.proofs.lemmas.Option.{same_Some}
+use Rattle.posix.proofs.ResultLemmas.{none_from}
 use Rattle.posix.proofs.TableLemmas.{pid_looked, rising_changed, changed_id}
 use Rattle.posix.proofs.WakeLemmas.{next_settled}
 use Rattle.posix.proofs.OrderLemmas.{first_in}
@@ -218,11 +207,6 @@ burst_leads (suc most) before s p me r =
 
 -- ---- what the code read and did
 
--- what isn't Some is None
-none_of : {A : Type 0} (o : Option A) → is_some o ≡ false → o ≡ None
-none_of None e = refl
-none_of (Some x) e = absurd (cc)
-
 -- who is current, in no call and with no signal chosen, is about to run an instruction
 pub record Readies (s : State) (p : ℕ) : Type 0 where
   pub me : Process
@@ -246,8 +230,8 @@ readies s p f going settled regular now read none free =
         now = now;
         here = placed.found;
         living = placed.living;
-        free = ap (λ (g : Snapshot). g.blocked) (sym is) ∙ none_of f.blocked free;
-        none = ap (λ (g : Snapshot). g.chosen) (sym is) ∙ none_of f.chosen none;
+        free = ap (λ (g : Snapshot). g.blocked) (sym is) ∙ none_from f.blocked free;
+        none = ap (λ (g : Snapshot). g.chosen) (sym is) ∙ none_from f.chosen none;
       };
     }
 

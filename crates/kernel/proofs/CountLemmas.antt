@@ -3,10 +3,7 @@ use Rattle.std.proofs.Common.{◌≡◌, ◌≢◌, ℕ, ◌+◌, ◌≤◌, suc
 use Rattle.std.specs.Option.{IfSome, option_map_or}
 use Rattle.std.proofs.lemmas.Bool.{eqb-true, ne_eqb, both_ways}
 use Rattle.std.proofs.lemmas.List.Sums.{length-filter}
-use Rattle.posix.specs.Processes.{Process}
-use Rattle.posix.specs.States.{State, current_process}
-use Rattle.posix.specs.Consoles.{Console, key_signal}
-use Rattle.posix.specs.Regular.{IsRegular}
+use Rattle.posix.specs.Common.{Process, State, current_process, Console, key_signal, IsRegular, chosen, exec_one, code_of, wait_in, wait_by, is_block, members_in}
 use Rattle.life.specs.declared.consoles.Unchecked.{Unchecked}
 use Rattle.life.specs.declared.consoles.Unchecked.TheVariants.{Nothing, In, All}
 use Rattle.life.specs.Foregrounds.{is_unchecked}
@@ -19,20 +16,13 @@ use Rattle.life.specs.NotedBursts.{StepsTaken}
 use Rattle.posix.specs.declared.event.Event.TheVariants.{Step}
 use Rattle.posix.specs.declared.call.Call.{Call}
 use Rattle.posix.specs.declared.instr.Trap.TheVariants as trap
-use Rattle.posix.specs.Choice.{chosen}
-use Rattle.posix.specs.Execute.{exec_one}
-use Rattle.posix.specs.Step.{code_of}
 use Rattle.std.proofs.lemmas.Option.{same_Some}
 use Rattle.calls.proofs.BriefLemmas.{brief_more}
 use Rattle.std.proofs.Math.Bool.{and-false}
 use Rattle.posix.specs.declared.waits.WaitCall.{WaitCall}
 use Rattle.posix.specs.declared.process.Blocked.{Blocked}
 use Rattle.posix.specs.declared.process.Blocked.TheVariants as blocked
-use Rattle.posix.specs.Calls.{wait_in}
-use Rattle.posix.specs.Waits.{wait_by}
-use Rattle.posix.specs.Settle.{is_block}
 use Rattle.posix.specs.declared.call.Call.TheVariants.{Waitpid, Waitid, Kill, Sigqueue}
-use Rattle.posix.specs.Tables.{members_in}
 use Rattle.life.specs.Consoles.{foreground_members, slots_of_key, slots_of_signal_key}
 
 -- ---- calls of which it is counted how many slots they read, beside those of their caller alone

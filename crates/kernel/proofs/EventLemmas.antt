@@ -9,12 +9,7 @@ use Rattle.posix.specs.declared.event.Event.TheVariants.{Step}
 use Rattle.posix.specs.declared.instr.Trap.{Trap}
 use Rattle.posix.specs.declared.instr.Trap.TheVariants as trap
 use Rattle.posix.specs.declared.entry.Entry.{Entry}
-use Rattle.posix.specs.States.{State, current, current_process, process}
-use Rattle.posix.specs.Outcomes.{Outcome, silent}
-use Rattle.posix.specs.Regular.{IsRegular}
-use Rattle.posix.specs.Runs.{RunsFrom}
-use Rattle.posix.specs.Settle.{settle, IsSettled}
-use Rattle.posix.specs.Step.{IsStep, next, happens, step, settled}
+use Rattle.posix.specs.Common.{State, current, current_process, process, Outcome, silent, IsRegular, RunsFrom, settle, IsSettled, IsStep, next, happens, step, settled}
 use Rattle.posix.proofs.UnseenLemmas.{covers_none, settle_none}
 use Rattle.posix.proofs.CountLemmas.{Counts, counts_next}
 use Rattle.kernel.specs.Steps.{is_followed_by_step}

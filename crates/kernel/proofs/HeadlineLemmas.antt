@@ -4,9 +4,7 @@ use Rattle.std.specs.Prelude.{Result, Ok, Err}
 use Rattle.std.specs.Result.{MatchResult, IsErrAnd, IfOk}
 use Rattle.text.specs.Reading.{Answers}
 use Rattle.posix.specs.declared.event.Event.{Event}
-use Rattle.posix.specs.Entries.{Line, reported}
-use Rattle.posix.specs.States.{World, State, boot}
-use Rattle.posix.specs.Runs.{RunsFrom}
+use Rattle.posix.specs.Common.{Line, reported, World, State, boot, RunsFrom, IsEvent, IsWorld, IsRegular}
 use Rattle.text.specs.declared.fault.TextFault.{TextFault}
 use Rattle.text.specs.EventTexts.{event_text, most_events}
 use Rattle.text.specs.WorldTexts.{world_text}
@@ -17,8 +15,6 @@ use Rattle.kernel.specs.Progress.{WritesTrace, BreaksTrace}
 use Rattle.kernel.specs.Summaries.{summary_of}
 use Rattle.kernel.specs.Headline.{Traces, CutsShort, Headline}
 use Rattle.std.specs.List.{AllByRecursion}
-use Rattle.posix.specs.Ranges.{IsEvent, IsWorld}
-use Rattle.posix.specs.Regular.{IsRegular}
 use Rattle.laws.proofs.AgreeRuns.{run_trace}
 use Rattle.kernel.specs.declared.texts.RunError.{RunError}
 use Rattle.kernel.specs.Accounts.{Accounts}

@@ -6,11 +6,7 @@ use Rattle.std.proofs.lemmas.Bool.Decides.{nat_tests}
 use Rattle.std.proofs.lemmas.List.Sums.{length-filter, count_by-le-length}
 use Rattle.std.proofs.lemmas.Option.{IfSome_then}
 use Rattle.std.proofs.Math.Bool.{and-false}
-use Rattle.posix.specs.Processes.{Process}
-use Rattle.posix.specs.Tables.{IsNext, lookup, next_above}
-use Rattle.posix.specs.States.{State, process, is_in, without}
-use Rattle.posix.specs.Settle.{give_places, woken, woken_if, wakes, can_act}
-use Rattle.posix.specs.Regular.{IsRegular}
+use Rattle.posix.specs.Common.{Process, IsNext, lookup, next_above, State, process, is_in, without, give_places, woken, woken_if, wakes, can_act, IsRegular}
 use Rattle.posix.proofs.MemberLemmas.{in_append, in_last}
 use Rattle.posix.proofs.SeeLemmas.{can_act_order}
 use Rattle.posix.proofs.SettleLemmas.{woken_is, asking_begins, asking_goes_on}

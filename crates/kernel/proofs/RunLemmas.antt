@@ -7,11 +7,7 @@ use Rattle.std.proofs.lemmas.List.Sums.{count_by-le-length}
 use Rattle.posix.specs.declared.event.Event.{Event}
 use Rattle.posix.specs.declared.event.Event.TheVariants.{Step}
 use Rattle.posix.specs.declared.entry.Entry.{Entry}
-use Rattle.posix.specs.Entries.{Line, line, numbered, reported, reports_end}
-use Rattle.posix.specs.States.{State}
-use Rattle.posix.specs.Step.{IsStep, next}
-use Rattle.posix.specs.Runs.{RunsFrom}
-use Rattle.posix.specs.Printing.{print, print_line}
+use Rattle.posix.specs.Common.{Line, line, numbered, reported, reports_end, State, IsStep, next, RunsFrom, print, print_line}
 use Rattle.trace.specs.Sinks.{Seen, TakesAll, Gathers, BreaksOff}
 use Rattle.text.specs.EventTexts.{most_events}
 use Rattle.life.specs.declared.noted_bursts.Note.{Note}

@@ -1,9 +1,7 @@
 -- What the lines of events, and of a whole run, keep.
 use Rattle.std.specs.Prelude.{◌≡◌, ℕ, ◌+◌, ◌++◌, List, true}
 use Rattle.std.specs.List.{list_all}
-use Rattle.posix.specs.Entries.{Line}
-use Rattle.posix.specs.Printing.{print}
-use Rattle.posix.specs.States.{State}
+use Rattle.posix.specs.Common.{Line, print, State}
 use Rattle.kernel.specs.declared.summary.Summary.{Summary}
 use Rattle.trace.specs.Sinks.{Seen, TakesAll}
 use Rattle.laws.specs.TraceLines.{is_line}

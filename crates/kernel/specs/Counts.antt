@@ -5,20 +5,11 @@ use Rattle.posix.specs.declared.event.Event.TheVariants.{Step, Tick, Key, Hangup
 use Rattle.posix.specs.declared.process.Blocked.{Blocked}
 use Rattle.posix.specs.declared.waits.WaitCall.{WaitCall}
 use Rattle.posix.specs.declared.process.Blocked.TheVariants as blocked
-use Rattle.posix.specs.Processes.{Process}
-use Rattle.posix.specs.Alarms.{is_due}
-use Rattle.posix.specs.States.{State, change, current_process}
-use Rattle.posix.specs.Choice.{chosen}
+use Rattle.posix.specs.Common.{Process, is_due, State, change, current_process, chosen, KILL, wait_by, exec_one, IsRegular, IsSettled, is_block, code_of, set_cpu}
 use Rattle.posix.specs.declared.call.Call.{Call}
 use Rattle.posix.specs.declared.call.Call.TheVariants.{Waitpid, Waitid}
 use Rattle.posix.specs.declared.instr.Trap.{Trap}
 use Rattle.posix.specs.declared.instr.Trap.TheVariants as trap
-use Rattle.posix.specs.SignalNumbers.{KILL}
-use Rattle.posix.specs.Waits.{wait_by}
-use Rattle.posix.specs.Execute.{exec_one}
-use Rattle.posix.specs.Regular.{IsRegular}
-use Rattle.posix.specs.Settle.{IsSettled, is_block}
-use Rattle.posix.specs.Step.{code_of, set_cpu}
 use Rattle.life.specs.declared.consoles.Unchecked.TheVariants.{Nothing}
 use Rattle.life.specs.Foregrounds.{is_unchecked}
 use Rattle.life.specs.Consoles.{foreground_members}

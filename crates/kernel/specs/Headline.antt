@@ -1,10 +1,7 @@
 -- What a run does, from two texts to what a sink took.
 use Rattle.std.specs.Prelude.{◌≡◌, ◌≢◌, ℕ, List, length, Result, Ok, Err}
 use Rattle.posix.specs.declared.event.Event.{Event}
-use Rattle.posix.specs.Entries.{Line}
-use Rattle.posix.specs.States.{World, State}
-use Rattle.posix.specs.Runs.{Runs}
-use Rattle.posix.specs.Printing.{print}
+use Rattle.posix.specs.Common.{Line, World, State, Runs, print}
 use Rattle.text.specs.declared.fault.Reason.TheVariants.{Memory}
 use Rattle.text.specs.EventTexts.{event_text}
 use Rattle.text.specs.WorldTexts.{world_text}

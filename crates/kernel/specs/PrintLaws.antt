@@ -3,8 +3,7 @@ use Rattle.std.proofs.Common.{◌≡◌, ℕ, ◌+◌, List, [], ◌++◌, appen
 use Rattle.std.proofs.KnownBytes.{Appends-nil}
 use Rattle.std.proofs.lemmas.List.Concat.{flat_map-append}
 use Rattle.std.proofs.lemmas.List.Sums.{sum_by-append}
-use Rattle.posix.specs.Entries.{Line, reported, reports_end}
-use Rattle.posix.specs.Printing.{print, print_line}
+use Rattle.posix.specs.Common.{Line, reported, reports_end, print, print_line}
 use Rattle.trace.specs.Sinks.{Seen, Gathers, BreaksOff}
 use Rattle.trace.proofs.SinkLemmas.{gathers_then, gathers_break}
 use Rattle.kernel.specs.Progress.{Prints}

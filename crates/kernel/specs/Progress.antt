@@ -1,10 +1,7 @@
 -- How far a run has come, and what was made of its lines.
 use Rattle.std.specs.Prelude.{◌≡◌, ℕ, ◌+◌, ◌*◌, ◌^◌, ◌<◌, ◌≤◌, List, ◌++◌, length}
 use Rattle.posix.specs.declared.event.Event.{Event}
-use Rattle.posix.specs.Entries.{Line, reported}
-use Rattle.posix.specs.States.{State}
-use Rattle.posix.specs.Runs.{RunsFrom}
-use Rattle.posix.specs.Printing.{print}
+use Rattle.posix.specs.Common.{Line, reported, State, RunsFrom, print}
 use Rattle.trace.specs.Sinks.{Seen, TakesAll, Gathers, BreaksOff}
 
 -- The events, numbered from k on, led from old to new, and showed lines of which this holds.

@@ -7,15 +7,7 @@ use Rattle.posix.specs.declared.entry.Entry.{Entry}
 use Rattle.posix.specs.declared.entry.Entry.TheVariants.{Noted}
 use Rattle.posix.specs.declared.instr.Trap.{Trap}
 use Rattle.posix.specs.declared.instr.Trap.TheVariants as trap
-use Rattle.posix.specs.Processes.{Process}
-use Rattle.posix.specs.Entries.{Line, line}
-use Rattle.posix.specs.States.{State, process, current, current_process}
-use Rattle.posix.specs.Attempts.{attempt}
-use Rattle.posix.specs.Choice.{chosen}
-use Rattle.posix.specs.Execute.{exec_one}
-use Rattle.posix.specs.Runs.{RunsFrom}
-use Rattle.posix.specs.Settle.{IsSettled}
-use Rattle.posix.specs.Step.{code_of, begin_call, after_trap, act, step, happens}
+use Rattle.posix.specs.Common.{Process, Line, line, State, process, current, current_process, attempt, chosen, exec_one, RunsFrom, IsSettled, code_of, begin_call, after_trap, act, step, happens}
 use Rattle.proctable.specs.declared.snapshot.Snapshot.{Snapshot}
 use Rattle.proctable.specs.Records.{snapshot_of}
 use Rattle.life.specs.declared.noted_bursts.Note.{Note}

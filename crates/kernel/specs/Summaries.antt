@@ -1,8 +1,6 @@
 -- A run in numbers.
 use Rattle.std.specs.Prelude.{ℕ, List, count_by}
-use Rattle.posix.specs.Processes.{is_living, is_zombie}
-use Rattle.posix.specs.Entries.{Line, reported}
-use Rattle.posix.specs.States.{State}
+use Rattle.posix.specs.Common.{is_living, is_zombie, Line, reported, State}
 use Rattle.kernel.specs.declared.summary.Summary.{Summary}
 
 -- counted from the events, the lines of the trace and the last state

@@ -1,6 +1,6 @@
 -- What a kernel stands for.
 use Rattle.std.specs.Prelude.{ℕ}
-use Rattle.posix.specs.States.{State}
+use Rattle.posix.specs.Common.{State}
 
 -- the state of the machine, how many events were given, and how many slots of its table were read
 pub record KernelView : Type 0 where

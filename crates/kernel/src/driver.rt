@@ -1,7 +1,7 @@
 //! Events, one after another, and an observer that hears what they show.
 
 ghost use Rattle.std.specs.Prelude.{◌≡◌, ◌+◌, ◌-◌, ◌<◌, ◌≤◌, ◌++◌, List, [], length, OnOk, OnErr, replicate};
-ghost use Rattle.posix.specs.Entries.{Line, numbered};
+ghost use Rattle.posix.specs.Common.{Line, numbered};
 ghost use Rattle.text.specs.EventTexts.{most_events};
 ghost use Rattle.kernel.specs.Progress.{Breaks, Shows};
 ghost use Rattle.kernel.specs.Steps.{noted_lines};

@@ -4,17 +4,8 @@ ghost use Rattle.std.specs.Prelude.{◌≡◌, ◌+◌, ◌-◌, ◌++◌, ◌^�
 ghost use mathlib.Core.Option.{none};
 ghost use Rattle.std.specs.Borrow.{sem, follows_so};
 ghost use Rattle.std.specs.Option.{option_copied};
-ghost use Rattle.posix.specs.States.{boot as boot_of, current as current_of, current_process, process};
-ghost use Rattle.posix.specs.Alarms.{has_alarms as has_alarms_in};
-ghost use Rattle.posix.specs.Tables.{next_above};
+ghost use Rattle.posix.specs.Common.{boot as boot_of, current as current_of, current_process, process, has_alarms as has_alarms_in, next_above, numbered, is_free, RunsFrom, silent, IsStep, next as event_next, IsRegular, IsSettled};
 ghost use Rattle.posix.specs.declared.entry.Entry.{Entry};
-ghost use Rattle.posix.specs.Entries.{numbered};
-ghost use Rattle.posix.specs.NextPid.{is_free};
-ghost use Rattle.posix.specs.Runs.{RunsFrom};
-ghost use Rattle.posix.specs.Outcomes.{silent};
-ghost use Rattle.posix.specs.Step.{IsStep, next as event_next};
-ghost use Rattle.posix.specs.Regular.{IsRegular};
-ghost use Rattle.posix.specs.Settle.{IsSettled};
 ghost use Rattle.text.specs.EventTexts.{most_events};
 ghost use Rattle.kernel.specs.Accounts.{LinesTell};
 ghost use Rattle.kernel.specs.Counts.{CountsOne, slots_of_event, slots_of_steps};

@@ -1,8 +1,7 @@
 //! Events, one after another, to a printed trace.
 
 ghost use Rattle.std.specs.Prelude.{◌≡◌, ◌+◌, ◌≤◌, ◌++◌, length, IfOk, OnOk, OnErr};
-ghost use Rattle.posix.specs.Entries.{numbered, reported, reports_end as reports_end_of};
-ghost use Rattle.posix.specs.Printing.{print};
+ghost use Rattle.posix.specs.Common.{numbered, reported, reports_end as reports_end_of, print};
 ghost use Rattle.text.specs.EventTexts.{most_events};
 ghost use Rattle.trace.specs.Sinks.{Gathers, BreaksOff};
 ghost use Rattle.kernel.specs.Progress.{Prints, WritesTrace, BreaksTrace};

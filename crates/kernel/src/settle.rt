@@ -2,11 +2,7 @@
 //! that can act has a place.
 
 ghost use Rattle.std.specs.Prelude.{◌≡◌, ◌+◌, ◌≤◌, ◌||◌, [], IsSome, None, Some, is_some, option_map, slice_get, false, true};
-ghost use Rattle.posix.specs.Processes.{Process};
-ghost use Rattle.posix.specs.States.{process};
-ghost use Rattle.posix.specs.Choice.{chosen};
-ghost use Rattle.posix.specs.Regular.{IsRegular};
-ghost use Rattle.posix.specs.Settle.{can_act as acting, can_go_on, give_places as giving_places, settle as settling, woken};
+ghost use Rattle.posix.specs.Common.{Process, process, chosen, IsRegular, can_act as acting, can_go_on, give_places as giving_places, settle as settling, woken};
 ghost use Rattle.proctable.specs.Records.{snapshot_of};
 ghost use Rattle.life.specs.Machines.{AreSame};
 ghost use Rattle.life.specs.Consoles.{reads};

@@ -3,24 +3,10 @@
 
 ghost use Rattle.std.specs.Prelude.{◌≡◌, ◌≢◌, ◌+◌, ◌*◌, ℕ, [], None, IfSome, is_some, ◌<◌, ◌≤◌, ◌^◌, IsSome, Some, option_map, false, true};
 ghost use Rattle.posix.specs.declared.call.Call.{Call as CallValue};
-ghost use Rattle.posix.specs.NextPid.{is_free};
-ghost use Rattle.posix.specs.Processes.{Process};
-ghost use Rattle.posix.specs.Choice.{chosen};
-ghost use Rattle.posix.specs.States.{process, current_process, change, lose_place as losing_place};
-ghost use Rattle.posix.specs.Outcomes.{Block};
-ghost use Rattle.posix.specs.Calls.{wait_in};
-ghost use Rattle.posix.specs.Waits.{wait_by};
+ghost use Rattle.posix.specs.Common.{is_free, Process, chosen, process, current_process, change, lose_place as losing_place, Block, wait_in, wait_by, exec_one, code_of, enter as entered, tick as ticking, go_on as going_on, IsStep, most_ticks, attempt_again, IsRegular, IsSettled, has_place, can_go_on};
 ghost use Rattle.posix.specs.declared.waits.WaitCall.{WaitCall as WaitCallValue};
-ghost use Rattle.posix.specs.Execute.{exec_one};
-ghost use Rattle.posix.specs.Step.{code_of, enter as entered, tick as ticking, go_on as going_on, IsStep};
-ghost use Rattle.posix.specs.Alarms.{most_ticks};
-ghost use Rattle.posix.specs.Attempts.{attempt_again};
-ghost use Rattle.posix.specs.Regular.{IsRegular};
-ghost use Rattle.posix.specs.Settle.{IsSettled};
 ghost use Rattle.proctable.specs.Records.{snapshot_of};
-ghost use Rattle.posix.specs.States.{has_place};
 ghost use Rattle.life.specs.Rechecks.{is_in_wait};
-ghost use Rattle.posix.specs.Settle.{can_go_on};
 ghost use Rattle.calls.specs.Outcomes.{IsActing, IsQuiet, CostsWithRechecks, CostsAtMost, changes_caller_alone, slots_of_brief};
 ghost use Rattle.kernel.specs.Counts.{CountsOne, IsAtRest, ReadsAtMost, after_taken, alarms_due, delivers_nothing, slots_of_acting, slots_of_blocking, slots_of_event, slots_of_own_step, slots_of_trap};
 ghost use Rattle.kernel.specs.Steps.{ActsAs, Begins, Bursts, ComesTo, Happens, IsReadOfCurrent, NoneChosen, RunsInstruction, Steps, next_changes_one, changes_one, next_enters, enters, is_followed_by_step, runner, taken_at_once};

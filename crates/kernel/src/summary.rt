@@ -1,7 +1,7 @@
 //! A run in numbers.
 
 ghost use Rattle.std.specs.Prelude.{◌≡◌, ◌≤◌, List};
-ghost use Rattle.posix.specs.Entries.{Line, reported as reported_of};
+ghost use Rattle.posix.specs.Common.{Line, reported as reported_of};
 ghost use Rattle.kernel.specs.Summaries.{summary_of};
 
 use crate::kernel_on::KernelOn;

@@ -1,7 +1,7 @@
 //! A run, from two texts to a printed trace.
 
 ghost use Rattle.std.specs.Prelude.{◌≡◌, ◌+◌, ◌≤◌, ℕ, List, Ok, IfOk, length};
-ghost use Rattle.posix.specs.States.{World as WorldValue, boot as boot_of};
+ghost use Rattle.posix.specs.Common.{World as WorldValue, boot as boot_of};
 ghost use Rattle.text.specs.EventTexts.{event_text, most_events};
 ghost use Rattle.text.specs.Reading.{unless_memory};
 ghost use Rattle.text.specs.WorldTexts.{world_text};

@@ -3,14 +3,7 @@ use Rattle.std.proofs.Common.{rules, ◌≡◌, ℕ, Bool, ap, subst, List, [], 
 use Rattle.posix.specs.declared.call.Call.{Call}
 use Rattle.posix.specs.declared.call.Call.TheVariants.{Read}
 use Rattle.posix.specs.declared.process.Blocked.{Blocked}
-use Rattle.posix.specs.SignalNumbers.{TTIN, TTOU}
-use Rattle.posix.specs.Processes.{Process}
-use Rattle.posix.specs.States.{State, change}
-use Rattle.posix.specs.Outcomes.{Again, silent}
-use Rattle.posix.specs.Ends.{signalled_group}
-use Rattle.posix.specs.Terminals.{finish_moved}
-use Rattle.posix.specs.Attempts.{attempt, attempt_again}
-use Rattle.posix.specs.Step.{begin_call, go_on, out_of_call}
+use Rattle.posix.specs.Common.{TTIN, TTOU, Process, State, change, Again, silent, signalled_group, finish_moved, attempt, attempt_again, begin_call, go_on, out_of_call}
 use Rattle.posix.proofs.AttemptLemmas.{Meets, Retries, Ways, by_again, by_attempt}
 use Rattle.laws.specs.Background.{HasSignalledItsGroup}
 

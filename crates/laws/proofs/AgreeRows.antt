@@ -10,26 +10,16 @@ use Rattle.posix.specs.declared.process.Life.{Life}
 use Rattle.posix.specs.declared.process.Life.TheVariants.{Zombie}
 use Rattle.posix.specs.declared.process.News.{News}
 use Rattle.posix.specs.declared.process.News.TheVariants as news
-use Rattle.posix.specs.SignalNumbers.{KILL, is_stop_signal}
-use Rattle.posix.specs.Processes.{Process, is_zombie, is_stopped}
-use Rattle.posix.specs.States.{World, State, boot, process, is_in}
-use Rattle.posix.specs.Entries.{Line, numbered, reported}
-use Rattle.posix.specs.Generation.{is_pending}
-use Rattle.posix.specs.Step.{next}
+use Rattle.posix.specs.Common.{KILL, is_stop_signal, Process, is_zombie, is_stopped, World, State, boot, process, is_in, Line, numbered, reported, is_pending, next, is_end_word}
 use Rattle.laws.specs.TraceLines.{is_line}
-use Rattle.posix.specs.Statuses.{is_end_word}
-use Rattle.laws.specs.Lives.{newest_life, is_living, last_line, lawful, parents_from}
+use Rattle.laws.specs.Lives.{is_just, newest_life, is_living, last_line, lawful, parents_from}
 use Rattle.laws.specs.Keeping.{Alive, Kept, NeverBorn, Lives, Died, Phase, Going, FirstEnded, Over, kept_of, made_by, phase_of, last_number}
 use Rattle.laws.specs.Agree.{is_birth, count_living, count_zombies}
 use Rattle.laws.proofs.Rows.{program, world, everything, note_and_exit, stops_its_child}
 
-abbrev is_this : ℕ → Option ℕ → Bool
-is_this n None = false
-is_this n (Some m) = m == n
-
 abbrev news_agree : Alive → Bool → News → Bool
 news_agree a stops news.Nothing = true
-news_agree a stops (news.StoppedBy s) = is_this s a.stop && is_stop_signal s
+news_agree a stops (news.StoppedBy s) = is_just s a.stop && is_stop_signal s
 news_agree a stops news.Continued = a.may_continue && not stops
 
 abbrev is_nothing : News → Bool

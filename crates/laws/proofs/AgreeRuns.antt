@@ -4,21 +4,12 @@ use Rattle.std.proofs.lemmas.Bool.{ne_eqb, cases_eq}
 use Rattle.posix.specs.declared.event.Event.{Event}
 use Rattle.posix.specs.declared.event.Event.TheVariants.{Step, Tick, Key, Hangup}
 use Rattle.posix.specs.declared.entry.Entry.{Entry}
-use Rattle.posix.specs.Processes.{Process, first_process, is_zombie, is_stopped}
-use Rattle.posix.specs.Tables.{lookup}
-use Rattle.posix.specs.States.{State, World, boot, is_in}
-use Rattle.posix.specs.Entries.{Line, numbered}
-use Rattle.posix.specs.Runs.{RunsFrom, Runs}
-use Rattle.posix.specs.Regular.{IsRegular}
-use Rattle.posix.specs.Step.{IsStep, happens, settled}
-use Rattle.posix.specs.SignalNumbers.{KILL}
-use Rattle.posix.specs.Generation.{is_pending}
+use Rattle.posix.specs.Common.{Process, first_process, is_zombie, is_stopped, lookup, State, World, boot, is_in, Line, numbered, RunsFrom, Runs, IsRegular, IsStep, happens, settled, KILL, is_pending, IsEvent, IsWorld}
 use Rattle.laws.specs.Lives.{parents_from, newest_life}
 use Rattle.laws.specs.Keeping.{kept_of}
 use Rattle.std.specs.List.{AllByRecursion, list_all}
 use Rattle.laws.specs.TraceLines.{is_line}
 use Rattle.laws.specs.Kinds.{AreKinds}
-use Rattle.posix.specs.Ranges.{IsEvent, IsWorld}
 use Rattle.laws.proofs.KindLemmas.{all_append}
 use Rattle.laws.proofs.FormStays.{first_kinds, step_formed, step_kinds}
 use Rattle.laws.specs.Agree.{AgreeOn, AgreeIn, Agree, AreTurns, IsOrderly, IsTraceOf, phase_between}

@@ -14,28 +14,9 @@ use Rattle.posix.specs.declared.process.Life.TheVariants.{Running, Stopped, Zomb
 use Rattle.posix.specs.declared.process.PendingSignal.{PendingSignal}
 use Rattle.posix.specs.declared.process.Report.TheVariants as found
 use Rattle.posix.specs.declared.target.Target.{Target}
-use Rattle.posix.specs.SignalNumbers.{KILL}
-use Rattle.posix.specs.SignalSets.{word_of, set_in}
-use Rattle.posix.specs.Statuses.{exited, killed}
-use Rattle.posix.specs.Processes.{Process, is_zombie, is_running, is_stopped, argument}
-use Rattle.posix.specs.Tables.{IsRising, lookup, removed, pids}
-use Rattle.posix.specs.States.{State, is_in, change, lose_place, go_last}
-use Rattle.posix.specs.Execute.{exec_one}
-use Rattle.posix.specs.Outcomes.{Outcome, silent, Attempted, Reply, finish_call, finish_with, finished, written, refusal}
-use Rattle.posix.specs.Generation.{action, is_pending}
-use Rattle.posix.specs.Handlers.{handles, is_full, is_interrupted, returned, set_mask}
-use Rattle.posix.specs.Births.{born}
+use Rattle.posix.specs.Common.{KILL, word_of, set_in, exited, killed, Process, is_zombie, is_running, is_stopped, argument, IsRising, lookup, removed, pids, State, is_in, change, lose_place, go_last, exec_one, Outcome, silent, Attempted, Reply, finish_call, finish_with, finished, written, refusal, action, is_pending, handles, is_full, is_interrupted, returned, set_mask, born, call_of_wait, results_of, results_of_nothing, news_told, call_of, interruption, take_out, sent, sent_among, permitted, targets, message, give_credentials, give_signals, holding, pending_set, executed, in_group, in_session, with_alarm, due_in, act, enter, set_cpu, out_of_call, code_of, Console, acquired, with_foreground, with_tostop, line_taken, bytes_in, change_console, finish_moved, with_bytes}
 use Rattle.posix.specs.declared.waits.WaitCall.{WaitCall}
 use Rattle.posix.specs.declared.waits.WaitCall.TheVariants as wait
-use Rattle.posix.specs.Calls.{call_of_wait}
-use Rattle.posix.specs.Waits.{results_of, results_of_nothing, news_told}
-use Rattle.posix.specs.Delivery.{call_of, interruption, take_out}
-use Rattle.posix.specs.Sends.{sent, sent_among, permitted, targets, message}
-use Rattle.posix.specs.SignalCalls.{give_credentials, give_signals, holding, pending_set}
-use Rattle.posix.specs.Programs.{executed}
-use Rattle.posix.specs.GroupCalls.{in_group, in_session}
-use Rattle.posix.specs.Alarms.{with_alarm, due_in}
-use Rattle.posix.specs.Step.{act, enter, set_cpu, out_of_call, code_of}
 use Rattle.laws.specs.Agree.{AreTurns}
 use Rattle.posix.proofs.NextLemmas.{new_number}
 use Rattle.posix.proofs.ReportLemmas.{reporting}
@@ -46,9 +27,6 @@ use Rattle.laws.proofs.QuietLemmas.{Quiet, quiet_same, quiet_then, quiet_as, Unt
 use Rattle.laws.proofs.QuietOperations.{quiet_group, quiet_signalled, quiet_lose, quiet_last}
 use Rattle.laws.proofs.ToldLines.{is_plain, IsLiving}
 use Rattle.laws.proofs.ToldOutcomes.{IsTold, told_quiet, told_after, told_before, told_plain, told_line, told_end, told_stop, told_marked, told_born, told_reaped, told_news, told_looked_at_end, told_looked_at_news, running_living}
-use Rattle.posix.specs.Consoles.{Console, acquired, with_foreground, with_tostop, line_taken}
-use Rattle.posix.specs.Transfers.{bytes_in}
-use Rattle.posix.specs.Terminals.{change_console, finish_moved, with_bytes}
 use Rattle.posix.proofs.AttemptLemmas.{Meets, Retries, Ways, Gives}
 use Rattle.posix.proofs.DeliveryLemmas.{Deliveries, Turn, by_return, by_turn}
 

@@ -3,9 +3,8 @@ use Rattle.std.specs.Prelude.{◌≡◌, ◌&&◌, not, Bool, true, false, List,
 use Rattle.posix.specs.declared.waits.WaitCall.TheVariants as wait
 use Rattle.posix.specs.declared.entry.Entry.TheVariants.{Noted, Called, Reported, Marked, Looked, Stopped, Ended, Halted}
 use Rattle.posix.specs.declared.call.Call.TheVariants.{Fork, SchedYield}
-use Rattle.posix.specs.Entries.{Line, line}
+use Rattle.posix.specs.Common.{Line, line, nearest_marked}
 use Rattle.laws.specs.Lives.{newest_life, is_living, parents_from, lawful}
-use Rattle.posix.specs.Heirs.{nearest_marked}
 
 -- the laws hold up to the line, and not with it
 abbrev breaks : List Line → Line → Bool

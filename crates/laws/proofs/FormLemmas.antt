@@ -8,17 +8,8 @@ use Rattle.std.proofs.lemmas.Bool.Decides.{nat_tests}
 use Rattle.posix.specs.declared.call.Call.{Call}
 use Rattle.posix.specs.declared.entry.Entry.TheVariants.{Called, Moved}
 use Rattle.posix.specs.declared.span.Span.{Span}
-use Rattle.posix.specs.Processes.{Process}
-use Rattle.posix.specs.Tables.{lookup}
-use Rattle.posix.specs.States.{State, change}
-use Rattle.posix.specs.Consoles.{Console}
-use Rattle.posix.specs.Transfers.{span_in, bytes_in, stored, low_byte}
-use Rattle.posix.specs.Outcomes.{Outcome, Attempted, Reply, finish_call, finish_with, finished}
-use Rattle.posix.specs.GroupCalls.{is_group_of}
-use Rattle.posix.specs.Regular.{IsRegular}
-use Rattle.posix.specs.Terminals.{finish_moved, with_bytes}
+use Rattle.posix.specs.Common.{Process, lookup, State, change, Console, span_in, bytes_in, stored, low_byte, Outcome, Attempted, Reply, finish_call, finish_with, finished, is_group_of, IsRegular, finish_moved, with_bytes, is_i64, is_id}
 use Rattle.laws.specs.TraceLines.{is_number, is_result, is_entry, moves_bytes}
-use Rattle.posix.specs.Ranges.{is_i64, is_id}
 use Rattle.laws.specs.Kinds.{is_byte, is_console, IsKind, AreKinds}
 use Rattle.posix.proofs.WalkLemmas.{some_looked}
 use Rattle.posix.proofs.AttemptLemmas.{Meets}

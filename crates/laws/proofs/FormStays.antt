@@ -19,31 +19,9 @@ use Rattle.posix.specs.declared.process.Report.TheVariants as found
 use Rattle.posix.specs.declared.process.Sending.{Sending}
 use Rattle.posix.specs.declared.process.Sending.TheVariants as sends
 use Rattle.posix.specs.declared.target.Target.{Target}
-use Rattle.posix.specs.SignalNumbers.{TTIN, TTOU, is_signal, is_stop_signal, is_realtime}
-use Rattle.posix.specs.SignalSets.{has, word_of, set_in}
-use Rattle.posix.specs.Statuses.{exited, killed, stopped, continued, is_end_word}
-use Rattle.posix.specs.Processes.{Process, Signals, Cpu, argument, zero_registers, zero_memory, first_process, default_actions, nothing_pending}
-use Rattle.posix.specs.Tables.{IsRising, lookup, removed, pids}
-use Rattle.posix.specs.States.{Program, State, change, go_last, next_pid, World, boot}
-use Rattle.posix.specs.Outcomes.{Outcome, silent, refusal, no_memory, finished, written}
-use Rattle.posix.specs.Credentials.{may}
-use Rattle.posix.specs.Generation.{action, has_sig}
-use Rattle.posix.specs.Choice.{first_carried, carried_by, from_kernel}
-use Rattle.posix.specs.Handlers.{handles, is_interrupted, returned, set_action, set_mask}
-use Rattle.posix.specs.Births.{born}
-use Rattle.posix.specs.Ends.{end_process}
-use Rattle.posix.specs.Subreapers.{marked_as}
+use Rattle.posix.specs.Common.{TTIN, TTOU, is_signal, is_stop_signal, is_realtime, has, word_of, set_in, exited, killed, stopped, continued, is_end_word, Process, Signals, Cpu, argument, zero_registers, zero_memory, first_process, default_actions, nothing_pending, IsRising, lookup, removed, pids, Program, State, change, go_last, next_pid, World, boot, Outcome, silent, refusal, no_memory, finished, written, may, action, has_sig, first_carried, carried_by, from_kernel, handles, is_interrupted, returned, set_action, set_mask, born, end_process, marked_as, asks_memory, call_of_wait, results_of, results_of_nothing, news_told, call_of, interruption, take_out, stop_process, is_target, sent, sent_by, sent_among, permitted, targets, sending, has_full_queue, is_queuer, queuers, queued_for, queuers_among, sending_granted, message, action_in, pending_set, give_credentials, give_signals, executed, in_group, in_session, ticks_left, due_in, with_alarm, act, enter, set_cpu, out_of_call, code_of, IsStep, next, happens, instructions, is_own_id, is_id, is_instruction, is_program, IsWorld, IsEvent, is_i64, Executed, execute, execute_fetched, exec_one, fetched, computed, register, set_register, move_on, put_result, load_from, store_at, address_of, is_zero, passes, jump, IsRegular, IsAhead, line, numbered, stopped_by, signalled_all, unused_console, Console, acquired, with_foreground, with_tostop, line_taken, span_in, bytes_in, terminal, change_console, finish_moved, with_bytes}
 use Rattle.posix.specs.declared.waits.WaitCall.{WaitCall}
 use Rattle.posix.specs.declared.waits.WaitCall.TheVariants as wait
-use Rattle.posix.specs.Calls.{call_of_wait}
-use Rattle.posix.specs.Waits.{results_of, results_of_nothing, news_told}
-use Rattle.posix.specs.Delivery.{call_of, interruption, take_out, stop_process}
-use Rattle.posix.specs.Sends.{is_target, sent, sent_by, sent_among, permitted, targets, sending, has_full_queue, is_queuer, queuers, queued_for, queuers_among, sending_granted, message}
-use Rattle.posix.specs.SignalCalls.{action_in, pending_set, give_credentials, give_signals}
-use Rattle.posix.specs.Programs.{executed}
-use Rattle.posix.specs.GroupCalls.{in_group, in_session}
-use Rattle.posix.specs.Alarms.{ticks_left, due_in, with_alarm}
-use Rattle.posix.specs.Step.{act, enter, set_cpu, out_of_call, code_of, IsStep, next, happens, instructions}
 use Rattle.std.specs.Prelude.{slice_set, ◌*◌, ◌%◌, bit_and, bit_or, bit_xor, int_div, int_rem, unsigned_abs, slice_index_or, unwrap_or}
 use Rattle.std.specs.List.{AllByRecursion, list_all, list_any}
 use Rattle.posix.proofs.TableLemmas.{rising_changed, rising_filter, none_found, pid_looked}
@@ -51,19 +29,13 @@ use Rattle.posix.proofs.WalkLemmas.{all_looked, any_filter, in_filter}
 use Rattle.laws.proofs.ToldLines.{pid_child}
 use Rattle.posix.specs.declared.ids.Ids.{Ids}
 use Rattle.laws.specs.Kinds.{are_ids, is_carried, is_pending_kind, is_queued_kind, is_console, is_news_kind, is_life, is_byte, AreSignals, IsCpu, IsKind, AreKinds}
-use Rattle.posix.specs.Ranges.{is_own_id, is_id, is_instruction, is_program, IsWorld, IsEvent, is_i64}
 use Rattle.std.proofs.lemmas.Bool.Decides.{nat_tests}
 use Rattle.posix.specs.declared.instr.Instr.{Instr}
 use Rattle.posix.specs.declared.instr.Instr.TheVariants as instr
 use Rattle.posix.specs.declared.instr.Operator.{Operator}
 use Rattle.posix.specs.declared.instr.Operator.TheVariants.{Add, Sub, Mul, Div, Rem, And, Or, Xor}
 use Rattle.posix.specs.declared.process.Carried.{Carried}
-use Rattle.posix.specs.Execute.{Executed, execute, execute_fetched, exec_one, fetched, computed, register, set_register, move_on, put_result, load_from, store_at, address_of, is_zero, passes, jump}
-use Rattle.posix.specs.Regular.{IsRegular, IsAhead}
-use Rattle.posix.specs.Entries.{line, numbered}
-use Rattle.posix.specs.Notices.{stopped_by, signalled_all}
-use Rattle.posix.specs.Consoles.{unused_console, Console, acquired, with_foreground, with_tostop, line_taken}
-use Rattle.laws.specs.TraceLines.{is_number, is_result, asks_memory, is_entry, is_line}
+use Rattle.laws.specs.TraceLines.{is_number, is_result, is_entry, is_line}
 use Rattle.posix.proofs.CountLemmas.{by_next}
 use Rattle.posix.proofs.NextLemmas.{new_number}
 use Rattle.laws.proofs.StatusLemmas.{killed_word, exited_word}
@@ -76,9 +48,7 @@ use Rattle.laws.proofs.KindLemmas.{and_both, all_get, all_set, all_found, all_ta
 use Rattle.laws.proofs.KindChanges.{kind_finished, KeepsKind, HasRoom, kind_argument, kind_stopped, kind_take_out, kind_written, kind_set_cpu, kind_child, kind_action, kind_handles, kind_frame, kind_returned, kind_enter, kind_out, kind_told, kind_alarm, kind_grouped, kind_led, kind_credentials, kind_with, kind_holding, kind_set_action, kind_mask, kind_ids_set, kind_executed}
 use Rattle.laws.proofs.KindStates.{AllKind, IsThereWithRoom, kinds_changed, kinds_removed, kinds_inserted, kinds_told_of_change, kinds_group, kinds_signalled, kinds_queued, kinds_as, kinds_change, kinds_end, end_small, kind_terminal, kind_consoles, kind_foreground, kind_taken, kinds_key, kinds_hangup, kinds_tick, kinds_settled}
 use Rattle.posix.specs.declared.span.Span.{Span}
-use Rattle.posix.specs.Transfers.{span_in, bytes_in}
-use Rattle.posix.specs.Terminals.{terminal, change_console, finish_moved, with_bytes}
-use Rattle.posix.proofs.AttemptLemmas.{Retries, Ways, Gives, Sends, may_fail, may_want_memory, named_there}
+use Rattle.posix.proofs.AttemptLemmas.{Retries, Ways, Gives, Sends, may_fail, named_there}
 use Rattle.posix.proofs.DeliveryLemmas.{Comes, Deliveries, by_return, by_act, by_step}
 use Rattle.laws.proofs.FormLemmas.{IsFormed, FormsIf, IsSaying, saying_kind, number_there, saying_number, group_there, form_called, kinds_finished, form_gives, form_answers, with_consoles, group_kind, span_few, form_moved, kind_bytes, take_at_most, bytes_kind, bytes_few}
 
@@ -202,11 +172,6 @@ form_no_memory s me call c asks = record {
   entries = one_formed (NoMemory me.pid call) (and_both (is_number me.pid) (asks_memory call) (saying_number s me c) asks);
   kinds = kinds_finished s me.pid ((0, refusal EAGAIN) ∷ []) refl c.kinds;
 }
-
--- memory is wanting for the same calls
-asks : (call : Call) → may_want_memory call ≡ true → asks_memory call ≡ true
-asks Fork h = refl
-asks call h = h
 
 born_id : (s : State) (me : Process) (n : ℕ) → IsSaying s me → next_pid s ≡ Some n → is_id n ≡ true
 born_id s me n c is = let new = new_number s n is in let few : n ≤ 2147483647 = omega (arith, new.greatest, c.kinds.world.pidmax) in grind (arith, nat_tests, few)
@@ -380,7 +345,7 @@ form_ways granted s me c =
     let kind = saying_kind s me c in
     record {
       retries = form_retries s me c;
-      wants_memory = λ call wants none. form_no_memory s me call c (asks call wants);
+      wants_memory = λ call wants none. form_no_memory s me call c wants;
       exits = form_end s me (exited (argument me 1)) (old_saying s me c) (exited_word (argument me 1));
       bears = λ n is. let id = born_id s me n c is in form_gives s (born s me n) me Fork (pos n) c (kinds_born s me n c is) (id_i64 n id) id;
       yields = form_gives s (go_last s me.pid) me SchedYield (pos 0) c (kinds_as s (go_last s me.pid) refl refl c.kinds.records c.kinds) refl refl;

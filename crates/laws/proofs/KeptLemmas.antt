@@ -5,14 +5,12 @@ use Rattle.std.specs.List.{list_any}
 use Rattle.std.proofs.Math.Bool.{and-true, or-false}
 use Rattle.std.proofs.lemmas.Bool.{cases_Bool}
 use Rattle.std.proofs.lemmas.List.Folds.{list_any-append}
-use Rattle.posix.specs.Entries.{Line, process_of}
+use Rattle.posix.specs.Common.{Line, process_of, is_end_word, is_continued_word, Forebear, heir_among}
 use Rattle.posix.specs.declared.entry.Entry.{Entry}
 use Rattle.posix.specs.declared.waits.WaitCall.{WaitCall}
 use Rattle.posix.specs.declared.entry.Entry.TheVariants.{Called, Reported, Marked, Stopped, Ended}
-use Rattle.posix.specs.Statuses.{is_end_word, is_continued_word}
 use Rattle.laws.specs.Lives.{LastOf, last_where, newest_life, life_after, LifeSoFar, the_end, EndOf, or_later, parent_of, parents_from, parent_after, forebear_in, mark_in, mark_of, has_mark, last_mark, begins, is_just, born_by, last_stop, reports, reports_in, stop_in, end_in, is_change_word}
 use Rattle.laws.specs.Keeping.{Alive, Dead, Kept, NeverBorn, Lives, Died, kept_of, kept_of_life, kept_since, alive_since, kept_after, made_by, heir_told, heir_of, forebear_kept, newborn, after_report, after_stop, after_mark, ended_with, given_on, moved_from}
-use Rattle.posix.specs.Heirs.{Forebear, heir_among}
 
 -- the last element that passes, of a list with one more
 abbrev pub longer : {A : Type 0} → A → LastOf A → LastOf A

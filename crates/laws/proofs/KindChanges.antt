@@ -21,30 +21,7 @@ use Rattle.posix.specs.declared.process.Frame.{Frame}
 use Rattle.posix.specs.declared.process.Handler.{Handler}
 use Rattle.posix.specs.declared.process.Handler.TheVariants as handler
 use Rattle.posix.specs.declared.process.PendingSignal.{PendingSignal}
-use Rattle.posix.specs.SignalNumbers.{KILL, CONT, STOP, TSTP, TTIN, TTOU, is_realtime, is_stop_signal}
-use Rattle.posix.specs.SignalSets.{word_of, maskable}
-use Rattle.posix.specs.Processes.{Process, Signals, Credentials, Cpu, argument, initial_action, nothing_pending, zero_registers, zero_memory, fresh_cpu}
-use Rattle.posix.specs.Tables.{reparented}
-use Rattle.posix.specs.States.{Program}
-use Rattle.posix.specs.Execute.{set_register, move_on}
-use Rattle.posix.specs.Outcomes.{write_registers, finished, written, refusal}
-use Rattle.posix.specs.Credentials.{is_privileged, id_in, is_own, all_ids_set, effective_id_set, with_user, with_group, setuid, seteuid, setgid, setegid, ids_on_exec}
-use Rattle.posix.specs.Generation.{action, has_sig, is_pending, with_pending, with_queue, make_pending, gets_no_signals, keeps, without_stops, after_discards, generated, signalled, has_flag, does_nothing, SA_SIGINFO, SA_RESETHAND}
-use Rattle.posix.specs.Choice.{without_first, taken, discarded}
-use Rattle.posix.specs.Sends.{most_queued, has_full_queue, is_queuer}
-use Rattle.posix.specs.Notices.{ignores_children, noticed, ignores_stops, noticed_of_change, stopped_by, resumed}
-use Rattle.posix.specs.Handlers.{leave_call, is_interrupted, entered, handler_arguments, at_handler, after_entry, handles, is_full, newest_frame, returned, give_action, set_action, set_mask}
-use Rattle.posix.specs.Programs.{handler_on_exec, action_on_exec, executed}
-use Rattle.posix.specs.GroupCalls.{in_group, in_session}
-use Rattle.posix.specs.Alarms.{with_alarm, is_due, rung, ring_at, alarm_signal}
-use Rattle.posix.specs.Births.{child_of}
-use Rattle.posix.specs.Ends.{ended, made_zombie}
-use Rattle.posix.specs.Waits.{news_told}
-use Rattle.posix.specs.Delivery.{take_out}
-use Rattle.posix.specs.SignalCalls.{give_credentials, give_signals, handler_word, handler_in, action_in, holding}
-use Rattle.posix.specs.Step.{set_cpu, waiting_signals, enter, out_of_call}
-use Rattle.posix.specs.Ranges.{is_i64, is_id, is_own_id, is_instruction, is_program}
-use Rattle.posix.specs.Statuses.{is_end_word}
+use Rattle.posix.specs.Common.{KILL, CONT, STOP, TSTP, TTIN, TTOU, is_realtime, is_stop_signal, word_of, maskable, Process, Signals, Credentials, Cpu, argument, initial_action, nothing_pending, zero_registers, zero_memory, fresh_cpu, reparented, Program, set_register, move_on, write_registers, finished, written, refusal, is_privileged, id_in, is_own, all_ids_set, effective_id_set, with_user, with_group, setuid, seteuid, setgid, setegid, ids_on_exec, action, has_sig, is_pending, with_pending, with_queue, make_pending, gets_no_signals, keeps, without_stops, after_discards, generated, signalled, has_flag, does_nothing, SA_SIGINFO, SA_RESETHAND, without_first, taken, discarded, most_queued, has_full_queue, is_queuer, ignores_children, noticed, ignores_stops, noticed_of_change, stopped_by, resumed, leave_call, is_interrupted, entered, handler_arguments, at_handler, after_entry, handles, is_full, newest_frame, returned, give_action, set_action, set_mask, handler_on_exec, action_on_exec, executed, in_group, in_session, with_alarm, is_due, rung, ring_at, alarm_signal, child_of, ended, made_zombie, news_told, take_out, give_credentials, give_signals, handler_word, handler_in, action_in, holding, set_cpu, waiting_signals, enter, out_of_call, is_i64, is_id, is_own_id, is_instruction, is_program, is_end_word}
 use Rattle.posix.proofs.AttemptLemmas.{SetsIds}
 use Rattle.laws.specs.TraceLines.{is_result}
 use Rattle.laws.specs.Kinds.{are_ids, is_carried, is_pending_kind, is_queued_kind, is_handler, is_action, is_frame, AreSignals, IsCpu, AreCredentials, IsKind}

@@ -9,7 +9,7 @@ use Rattle.std.proofs.lemmas.Bool.Decides.{nat_tests}
 use Rattle.std.proofs.lemmas.List.Folds.{list_all-append}
 use Rattle.std.proofs.lemmas.Int.{rem_below}
 use mir.Val.{sel}
-use Rattle.posix.specs.Ranges.{is_i64, is_id}
+use Rattle.posix.specs.Common.{is_i64, is_id}
 
 -- ---- lists
 

@@ -8,28 +8,10 @@ use Rattle.posix.specs.declared.process.Effect.TheVariants as effect
 use Rattle.posix.specs.declared.process.Life.{Life}
 use Rattle.posix.specs.declared.process.Life.TheVariants.{Running, Stopped, Zombie}
 use Rattle.posix.specs.declared.process.PendingSignal.{PendingSignal}
-use Rattle.posix.specs.SignalNumbers.{CONT, HUP, is_realtime}
-use Rattle.posix.specs.Statuses.{continued, is_end_word}
-use Rattle.posix.specs.Processes.{Process}
-use Rattle.posix.specs.Tables.{IsRising, lookup, at, changed, inserted, removed, reparented, adopted, pids, members_in}
-use Rattle.posix.specs.Outcomes.{Outcome}
-use Rattle.posix.specs.States.{State, change, current}
+use Rattle.posix.specs.Common.{CONT, HUP, is_realtime, continued, is_end_word, Process, IsRising, lookup, at, changed, inserted, removed, reparented, adopted, pids, members_in, Outcome, State, change, current, Console, console_of, console_at, with_console, changed_at, changed_console, edit, finish_line, erased, with_byte, key_signal, signal_typed, is_told, disconnected, keyed_by, keyed, flushed, has_room, lines_left, line_taken, released, with_foreground, most_edited, effect_of, signalled, from_kernel, child_signal, noticed, noticed_of_change, told_of_change, resumed, acted_upon, generated_for, signalled_all, newly_orphaned, heir_in, CanInherit, ended, made_zombie, halt, leave_children_and_die, zombies_of, tell_of_all, status_of, is_dropping, drop_child, notice_of_end, signalled_members, signalled_group, hup_and_cont, hup_and_cont_all, hup_and_cont_orphans, hung_up, hang_up, end_process, ring_at, ring_all, pass_time, is_fresh, refreshed, give_places, clear_foregrounds, settle, signalled_from, key_on, key, hangup_on, hangup, rotate, tick, terminal, is_i64, is_id, IsWorld}
 use Rattle.posix.proofs.NoticeLemmas.{only_notice, only_told}
 use Rattle.laws.proofs.QuietOperations.{quiet_hung_up, each_zombie}
-use Rattle.posix.specs.Consoles.{Console, console_of, console_at, with_console, changed_at, changed_console, edit, finish_line, erased, with_byte, key_signal, signal_typed, is_told, disconnected, keyed_by, keyed, flushed, has_room, lines_left, line_taken, released, with_foreground, most_edited}
-use Rattle.posix.specs.Generation.{effect_of, signalled}
-use Rattle.posix.specs.Choice.{from_kernel}
-use Rattle.posix.specs.Notices.{child_signal, noticed, noticed_of_change, told_of_change, resumed, acted_upon, generated_for, signalled_all}
-use Rattle.posix.specs.Groups.{newly_orphaned}
-use Rattle.posix.specs.Heirs.{heir_in}
-use Rattle.posix.specs.Regular.{CanInherit}
 use Rattle.posix.proofs.HeirLemmas.{heir_inherits}
-use Rattle.posix.specs.Ends.{ended, made_zombie, halt, leave_children_and_die, zombies_of, tell_of_all, status_of, is_dropping, drop_child, notice_of_end, signalled_members, signalled_group, hup_and_cont, hup_and_cont_all, hup_and_cont_orphans, hung_up, hang_up, end_process}
-use Rattle.posix.specs.Alarms.{ring_at, ring_all, pass_time}
-use Rattle.posix.specs.Settle.{is_fresh, refreshed, give_places, clear_foregrounds, settle}
-use Rattle.posix.specs.Step.{signalled_from, key_on, key, hangup_on, hangup, rotate, tick}
-use Rattle.posix.specs.Terminals.{terminal}
-use Rattle.posix.specs.Ranges.{is_i64, is_id, IsWorld}
 use Rattle.laws.specs.Kinds.{is_byte, is_carried, is_console, IsKind, AreKinds}
 use Rattle.posix.proofs.TableLemmas.{pid_looked, pid_reparented, lookup_changed}
 use Rattle.posix.proofs.MapLemmas.{at_pid, lookup_back}

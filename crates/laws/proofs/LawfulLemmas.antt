@@ -1,7 +1,7 @@
 -- The laws of a trace that is one line longer.
 use Rattle.std.proofs.Common.{rules, ◌≡◌, zero, suc, Bool, true, ◌&&◌, List, [], ◌∷◌, ◌++◌, refl}
 use Rattle.std.proofs.lemmas.Bool.{and_parts}
-use Rattle.posix.specs.Entries.{Line}
+use Rattle.posix.specs.Common.{Line}
 use Rattle.laws.specs.Lives.{Everywhere, Laws, laws, numbers_rise, within_life, begins_apart, reports_due, halts_last}
 
 -- a law of each line of a longer list

@@ -7,8 +7,8 @@ use Rattle.std.proofs.lemmas.Option.{cond_some}
 use Rattle.posix.specs.declared.entry.Entry.{Entry}
 use Rattle.posix.specs.declared.entry.Entry.TheVariants.{Reported, Looked, Stopped, Ended}
 use Rattle.posix.specs.declared.waits.WaitCall.{WaitCall}
-use Rattle.posix.specs.Statuses.{continued, is_end_word, is_stopped_word, is_continued_word}
-use Rattle.posix.specs.Entries.{Line, line, process_of}
+use Rattle.posix.specs.Common.{continued, is_end_word, is_stopped_word, is_continued_word, Line, line, process_of}
+use Rattle.posix.proofs.ResultLemmas.{there}
 use Rattle.laws.specs.Lives.{LastOf, last_where, or_this, LifeSoFar, life_after, newest_life, EndOf, the_end, or_later, parent_of, parent_in, parent_in_life, end_in, reports_in, reports, reports_or_looks_in, reports_or_looks, begins, born_by, is_just, is_change_word, none_or, is_halt, is_due, is_due_to, end_report, is_living, Everywhere, Laws, numbers_rise, within_life, begins_apart, report_law, reports_due, halts_last, last_line, was_halt, ends_first, number_from, ends, stops, stop_in, last_stop, stop_report, continue_report, has_ended, IsOfEnd, IsOfStop, IsTold}
 use Rattle.laws.specs.Keeping.{Dead, Kept, NeverBorn, Lives, Died, kept_of, made_by, heir_told, lives_now, word_fault, report_fault}
 use Rattle.laws.proofs.KeptLemmas.{last_where_more, told_is_kept, unborn_stays, begun, kept_more}
@@ -493,15 +493,11 @@ continue_is_told before after l p c w h told word =
     asks : (since : List Line) → is_due c w since ≡ (not (has_ended c since) && continue_report c (last_stop c since))
     asks since = let same = eqb-true w continued word in rw same refl
 
-    signal : (o : Option ℕ) → is_some o ≡ true → (s : ℕ) × (o ≡ Some s)
-    signal None h = absurd (cc)
-    signal (Some s) h = (s, refl)
-
     of : (d : IsDueTo before p c w) → has_ended c d.life.since ≡ false → (o : Option (LastOf Line)) → last_stop c d.life.since ≡ o → continue_report c o ≡ true → (s : ℕ) × IsOfStop before p c s is_continued_word
     of d going None is due = absurd (cc)
     of d going (Some f) is due =
-        let s = signal (stop_in c f.it.entry) (is_last (stops c) d.life.since f is).passes in
-        (s.0, of_stop before p c w s.0 is_continued_word d f going is s.1 (not-true (list_any (reports c is_continued_word) f.after) due))
+        let s = there (stop_in c f.it.entry) (is_last (stops c) d.life.since f is).passes in
+        (s.what, of_stop before p c w s.what is_continued_word d f going is s.found (not-true (list_any (reports c is_continued_word) f.after) due))
 
 -- A word that is told is one of an end, a stop or a continue.
 pub status_is_told : (before after : List Line) (l : Line) (p c w : ℕ) → Laws (before ++ l ∷ after) → IsTold p c w l.entry → (is_end_word w || is_change_word w) ≡ true

@@ -15,22 +15,7 @@ use Rattle.posix.specs.declared.errno.Errno.{Errno}
 use Rattle.posix.specs.declared.process.Sending.{Sending}
 use Rattle.posix.specs.declared.process.Sending.TheVariants as sends
 use Rattle.posix.specs.declared.target.Target.{Target}
-use Rattle.posix.specs.SignalNumbers.{KILL}
-use Rattle.posix.specs.Statuses.{killed}
-use Rattle.posix.specs.Processes.{Process, Cpu, argument}
-use Rattle.posix.specs.States.{State, current_process, next_pid}
-use Rattle.posix.specs.Execute.{exec_one}
-use Rattle.posix.specs.Outcomes.{Outcome, silent, no_memory}
-use Rattle.posix.specs.Generation.{is_pending}
-use Rattle.posix.specs.Choice.{chosen}
-use Rattle.posix.specs.Births.{fork_as}
-use Rattle.posix.specs.Targets.{target_in, process_in}
-use Rattle.posix.specs.Sends.{sending, has_full_queue, queued_for, queuers_among, sending_granted, message, send_with, signal_or_none, send, kill, sigqueue}
-use Rattle.posix.specs.Ends.{end_process}
-use Rattle.posix.specs.Attempts.{attempt}
-use Rattle.posix.specs.Entries.{Line, line, numbered}
-use Rattle.posix.specs.Runs.{RunsFrom}
-use Rattle.posix.specs.Step.{IsStep, next, settled, happens, step, act, act_in, after_trap, begin_call, deliver_or, code_of}
+use Rattle.posix.specs.Common.{KILL, killed, Process, Cpu, argument, State, current_process, next_pid, exec_one, Outcome, silent, no_memory, is_pending, chosen, fork_as, target_in, process_in, sending, has_full_queue, queued_for, queuers_among, sending_granted, message, send_with, signal_or_none, send, kill, sigqueue, end_process, attempt, Line, line, numbered, RunsFrom, IsStep, next, settled, happens, step, act, act_in, after_trap, begin_call, deliver_or, code_of}
 use Rattle.laws.proofs.RefusalLemmas.{memory_refused}
 use Rattle.laws.specs.Memory.{EntriesGrantAll, LinesGrantAll}
 

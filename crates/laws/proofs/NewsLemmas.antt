@@ -6,9 +6,7 @@ use Rattle.posix.specs.declared.process.Life.TheVariants.{Running, Stopped, Zomb
 use Rattle.posix.specs.declared.process.News.{News}
 use Rattle.posix.specs.declared.process.News.TheVariants as news
 use Rattle.posix.specs.declared.process.Report.TheVariants as found
-use Rattle.posix.specs.Statuses.{stopped, continued}
-use Rattle.posix.specs.Processes.{Process, is_zombie}
-use Rattle.posix.specs.Waits.{report_of, report_life, report_change}
+use Rattle.posix.specs.Common.{stopped, continued, Process, is_zombie, report_of, report_life, report_change}
 
 -- ---- what a child has to report
 

@@ -6,9 +6,7 @@ use Rattle.std.proofs.lemmas.List.Filters.{length-filter_both}
 use Rattle.std.proofs.lemmas.Bool.{cases_Bool}
 use Rattle.std.proofs.lemmas.Bool.Decides.{nat_tests}
 use Rattle.posix.specs.declared.entry.Entry.{Entry}
-use Rattle.posix.specs.Processes.{Process, is_zombie, is_living}
-use Rattle.posix.specs.States.{State, process}
-use Rattle.posix.specs.Entries.{Line, line, reports_end}
+use Rattle.posix.specs.Common.{Process, is_zombie, is_living, State, process, Line, line, reports_end}
 use Rattle.laws.specs.Lives.{LastOf, last_line, born_by}
 use Rattle.laws.specs.Keeping.{Alive, Dead, Kept, NeverBorn, Lives, Died, Phase, kept_of, kept_after, lives_now, fault_of, unless_fault, number_fault, place_fault, birth_fault, report_fault, last_number, phase_of, phase_after}
 use Rattle.laws.specs.Agree.{AgreeOn, is_birth, AgreeIn}

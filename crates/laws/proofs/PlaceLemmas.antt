@@ -5,14 +5,7 @@ use Rattle.std.proofs.lemmas.Bool.{ne_eqb, or_from, or_cases, or_right}
 use Rattle.posix.specs.declared.event.Event.{Event}
 use Rattle.posix.specs.declared.entry.Entry.{Entry}
 use Rattle.posix.specs.declared.process.Blocked.TheVariants as blocked
-use Rattle.posix.specs.Processes.{Process, is_running}
-use Rattle.posix.specs.Choice.{chosen}
-use Rattle.posix.specs.Terminals.{waits_to_read}
-use Rattle.posix.specs.Attempts.{attempt_again}
-use Rattle.posix.specs.States.{State, process, is_in, without, has_place, current}
-use Rattle.posix.specs.Regular.{IsRegular, IsDistinct}
-use Rattle.posix.specs.Settle.{give_places, clear_foregrounds, settle, can_go_on, can_act}
-use Rattle.posix.specs.Step.{IsStep, happens}
+use Rattle.posix.specs.Common.{Process, is_running, chosen, waits_to_read, attempt_again, State, process, is_in, without, has_place, current, IsRegular, IsDistinct, give_places, clear_foregrounds, settle, can_go_on, can_act, IsStep, happens}
 use Rattle.posix.proofs.MemberLemmas.{in_append, in_first, in_last, in_rest, still_out}
 use Rattle.posix.proofs.OrderLemmas.{first_in}
 use Rattle.posix.proofs.ActLemmas.{Turned}

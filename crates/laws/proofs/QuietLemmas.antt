@@ -5,17 +5,11 @@ use Rattle.std.proofs.lemmas.List.{length-map}
 use Rattle.posix.specs.declared.process.Life.{Life}
 use Rattle.posix.specs.declared.process.Life.TheVariants.{Running}
 use Rattle.posix.specs.declared.process.News.{News}
-use Rattle.posix.specs.SignalNumbers.{KILL}
-use Rattle.posix.specs.Processes.{Process, is_zombie, is_running, is_stopped}
-use Rattle.posix.specs.Tables.{IsRising, lookup, at, changed, removed}
-use Rattle.posix.specs.States.{State, process, change, is_in}
-use Rattle.posix.specs.Generation.{is_pending}
-use Rattle.posix.specs.Ends.{drop_child}
-use Rattle.posix.specs.Notices.{resumed}
+use Rattle.posix.specs.Common.{KILL, Process, is_zombie, is_running, is_stopped, IsRising, lookup, changed, removed, State, process, change, is_in, is_pending, drop_child, resumed}
 use Rattle.laws.specs.Keeping.{Kept, NeverBorn, Lives, Died}
 use Rattle.laws.specs.Agree.{AgreeOn, AreTurns}
 use Rattle.posix.proofs.TableLemmas.{rising_map, rising_changed, rising_removed, changed_absent, lookup_changed}
-use Rattle.posix.proofs.MapLemmas.{lookup_back, lookup_map}
+use Rattle.posix.proofs.MapLemmas.{length_changed, lookup_back, lookup_map}
 use Rattle.posix.proofs.RegularLemmas.{lookup_left, lookup_kept, lookup_removed}
 use Rattle.posix.proofs.PassingLemmas.{counted_removed}
 
@@ -105,10 +99,6 @@ agree_dropped (Lives a) r dead h = let no : true ≡ false = sym dead ∙ h.livi
 agree_dropped (Died d) r dead h = tt
 
 -- ---- one record changed
-
-pub length_changed : (p : ℕ) (f : Process → Process) (rs : List Process) → length (changed p f rs) ≡ length rs
-unfolding changed
-length_changed p f rs = length-map rs (at p f)
 
 -- who has a place and is stopped has KILL pending, still, where it does after the change of one record that had it pending
 pub turns_changed : (s : State) (p : ℕ) (f : Process → Process) → ((r : Process) → (f r).pid ≡ r.pid) → (me : Process) → lookup p s.processes ≡ Some me

@@ -8,19 +8,7 @@ use Rattle.posix.specs.declared.process.Carried.{Carried}
 use Rattle.posix.specs.declared.process.Effect.{Effect}
 use Rattle.posix.specs.declared.process.Effect.TheVariants as effect
 use Rattle.posix.specs.declared.process.PendingSignal.{PendingSignal}
-use Rattle.posix.specs.SignalNumbers.{KILL, CONT, STOP, TSTP, TTIN, TTOU, HUP, is_realtime, is_stop_signal}
-use Rattle.posix.specs.Statuses.{continued}
-use Rattle.posix.specs.Processes.{Process, Signals, is_zombie, is_running, is_stopped, is_living}
-use Rattle.posix.specs.Tables.{IsRising, lookup, changed, is_child, children_in, pids, members_in}
-use Rattle.posix.specs.States.{State, change, is_in, without, lose_place, go_last, current}
-use Rattle.posix.specs.Consoles.{Console, console_at, console_of, signal_typed, is_told}
-use Rattle.posix.specs.Generation.{has_sig, is_pending, with_pending, with_queue, make_pending, gets_no_signals, keeps, without_stops, after_discards, generated, effect_of, signalled}
-use Rattle.posix.specs.Choice.{from_kernel, chosen}
-use Rattle.posix.specs.Notices.{child_signal, ignores_children, noticed, ignores_stops, noticed_of_change, told_of_change, resumed, acted_upon, generated_for, signalled_all}
-use Rattle.posix.specs.Ends.{signalled_members, signalled_group, hup_and_cont, hup_and_cont_all, hung_up, hang_up, is_dropping, drop_child, notice_of_end, zombies_of, tell_of_all, status_of}
-use Rattle.posix.specs.Alarms.{is_due, with_alarm, rung, ring_at, ring_all, pass_time}
-use Rattle.posix.specs.Settle.{can_go_on, can_act, wakes, give_places, clear_foregrounds, settle}
-use Rattle.posix.specs.Step.{signalled_from, key_on, key, with_leader_told, hangup_on, hangup, rotate, tick}
+use Rattle.posix.specs.Common.{KILL, CONT, STOP, TSTP, TTIN, TTOU, HUP, is_realtime, is_stop_signal, continued, Process, Signals, is_zombie, is_running, is_stopped, is_living, IsRising, lookup, changed, is_child, children_in, pids, members_in, State, change, is_in, without, lose_place, go_last, current, Console, console_at, console_of, signal_typed, is_told, has_sig, is_pending, with_pending, with_queue, make_pending, gets_no_signals, keeps, without_stops, after_discards, generated, effect_of, signalled, from_kernel, chosen, child_signal, ignores_children, noticed, ignores_stops, noticed_of_change, told_of_change, resumed, acted_upon, generated_for, signalled_all, signalled_members, signalled_group, hup_and_cont, hup_and_cont_all, hung_up, hang_up, is_dropping, drop_child, notice_of_end, zombies_of, tell_of_all, status_of, is_due, with_alarm, rung, ring_at, ring_all, pass_time, can_go_on, can_act, wakes, give_places, clear_foregrounds, settle, signalled_from, key_on, key, with_leader_told, hangup_on, hangup, rotate, tick}
 use Rattle.posix.proofs.MemberLemmas.{in_append, is_other, in_last}
 use Rattle.posix.proofs.TableLemmas.{Above, lookup_changed, rising_filter}
 use Rattle.posix.proofs.WalkLemmas.{all_looked, in_filter, pid_found}
@@ -259,9 +247,9 @@ quiet_hangup s console = on (console_at console s.consoles)
         quiet_then s one _ told (quiet_as one _ refl refl refl refl refl)
 
 -- who can act runs, or has KILL pending
-act_runs : (s : State) (r : Process) → can_act s r ≡ true → is_stopped r.life ≡ true → is_pending r.signals KILL ≡ true
+stopped_acts : (s : State) (r : Process) → can_act s r ≡ true → is_stopped r.life ≡ true → is_pending r.signals KILL ≡ true
 unfolding can_act
-act_runs s r acts stops = elim (or_cases (is_living r && is_pending r.signals KILL) (is_running r.life && (can_go_on s r r.blocked || is_some (chosen r.life r.signals))) acts) [
+stopped_acts s r acts stops = elim (or_cases (is_living r && is_pending r.signals KILL) (is_running r.life && (can_go_on s r r.blocked || is_some (chosen r.life r.signals))) acts) [
   | inl dying ↦ (and_parts (is_living r) (is_pending r.signals KILL) dying).1
   | inr goes ↦ absurd (runs_on r.life (and_parts (is_running r.life) (can_go_on s r r.blocked || is_some (chosen r.life r.signals)) goes).0 stops)
 ]
@@ -275,7 +263,7 @@ quiet_given s up = quiet_order s (s.order ++ pids (filter (wakes s) s.processes)
       let w = pid_found q (filter (wakes s) s.processes) new in
       let a = in_filter (wakes s) s.processes up q w.0 w.1 in
       let same : w.0 ≡ r = let both : Some w.0 ≡ Some r = sym a.found ∙ f in cc in
-      let dying : is_pending r.signals KILL ≡ true = act_runs s r (subst (λ (t : Process). can_act s t ≡ true) same (and_parts (not (is_in w.0.pid s.order)) (can_act s w.0) a.passes).1) stops in
+      let dying : is_pending r.signals KILL ≡ true = stopped_acts s r (subst (λ (t : Process). can_act s t ≡ true) same (and_parts (not (is_in w.0.pid s.order)) (can_act s w.0) a.passes).1) stops in
       let no : false ≡ true = sym none ∙ dying in
       absurd (cc)
 ])

@@ -1,7 +1,7 @@
 -- What the entries of an event tell: what a refused call changes, and that who is born has a free number.
 use Rattle.std.proofs.Common.{rules, ◌≡◌, ◌≢◌, ℕ, zero, suc, Bool, true, false, refl, ap, sym, ◌∙◌, arith, subst, List, [], ◌∷◌, ◌++◌, Option, Some, None, ◌==◌, Contains, pos, negsuc, ℤ}
 use Rattle.std.proofs.lemmas.Bool.{cond_both}
-use Rattle.posix.specs.Terminals.{finish_moved}
+use Rattle.posix.specs.Common.{finish_moved, Process, Credentials, IsRising, State, current, next_pid, Outcome, Attempted, Done, silent, finish, finished, refusal, is_interrupted, end_process, gives_nothing, call_of, interruption, stop_process, attempt, attempt_again, IsSettled, settle, IsStep, next, happens, act, is_free}
 use Rattle.std.specs.List.{AllByRecursion}
 use Rattle.posix.specs.declared.call.Call.{Call}
 use Rattle.posix.specs.declared.call.Call.TheVariants.{Fork}
@@ -12,25 +12,13 @@ use Rattle.posix.specs.declared.entry.Entry.{Entry}
 use Rattle.posix.specs.declared.entry.Entry.TheVariants.{Called, NoMemory}
 use Rattle.posix.specs.declared.process.Action.{Action}
 use Rattle.posix.specs.declared.process.Blocked.{Blocked}
-use Rattle.posix.specs.Processes.{Process, Credentials}
-use Rattle.posix.specs.Tables.{IsRising}
-use Rattle.posix.specs.States.{State, current, next_pid}
-use Rattle.posix.specs.Outcomes.{Outcome, Attempted, Done, silent, finish, finished, refusal}
-use Rattle.posix.specs.Handlers.{is_interrupted}
-use Rattle.posix.specs.Ends.{end_process}
 use Rattle.posix.specs.declared.waits.WaitCall.{WaitCall}
 use Rattle.posix.specs.declared.waits.WaitCall.TheVariants as wait
-use Rattle.posix.specs.Waits.{gives_nothing}
-use Rattle.posix.specs.Delivery.{call_of, interruption, stop_process}
-use Rattle.posix.specs.Attempts.{attempt, attempt_again}
-use Rattle.posix.specs.Settle.{IsSettled, settle}
-use Rattle.posix.specs.Step.{IsStep, next, happens, act}
 use Rattle.posix.proofs.TableLemmas.{pid_looked}
 use Rattle.posix.proofs.OrderLemmas.{first_in}
 use Rattle.laws.proofs.WokenLemmas.{by_event}
 use Rattle.posix.proofs.TouchLemmas.{Unseen}
 use Rattle.posix.proofs.UnseenLemmas.{settle_unseen}
-use Rattle.posix.specs.NextPid.{is_free}
 use Rattle.posix.proofs.NextLemmas.{new_number}
 use Rattle.posix.proofs.AttemptLemmas.{Meets, Retries, Ways, Gives, SetsIds, Sends, by_again, by_attempt}
 use Rattle.posix.proofs.DeliveryLemmas.{Deliveries, by_return, by_act, by_step}

@@ -12,30 +12,8 @@ use Rattle.posix.specs.declared.entry.Entry.{Entry}
 use Rattle.posix.specs.declared.process.PendingSignal.{PendingSignal}
 use Rattle.posix.specs.declared.process.Report.TheVariants as found
 use Rattle.posix.specs.declared.target.Target.{Target}
-use Rattle.posix.specs.SignalSets.{word_of, set_in}
-use Rattle.posix.specs.Statuses.{exited, killed}
-use Rattle.posix.specs.Processes.{Process, is_zombie, argument}
-use Rattle.posix.specs.Tables.{IsRising, lookup, removed, pids}
-use Rattle.posix.specs.States.{State, is_in, change, go_last, current, next_pid}
-use Rattle.posix.specs.Outcomes.{Outcome, Reply, finished, finish_call, plain, written, refusal}
-use Rattle.posix.specs.Generation.{action}
-use Rattle.posix.specs.Notices.{noticed, child_signal}
-use Rattle.posix.specs.Groups.{newly_orphaned}
-use Rattle.posix.specs.Handlers.{handles, returned, set_mask}
-use Rattle.posix.specs.Births.{born, child_of}
-use Rattle.posix.specs.Heirs.{heir_in}
-use Rattle.posix.specs.Subreapers.{marked_as}
+use Rattle.posix.specs.Common.{word_of, set_in, exited, killed, Process, is_zombie, argument, IsRising, lookup, removed, pids, State, is_in, change, go_last, current, next_pid, Outcome, Reply, finished, finish_call, plain, written, refusal, action, noticed, child_signal, newly_orphaned, handles, returned, set_mask, born, child_of, heir_in, marked_as, leave_children_and_die, is_dropping, drop_child, notice_of_end, zombies_of, tell_of_all, status_of, hup_and_cont_orphans, hang_up, end_process, results_of, results_of_nothing, news_told, take_out, sent, sent_among, permitted, targets, message, give_credentials, give_signals, holding, pending_set, executed, most_ticks, due_in, ticks_in, pass_time, IsRegular, IsAhead, CanInherit, IsDistinct, give_places, clear_foregrounds, settle, IsStep, happens, tick, rotate, act, enter, set_cpu, out_of_call, Console, console_of, acquired, with_foreground, with_tostop, line_taken, bytes_in, terminal, change_console, may_acquire, finish_moved, with_bytes}
 use Rattle.posix.proofs.HeirLemmas.{heir_inherits}
-use Rattle.posix.specs.Ends.{leave_children_and_die, is_dropping, drop_child, notice_of_end, zombies_of, tell_of_all, status_of, hup_and_cont_orphans, hang_up, end_process}
-use Rattle.posix.specs.Waits.{results_of, results_of_nothing, news_told}
-use Rattle.posix.specs.Delivery.{take_out}
-use Rattle.posix.specs.Sends.{sent, sent_among, permitted, targets, message}
-use Rattle.posix.specs.SignalCalls.{give_credentials, give_signals, holding, pending_set}
-use Rattle.posix.specs.Programs.{executed}
-use Rattle.posix.specs.Alarms.{most_ticks, due_in, ticks_in, pass_time}
-use Rattle.posix.specs.Regular.{IsRegular, IsAhead, CanInherit, IsDistinct}
-use Rattle.posix.specs.Settle.{give_places, clear_foregrounds, settle}
-use Rattle.posix.specs.Step.{IsStep, happens, tick, rotate, act, enter, set_cpu, out_of_call}
 use Rattle.posix.proofs.TableLemmas.{pid_looked}
 use Rattle.posix.proofs.MemberLemmas.{in_append, in_first, apart_rest}
 use Rattle.posix.proofs.RegularLemmas.{Keeps, keeps_none, keeps_then, keeps_set_cpu, keeps_news_told, keeps_handles, keeps_take_out, keeps_noticed, keeps_with_alarm, due_ahead, placed_least, regular_as, regular_change, regular_lose, regular_depart, regular_halt, regular_inserted, regular_removed, regular_pass}
@@ -46,9 +24,6 @@ use Rattle.posix.proofs.OrderLemmas.{regular_last, first_in}
 use Rattle.posix.proofs.ReportLemmas.{reported, not_first}
 use Rattle.posix.proofs.NextLemmas.{new_number}
 use Rattle.posix.proofs.SettleLemmas.{wakes_placed}
-use Rattle.posix.specs.Consoles.{Console, console_of, acquired, with_foreground, with_tostop, line_taken}
-use Rattle.posix.specs.Transfers.{bytes_in}
-use Rattle.posix.specs.Terminals.{terminal, change_console, may_acquire, finish_moved, with_bytes}
 use Rattle.posix.proofs.ConsoleLemmas.{consoles_acquired, regular_consoles, regular_change_console, regular_signalled_group, regular_cleared, regular_hung_up, regular_key, regular_hangup}
 use Rattle.laws.proofs.QuietOperations.{IsGone, AllGone, each_zombie, gone_changed, gone_noticed, still_gone}
 use Rattle.laws.proofs.ToldLines.{IsLiving}

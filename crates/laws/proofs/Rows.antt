@@ -10,38 +10,7 @@ use Rattle.posix.specs.declared.instr.Instr.TheVariants.{Set, Compute, Jump, Jum
 use Rattle.posix.specs.declared.instr.Operator.TheVariants.{Div, Rem}
 use Rattle.posix.specs.declared.instr.Condition.TheVariants.{Zero}
 use Rattle.posix.specs.declared.call.Call.TheVariants.{Exit, Fork, Waitpid, Waitid, Pause, SchedYield, Getpid, Setuid, Kill, Sigqueue, Sigaction, Sigprocmask, Sigpending, Sigsuspend, Sigreturn, Alarm, Exec, Setpgid, Setsid, Geteuid, Getuid, Setctty, Tcgetpgrp, Tcsetpgrp, Read, Write, Subreaper}
-use Rattle.posix.specs.Processes.{nothing_pending, default_actions, zero_registers, zero_memory}
-use Rattle.posix.specs.Numbers.{with_number}
-use Rattle.posix.specs.Tables.{lookup, changed, inserted, removed, children_in, adopted, members_in}
-use Rattle.posix.specs.NextPid.{is_free, next_free}
-use Rattle.posix.specs.Consoles.{waiting, has_room, finish_line, erased, with_byte, edit, key_signal, signal_typed, disconnected, flushed, keyed, line_taken, acquired, released, with_foreground, with_tostop, console_of, changed_console}
-use Rattle.posix.specs.Transfers.{stored, bytes_in}
-use Rattle.posix.specs.States.{Program, World, State, boot, is_in, without}
-use Rattle.posix.specs.Entries.{Line, line, numbered}
-use Rattle.posix.specs.Execute.{exec_one}
-use Rattle.posix.specs.Outcomes.{finished, written}
-use Rattle.posix.specs.Credentials.{setuid, seteuid, setgid, setegid}
-use Rattle.posix.specs.Generation.{without_stops, generated, effect_of, signalled}
-use Rattle.posix.specs.Notices.{noticed, noticed_of_change, told_of_change, stopped_by, resumed, signalled_all}
-use Rattle.posix.specs.Groups.{is_anchor, is_orphaned, group_numbers, has_stopped, is_newly_orphaned, newly_orphaned}
-use Rattle.posix.specs.Choice.{least_ready, chosen, first_carried, without_first, taken, discarded}
-use Rattle.posix.specs.Handlers.{entered, at_handler, handles, returned, set_action, set_mask}
-use Rattle.posix.specs.Delivery.{handle, stop_process, take_out, deliver, fault, return_from_handler}
-use Rattle.posix.specs.Sends.{targets, permitted, sending, queuers, queuers_among, sending_granted, sent_among, sent, kill, sigqueue}
-use Rattle.posix.specs.SignalCalls.{give_credentials, give_signals, sigaction, sigprocmask, set_of, pending_set, sigpending}
-use Rattle.posix.specs.Births.{child_of, fork_as}
-use Rattle.posix.specs.Ends.{ended, made_zombie, notice_of_end, zombies_of, tell_of_all, signalled_members, hup_and_cont_all, hang_up, end_process}
-use Rattle.posix.specs.Waits.{report_of, report, news_told, asked, wait_by}
-use Rattle.posix.specs.Heirs.{nearest_marked}
-use Rattle.posix.specs.Subreapers.{marked_as, subreaper}
-use Rattle.posix.specs.Alarms.{with_alarm, alarm, rung, ring_all}
-use Rattle.posix.specs.Programs.{executed, exec}
-use Rattle.posix.specs.GroupCalls.{is_group_of, getpgid, getsid, in_group, setpgid, in_session, setsid}
-use Rattle.posix.specs.Terminals.{setctty, tcgetpgrp, tcsetpgrp, settostop, with_bytes, read, write}
-use Rattle.posix.specs.Attempts.{attempt, attempt_again}
-use Rattle.posix.specs.Settle.{can_act, give_places, clear_foregrounds, settle}
-use Rattle.posix.specs.Step.{set_cpu, enter, after_trap, out_of_call, act_in, act, step, tick, key, hangup, happens, next}
-use Rattle.posix.specs.Printing.{hex, print}
+use Rattle.posix.specs.Common.{nothing_pending, default_actions, zero_registers, zero_memory, with_number, lookup, changed, inserted, removed, children_in, adopted, members_in, is_free, next_free, waiting, has_room, finish_line, erased, with_byte, edit, key_signal, signal_typed, disconnected, flushed, keyed, line_taken, acquired, released, with_foreground, with_tostop, console_of, changed_console, stored, bytes_in, Program, World, State, boot, is_in, without, Line, line, numbered, exec_one, finished, written, setuid, seteuid, setgid, setegid, without_stops, generated, effect_of, signalled, noticed, noticed_of_change, told_of_change, stopped_by, resumed, signalled_all, is_anchor, is_orphaned, group_numbers, has_stopped, is_newly_orphaned, newly_orphaned, least_ready, chosen, first_carried, without_first, taken, discarded, entered, at_handler, handles, returned, set_action, set_mask, handle, stop_process, take_out, deliver, fault, return_from_handler, targets, permitted, sending, queuers, queuers_among, sending_granted, sent_among, sent, kill, sigqueue, give_credentials, give_signals, sigaction, sigprocmask, set_of, pending_set, sigpending, child_of, fork_as, ended, made_zombie, notice_of_end, zombies_of, tell_of_all, signalled_members, hup_and_cont_all, hang_up, end_process, report_of, report, news_told, asked, wait_by, nearest_marked, marked_as, subreaper, with_alarm, alarm, rung, ring_all, executed, exec, is_group_of, getpgid, getsid, in_group, setpgid, in_session, setsid, setctty, tcgetpgrp, tcsetpgrp, settostop, with_bytes, read, write, attempt, attempt_again, can_act, give_places, clear_foregrounds, settle, set_cpu, enter, after_trap, out_of_call, act_in, act, step, tick, key, hangup, happens, next, hex, print}
 
 abbrev pub program : Option ℕ → Option ℕ → List Instr → Program
 program setuid setgid instructions = record { setuid = setuid; setgid = setgid; instructions = instructions }

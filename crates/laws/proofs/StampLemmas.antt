@@ -6,7 +6,8 @@ use Rattle.std.proofs.lemmas.List.Elements.{All-weaker, All-filter, filter_passe
 use Rattle.std.proofs.lemmas.List.Folds.{Any-from_list_any, list_any_at}
 use Rattle.std.proofs.lemmas.List.Kept.{AllPairs-filter}
 use Rattle.std.proofs.lemmas.List.Quantifiers.{all_pairs_push}
-use Rattle.posix.specs.States.{is_in, without}
+use Rattle.posix.specs.Common.{is_in, without}
+use Rattle.posix.proofs.ResultLemmas.{there}
 use Rattle.posix.proofs.MemberLemmas.{in_without, in_last, in_first, in_rest}
 use Rattle.posix.proofs.OrderLemmas.{without_absent}
 use Rattle.laws.specs.Stamps.{Stamps, without_stamp, with_stamp, AllBelow, IsBelow, IsRisingOrder, HasLeastStamp, Stamping, IsStamped, Move, Lose, GoLast, Place, CanMove, order_moved, stamping_moved, Leads, stamping_after}
@@ -143,11 +144,6 @@ below_later x xs stamps rising q e =
     let c = Contains_from_is_in q xs e in
     subst (λ r. IsBelow (stamps x) (stamps r)) c.2 (rising 0 (suc c.0) q (omega arith) (omega arith))
 
--- the number, where there is one
-number_of : (o : Option ℕ) → is_some o ≡ true → (n : ℕ) × (o ≡ Some n)
-number_of None e = absurd cc
-number_of (Some n) e = (n, refl)
-
 -- a stamp below another, as numbers
 lt_of_below : (n m : ℕ) (a b : Option ℕ) → a ≡ Some n → b ≡ Some m → IsBelow a b → n < m
 lt_of_below n m None b e f below = absurd below
@@ -172,8 +168,8 @@ pub first_is_least : (p : ℕ) (order : List ℕ) (stamps : Stamps) → IsRising
 first_is_least p [] stamps h e = absurd cc
 first_is_least p (x ∷ xs) stamps h e =
     let same : x ≡ p = cc in
-    let least = number_of (stamps x) ((h.placed x).0 (0, omega arith, refl)) in
-    (least.0, rw (← same) least.1, λ q m f. least_of_all x xs stamps h least.0 least.1 q m f)
+    let least = there (stamps x) ((h.placed x).0 (0, omega arith, refl)) in
+    (least.what, rw (← same) least.found, λ q m f. least_of_all x xs stamps h least.what least.found q m f)
 
 -- ---- only one order
 

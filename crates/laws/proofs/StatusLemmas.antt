@@ -3,8 +3,7 @@ use Rattle.std.proofs.Common.{◌≡◌, ℕ, ◌*◌, ◌/◌, ◌%◌, ◌≤�
 use Rattle.std.specs.Int.{cast_unsigned, w64}
 use Rattle.std.proofs.lemmas.Bool.{cases_Bool, eq-eqb, and_parts, leb-true}
 use Rattle.std.proofs.lemmas.Bool.Decides.{nat_tests}
-use Rattle.posix.specs.SignalNumbers.{is_signal, is_stop_signal}
-use Rattle.posix.specs.Statuses.{exited, stopped, tells_end, is_end_word, is_stopped_word, is_continued_word}
+use Rattle.posix.specs.Common.{is_signal, is_stop_signal, exited, stopped, tells_end, is_end_word, is_stopped_word, is_continued_word}
 
 -- the word of a stop
 pub record IsStopWord (s : ℕ) : Type 0 where

@@ -4,10 +4,9 @@ use Rattle.std.specs.List.{list_any}
 use Rattle.std.proofs.lemmas.Grind.{common_steps}
 use Rattle.std.proofs.lemmas.Bool.{cases_Bool}
 use Rattle.std.proofs.lemmas.Bool.Decides.{nat_tests}
-use Rattle.posix.specs.Entries.{Line, process_of}
+use Rattle.posix.specs.Common.{Line, process_of, is_end_word, is_stopped_word, is_continued_word}
 use Rattle.posix.specs.declared.entry.Entry.{Entry}
 use Rattle.posix.specs.declared.entry.Entry.TheVariants.{Reported, Looked, Halted}
-use Rattle.posix.specs.Statuses.{is_end_word, is_stopped_word, is_continued_word}
 use Rattle.laws.specs.Lives.{LastOf, newest_life, is_living, LifeSoFar, the_end, EndOf, is_unended, parent_of, is_just, born_by, laws, last_line, last_stop, has_mark, number_from, none_or, is_halt, ends_first, was_halt, within_life, halts_last, begins_apart, report_law, is_due, is_due_to, reports, stop_in, end_in, stop_report, continue_report, is_change_word}
 use Rattle.laws.specs.Keeping.{Going, FirstEnded, Over, kept_of, kept_of_life, kept_since, alive_since, lives_now, fault_of, unless_fault, number_fault, place_fault, process_fault, birth_fault, report_fault, word_fault, fault_of_living, fault_of_ended, stop_fault, last_number, phase_of}
 

@@ -10,30 +10,18 @@ use Rattle.posix.specs.declared.call.Call.TheVariants.{Fork}
 use Rattle.posix.specs.declared.process.Life.{Life}
 use Rattle.posix.specs.declared.process.Life.TheVariants.{Running, Zombie}
 use Rattle.posix.specs.declared.process.News.TheVariants as news
-use Rattle.posix.specs.SignalNumbers.{is_stop_signal}
-use Rattle.posix.specs.Statuses.{stopped, continued, tells_end, is_end_word}
-use Rattle.posix.specs.Processes.{Process, is_zombie, is_stopped, is_running}
-use Rattle.posix.specs.Tables.{IsRising, lookup, changed, inserted, removed, reparented, adopted}
-use Rattle.posix.specs.States.{State, process, change}
-use Rattle.posix.specs.Entries.{Line, line, reports_end, process_of}
-use Rattle.posix.specs.Outcomes.{finished}
-use Rattle.posix.specs.Births.{child_of, born}
-use Rattle.posix.specs.Heirs.{Forebear, heir_among, forebear_of, heir_in}
-use Rattle.posix.specs.Subreapers.{marked_as}
-use Rattle.posix.specs.Ends.{ended, made_zombie, halt, leave_children_and_die}
-use Rattle.posix.specs.Notices.{stopped_by}
-use Rattle.posix.specs.Waits.{news_told}
+use Rattle.posix.specs.Common.{is_stop_signal, stopped, continued, tells_end, is_end_word, Process, is_zombie, is_stopped, is_running, IsRising, lookup, changed, inserted, removed, reparented, adopted, State, process, change, Line, line, reports_end, process_of, finished, child_of, born, Forebear, heir_among, forebear_of, heir_in, marked_as, ended, made_zombie, halt, leave_children_and_die, stopped_by, news_told}
 use Rattle.laws.specs.Lives.{LastOf, LifeSoFar, EndOf, newest_life, the_end, last_stop, has_mark, parent_of, born_by}
 use Rattle.laws.specs.Keeping.{Kept, NeverBorn, Lives, Died, Phase, Going, FirstEnded, Over, kept_of, kept_of_life, kept_since, alive_since, kept_after, made_by, heir_of, forebear_kept, newborn, after_report, after_stop, after_mark, ended_with, given_on, moved_from, lives_now, place_fault, report_fault, word_fault, phase_after}
 use Rattle.laws.specs.Agree.{NewsAgree, AgreeOn, AgreeIn}
 use Rattle.laws.proofs.NextLineLemmas.{lives_kept, free_kept, agree_says}
 use Rattle.posix.proofs.TableLemmas.{lookup_changed, pid_looked, pid_reparented, reparented_keeps, length_inserted}
-use Rattle.posix.proofs.MapLemmas.{lookup_map}
+use Rattle.posix.proofs.MapLemmas.{length_changed, lookup_map}
 use Rattle.std.proofs.lemmas.List.{length-map}
 use Rattle.posix.proofs.RegularLemmas.{lookup_kept, lookup_removed, lookup_inserted, lookup_new}
 use Rattle.laws.proofs.StatusLemmas.{stop_word, end_tells}
 use Rattle.laws.proofs.NewsLemmas.{IsNewsOf}
-use Rattle.laws.proofs.QuietLemmas.{runs_on, length_changed, one_removed}
+use Rattle.laws.proofs.QuietLemmas.{runs_on, one_removed}
 
 -- ---- lines that tell of nothing
 

@@ -6,24 +6,7 @@ use Rattle.posix.specs.declared.entry.Entry.{Entry}
 use Rattle.posix.specs.declared.waits.WaitCall.{WaitCall}
 use Rattle.posix.specs.declared.entry.Entry.TheVariants.{Called, Reported, Marked, Looked, Stopped, Ended, Halted}
 use Rattle.posix.specs.declared.process.Life.TheVariants.{Zombie}
-use Rattle.posix.specs.SignalNumbers.{KILL, HUP, is_stop_signal}
-use Rattle.posix.specs.Statuses.{stopped, is_end_word}
-use Rattle.posix.specs.Processes.{Process, is_zombie, is_stopped, is_running}
-use Rattle.posix.specs.Tables.{IsRising, lookup, changed, inserted, removed, is_child, children_in, reparented, pids}
-use Rattle.posix.specs.States.{State, change, lose_place, is_in}
-use Rattle.posix.specs.Consoles.{Console, console_of}
-use Rattle.posix.specs.Choice.{from_kernel}
-use Rattle.posix.specs.Entries.{Line, line, numbered, process_of}
-use Rattle.posix.specs.Outcomes.{Outcome, silent, finished}
-use Rattle.posix.specs.Generation.{is_pending}
-use Rattle.posix.specs.Births.{child_of, born}
-use Rattle.posix.specs.Groups.{newly_orphaned}
-use Rattle.posix.specs.Heirs.{heir_in}
-use Rattle.posix.specs.Subreapers.{marked_as}
-use Rattle.posix.specs.Ends.{ended, made_zombie, halt, leave_children_and_die, zombies_of, tell_of_all, hup_and_cont_orphans, hup_and_cont_all, notice_of_end, signalled_members, signalled_group, hung_up, hang_up, end_process}
-use Rattle.posix.specs.Notices.{stopped_by}
-use Rattle.posix.specs.Delivery.{stop_process}
-use Rattle.posix.specs.Waits.{news_told}
+use Rattle.posix.specs.Common.{KILL, HUP, is_stop_signal, stopped, is_end_word, Process, is_zombie, is_stopped, is_running, IsRising, lookup, changed, inserted, removed, is_child, children_in, reparented, pids, State, change, lose_place, is_in, Console, console_of, from_kernel, Line, line, numbered, process_of, Outcome, silent, finished, is_pending, child_of, born, newly_orphaned, heir_in, marked_as, ended, made_zombie, halt, leave_children_and_die, zombies_of, tell_of_all, hup_and_cont_orphans, hup_and_cont_all, notice_of_end, signalled_members, signalled_group, hung_up, hang_up, end_process, stopped_by, stop_process, news_told}
 use Rattle.laws.specs.Keeping.{Phase, Going, Over, kept_of}
 use Rattle.laws.specs.Agree.{AgreeIn, AgreeOn, AreTurns, phase_between}
 use Rattle.posix.proofs.MemberLemmas.{is_other}

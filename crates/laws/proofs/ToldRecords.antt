@@ -1,12 +1,10 @@
 -- What agreement says of the records, in words of lines.
 use Rattle.std.proofs.Common.{◌≡◌, ◌≢◌, ℕ, Bool, true, false, is_none, ◌++◌, [], ◌∷◌, append_assoc, append-nil, ◌==◌, refl, ap, sym, ◌∙◌, subst, List, Option, Some, None}
 use Rattle.std.specs.Option.{IsSomeAnd, option_map_or}
-use Rattle.posix.specs.Entries.{Line, line}
+use Rattle.posix.specs.Common.{Line, line, Process, is_zombie, is_stopped, State, process}
 use Rattle.posix.specs.declared.entry.Entry.{Entry}
 use Rattle.posix.specs.declared.entry.Entry.TheVariants.{Ended, Halted}
 use Rattle.posix.specs.declared.process.Life.TheVariants.{Zombie}
-use Rattle.posix.specs.Processes.{Process, is_zombie, is_stopped}
-use Rattle.posix.specs.States.{State, process}
 use Rattle.laws.specs.Lives.{Laws, last_line, within_life, halts_last, LifeSoFar, LastOf, EndOf, newest_life, is_living, parent_of, parent_in, parent_in_life, the_end, last_stop, has_mark}
 use Rattle.laws.specs.Keeping.{Alive, Dead, Kept, NeverBorn, Lives, Died, Phase, Going, FirstEnded, Over, phase_of, phase_after, place_fault, made_by, heir_told, kept_of, kept_of_life, kept_since, alive_since, lives_now}
 use Rattle.laws.specs.Agree.{NewsAgree, AgreeOn, Agree, LivesAndNews, phase_between}

@@ -5,14 +5,7 @@ use Rattle.std.proofs.lemmas.List.Sums.{sum_by-cons}
 use Rattle.posix.specs.declared.event.Event.{Event}
 use Rattle.posix.specs.declared.event.Event.TheVariants.{Step, Tick, Key, Hangup}
 use Rattle.posix.specs.declared.entry.Entry.{Entry}
-use Rattle.posix.specs.States.{State, is_in, without, current}
-use Rattle.posix.specs.Regular.{IsDistinct}
-use Rattle.posix.specs.Consoles.{console_at}
-use Rattle.posix.specs.Settle.{settle}
-use Rattle.posix.specs.Alarms.{pass_time}
-use Rattle.posix.specs.Step.{IsStep, happens, tick, rotate, key, key_on, hangup, hangup_on}
-use Rattle.posix.specs.Entries.{Line, numbered}
-use Rattle.posix.specs.Runs.{RunsFrom}
+use Rattle.posix.specs.Common.{State, is_in, without, current, IsDistinct, console_at, settle, pass_time, IsStep, happens, tick, rotate, key, key_on, hangup, hangup_on, Line, numbered, RunsFrom}
 use Rattle.laws.specs.Turns.{places_before, is_tick, ticks_in, HasTurn}
 use Rattle.posix.proofs.TableLemmas.{pid_looked}
 use Rattle.posix.proofs.OrderLemmas.{without_absent}

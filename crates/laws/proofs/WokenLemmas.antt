@@ -3,13 +3,7 @@ use Rattle.std.proofs.Common.{◌≡◌, ℕ, true, false, not, refl, ap, sym, �
 use Rattle.std.proofs.lemmas.Bool.{and_parts, not-true}
 use Rattle.posix.specs.declared.event.Event.{Event}
 use Rattle.posix.specs.declared.entry.Entry.{Entry}
-use Rattle.posix.specs.Outcomes.{Outcome, silent}
-use Rattle.posix.specs.Step.{IsStep, settled, happens}
-use Rattle.posix.specs.Processes.{Process}
-use Rattle.posix.specs.Tables.{IsRising, lookup, pids}
-use Rattle.posix.specs.States.{State, is_in}
-use Rattle.posix.specs.Regular.{IsDistinct}
-use Rattle.posix.specs.Settle.{wakes, can_act, clear_foregrounds, give_places, settle}
+use Rattle.posix.specs.Common.{Outcome, silent, IsStep, settled, happens, Process, IsRising, lookup, pids, State, is_in, IsDistinct, wakes, can_act, clear_foregrounds, give_places, settle}
 use Rattle.posix.proofs.CountLemmas.{by_next}
 use Rattle.posix.proofs.TableLemmas.{pid_looked, rising_filter}
 use Rattle.posix.proofs.OrderLemmas.{distinct_pids}

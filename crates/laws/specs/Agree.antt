@@ -3,15 +3,9 @@ use Rattle.std.specs.Prelude.{◌≡◌, ◌≢◌, ℕ, ◌+◌, ◌≤◌, Boo
 use Rattle.posix.specs.declared.process.Life.TheVariants.{Zombie}
 use Rattle.posix.specs.declared.process.News.{News}
 use Rattle.posix.specs.declared.process.News.TheVariants as news
-use Rattle.posix.specs.SignalNumbers.{KILL, is_stop_signal}
-use Rattle.posix.specs.Processes.{Process, is_zombie, is_stopped, is_living}
-use Rattle.posix.specs.States.{State, process, is_in}
-use Rattle.posix.specs.Entries.{Line, reported}
-use Rattle.posix.specs.Generation.{is_pending}
-use Rattle.posix.specs.Tables.{lookup}
+use Rattle.posix.specs.Common.{KILL, is_stop_signal, Process, is_zombie, is_stopped, is_living, State, process, is_in, Line, reported, is_pending, lookup, is_end_word}
 use Rattle.std.specs.List.{list_all}
 use Rattle.laws.specs.TraceLines.{is_line}
-use Rattle.posix.specs.Statuses.{is_end_word}
 use Rattle.laws.specs.Kinds.{AreKinds}
 use Rattle.laws.specs.Lives.{Laws, born_by, last_line}
 use Rattle.laws.specs.Keeping.{Alive, Dead, Kept, NeverBorn, Lives, Died, Phase, Going, Over, kept_of, phase_of, last_number}

@@ -1,9 +1,6 @@
 -- Calls from the background that begin again.
 use Rattle.std.specs.Prelude.{◌≡◌, ◌⊎◌}
-use Rattle.posix.specs.SignalNumbers.{TTIN, TTOU}
-use Rattle.posix.specs.Processes.{Process}
-use Rattle.posix.specs.States.{State}
-use Rattle.posix.specs.Ends.{signalled_group}
+use Rattle.posix.specs.Common.{TTIN, TTOU, Process, State, signalled_group}
 
 -- From the first state to the second TTIN, or else TTOU, was generated for each member of the caller's process group, and
 -- nothing else happened.

@@ -3,10 +3,8 @@ use Rattle.std.specs.Prelude.{ℕ, ◌/◌, ◌==◌, ◌&&◌, ◌||◌, not, B
 use Rattle.std.specs.List.{list_any}
 use Rattle.posix.specs.declared.entry.Entry.{Entry}
 use Rattle.posix.specs.declared.entry.Entry.TheVariants.{Noted, Called, Moved, Reported, Looked, NoMemory, Marked, Handled, Discarded, Stopped, Returned, Ended, Halted}
-use Rattle.posix.specs.Entries.{Line, process_of}
-use Rattle.posix.specs.Statuses.{is_end_word, is_stopped_word, is_continued_word}
+use Rattle.posix.specs.Common.{Line, process_of, is_end_word, is_stopped_word, is_continued_word, Forebear, heir_among}
 use Rattle.laws.specs.Lives.{is_halt, born_by, is_just, end_in, stop_in, reports, LastOf, LifeSoFar, EndOf, newest_life, the_end, last_stop, has_mark, parent_of, is_change_word}
-use Rattle.posix.specs.Heirs.{Forebear, heir_among}
 
 -- a life that hasn't ended
 pub record Alive : Type 0 where

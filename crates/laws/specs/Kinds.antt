@@ -12,14 +12,7 @@ use Rattle.posix.specs.declared.process.Life.TheVariants.{Running, Stopped, Zomb
 use Rattle.posix.specs.declared.process.News.{News}
 use Rattle.posix.specs.declared.process.News.TheVariants as news
 use Rattle.posix.specs.declared.process.PendingSignal.{PendingSignal}
-use Rattle.posix.specs.SignalNumbers.{is_realtime, is_stop_signal}
-use Rattle.posix.specs.Processes.{Process, Signals, Credentials, Cpu}
-use Rattle.posix.specs.Tables.{lookup}
-use Rattle.posix.specs.Consoles.{Console}
-use Rattle.posix.specs.States.{State}
-use Rattle.posix.specs.Sends.{most_queued}
-use Rattle.posix.specs.Ranges.{is_id, is_i64, IsWorld}
-use Rattle.posix.specs.Statuses.{is_end_word}
+use Rattle.posix.specs.Common.{is_realtime, is_stop_signal, Process, Signals, Credentials, Cpu, lookup, Console, State, most_queued, is_id, is_i64, IsWorld, is_end_word}
 
 abbrev pub is_byte : ℕ → Bool
 is_byte b = nat_lt b 256

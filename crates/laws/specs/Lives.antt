@@ -6,9 +6,7 @@ use Rattle.posix.specs.declared.entry.Entry.TheVariants.{Called, Reported, Marke
 use Rattle.posix.specs.declared.waits.WaitCall.{WaitCall}
 use Rattle.posix.specs.declared.call.Call.{Call}
 use Rattle.posix.specs.declared.call.Call.TheVariants.{Fork}
-use Rattle.posix.specs.Entries.{Line, line, process_of}
-use Rattle.posix.specs.Statuses.{is_end_word, is_stopped_word, is_continued_word}
-use Rattle.posix.specs.Heirs.{Forebear, heir_among}
+use Rattle.posix.specs.Common.{Line, line, process_of, is_end_word, is_stopped_word, is_continued_word, Forebear, heir_among}
 
 -- ---- what a line says
 

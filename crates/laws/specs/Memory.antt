@@ -3,7 +3,7 @@ use Rattle.std.specs.Prelude.{ℕ, List, Contains}
 use Rattle.posix.specs.declared.call.Call.{Call}
 use Rattle.posix.specs.declared.entry.Entry.{Entry}
 use Rattle.posix.specs.declared.entry.Entry.TheVariants.{NoMemory}
-use Rattle.posix.specs.Entries.{Line, line}
+use Rattle.posix.specs.Common.{Line, line}
 
 -- no entry says of a call that there was no memory for it
 abbrev pub EntriesGrantAll : List Entry → Type 0

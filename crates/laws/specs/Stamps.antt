@@ -1,6 +1,6 @@
 -- Places as stamps. A process has a place where it has a stamp; the order of the places is the rising order of the stamps.
 use Rattle.std.specs.Prelude.{ℕ, ◌+◌, ◌<◌, ◌≤◌, ◌==◌, ◌≡◌, ◌↔◌, false, if◌then◌else◌, List, [], ◌∷◌, ◌++◌, Option, Some, None, IsSome, Contains, AllPairs}
-use Rattle.posix.specs.States.{is_in, without}
+use Rattle.posix.specs.Common.{is_in, without}
 
 -- the stamp of each process that has one
 abbrev pub Stamps : Type 0

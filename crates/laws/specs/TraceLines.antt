@@ -4,12 +4,8 @@ use Rattle.std.specs.List.{list_all}
 use Rattle.posix.specs.declared.entry.Entry.{Entry}
 use Rattle.posix.specs.declared.entry.Entry.TheVariants.{Noted, Called, Moved, Reported, Looked, NoMemory, Marked, Handled, Discarded, Stopped, Returned, Ended, Halted}
 use Rattle.posix.specs.declared.call.Call.{Call}
-use Rattle.posix.specs.declared.call.Call.TheVariants.{Exit, Fork, Waitpid, Kill, Sigqueue, Sigreturn, Read, Write, Subreaper}
-use Rattle.posix.specs.Entries.{Line}
-use Rattle.posix.specs.Printing.{print_line}
-use Rattle.posix.specs.SignalNumbers.{is_signal, is_stop_signal}
-use Rattle.posix.specs.Ranges.{is_i64}
-use Rattle.posix.specs.Statuses.{is_end_word}
+use Rattle.posix.specs.declared.call.Call.TheVariants.{Exit, Fork, Waitpid, Sigreturn, Read, Write, Subreaper}
+use Rattle.posix.specs.Common.{asks_memory, Line, print_line, is_signal, is_stop_signal, is_i64, is_end_word}
 
 abbrev pub is_number : ℕ → Bool
 is_number p = nat_le 1 p && nat_le p 2147483647
@@ -29,12 +25,6 @@ abbrev pub moves_bytes : Call → Bool
 moves_bytes Read = true
 moves_bytes Write = true
 moves_bytes _ = false
-
-abbrev pub asks_memory : Call → Bool
-asks_memory Fork = true
-asks_memory Kill = true
-asks_memory Sigqueue = true
-asks_memory _ = false
 
 abbrev pub is_entry : Entry → Bool
 is_entry (Noted p z) = is_number p && is_i64 z

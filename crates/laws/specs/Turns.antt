@@ -2,9 +2,7 @@
 use Rattle.std.specs.Prelude.{◌≡◌, ℕ, ◌+◌, ◌==◌, Bool, true, false, if◌then◌else◌, List, [], ◌∷◌, ◌++◌, length, count_by, Some}
 use Rattle.posix.specs.declared.event.Event.{Event}
 use Rattle.posix.specs.declared.event.Event.TheVariants.{Step, Tick, Key, Hangup}
-use Rattle.posix.specs.Entries.{Line}
-use Rattle.posix.specs.States.{State, current}
-use Rattle.posix.specs.Runs.{RunsFrom}
+use Rattle.posix.specs.Common.{Line, State, current, RunsFrom}
 
 -- how many places come before that of q; all, where it has none
 unfoldable pub places_before : ℕ → List ℕ → ℕ

@@ -8,10 +8,7 @@ use Rattle.posix.specs.declared.process.Life.{Life}
 use Rattle.posix.specs.declared.process.Life.TheVariants.{Running, Stopped, Zombie}
 use Rattle.posix.specs.declared.process.News.{News}
 use Rattle.posix.specs.declared.process.News.TheVariants as news
-use Rattle.posix.specs.Processes.{Process}
-use Rattle.posix.specs.Tables.{IsRising, lookup, children_in, first_pid, above, reparented, adopted}
-use Rattle.posix.specs.States.{State, is_in}
-use Rattle.posix.specs.Waits.{sorts, is_named, is_something, report, report_life, report_of, report_found, report_among, reports, wanted_in}
+use Rattle.posix.specs.Common.{Process, IsRising, lookup, children_in, first_pid, above, reparented, adopted, State, is_in, sorts, is_named, is_something, report, report_life, report_of, report_found, report_among, reports, wanted_in}
 use Rattle.posix.proofs.TableLemmas.{pid_looked, pid_reparented, reparented_keeps}
 use Rattle.posix.proofs.MapLemmas.{lookup_back}
 use Rattle.posix.proofs.MemberLemmas.{apart_first}

@@ -1,15 +1,10 @@
 -- The process groups that an end may orphan: how they are noted, and how they are gone through.
 use Rattle.std.proofs.Common.{◌≡◌, ℕ, ◌+◌, ◌≤◌, Bool, true, false, cond, ◌&&◌, ◌||◌, ◌==◌, refl, ap, sym, ◌∙◌, arith, subst, List, [], ◌∷◌, ◌++◌, map, filter, length, Option, Some, slice_get}
 use Rattle.std.specs.List.{list_any}
-use Rattle.posix.specs.Processes.{Process}
-use Rattle.posix.specs.Numbers.{with_number}
-use Rattle.posix.specs.Tables.{IsRising, lookup, above, first_pid, has_pid, is_child, is_member, members_in, children_in, left_of}
+use Rattle.posix.specs.Common.{Process, with_number, IsRising, lookup, above, first_pid, has_pid, is_child, is_member, members_in, children_in, left_of, State, is_in, is_anchor, loses_anchor, hup_and_cont, hup_and_cont_all}
 use Rattle.posix.proofs.HupAndContLemmas.{Lasts, lasting, lasts_hup_and_cont, lasts_then}
 use Rattle.posix.proofs.MapLemmas.{filter_map}
 use Rattle.std.proofs.lemmas.List.{length-map}
-use Rattle.posix.specs.States.{State, is_in}
-use Rattle.posix.specs.Groups.{is_anchor, loses_anchor}
-use Rattle.posix.specs.Ends.{hup_and_cont, hup_and_cont_all}
 use Rattle.posix.proofs.WalkLemmas.{numbered, numbered_one, AtChild}
 use Rattle.pidset.proofs.WalkLemmas.{IsWalking, walk_on}
 use Rattle.pidset.specs.Numbers.{PidSetView, Rises, numbers_above}

@@ -3,19 +3,15 @@ use Rattle.std.proofs.Common.{◌≡◌, ◌==◌, ◌<◌, ℕ, cond, filter, o
 use Rattle.posix.specs.declared.process.Report.TheVariants as found
 use Rattle.posix.specs.declared.target.Target.{Target}
 use Rattle.posix.specs.declared.target.Target.TheVariants as whom
-use Rattle.posix.specs.Processes.{Process}
-use Rattle.posix.specs.Tables.{IsRising, above, is_child, lookup, children_in, first_pid, left_of}
+use Rattle.posix.specs.Common.{Process, IsRising, above, is_child, lookup, children_in, first_pid, left_of, State, IsRegular, report, report_life, report_of, wanted_in, report_of_meant, is_named, reports}
 use Rattle.std.specs.List.{list_any}
 use Rattle.std.specs.Option.{IsSome, option_map_or}
-use Rattle.posix.specs.States.{State}
-use Rattle.posix.specs.Regular.{IsRegular}
-use Rattle.posix.specs.Waits.{report, report_life, report_of, wanted_in, report_of_meant, is_named, reports}
 use Rattle.posix.proofs.WalkLemmas.{AtChild, at_child, at_first, passing_above}
 use Rattle.posix.proofs.TableLemmas.{pid_looked}
 use Rattle.posix.proofs.ReportingLemmas.{wanted_some, report_one, report_nobody}
+use Rattle.posix.proofs.ResultLemmas.{is_there, mapped_is}
 use Rattle.proctable.specs.declared.snapshot.Snapshot.{Snapshot}
 use Rattle.proctable.specs.Records.{snapshot_of}
-use Rattle.life.proofs.SoundLemmas.{is_there, snapshot_are}
 use Rattle.std.proofs.lemmas.Option.{same_Some}
 use Rattle.life.specs.Waits.{is_reported, is_meant}
 
@@ -81,7 +77,7 @@ report_in rs p own group options = refl
 -- what was read of a process is what it reports
 pub read_report : (rs : List Process) (options c : ℕ) (f : Snapshot) (r : Process) → Some f ≡ option_map snapshot_of (lookup c rs) → lookup c rs ≡ Some r → report_life options c f.life f.news ≡ report_of options r
 unfolding report_of
-read_report rs options c f r read found = rw (snapshot_are _ r f read found, pid_looked c rs r found) refl
+read_report rs options c f r read found = rw (mapped_is _ snapshot_of r f read found, pid_looked c rs r found) refl
 
 -- and what a wait for it reports, where its parent waits
 pub report_read : (s : State) (p own c options : ℕ) → IsRegular s → report s.processes p own (whom.Process c) options ≡ option_map_or (λ f. cond (f.parent == p) (report_life options c f.life f.news) found.NoChild) (option_map snapshot_of (lookup c s.processes)) found.NoChild

@@ -3,14 +3,10 @@ use Rattle.std.proofs.Common.{◌≡◌, ◌<◌, ℕ, zero, suc, ℤ, pos, negs
 use Rattle.std.proofs.lemmas.Bool.{ltb-true, ltb-false}
 use Rattle.std.proofs.lemmas.Option.{slice_get_read, slice_get_past}
 use Rattle.posix.specs.declared.instr.Instr.{Instr}
-use Rattle.posix.specs.Processes.{Process}
-use Rattle.posix.specs.States.{Program, State, process, change}
+use Rattle.posix.specs.Common.{Process, Program, State, process, change, StaysUnlessRun, exec_one, faulted, fetched, code_of, instructions, set_cpu, IsRising}
 use Rattle.posix.specs.declared.instr.Trap.{Trap}
 use Rattle.posix.specs.declared.instr.Trap.TheVariants as trap
-use Rattle.posix.specs.Execute.{StaysUnlessRun, exec_one, faulted, fetched}
-use Rattle.posix.specs.Step.{code_of, instructions, set_cpu}
 use Rattle.umach.specs.Bursts.{exec_until}
-use Rattle.posix.specs.Tables.{IsRising}
 use Rattle.posix.proofs.TableLemmas.{changed_id}
 
 pub code_is : (s : State) (me : Process) (n : ℕ) (programs : List Program) (o : Option Program) → programs ≡ s.world.programs → n ≡ me.program → slice_get programs n ≡ o → code_of s me ≡ instructions o

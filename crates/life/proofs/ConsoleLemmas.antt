@@ -6,18 +6,7 @@ use Rattle.std.specs.Borrow.{MutBor}
 use Rattle.std.specs.Fn.{Once, FnOnceReturnsAtMut}
 use Rattle.posix.specs.declared.process.Blocked.{Blocked}
 use Rattle.posix.specs.declared.process.Blocked.TheVariants as blocked
-use Rattle.posix.specs.SignalNumbers.{HUP}
-use Rattle.posix.specs.Processes.{Process, is_running}
-use Rattle.posix.specs.States.{State, process, is_in, has_place}
-use Rattle.posix.specs.Consoles.{Console, console_of, changed_console, key_signal, signal_typed, keyed, edit, flushed, finish_line, session_told, disconnected, released}
-use Rattle.posix.specs.Choice.{chosen, from_kernel}
-use Rattle.posix.specs.Attempts.{attempt_again}
-use Rattle.posix.specs.Terminals.{is_reader, is_in_read, waits_on, waits_to_read}
-use Rattle.posix.specs.Ends.{signalled_group, hang_up, hung_up}
-use Rattle.posix.specs.Notices.{generated_for, signalled_all}
-use Rattle.posix.specs.Step.{signalled_from, key, hangup}
-use Rattle.posix.specs.Settle.{can_act, can_go_on}
-use Rattle.posix.specs.Regular.{IsRegular, AreConsoles}
+use Rattle.posix.specs.Common.{HUP, Process, is_running, State, process, is_in, has_place, Console, console_of, changed_console, key_signal, signal_typed, keyed, edit, flushed, finish_line, session_told, disconnected, released, chosen, from_kernel, attempt_again, is_reader, is_in_read, waits_on, waits_to_read, signalled_group, hang_up, hung_up, generated_for, signalled_all, signalled_from, key, hangup, can_act, can_go_on, IsRegular, AreConsoles, members_in}
 use Rattle.posix.proofs.TableLemmas.{pid_looked}
 use Rattle.posix.proofs.SeeLemmas.{block_read, acts_reading}
 use Rattle.posix.proofs.ConsoleLemmas.{consoles_set, consoles_freed, consoles_acquired, none_of, changed_at_place, regular_consoles, console_is, changed_none}
@@ -36,7 +25,6 @@ use Rattle.life.specs.Consoles.{AreReaders, CanBecome, HasChanged, IsTerminalInd
 use Rattle.life.specs.Rechecks.{slots_of_signal}
 use Rattle.life.proofs.ForegroundLemmas.{fresh_alike, fresh_put}
 use Rattle.life.proofs.RecheckLemmas.{watched_alike}
-use Rattle.posix.specs.Tables.{members_in}
 use Rattle.life.specs.declared.consoles.Unchecked.{Unchecked}
 use Rattle.life.specs.Foregrounds.{AreFreshBut}
 

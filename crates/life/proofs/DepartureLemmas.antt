@@ -4,12 +4,7 @@ use Rattle.std.specs.List.{AllByRecursion}
 use Rattle.std.specs.Option.{IsSome}
 use Rattle.std.proofs.lemmas.Bool.{cases_eq, eq-eqb, or_left, or_right, or_cases, both_ways, false_from_ne_true}
 use Rattle.std.proofs.lemmas.List.{length-map}
-use Rattle.posix.specs.Processes.{Process}
-use Rattle.posix.specs.Tables.{lookup, at, changed, first_pid, above, reparented, adopted}
-use Rattle.posix.specs.Waits.{sorts, wanted_in}
-use Rattle.posix.specs.States.{State, process, is_in, change, lose_place}
-use Rattle.posix.specs.Regular.{IsRegular}
-use Rattle.posix.specs.Ends.{made_zombie, leave_children_and_die}
+use Rattle.posix.specs.Common.{Process, lookup, at, changed, first_pid, above, reparented, adopted, sorts, wanted_in, State, process, is_in, change, lose_place, IsRegular, made_zombie, leave_children_and_die}
 use Rattle.posix.proofs.TableLemmas.{pid_looked, pid_reparented, lookup_changed, rising_changed}
 use Rattle.posix.proofs.MapLemmas.{at_pid, some_map, lookup_back}
 use Rattle.posix.proofs.RegularLemmas.{lookup_other}
@@ -18,13 +13,13 @@ use Rattle.posix.proofs.TouchLemmas.{Touches, touches_both, touches_shown, touch
 use Rattle.pidset.specs.Lists.{ListsView}
 use Rattle.pidset.specs.Numbers.{PidSetView, with_number}
 use Rattle.pidset.proofs.NumberLemmas.{in_with}
+use Rattle.posix.proofs.ResultLemmas.{mapped_is}
 use Rattle.jobs.specs.declared.indexes.IndexedFields.{IndexedFields}
 use Rattle.jobs.specs.Indexes.{seen_of}
 use Rattle.life.specs.Machines.{IsListed}
 use Rattle.life.specs.Rechecks.{awaits, rechecking, with_numbers}
 use Rattle.life.proofs.AdoptionLemmas.{AreQuiet, quiet_children, touches_quiet}
 use Rattle.life.proofs.EndLemmas.{keeps_made_zombie}
-use Rattle.life.proofs.FunnelLemmas.{seen_is}
 use Rattle.life.proofs.NewsLemmas.{touches_unawaited}
 use Rattle.life.proofs.RecheckLemmas.{listed_more, listed_same, listed_where}
 
@@ -52,7 +47,7 @@ deaf_parent s p parent w me mid seen awaited found its is sees does none out up 
     let keeps = (keeps_made_zombie w).pid in
     let mine : lookup p mid ≡ Some (made_zombie w me) = ap (lookup p) is ∙ lookup_changed p p (made_zombie w) keeps s.processes ∙ rw (eq-eqb p p refl, found) refl in
     let theirs : lookup parent mid ≡ Some up = ap (λ q. lookup q mid) its ∙ ap (lookup me.parent) is ∙ lookup_other p me.parent (made_zombie w) keeps ne s.processes up there in
-    sym (ap (λ b. not b && awaits up (made_zombie w me)) out) ∙ sym (does up (made_zombie w me) theirs (keeps me ∙ pid_looked p s.processes me found) (seen_is (lookup p mid) (made_zombie w me) seen sees mine)) ∙ none
+    sym (ap (λ b. not b && awaits up (made_zombie w me)) out) ∙ sym (does up (made_zombie w me) theirs (keeps me ∙ pid_looked p s.processes me found) (mapped_is (lookup p mid) seen_of (made_zombie w me) seen (sym sees) mine)) ∙ none
 
 -- and where no child was found that has something to report
 pub quiet_zombie : (s : State) (p w : ℕ) (mid : List Process) (next : Option ℕ) → IsRegular s → mid ≡ changed p (made_zombie w) s.processes → next ≡ first_pid (above 0 (wanted_in sorts p mid)) → is_some next ≡ false → AreQuiet p (changed p (made_zombie w) s.processes)

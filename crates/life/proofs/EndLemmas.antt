@@ -3,13 +3,7 @@ use Rattle.std.proofs.Common.{◌≡◌, ◌≢◌, ℕ, true, false, cond, arit
 use Rattle.std.specs.Option.{IsSome}
 use Rattle.std.proofs.lemmas.Bool.{eq-eqb, ne_eqb, eqb-true, eqb-false, cond_both}
 use Rattle.posix.specs.declared.process.PendingSignal.{PendingSignal}
-use Rattle.posix.specs.Processes.{Process, is_zombie}
-use Rattle.posix.specs.Tables.{lookup, at, changed, removed, reparented, adopted}
-use Rattle.posix.specs.States.{State, process, change, lose_place}
-use Rattle.posix.specs.Regular.{IsRegular}
-use Rattle.posix.specs.Generation.{signalled}
-use Rattle.posix.specs.Ends.{made_zombie, ended, leave_children_and_die, is_dropping, drop_child, notice_of_end, status_of, zombies_of, tell_of_all, hup_and_cont_orphans, end_with_heir}
-use Rattle.posix.specs.Notices.{child_signal, noticed}
+use Rattle.posix.specs.Common.{Process, is_zombie, lookup, at, changed, removed, reparented, adopted, State, process, change, lose_place, IsRegular, signalled, made_zombie, ended, leave_children_and_die, is_dropping, drop_child, notice_of_end, status_of, zombies_of, tell_of_all, hup_and_cont_orphans, end_with_heir, child_signal, noticed}
 use Rattle.posix.proofs.TableLemmas.{pid_looked, pid_reparented, lookup_changed}
 use Rattle.posix.proofs.MapLemmas.{at_pid, lookup_on, some_map, removed_map, changed_changed, adopted_changed}
 use Rattle.posix.proofs.RegularLemmas.{keeps_noticed, regular_leave}

@@ -5,13 +5,7 @@ use Rattle.std.proofs.lemmas.Bool.{eqb-true, eqb-false, eq-eqb, ne_eqb, and_part
 use Rattle.std.proofs.lemmas.List.{map-id}
 use Rattle.std.proofs.lemmas.List.Sums.{length-filter}
 use Rattle.std.proofs.lemmas.Option.{same_Some}
-use Rattle.posix.specs.Processes.{Process}
-use Rattle.posix.specs.Tables.{IsRising, lookup, changed, adopted}
-use Rattle.posix.specs.Ends.{made_zombie}
-use Rattle.posix.specs.Consoles.{Console, changed_at, changed_console, console_of}
-use Rattle.posix.specs.Regular.{AreConsoles}
-use Rattle.posix.specs.GroupCalls.{is_group_of}
-use Rattle.posix.specs.Settle.{is_fresh, refreshed}
+use Rattle.posix.specs.Common.{Process, IsRising, lookup, changed, adopted, made_zombie, Console, changed_at, changed_console, console_of, AreConsoles, is_group_of, is_fresh, refreshed}
 use Rattle.posix.proofs.ConsoleLemmas.{changed_at_place, changed_none, none_of}
 use Rattle.posix.proofs.FreshLemmas.{AllFresh, fresh_changed}
 use Rattle.posix.proofs.WalkLemmas.{any_looked, some_looked}

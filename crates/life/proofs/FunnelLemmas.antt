@@ -9,14 +9,8 @@ use Rattle.std.proofs.lemmas.List.{length-map}
 use Rattle.std.proofs.lemmas.Option.{same_Some}
 use Rattle.std.proofs.Math.Nat.{le_trans}
 use Rattle.posix.specs.declared.process.PendingSignal.{PendingSignal}
-use Rattle.posix.specs.Processes.{Process, is_zombie}
+use Rattle.posix.specs.Common.{Process, is_zombie, signalled, effect_of, continued, told_of_change, noticed_of_change, child_signal, resumed, generated_for, ignores_stops, IsRising, lookup, at, changed, parent_of, is_member, State, process, change, is_in, change as change_of, IsRegular, IsPlaced}
 use Rattle.posix.specs.declared.process.Effect.TheVariants as effect
-use Rattle.posix.specs.Generation.{signalled, effect_of}
-use Rattle.posix.specs.Statuses.{continued}
-use Rattle.posix.specs.Notices.{told_of_change, noticed_of_change, child_signal, resumed, generated_for, ignores_stops}
-use Rattle.posix.specs.Tables.{IsRising, lookup, at, changed, parent_of, is_member}
-use Rattle.posix.specs.States.{State, process, change, is_in, change as change_of}
-use Rattle.posix.specs.Regular.{IsRegular, IsPlaced}
 use Rattle.posix.proofs.TableLemmas.{pid_looked, changed_absent, changed_same, lookup_changed, rising_changed}
 use Rattle.posix.proofs.MapLemmas.{at_pid, at_keeps, lookup_back}
 use Rattle.posix.proofs.MemberLemmas.{each}
@@ -35,6 +29,7 @@ use Rattle.pidset.specs.Indexes.{HaveParents, IsMoved, is_pair_in}
 use Rattle.pidset.specs.Numbers.{PidSetView, with_number}
 use Rattle.pidset.specs.Rows.{HasRoom}
 use Rattle.pidset.proofs.NumberLemmas.{in_with}
+use Rattle.posix.proofs.ResultLemmas.{mapped_is}
 use Rattle.proctable.specs.declared.records.Record.{Record}
 use Rattle.proctable.specs.Records.{process_of, give_record, with_record}
 use Rattle.proctable.proofs.RecordLemmas.{changed_here}
@@ -349,10 +344,6 @@ can_move_numbers s pids places i p b c found regular group session =
 
 -- ---- by what the closure did
 
--- what was seen of it
-pub seen_is : (o : Option Process) (r : Process) (w : IndexedFields) → option_map seen_of o ≡ Some w → o ≡ Some r → w ≡ seen_of r
-seen_is o r w e found = let both : Some (seen_of r) ≡ Some w = sym (ap (option_map seen_of) found) ∙ e in cc
-
 -- A change was what f does, and its result says this of the process before.
 pub record HasRun {T : Type 0} (f : Process → Process) (P : Process → T → Type 0) (rs ts : List Process) (p : ℕ) (r : T) : Type 0 where
   pub me : Named p rs
@@ -424,7 +415,7 @@ told_parent {s = s} {p = p} {parent = parent} {w = w} {l = l} {n = n} {me = me} 
     by None none = let stays = subst IsSome (ap (lookup parent) (sym told) ∙ ap (λ q. lookup q ts) k.up ∙ none) (some_changed parent parent (noticed_of_change (child_signal p w)) (keeps_notice (child_signal p w)).pid mid (told_there i k other)) in absurd (cc)
     by (Some up) e =
         let at_parent : lookup parent ts ≡ Some up = ap (λ q. lookup q ts) k.up ∙ e in
-        rw (does up (lives l n me) at_parent named (seen_is (lookup p mid) (lives l n me) seen sees here), named, pid_looked parent ts up at_parent) refl
+        rw (does up (lives l n me) at_parent named (mapped_is (lookup p mid) seen_of (lives l n me) seen (sym sees) here), named, pid_looked parent ts up at_parent) refl
 
 -- without a parent nobody is told
 pub told_nobody : {s : State} {p parent w : ℕ} {l : Life} {n : News} {me : Process} {mid : List Process} {before after : List ℕ} → IsRegular s → HasLived s p parent l n me mid → not (parent == 0) ≡ false → after ≡ with_number p before → IsTold s p w (lives l n) me mid before after

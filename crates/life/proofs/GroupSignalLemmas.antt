@@ -3,12 +3,7 @@ use Rattle.std.proofs.Common.{◌≡◌, ℕ, ◌+◌, ◌*◌, ◌≤◌, refl,
 use Rattle.std.proofs.Math.Nat.{le_refl, le_trans}
 use Rattle.std.specs.Option.{IfSome, IsSome}
 use Rattle.posix.specs.declared.process.PendingSignal.{PendingSignal}
-use Rattle.posix.specs.Processes.{Process}
-use Rattle.posix.specs.Tables.{pids, is_member, members_in, first_pid, above, left_of}
-use Rattle.posix.specs.States.{State, process}
-use Rattle.posix.specs.Regular.{IsRegular}
-use Rattle.posix.specs.Notices.{generated_for, signalled_all}
-use Rattle.posix.specs.Ends.{signalled_members}
+use Rattle.posix.specs.Common.{Process, pids, is_member, members_in, first_pid, above, left_of, State, process, IsRegular, generated_for, signalled_all, signalled_members}
 use Rattle.posix.proofs.HupAndContLemmas.{Lasts, lasting, lasts_generated, lasts_then}
 use Rattle.posix.proofs.MapLemmas.{filter_map}
 use Rattle.posix.proofs.TableLemmas.{pid_looked, rising_filter}

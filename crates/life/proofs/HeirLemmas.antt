@@ -5,15 +5,9 @@ use Rattle.std.specs.Option.{option_map_or}
 use Rattle.std.proofs.lemmas.Bool.{ne_eqb, cond_both}
 use Rattle.posix.specs.declared.process.Life.{Life}
 use Rattle.posix.specs.declared.process.Life.TheVariants.{Running, Stopped, Zombie}
-use Rattle.posix.specs.Processes.{Process, is_zombie}
-use Rattle.posix.specs.Tables.{lookup}
-use Rattle.posix.specs.States.{State, process}
+use Rattle.posix.specs.Common.{Process, is_zombie, lookup, State, process, Forebear, nearest_marked, most_processes, forebears, forebear_of, heir_in, IsRegular, finished, marked_as}
 use Rattle.proctable.specs.declared.snapshot.Snapshot.{Snapshot}
 use Rattle.proctable.specs.Records.{snapshot_of}
-use Rattle.posix.specs.Heirs.{Forebear, nearest_marked, most_processes, forebears, forebear_of, heir_in}
-use Rattle.posix.specs.Regular.{IsRegular}
-use Rattle.posix.specs.Outcomes.{finished}
-use Rattle.posix.specs.Subreapers.{marked_as}
 use Rattle.posix.proofs.RegularLemmas.{Keeps}
 use Rattle.posix.proofs.TouchLemmas.{Unseen}
 use Rattle.posix.proofs.HeirLemmas.{nearest_gone, nearest_here, nearest_none, nearest_on, nearest_first}
@@ -21,8 +15,7 @@ use Rattle.posix.proofs.TableLemmas.{pid_looked, none_found}
 use Rattle.jobs.specs.Indexes.{is_living_subreaper, keeps_group_and_session, seen_of}
 use Rattle.life.specs.Ends.{slots_of_walk}
 use Rattle.life.proofs.NewsLemmas.{KeepsNumbers}
-use Rattle.life.proofs.SendLemmas.{IsRead, is_read}
-use Rattle.life.proofs.SoundLemmas.{none_read}
+use Rattle.posix.proofs.ResultLemmas.{Back, back, none_mapped}
 
 -- ---- a mark
 
@@ -114,28 +107,28 @@ walk_over rs p left q h = ap (λ n. walk_from rs p n q) h
 
 -- nobody
 pub nobody_at : (s t : State) (q : ℕ) (o : Option Snapshot) → o ≡ option_map snapshot_of (process t q) → t ≡ s → o ≡ None → lookup q s.processes ≡ None
-nobody_at s t q o value same none = none_read (lookup q s.processes) (sym none ∙ value ∙ ap (λ (u : State). option_map snapshot_of (process u q)) same)
+nobody_at s t q o value same none = none_mapped (lookup q s.processes) snapshot_of (sym none ∙ value ∙ ap (λ (u : State). option_map snapshot_of (process u q)) same)
 
 -- somebody, of whom this is seen
-pub looked_at : (s t : State) (q : ℕ) (o : Option Snapshot) (it : Snapshot) → o ≡ option_map snapshot_of (process t q) → t ≡ s → o ≡ Some it → IsRead (lookup q s.processes) it
-looked_at s t q o it value same some = is_read (lookup q s.processes) it (sym some ∙ value ∙ ap (λ (u : State). option_map snapshot_of (process u q)) same)
+pub looked_at : (s t : State) (q : ℕ) (o : Option Snapshot) (it : Snapshot) → o ≡ option_map snapshot_of (process t q) → t ≡ s → o ≡ Some it → Back (lookup q s.processes) snapshot_of it
+looked_at s t q o it value same some = back (lookup q s.processes) snapshot_of it (sym some ∙ value ∙ ap (λ (u : State). option_map snapshot_of (process u q)) same)
 
 -- ---- one step
 
 pub step_gone : (s : State) (p left q : ℕ) → left ≢ 0 → lookup q s.processes ≡ None → walk_from s.processes p left q ≡ 1
 step_gone s p left q some found = nearest_gone (forebears s.processes) p left q some (rw found refl)
 
-pub step_dead : (s : State) (p left q status : ℕ) (it : Snapshot) → left ≢ 0 → IsRead (lookup q s.processes) it → it.life ≡ Zombie status → walk_from s.processes p left q ≡ 1
+pub step_dead : (s : State) (p left q status : ℕ) (it : Snapshot) → left ≢ 0 → Back (lookup q s.processes) snapshot_of it → it.life ≡ Zombie status → walk_from s.processes p left q ≡ 1
 step_dead s p left q status it some k dead =
-    let life : k.what.life ≡ Zombie status = ap (λ (f : Snapshot). f.life) (sym k.snapshot) ∙ dead in
+    let life : k.what.life ≡ Zombie status = ap (λ (f : Snapshot). f.life) (sym k.is) ∙ dead in
     nearest_gone (forebears s.processes) p left q some (rw (k.found, life) refl)
 
 -- a living one
-seen_living : (s : State) (q : ℕ) (it : Snapshot) → IsRead (lookup q s.processes) it → ((w : ℕ) → it.life ≡ Zombie w → ⊥) → forebears s.processes q ≡ Some (record { is_marked = it.is_subreaper; parent = it.parent })
+seen_living : (s : State) (q : ℕ) (it : Snapshot) → Back (lookup q s.processes) snapshot_of it → ((w : ℕ) → it.life ≡ Zombie w → ⊥) → forebears s.processes q ≡ Some (record { is_marked = it.is_subreaper; parent = it.parent })
 seen_living s q it k lives =
-    let living : is_zombie k.what.life ≡ false = by k.what.life (λ w e. lives w (ap (λ (f : Snapshot). f.life) k.snapshot ∙ e)) in
-    let mark = ap (λ (f : Snapshot). f.is_subreaper) (sym k.snapshot) in
-    let parent = ap (λ (f : Snapshot). f.parent) (sym k.snapshot) in
+    let living : is_zombie k.what.life ≡ false = by k.what.life (λ w e. lives w (ap (λ (f : Snapshot). f.life) k.is ∙ e)) in
+    let mark = ap (λ (f : Snapshot). f.is_subreaper) (sym k.is) in
+    let parent = ap (λ (f : Snapshot). f.parent) (sym k.is) in
     rw (k.found, living, mark, parent) refl
   where
     by : (l : Life) → ((w : ℕ) → l ≡ Zombie w → ⊥) → is_zombie l ≡ false
@@ -143,13 +136,13 @@ seen_living s q it k lives =
     by Stopped h = refl
     by (Zombie w) h = absurd (h w refl)
 
-pub step_here : (s : State) (p left q : ℕ) (it : Snapshot) → left ≢ 0 → IsRead (lookup q s.processes) it → ((w : ℕ) → it.life ≡ Zombie w → ⊥) → (it.is_subreaper && not (q == p)) ≡ true → walk_from s.processes p left q ≡ q
+pub step_here : (s : State) (p left q : ℕ) (it : Snapshot) → left ≢ 0 → Back (lookup q s.processes) snapshot_of it → ((w : ℕ) → it.life ≡ Zombie w → ⊥) → (it.is_subreaper && not (q == p)) ≡ true → walk_from s.processes p left q ≡ q
 step_here s p left q it some k lives mark = nearest_here (forebears s.processes) p left q (record { is_marked = it.is_subreaper; parent = it.parent }) some (seen_living s q it k lives) mark
 
-pub step_on : (s : State) (p left q : ℕ) (it : Snapshot) → left ≢ 0 → IsRead (lookup q s.processes) it → ((w : ℕ) → it.life ≡ Zombie w → ⊥) → (it.is_subreaper && not (q == p)) ≡ false
+pub step_on : (s : State) (p left q : ℕ) (it : Snapshot) → left ≢ 0 → Back (lookup q s.processes) snapshot_of it → ((w : ℕ) → it.life ≡ Zombie w → ⊥) → (it.is_subreaper && not (q == p)) ≡ false
     → walk_from s.processes p left q ≡ walk_from s.processes p (left - 1) it.parent
 step_on s p left q it some k lives mark = nearest_on (forebears s.processes) p left q (record { is_marked = it.is_subreaper; parent = it.parent }) some (seen_living s q it k lives) mark
 
-pub step_read : (s : State) (p left q : ℕ) (it : Snapshot) → left ≢ 0 → q ≢ 1 → IsRead (lookup q s.processes) it → ((w : ℕ) → it.life ≡ Zombie w → ⊥) → (it.is_subreaper && not (q == p)) ≡ false
+pub step_read : (s : State) (p left q : ℕ) (it : Snapshot) → left ≢ 0 → q ≢ 1 → Back (lookup q s.processes) snapshot_of it → ((w : ℕ) → it.life ≡ Zombie w → ⊥) → (it.is_subreaper && not (q == p)) ≡ false
     → slots_of_walk (forebears s.processes) p left q ≡ 1 + slots_of_walk (forebears s.processes) p (left - 1) it.parent
 step_read s p left q it some other k lives mark = slots_on s.processes p left q (record { is_marked = it.is_subreaper; parent = it.parent }) some other (seen_living s q it k lives) mark

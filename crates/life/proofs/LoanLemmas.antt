@@ -2,12 +2,7 @@
 use Rattle.std.proofs.Common.{◌≡◌, ℕ, refl, ap, ◌∙◌, subst, Some, List}
 use Rattle.std.specs.Option.{IfSome, IsSome}
 use Rattle.posix.specs.declared.instr.Trap.{Trap}
-use Rattle.posix.specs.Processes.{Process, Cpu}
-use Rattle.posix.specs.Tables.{IsRising, lookup, changed}
-use Rattle.posix.specs.Execute.{StaysUnlessRun}
-use Rattle.posix.specs.Step.{set_cpu}
-use Rattle.posix.specs.States.{State, process, change}
-use Rattle.posix.specs.Regular.{IsRegular}
+use Rattle.posix.specs.Common.{Process, Cpu, IsRising, lookup, changed, StaysUnlessRun, set_cpu, State, process, change, IsRegular}
 use Rattle.posix.proofs.RegularLemmas.{Keeps, regular_change}
 use Rattle.posix.proofs.TouchLemmas.{Unseen, touches_unseen}
 use Rattle.pidalloc.specs.Rows.{Pids}

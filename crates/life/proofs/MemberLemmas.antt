@@ -2,14 +2,11 @@
 use Rattle.std.proofs.Common.{◌≡◌, ℕ, ◌≤◌, ◌||◌, Bool, true, false, refl, ap, sym, ◌∙◌, arith, List, [], ◌∷◌, filter, Option, Some}
 use Rattle.std.specs.List.{list_any}
 use Rattle.std.specs.Option.{IsSome}
-use Rattle.posix.specs.Processes.{Process}
-use Rattle.posix.specs.Tables.{lookup, is_child, children_in, is_member, members_in, first_pid, above, left_of}
-use Rattle.posix.specs.States.{State}
-use Rattle.posix.specs.Regular.{IsRegular}
+use Rattle.posix.specs.Common.{Process, lookup, is_child, children_in, is_member, members_in, first_pid, above, left_of, State, IsRegular}
 use Rattle.posix.proofs.TableLemmas.{rising_filter}
 use Rattle.posix.proofs.WalkLemmas.{AtOne, one_here, next_begins, passing_above, all_left}
+use Rattle.posix.proofs.ResultLemmas.{is_there}
 use Rattle.life.proofs.ChildLemmas.{IsAtChild, child_here, first_here, first_todo, next_here}
-use Rattle.life.proofs.SoundLemmas.{is_there}
 
 -- a child of p is in the group just where a member of it is a child of p
 both_ways : (p group : ℕ) (rs : List Process) → list_any (is_child p) (members_in group rs) ≡ list_any (is_member group) (children_in p rs)

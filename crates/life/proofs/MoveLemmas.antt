@@ -1,21 +1,16 @@
 -- Whom setpgid moves, and who stays in its process group.
 use Rattle.std.proofs.Common.{◌≡◌, ◌==◌, ◌||◌, true, ℕ, ℤ, pos, negsuc, inl, inr, arith, List, ap, sym, ◌∙◌, Option, Some, option_map, Ok, Result}
 use Rattle.posix.specs.declared.errno.Errno.{Errno}
-use Rattle.posix.specs.Processes.{Process}
+use Rattle.posix.specs.Common.{Process, IsRising, lookup, is_member, State, process, change, IsRegular, ended, made_zombie, news_told, named, move_to, in_group, is_group_of}
 use Rattle.std.proofs.lemmas.Bool.{eqb-true, and_parts, or_cases}
-use Rattle.posix.specs.Tables.{IsRising, lookup, is_member}
 use Rattle.posix.proofs.WalkLemmas.{some_looked, any_looked}
 use Rattle.jobs.specs.IndexedTables.{IsGroupFor}
-use Rattle.posix.specs.States.{State, process, change}
-use Rattle.posix.specs.Regular.{IsRegular}
 use Rattle.jobs.specs.Indexes.{keeps_group_and_session, seen_of}
-use Rattle.posix.specs.Ends.{ended, made_zombie}
-use Rattle.posix.specs.Waits.{news_told}
-use Rattle.posix.specs.GroupCalls.{named, move_to, in_group, is_group_of}
 use Rattle.posix.proofs.MoveLemmas.{regular_move_to, named_found}
 use Rattle.proctable.specs.declared.snapshot.Snapshot.{Snapshot}
 use Rattle.proctable.specs.Records.{snapshot_of}
-use Rattle.life.proofs.SoundLemmas.{snapshot_are, found_in, some_read}
+use Rattle.life.proofs.SoundLemmas.{found_in}
+use Rattle.posix.proofs.ResultLemmas.{back}
 
 -- the group that it moves to has its number, or a member in the caller's session
 joins : (me r : Process) (z : ℤ) (h : ℕ) (rs : List Process) → move_to me (Some r) z rs ≡ Ok h → (h == r.pid || is_group_of me.session h rs) ≡ true
@@ -46,10 +41,10 @@ is_moving s t same i p me word z group it target answer here read value was is =
     let o = named me word s.processes in
     let here = found_in s t same p me here in
     let read = read ∙ ap (λ (t : State). option_map snapshot_of (named me word t.processes)) (sym same) in
-    let r = some_read o it (sym is ∙ read) in
+    let r = back o snapshot_of it (sym is ∙ read) in
     let found = named_found p s.processes me word r.what here r.found in
     let moves = ap (λ o. move_to me o z s.processes) (sym r.found) ∙ sym (value me o here read) ∙ was in
-    rw (ap (λ (f : Snapshot). f.pid) (snapshot_are o r.what it (sym is ∙ read) r.found))
+    rw (ap (λ (f : Snapshot). f.pid) r.is)
     record { what = r.what; found = found; regular = regular_move_to s i me r.what z group found moves; joins = group_for me r.what z group s.processes i.rising moves }
 
 -- ---- who stays in its process group and its session, and isn't revived

@@ -11,22 +11,12 @@ use Rattle.posix.specs.declared.process.Report.TheVariants as found
 use Rattle.posix.specs.declared.process.News.TheVariants as news
 use Rattle.posix.specs.declared.target.Target.{Target}
 use Rattle.posix.specs.declared.target.Target.TheVariants as whom
-use Rattle.posix.specs.SignalNumbers.{KILL}
+use Rattle.posix.specs.Common.{KILL, Process, is_running, is_living, Outcome, Done, Block, is_pending, chosen, at, changed, children_in, lookup, IsRising, is_child, State, change, process, is_in, wait_by, wait_for, wait_with, asked_by, is_named, report, report_of, report_life, report_found, report_among, reports, is_something, news_told, has_option, WNOWAIT, waits_to_read, attempt_again, can_act, can_go_on, is_block}
 use Rattle.posix.specs.declared.waits.WaitCall.{WaitCall}
 use Rattle.posix.specs.declared.waits.Asked.{Asked}
 use Rattle.posix.specs.declared.process.News.{News}
-use Rattle.posix.specs.Processes.{Process, is_running, is_living}
-use Rattle.posix.specs.Outcomes.{Outcome, Done, Block}
-use Rattle.posix.specs.Generation.{is_pending}
-use Rattle.posix.specs.Choice.{chosen}
-use Rattle.posix.specs.Tables.{at, changed, children_in, lookup, IsRising, is_child}
-use Rattle.posix.specs.States.{State, change, process, is_in}
-use Rattle.posix.specs.Waits.{wait_by, wait_for, wait_with, asked_by, is_named, report, report_of, report_life, report_found, report_among, reports, is_something, news_told, has_option, WNOWAIT}
-use Rattle.posix.specs.Terminals.{waits_to_read}
-use Rattle.posix.specs.Attempts.{attempt_again}
-use Rattle.posix.specs.Settle.{can_act, can_go_on, is_block}
 use Rattle.posix.proofs.MapLemmas.{at_pid, at_keeps, lookup_back, children_map, filter_map}
-use Rattle.posix.proofs.SeeLemmas.{acts_less, block_read}
+use Rattle.posix.proofs.SeeLemmas.{acts_less, block_read, less}
 use Rattle.std.specs.List.{AllByRecursion}
 use Rattle.life.specs.Rechecks.{awaits, awaits_asked, asked_in}
 use Rattle.posix.proofs.TableLemmas.{pid_looked, rising_filter}
@@ -137,10 +127,6 @@ pub acts_no_more : (s : State) (rs : List Process) (r : Process) → ((a : Asked
 unfolding attempt_again waits_to_read
 acts_no_more s rs r finds e = acts_less s (record s { processes = rs }) r (λ l c. goes r.blocked finds c) e
   where
-    less : (a b : Bool) → (a ≡ true → b ≡ true) → not b ≡ true → not a ≡ true
-    less true b k e = sym (ap not (k refl)) ∙ e
-    less false b k e = refl
-
     goes : (b : Option Blocked) → ((a : Asked) → asked_in r b ≡ Some a → FindsNoMore s rs r a) → can_go_on (record s { processes = rs }) r b ≡ true → can_go_on s r b ≡ true
     goes (Some (blocked.Wait call)) h c = less (is_block (wait_by call s r)) (is_block (wait_by call (record s { processes = rs }) r)) (block_still s rs r call h) c
     goes (Some blocked.Read) h c = ap not (block_read s r ∙ sym (block_read (record s { processes = rs }) r)) ∙ c

@@ -3,9 +3,7 @@ use Rattle.std.proofs.Common.{◌≡◌, ℕ, zero, suc, ◌+◌, ◌-◌, ◌<�
 use Rattle.posix.specs.declared.instr.Instr.{Instr}
 use Rattle.posix.specs.declared.instr.Trap.{Trap}
 use Rattle.posix.specs.declared.instr.Trap.TheVariants as trap
-use Rattle.posix.specs.Processes.{Cpu, Process}
-use Rattle.posix.specs.States.{State}
-use Rattle.posix.specs.Step.{code_of}
+use Rattle.posix.specs.Common.{Cpu, Process, State, code_of}
 use Rattle.umach.specs.Bursts.{exec_until, IsWithin}
 use Rattle.life.specs.declared.noted_bursts.Note.{Note}
 use Rattle.life.specs.NotedBursts.{NotedBurst, ends_at, then_note, most_notes, exec_with_notes}

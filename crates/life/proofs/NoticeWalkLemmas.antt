@@ -9,20 +9,14 @@ use Rattle.posix.specs.declared.process.Life.{Life}
 use Rattle.posix.specs.declared.process.Life.TheVariants.{Running, Stopped, Zombie}
 use Rattle.posix.specs.declared.process.News.{News}
 use Rattle.posix.specs.declared.process.News.TheVariants as news
-use Rattle.posix.specs.Processes.{Process, is_zombie}
-use Rattle.posix.specs.Tables.{IsRising, lookup, at, changed, removed, is_child, children_in, first_pid, above, left_of}
-use Rattle.posix.specs.States.{State, process, change}
-use Rattle.posix.specs.Regular.{IsRegular, CanInherit}
-use Rattle.posix.specs.Ends.{is_dropping, notice_of_end, zombies_of, tell_of_all}
-use Rattle.posix.specs.Notices.{child_signal, noticed}
-use Rattle.posix.specs.Waits.{WEXITED, is_something, report_life, report_of, reports, wanted_in}
+use Rattle.posix.specs.Common.{Process, is_zombie, IsRising, lookup, at, changed, removed, is_child, children_in, first_pid, above, left_of, State, process, change, IsRegular, CanInherit, is_dropping, notice_of_end, zombies_of, tell_of_all, child_signal, noticed, WEXITED, is_something, report_life, report_of, reports, wanted_in}
 use Rattle.posix.proofs.TableLemmas.{pid_looked, lookup_changed, changed_absent, rising_filter}
 use Rattle.posix.proofs.WalkLemmas.{Here, here, in_filter, all_left, passing_above, next_begins, children_removed, filters_commute, head_above}
 use Rattle.posix.proofs.MapLemmas.{filter_map, children_map}
 use Rattle.posix.proofs.RegularLemmas.{keeps_at, keeps_noticed, lookup_kept, heir_other, heir_living, heir_map, heir_removed}
 use Rattle.posix.proofs.ReportLemmas as report
 use Rattle.posix.proofs.PassingLemmas.{filter_at_most}
-use Rattle.life.proofs.SoundLemmas.{there}
+use Rattle.posix.proofs.ResultLemmas.{there}
 
 -- ---- the zombies among the children of a process
 

@@ -1,10 +1,6 @@
 -- Which process groups an end has to signal, where those are known that lose an anchor by it.
 use Rattle.std.proofs.Common.{◌≡◌, ℕ, Bool, true, false, not, ◌&&◌, ap, sym, ◌∙◌, arith, List, [], ◌∷◌, filter, Some}
-use Rattle.posix.specs.Processes.{Process}
-use Rattle.posix.specs.Tables.{members_in}
-use Rattle.posix.specs.States.{State, process, is_in}
-use Rattle.posix.specs.Groups.{is_orphaned, group_numbers, has_stopped, is_newly_orphaned, newly_orphaned, loses_anchor}
-use Rattle.posix.specs.Regular.{IsRegular}
+use Rattle.posix.specs.Common.{Process, members_in, State, process, is_in, is_orphaned, group_numbers, has_stopped, is_newly_orphaned, newly_orphaned, loses_anchor, IsRegular}
 use Rattle.posix.proofs.MemberLemmas.{in_filter}
 use Rattle.posix.proofs.OrphanLemmas.{after_departure, orphans_by_anchor, anchor_lost}
 use Rattle.pidset.specs.Numbers.{Rises}

@@ -1,9 +1,7 @@
 -- A machine without the memory for a page of numbers that nobody bears.
 use Rattle.std.proofs.Common.{◌≡◌, ℕ, ◌/◌, true, refl, ap, sym, ◌∙◌, arith, List, Some}
 use Rattle.std.proofs.lemmas.Bool.{both_ways}
-use Rattle.posix.specs.Processes.{Process}
-use Rattle.posix.specs.Tables.{lookup}
-use Rattle.posix.specs.States.{State}
+use Rattle.posix.specs.Common.{Process, lookup, State}
 use Rattle.pidalloc.specs.Rows.{Pids, is_free_in}
 use Rattle.pidalloc.specs.Places.{Places}
 use Rattle.pidset.specs.Lists.{ListsView, without_page_of}
@@ -13,7 +11,8 @@ use Rattle.pidset.proofs.RowLemmas.{room_stays}
 use Rattle.life.specs.Machines.{IsMachine, IsSound, Terminals}
 use Rattle.life.proofs.FunnelLemmas.{borne_of}
 use Rattle.life.proofs.RoomLemmas.{machine_with_room}
-use Rattle.life.proofs.SoundLemmas.{grows_same, there}
+use Rattle.life.proofs.SoundLemmas.{grows_same}
+use Rattle.posix.proofs.ResultLemmas.{there}
 
 -- nobody bears a number on the page of n
 abbrev pub IsUnborne : ℕ → Pids → Type 0

@@ -3,11 +3,7 @@ use Rattle.std.proofs.Common.{rules, eq-eqb, ◌≡◌, ◌≢◌, ℕ, ◌+◌,
 use Rattle.std.specs.Option.{option_map_or, IsSome}
 use Rattle.std.proofs.lemmas.Bool.{both_ways, cases_eq}
 use Rattle.posix.specs.declared.process.PendingSignal.{PendingSignal}
-use Rattle.posix.specs.Processes.{Process, is_zombie}
-use Rattle.posix.specs.Tables.{lookup, at, changed, removed, parent_of}
-use Rattle.posix.specs.States.{State}
-use Rattle.posix.specs.Ends.{drops_children, is_dropping}
-use Rattle.posix.specs.Notices.{noticed}
+use Rattle.posix.specs.Common.{Process, is_zombie, lookup, at, changed, removed, parent_of, State, drops_children, is_dropping, noticed}
 use Rattle.posix.proofs.TableLemmas.{lookup_changed, pid_looked, length_removed}
 use Rattle.posix.proofs.MapLemmas.{lookup_on, lookup_map}
 use Rattle.posix.proofs.RegularLemmas.{keeps_at, keeps_noticed, lookup_kept, lookup_removed, regular_as, regular_removed}

@@ -13,13 +13,7 @@ use Rattle.posix.specs.declared.process.PendingSignal.{PendingSignal}
 use Rattle.posix.specs.declared.process.Sending.{Sending}
 use Rattle.posix.specs.declared.process.Sending.TheVariants as found
 use Rattle.posix.specs.declared.target.Target.{Target}
-use Rattle.posix.specs.SignalNumbers.{is_realtime}
-use Rattle.posix.specs.Processes.{Process, Signals}
-use Rattle.posix.specs.Tables.{IsRising, IsNext, lookup, changed, pids, above, left_of}
-use Rattle.posix.specs.Credentials.{may}
-use Rattle.posix.specs.Generation.{signalled, generated, gets_no_signals, keeps, after_discards, make_pending}
-use Rattle.posix.specs.Notices.{generated_for, signalled_all}
-use Rattle.posix.specs.Sends.{sending, sending_found, sending_permitted, sent, queued_for, has_full_queue, is_queuer, is_target, targets, permitted, queuers, queuers_among, number_of, sent_among}
+use Rattle.posix.specs.Common.{is_realtime, Process, Signals, IsRising, IsNext, lookup, changed, pids, above, left_of, may, signalled, generated, gets_no_signals, keeps, after_discards, make_pending, generated_for, signalled_all, sending, sending_found, sending_permitted, sent, queued_for, has_full_queue, is_queuer, is_target, targets, permitted, queuers, queuers_among, number_of, sent_among, State, process}
 use Rattle.posix.proofs.TableLemmas.{changed_same, pid_looked}
 use Rattle.posix.proofs.RealtimeLemmas.{realtime_effect, realtime_not, generated_alone}
 use Rattle.posix.proofs.TouchLemmas.{unseen_signalled}
@@ -30,7 +24,6 @@ use Rattle.proctable.specs.Records.{queued}
 use Rattle.jobs.proofs.RunLemmas.{OnlySignals}
 use Rattle.life.specs.Queues.{HaveRoom, survey_of, Sends, is_sent, sent_as, rechecking_as}
 use Rattle.life.specs.Machines.{Changes, IfThere, Looks, MachineView, with_processes}
-use Rattle.posix.specs.States.{State, process}
 use Rattle.life.specs.declared.surveys.Survey.{Survey}
 use Rattle.life.specs.Rechecks.{rechecking_all, rechecking_generated, rechecking_signalled, rechecks_by_signals, slots_of_signal}
 use Rattle.life.proofs.FunnelLemmas.{HasRun, signal_ends}

@@ -5,13 +5,7 @@ use Rattle.std.proofs.lemmas.Bool.{and_parts, cases_eq, eqb-true, eqb-false, eq-
 use Rattle.std.proofs.lemmas.Option.{slice_get_read, same_Some}
 use Rattle.posix.specs.declared.process.Life.{Life}
 use Rattle.posix.specs.declared.process.Life.TheVariants.{Running}
-use Rattle.posix.specs.Processes.{Process, is_running, is_zombie}
-use Rattle.posix.specs.Consoles.{Console}
-use Rattle.posix.specs.Settle.{can_act}
-use Rattle.posix.specs.States.{State, process, is_in, has_place, lose_place, without}
-use Rattle.posix.specs.Regular.{IsRegular}
-use Rattle.posix.specs.Tables.{lookup}
-use Rattle.posix.specs.Terminals.{is_reader, is_in_read}
+use Rattle.posix.specs.Common.{Process, is_running, is_zombie, Console, can_act, State, process, is_in, has_place, lose_place, without, IsRegular, lookup, is_reader, is_in_read}
 use Rattle.posix.proofs.MemberLemmas.{others_stay, still_out}
 use Rattle.posix.proofs.SeeLemmas.{can_act_order}
 use Rattle.posix.proofs.TableLemmas.{pid_looked}
@@ -24,7 +18,8 @@ use Rattle.pidset.proofs.NumberLemmas.{in_with}
 use Rattle.life.specs.Machines.{AreWithin, IsInSession, IsListed, IsWaiting, IsWatched}
 use Rattle.life.specs.Consoles.{reads, reads_in, AreReaders}
 use Rattle.life.proofs.ConsoleLemmas.{reader_is}
-use Rattle.life.proofs.SoundLemmas.{grows_same, there}
+use Rattle.life.proofs.SoundLemmas.{grows_same}
+use Rattle.posix.proofs.ResultLemmas.{there}
 
 -- ---- one who was rechecked
 

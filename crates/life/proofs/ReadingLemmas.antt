@@ -6,15 +6,8 @@ use Rattle.posix.specs.declared.errno.Errno.{Errno}
 use Rattle.posix.specs.declared.span.Span.{Span}
 use Rattle.posix.specs.declared.process.Blocked.{Blocked}
 use Rattle.posix.specs.declared.process.Blocked.TheVariants as blocked
-use Rattle.posix.specs.Processes.{Process, argument}
-use Rattle.posix.specs.Tables.{lookup, is_member, members_in}
-use Rattle.posix.specs.States.{State, is_in, without}
-use Rattle.posix.specs.Consoles.{Console}
-use Rattle.posix.specs.Transfers.{span_in}
-use Rattle.posix.specs.Terminals.{is_in_read, waits_in, waits_on, waits_to_read}
+use Rattle.posix.specs.Common.{Process, argument, lookup, is_member, members_in, State, is_in, without, Console, span_in, is_in_read, waits_in, waits_on, waits_to_read, IsRegular, IsDistinct, NoWakeIsLost}
 use Rattle.life.specs.Rechecks.{NeedNoChild, WaitForNoChild, is_in_wait}
-use Rattle.posix.specs.Regular.{IsRegular, IsDistinct}
-use Rattle.posix.specs.Settle.{NoWakeIsLost}
 use Rattle.posix.proofs.MemberLemmas.{in_first, is_other}
 use Rattle.posix.proofs.OrderLemmas.{without_absent, one_less_at_most}
 use Rattle.posix.proofs.ConsoleLemmas.{console_is}

@@ -5,11 +5,7 @@ use Rattle.std.specs.Option.{IfSome, IsSome}
 use Rattle.std.proofs.lemmas.Bool.{eq-eqb, or_left, or_right, or_cases, both_ways, false_from_ne_true}
 use Rattle.std.proofs.lemmas.Option.{IfSome_then, same_Some}
 use Rattle.std.proofs.lemmas.List.{length-map}
-use Rattle.posix.specs.Processes.{Process, Signals, first_process}
-use Rattle.posix.specs.Tables.{IsNext, lookup, at, changed, inserted, removed, pids}
-use Rattle.posix.specs.States.{World, State, boot, process, is_in, change, lose_place, without}
-use Rattle.posix.specs.Regular.{IsRegular}
-use Rattle.posix.specs.Settle.{Covers, can_act, wakes, refreshed, clear_foregrounds}
+use Rattle.posix.specs.Common.{Process, Signals, first_process, IsNext, lookup, at, changed, inserted, removed, pids, World, State, boot, process, is_in, change, lose_place, without, IsRegular, Covers, can_act, wakes, refreshed, clear_foregrounds, is_reader, Console}
 use Rattle.posix.proofs.TableLemmas.{pid_looked, length_inserted, length_removed}
 use Rattle.posix.proofs.MapLemmas.{at_pid, some_map}
 use Rattle.posix.proofs.RegularLemmas.{lookup_new, some_inserted, lookup_kept, lookup_removed}
@@ -23,14 +19,12 @@ use Rattle.pidset.specs.Lists.{ListsView}
 use Rattle.pidset.specs.Numbers.{PidSetView, Rises, with_number, numbers_above}
 use Rattle.pidset.proofs.NumberLemmas.{IsLeastAbove, all_in, in_with, rises_with, rises_without, next_is, next_some}
 use Rattle.pidset.proofs.IndexLemmas.{shorter, rises_pids, in_pids}
-use Rattle.posix.specs.Terminals.{is_reader}
-use Rattle.posix.specs.Consoles.{Console}
 use Rattle.posix.proofs.ReaderLemmas.{touches_cleared}
 use Rattle.life.specs.Machines.{IsListed, IsWatched, IsWaiting}
 use Rattle.life.specs.Rechecks.{with_numbers, rechecking, rechecking_by_signals, without_gone}
 use Rattle.life.proofs.SignalLemmas.{with_signals, unseen_signals, touches_signals}
 use Rattle.jobs.specs.IndexedTables.{takes_signal}
-use Rattle.life.proofs.SoundLemmas.{there}
+use Rattle.posix.proofs.ResultLemmas.{there}
 use Rattle.pidset.proofs.WalkLemmas.{above_rest, all_above}
 
 -- what a set is, by its parts
@@ -206,11 +200,6 @@ listed_with s t before after ps touched h touches most fits stay theirs among is
   where
     inside : (q : ℕ) → is_in q after.pids ≡ (is_in q ps || is_in q before.pids)
     inside q = ap (is_in q) is ∙ in_numbers q ps before.pids
-
--- there are as many
-pub many_changed : (p : ℕ) (f : Process → Process) (rs : List Process) → length (changed p f rs) ≡ length rs
-unfolding changed
-many_changed p f rs = length-map rs (at p f)
 
 -- one record that changed and keeps its number
 pub listed_change : {readers : ListsView} (s : State) (p : ℕ) (f : Process → Process) (before after : PidSetView) → IsListed s before readers → ((r : Process) → (f r).pid ≡ r.pid) → Touches s (change s p f) (p ∷ []) → IsSome (process s p)

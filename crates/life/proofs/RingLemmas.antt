@@ -4,14 +4,11 @@ use Rattle.std.specs.List.{list_any, AllByRecursion}
 use Rattle.std.specs.Option.{IfSome}
 use Rattle.std.proofs.lemmas.Bool.{eqb-true, or_cases, eq-eqb, ne_eqb, cases_eq, and_parts, or_parts}
 use Rattle.std.proofs.lemmas.Option.{IfSome_then}
-use Rattle.posix.specs.Processes.{Process}
-use Rattle.posix.specs.States.{is_in}
+use Rattle.posix.specs.Common.{Process, is_in, lookup, at, changed, first_pid, above, IsRising, IsNext, is_due, with_alarm, rung, ring_at, ring_all}
 use Rattle.pidset.specs.Numbers.{with_number}
 use Rattle.pidset.proofs.NumberLemmas.{in_with}
 use Rattle.jobs.specs.IndexedTables.{takes_signal}
 use Rattle.life.specs.Rechecks.{AreTaking, rechecking_by_signals}
-use Rattle.posix.specs.Tables.{lookup, at, changed, first_pid, above, IsRising, IsNext}
-use Rattle.posix.specs.Alarms.{is_due, with_alarm, rung, ring_at, ring_all}
 use Rattle.posix.proofs.TableLemmas.{pid_looked}
 use Rattle.posix.proofs.MapLemmas.{at_pid, lookup_back}
 use Rattle.posix.proofs.RegularLemmas.{keeps_ring, lookup_other}

@@ -1,11 +1,7 @@
 -- A machine in which there is room for more, or whose order of turns changes.
 use Rattle.std.proofs.Common.{◌≡◌, ℕ, ◌<◌, ◌≤◌, Bool, true, false, refl, ap, sym, ◌∙◌, subst, List, Some, IsSome}
 use Rattle.std.proofs.lemmas.Bool.{both_ways}
-use Rattle.posix.specs.Processes.{Process}
-use Rattle.posix.specs.Tables.{lookup}
-use Rattle.posix.specs.Consoles.{Console}
-use Rattle.posix.specs.States.{World, State}
-use Rattle.posix.specs.Regular.{IsRegular}
+use Rattle.posix.specs.Common.{Process, lookup, Console, World, State, IsRegular}
 use Rattle.pidalloc.specs.Rows.{Pids, row, is_free_in}
 use Rattle.pidalloc.proofs.TallyLemmas.{CanBear}
 use Rattle.pidalloc.specs.Places.{Places}

@@ -1,9 +1,6 @@
 -- When the processes of two machines are the same.
 use Rattle.std.proofs.Common.{◌≡◌, ◌+◌, ◌<◌, ℕ, arith, ap, sym, ◌∙◌, List, ◌∷◌, length, Option, Some}
-use Rattle.posix.specs.Processes.{Process}
-use Rattle.posix.specs.Tables.{IsRising, first_pid, left_of, lookup, next_above, parent_of}
-use Rattle.posix.specs.States.{State}
-use Rattle.posix.specs.Regular.{IsRegular}
+use Rattle.posix.specs.Common.{Process, IsRising, first_pid, left_of, lookup, next_above, parent_of, State, IsRegular}
 use Rattle.posix.proofs.WalkLemmas.{Here, here, above_all, all_left, all_looked, next_begins}
 use Rattle.proctable.specs.declared.records.Record.{Record}
 use Rattle.proctable.specs.Records.{process_of}

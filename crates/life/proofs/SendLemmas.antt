@@ -1,5 +1,5 @@
 -- To signal the processes one after another, from the least number on, is to send to all that are meant.
-use Rattle.std.proofs.Common.{◌≡◌, ◌⊎◌, inl, inr, ◌+◌, nat_le, ℕ, Bool, true, false, refl, ap, sym, ◌∙◌, arith, List, [], ◌∷◌, ◌++◌, append-nil, filter, map, length, nat_lt, Option, Some, None, option_map}
+use Rattle.std.proofs.Common.{◌≡◌, ◌⊎◌, inl, inr, ◌+◌, nat_le, ℕ, Bool, true, false, refl, ap, sym, ◌∙◌, arith, List, [], ◌∷◌, ◌++◌, append-nil, filter, map, length, nat_lt, Option, Some, None}
 use Rattle.std.specs.Ordering.{ord_max}
 use Rattle.std.proofs.lemmas.List.{map-append, length-map}
 use Rattle.std.proofs.lemmas.List.Elements.{filter-append}
@@ -13,17 +13,9 @@ use Rattle.posix.specs.declared.process.Sending.TheVariants as found
 use Rattle.posix.specs.contracts.process.SendingOrd.TheImpl as sendings
 use Rattle.posix.specs.declared.target.Target.{Target}
 use Rattle.posix.specs.declared.target.Target.TheVariants as whom
-use Rattle.posix.specs.Processes.{Process, first_process}
-use Rattle.posix.specs.Tables.{IsRising, IsNext, has_pid, lookup, pids, changed, above, first_pid, left_of}
-use Rattle.posix.specs.Credentials.{may}
-use Rattle.posix.specs.Statuses.{continued}
-use Rattle.posix.specs.Generation.{signalled, effect_of}
-use Rattle.posix.specs.Notices.{ignores_stops, noticed_of_change, child_signal, told_of_change, resumed, acted_upon, generated_for, signalled_all}
-use Rattle.posix.specs.Sends.{is_target, targets, permitted, sending_permitted, sending_found, number_of, sent_among}
+use Rattle.posix.specs.Common.{Process, first_process, IsRising, IsNext, has_pid, lookup, pids, changed, above, first_pid, left_of, may, continued, signalled, effect_of, ignores_stops, noticed_of_change, child_signal, told_of_change, resumed, acted_upon, generated_for, signalled_all, is_target, targets, permitted, sending_permitted, sending_found, number_of, sent_among}
 use Rattle.posix.proofs.MapLemmas.{at_keeps, filter_map}
 use Rattle.posix.proofs.WalkLemmas.{AtOne, numbered, numbered_one, numbered_none, one_less, rest_of_walk, walk_splits}
-use Rattle.proctable.specs.declared.snapshot.Snapshot.{Snapshot}
-use Rattle.proctable.specs.Records.{snapshot_of}
 use Rattle.life.specs.Queues.{joined}
 use Rattle.life.specs.Rechecks.{rechecking_generated, rechecking_all, rechecking_signalled, is_candidate}
 
@@ -260,17 +252,6 @@ sent_ends me target s order next k l qs none todo = sym (nobody s) ∙ ap (λ o.
     nobody (Some m) = ap (λ x. record k { sending = x }) (joined_none k.sending)
 
 -- ---- one number
-
--- this is the snapshot of the record that is there
-pub record IsRead (o : Option Process) (f : Snapshot) : Type 0 where
-  pub what : Process
-  pub found : o ≡ Some what
-  pub snapshot : f ≡ snapshot_of what
-
--- what was read are those of a record
-pub is_read : (o : Option Process) (f : Snapshot) → Some f ≡ option_map snapshot_of o → IsRead o f
-is_read None f e = absurd (cc)
-is_read (Some r) f e = record { what = r; found = refl; snapshot = cc }
 
 -- who is there and is meant is the target with its number
 pub target_one : (me : Process) (target : Target) (p : ℕ) (rs : List Process) → IsRising rs → (q : Process) → lookup p rs ≡ Some q → is_target me target q ≡ true → targets me target (numbered p rs) ≡ q ∷ []

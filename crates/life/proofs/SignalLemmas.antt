@@ -3,20 +3,9 @@ use Rattle.std.proofs.Common.{◌≡◌, ℕ, Bool, true, false, cond, not, ◌&
 use Rattle.std.proofs.lemmas.Bool.{cases_eq, ne_eqb, eq-eqb}
 use Rattle.posix.specs.declared.process.Blocked.{Blocked}
 use Rattle.posix.specs.declared.process.Blocked.TheVariants as blocked
-use Rattle.posix.specs.SignalNumbers.{KILL}
-use Rattle.posix.specs.Processes.{Process, Signals, is_running, is_living}
-use Rattle.posix.specs.Tables.{at, changed}
-use Rattle.posix.specs.States.{State, process, is_in, change}
+use Rattle.posix.specs.Common.{KILL, Process, Signals, is_running, is_living, at, changed, State, process, is_in, change, is_pending, signalled, noticed, noticed_of_change, ignores_children, ignores_stops, is_due, ring_at, rung, with_alarm, chosen, least_ready, attempt_again, wait_by, waits_to_read, can_act, can_go_on}
 use Rattle.posix.specs.declared.process.PendingSignal.{PendingSignal}
-use Rattle.posix.specs.Generation.{is_pending, signalled}
-use Rattle.posix.specs.Notices.{noticed, noticed_of_change, ignores_children, ignores_stops}
-use Rattle.posix.specs.Alarms.{is_due, ring_at, rung, with_alarm}
 use Rattle.jobs.proofs.RunLemmas.{OnlySignals}
-use Rattle.posix.specs.Choice.{chosen, least_ready}
-use Rattle.posix.specs.Attempts.{attempt_again}
-use Rattle.posix.specs.Waits.{wait_by}
-use Rattle.posix.specs.Terminals.{waits_to_read}
-use Rattle.posix.specs.Settle.{can_act, can_go_on}
 use Rattle.posix.proofs.TableLemmas.{pid_looked}
 use Rattle.posix.proofs.MapLemmas.{at_pid, lookup_back}
 use Rattle.posix.proofs.SeeLemmas.{block_read, can_act_alike}

@@ -4,13 +4,7 @@ use Rattle.std.specs.Option.{IsSome}
 use Rattle.std.proofs.lemmas.Bool.{cases_eq}
 use Rattle.std.proofs.lemmas.Option.{same_Some}
 use Rattle.std.proofs.lemmas.List.{length-map, length-replicate}
-use Rattle.posix.specs.Processes.{Process, is_zombie, first_process}
-use Rattle.posix.specs.Tables.{at, lookup, changed, inserted, adopted, reparented, pids}
-use Rattle.posix.specs.Consoles.{Console, unused_console}
-use Rattle.posix.specs.States.{World, State, boot, process, next_pid}
-use Rattle.posix.specs.NextPid.{next_free}
-use Rattle.posix.specs.Regular.{IsRegular, IsPlaced, CanInherit}
-use Rattle.posix.specs.Ends.{made_zombie, leave_children_and_die}
+use Rattle.posix.specs.Common.{Process, is_zombie, first_process, at, lookup, changed, inserted, adopted, reparented, pids, Console, unused_console, World, State, boot, process, next_pid, next_free, IsRegular, IsPlaced, CanInherit, made_zombie, leave_children_and_die}
 use Rattle.posix.proofs.NextLemmas.{IsNew, new_number}
 use Rattle.posix.proofs.RegularLemmas.{lookup_inserted, lookup_new, regular_as, regular_inserted, regular_first, regular_depart, heir_there}
 use Rattle.posix.proofs.TableLemmas.{length_inserted, pid_looked}
@@ -22,7 +16,7 @@ use Rattle.pidalloc.specs.Tallies.{IsTallied}
 use Rattle.pidalloc.proofs.TallyLemmas.{CanBear, can_bear, next_same, tallied_unborne, tallied_born, tallied_map}
 use Rattle.pidalloc.specs.Places.{Places}
 use Rattle.life.specs.Machines.{AreWithin, IsKept, IsSound, state_of, IsOther}
-pub use Rattle.jobs.proofs.SnapshotLemmas.{There, there, is_there, snapshot_are, some_read, none_read}
+use Rattle.posix.proofs.ResultLemmas.{is_there, there}
 use Rattle.jobs.proofs.NumberLemmas.{nobody_there}
 use Rattle.pidset.specs.Indexes.{is_pair_in}
 use Rattle.pidset.specs.Lists.{ListsView}

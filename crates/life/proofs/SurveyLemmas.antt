@@ -9,12 +9,7 @@ use Rattle.posix.specs.declared.process.Life.{Life}
 use Rattle.posix.specs.declared.process.Sending.{Sending}
 use Rattle.posix.specs.declared.process.Sending.TheVariants as found
 use Rattle.posix.specs.declared.target.Target.{Target}
-use Rattle.posix.specs.SignalNumbers.{is_realtime}
-use Rattle.posix.specs.Processes.{Process, Signals}
-use Rattle.posix.specs.Tables.{IsRising, IsNext, above, lookup, left_of}
-use Rattle.posix.specs.Credentials.{may}
-use Rattle.posix.specs.Generation.{gets_no_signals, keeps}
-use Rattle.posix.specs.Sends.{has_full_queue, is_queuer, is_target, permitted, queuers, targets}
+use Rattle.posix.specs.Common.{is_realtime, Process, Signals, IsRising, IsNext, above, lookup, left_of, may, gets_no_signals, keeps, has_full_queue, is_queuer, is_target, permitted, queuers, targets}
 use Rattle.posix.proofs.PassingLemmas.{filter_at_most}
 use Rattle.posix.proofs.WalkLemmas.{numbered, rest_of_walk, walk_splits}
 use Rattle.life.specs.declared.surveys.Survey.{Survey}

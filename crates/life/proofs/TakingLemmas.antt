@@ -5,15 +5,7 @@ use Rattle.std.proofs.lemmas.List.{length-map}
 use Rattle.std.proofs.lemmas.Option.{same_Some}
 use Rattle.posix.specs.declared.process.Effect.TheVariants as effect
 use Rattle.posix.specs.declared.process.PendingSignal.{PendingSignal}
-use Rattle.posix.specs.SignalNumbers.{CONT}
-use Rattle.posix.specs.Processes.{Process}
-use Rattle.posix.specs.Tables.{IsRising, lookup, changed, pids, is_member, members_in}
-use Rattle.posix.specs.Choice.{from_kernel}
-use Rattle.posix.specs.Ends.{signalled_members, signalled_group}
-use Rattle.posix.specs.States.{is_in}
-use Rattle.posix.specs.Regular.{IsDistinct}
-use Rattle.posix.specs.Generation.{signalled, effect_of}
-use Rattle.posix.specs.Notices.{generated_for, signalled_all}
+use Rattle.posix.specs.Common.{CONT, Process, IsRising, lookup, changed, pids, is_member, members_in, from_kernel, signalled_members, signalled_group, is_in, IsDistinct, signalled, effect_of, generated_for, signalled_all}
 use Rattle.posix.proofs.TableLemmas.{pid_looked, rising_filter}
 use Rattle.posix.proofs.MemberLemmas.{apart_first}
 use Rattle.posix.proofs.OrderLemmas.{distinct_pids}

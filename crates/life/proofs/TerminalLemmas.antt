@@ -3,9 +3,7 @@ use Rattle.std.proofs.Common.{◌≡◌, ◌≢◌, ℕ, ◌+◌, ◌-◌, ◌<�
 use Rattle.std.proofs.lemmas.Bool.{and_parts, cases_eq, eq-eqb, ne_eqb, eqb-true, leb-true, false_from_ne_true}
 use Rattle.std.proofs.lemmas.List.{length-map, length-set, length-replicate}
 use Rattle.std.proofs.lemmas.Option.{same_Some, slice_get-map}
-use Rattle.posix.specs.Consoles.{Console, console_at, console_of, is_of_session, unused_console, with_foreground}
-use Rattle.posix.specs.Processes.{Process}
-use Rattle.posix.specs.Settle.{is_fresh, refreshed}
+use Rattle.posix.specs.Common.{Console, console_at, console_of, is_of_session, unused_console, with_foreground, Process, is_fresh, refreshed}
 use Rattle.pidset.specs.declared.index.Pair.{Pair}
 use Rattle.pidset.specs.Indexes.{ArePairs, CanReplace, IndexView, IsMoved, IsNextPair, is_key, is_pair_in}
 use Rattle.pidset.proofs.IndexLemmas.{keyed_moved}

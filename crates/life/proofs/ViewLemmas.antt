@@ -1,7 +1,7 @@
 -- The state that a machine stands for, and what looks at it come to, one after another.
 use Rattle.std.proofs.Common.{◌≡◌, ◌+◌, ◌≤◌, ℕ, ap, arith, refl, rules}
 use Rattle.std.proofs.Math.Nat.{le_refl, le_trans}
-use Rattle.posix.specs.Regular.{IsRegular}
+use Rattle.posix.specs.Common.{IsRegular}
 use Rattle.life.specs.Machines.{MachineView, AreSame, Looks, Costs}
 
 -- equal views, equal states

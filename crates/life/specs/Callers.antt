@@ -1,6 +1,6 @@
 -- The caller of a system call.
 use Rattle.std.specs.Prelude.{[], ◌∷◌, pos}
-use Rattle.posix.specs.Processes.{Process, argument, first_process, fresh_cpu}
+use Rattle.posix.specs.Common.{Process, argument, first_process, fresh_cpu}
 use Rattle.life.specs.declared.caller.Caller.{Caller}
 
 abbrev pub caller_of : Process → Caller

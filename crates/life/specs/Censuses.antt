@@ -1,7 +1,6 @@
 -- How many processes there are.
 use Rattle.std.specs.Prelude.{count_by}
-use Rattle.posix.specs.Processes.{is_living, is_zombie}
-use Rattle.posix.specs.States.{State}
+use Rattle.posix.specs.Common.{is_living, is_zombie, State}
 use Rattle.life.specs.declared.census.Census.{Census}
 
 -- what is counted in a state

@@ -4,10 +4,7 @@ use Rattle.std.specs.Borrow.{MutBor}
 use Rattle.std.specs.Fn.{Once, FnOnceReturnsAtMut}
 use Rattle.posix.specs.declared.process.Life.{Life}
 use Rattle.posix.specs.declared.process.News.{News}
-use Rattle.posix.specs.Processes.{Process}
-use Rattle.posix.specs.Tables.{lookup, parent_of}
-use Rattle.posix.specs.States.{State}
-use Rattle.posix.specs.Regular.{IsRegular}
+use Rattle.posix.specs.Common.{Process, lookup, parent_of, State, IsRegular}
 use Rattle.pidalloc.specs.Rows.{Pids, row, is_free_in}
 use Rattle.jobs.specs.IndexedTables.{Does}
 use Rattle.proctable.specs.declared.records.Record.{Record}

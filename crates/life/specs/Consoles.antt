@@ -1,12 +1,7 @@
 -- Consoles as a machine shows them, and who waits to read from one.
 use Rattle.std.specs.Prelude.{◌≡◌, ◌==◌, ◌&&◌, ◌||◌, ◌⊎◌, ℕ, zero, suc, Bool, not, true, false, if◌then◌else◌, List, [], length, Option, Some, None, slice_get, slice_set, MatchOption}
-use Rattle.posix.specs.Processes.{Process, is_running}
+use Rattle.posix.specs.Common.{Process, is_running, Console, console_of, console_at, key_signal, State, process, is_in, has_place, members_in, is_fresh, is_reader, is_in_read}
 use Rattle.std.specs.Option.{option_map_or}
-use Rattle.posix.specs.Consoles.{Console, console_of, console_at, key_signal}
-use Rattle.posix.specs.States.{State, process, is_in, has_place}
-use Rattle.posix.specs.Tables.{members_in}
-use Rattle.posix.specs.Settle.{is_fresh}
-use Rattle.posix.specs.Terminals.{is_reader, is_in_read}
 use Rattle.proctable.specs.Records.{snapshot_of}
 use Rattle.proctable.specs.declared.snapshot.Snapshot.{Snapshot}
 use Rattle.life.specs.declared.consoles.Terminal.{Terminal}

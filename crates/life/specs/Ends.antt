@@ -2,12 +2,7 @@
 use Rattle.std.specs.Prelude.{ℕ, zero, suc, ◌+◌, ◌*◌, ◌==◌, ◌&&◌, not, if◌then◌else◌, List, [], ◌∷◌, length, Option}
 use Rattle.std.specs.List.{list_any}
 use Rattle.std.specs.Option.{option_map_or}
-use Rattle.posix.specs.Processes.{Process}
-use Rattle.posix.specs.States.{State}
-use Rattle.posix.specs.Tables.{members_in, children_in}
-use Rattle.posix.specs.Groups.{newly_orphaned}
-use Rattle.posix.specs.Ends.{hang_up, leave_children_and_die, tell_of_all, zombies_of}
-use Rattle.posix.specs.Heirs.{Forebear, forebears, heir_in, most_processes}
+use Rattle.posix.specs.Common.{Process, State, members_in, children_in, newly_orphaned, hang_up, leave_children_and_die, tell_of_all, zombies_of, Forebear, forebears, heir_in, most_processes}
 use Rattle.jobs.specs.Indexes.{is_living_subreaper}
 use Rattle.life.specs.Consoles.{slots_of_hangup}
 use Rattle.life.specs.Machines.{MachineView}

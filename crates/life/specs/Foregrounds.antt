@@ -1,9 +1,7 @@
 -- Whose foreground process group may have lost its members.
 use Rattle.std.specs.Prelude.{◌≡◌, ℕ, ◌==◌, ◌||◌, Bool, true, false, if◌then◌else◌, List}
 use Rattle.std.specs.List.{AllByRecursion}
-use Rattle.posix.specs.Processes.{Process}
-use Rattle.posix.specs.Consoles.{Console}
-use Rattle.posix.specs.Settle.{is_fresh}
+use Rattle.posix.specs.Common.{Process, Console, is_fresh}
 use Rattle.life.specs.declared.consoles.Unchecked.{Unchecked}
 use Rattle.life.specs.declared.consoles.Unchecked.TheVariants.{Nothing, In, All}
 

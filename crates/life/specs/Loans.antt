@@ -1,6 +1,6 @@
 -- What a machine lends of a process, and what it is worth afterwards.
 use Rattle.std.specs.Prelude.{ℕ}
-use Rattle.posix.specs.States.{change}
+use Rattle.posix.specs.Common.{change}
 use Rattle.proctable.specs.declared.own_part.OwnPart.{OwnPart}
 use Rattle.proctable.specs.Records.{give_own}
 use Rattle.life.specs.Machines.{MachineView}

@@ -1,12 +1,6 @@
 -- The parts of a machine as a state, and what holds of them.
 use Rattle.std.specs.Prelude.{◌≡◌, ◌≢◌, ℕ, ◌+◌, ◌<◌, ◌≤◌, Bool, true, false, List, [], length, slice_get, Option, Some, IsSome, IfSome, option_map}
-use Rattle.posix.specs.Processes.{Process}
-use Rattle.posix.specs.Tables.{lookup, children_in}
-use Rattle.posix.specs.States.{World, State, boot, process, has_place, is_in}
-use Rattle.posix.specs.Regular.{IsRegular}
-use Rattle.posix.specs.Consoles.{Console, console_at}
-use Rattle.posix.specs.Settle.{Covers}
-use Rattle.posix.specs.Terminals.{is_reader}
+use Rattle.posix.specs.Common.{Process, lookup, children_in, World, State, boot, process, has_place, is_in, IsRegular, Console, console_at, Covers, is_reader}
 use Rattle.life.specs.declared.consoles.Unchecked.{Unchecked}
 use Rattle.life.specs.Foregrounds.{AreFreshBut}
 use Rattle.pidalloc.specs.Rows.{Pids, IsPids, row, gone_from}

@@ -3,7 +3,7 @@ use Rattle.std.specs.Prelude.{ℕ, zero, suc, ◌+◌, ◌-◌, List, [], ◌∷
 use Rattle.posix.specs.declared.instr.Instr.{Instr}
 use Rattle.posix.specs.declared.instr.Trap.{Trap}
 use Rattle.posix.specs.declared.instr.Trap.TheVariants as trap
-use Rattle.posix.specs.Processes.{Cpu}
+use Rattle.posix.specs.Common.{Cpu}
 use Rattle.umach.specs.Bursts.{exec_until}
 use Rattle.life.specs.declared.noted_bursts.Note.{Note}
 

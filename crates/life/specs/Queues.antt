@@ -5,8 +5,7 @@ use Rattle.posix.specs.declared.process.PendingSignal.{PendingSignal}
 use Rattle.posix.specs.declared.process.Sending.{Sending}
 use Rattle.posix.specs.declared.process.Sending.TheVariants as found
 use Rattle.posix.specs.declared.target.Target.{Target}
-use Rattle.posix.specs.Processes.{Process}
-use Rattle.posix.specs.Sends.{has_full_queue, permitted, queuers, sending_found, sent, targets}
+use Rattle.posix.specs.Common.{Process, has_full_queue, permitted, queuers, sending_found, sent, targets}
 use Rattle.life.specs.declared.surveys.Survey.{Survey}
 use Rattle.life.specs.Machines.{Changes, MachineView, with_processes}
 use Rattle.life.specs.Rechecks.{rechecking_signalled}

@@ -7,17 +7,9 @@ use Rattle.posix.specs.declared.process.Effect.TheVariants as effect
 use Rattle.posix.specs.declared.process.PendingSignal.{PendingSignal}
 use Rattle.posix.specs.declared.target.Target.{Target}
 use Rattle.posix.specs.declared.target.Target.TheVariants as whom
-use Rattle.posix.specs.SignalNumbers.{CONT, is_realtime}
+use Rattle.posix.specs.Common.{CONT, is_realtime, Process, argument, is_named, reports, asked, lookup, pids, members_in, from_kernel, is_in, without, effect_of, signalled, generated_for, resumed, permitted}
 use Rattle.posix.specs.declared.waits.Asked.{Asked}
-use Rattle.posix.specs.Processes.{Process, argument}
-use Rattle.posix.specs.Waits.{is_named, reports, asked}
-use Rattle.posix.specs.Tables.{lookup, pids, members_in}
-use Rattle.posix.specs.Choice.{from_kernel}
-use Rattle.posix.specs.States.{is_in, without}
-use Rattle.posix.specs.Generation.{effect_of, signalled}
 use Rattle.jobs.specs.IndexedTables.{takes_signal}
-use Rattle.posix.specs.Notices.{generated_for, resumed}
-use Rattle.posix.specs.Sends.{permitted}
 use Rattle.pidset.specs.Numbers.{with_number}
 use Rattle.life.specs.Machines.{MachineView}
 

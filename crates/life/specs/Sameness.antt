@@ -1,6 +1,6 @@
 -- What of two states is compared at once.
 use Rattle.std.specs.Prelude.{◌≡◌}
-use Rattle.posix.specs.States.{State}
+use Rattle.posix.specs.Common.{State}
 
 -- all but the processes, the consoles and the world is the same
 pub record HaveSameCounts (s t : State) : Type 0 where

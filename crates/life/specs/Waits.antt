@@ -2,8 +2,7 @@
 use Rattle.std.specs.Prelude.{ℕ, ◌&&◌, ◌==◌, Bool, true, false, Option, Some, None}
 use Rattle.posix.specs.declared.target.Target.{Target}
 use Rattle.posix.specs.Processes as processes
-use Rattle.posix.specs.Tables.{is_member}
-use Rattle.posix.specs.Waits.{is_named, reports}
+use Rattle.posix.specs.Common.{is_member, is_named, reports}
 
 -- whether a wait for any child, or for those in a process group, means this one
 abbrev pub is_meant : Option ℕ → processes.Process → Bool

@@ -1,11 +1,7 @@
 //! Alarms, and the time (XSH alarm).
 
 ghost use Rattle.std.specs.Prelude.{◌≡◌, [], ◌+◌, ◌<◌, ◌≤◌, ◌^◌, ℕ, Some, None, false, true, filter, length};
-ghost use Rattle.posix.specs.Processes.{Process};
-ghost use Rattle.posix.specs.States.{process, change};
-ghost use Rattle.posix.specs.Tables.{IsNext};
-ghost use Rattle.posix.specs.Regular.{IsPlaced, IsRegular, IsAhead};
-ghost use Rattle.posix.specs.Alarms.{most_ticks, ticks_left as ticks_left_of, due_in as due_in_ticks, with_alarm, is_due, ring_at, ring_all, has_alarms as has_alarms_in, pass_time as passing_time};
+ghost use Rattle.posix.specs.Common.{Process, process, change, IsNext, IsPlaced, IsRegular, IsAhead, most_ticks, ticks_left as ticks_left_of, due_in as due_in_ticks, with_alarm, is_due, ring_at, ring_all, has_alarms as has_alarms_in, pass_time as passing_time};
 ghost use Rattle.life.specs.Rechecks.{AreTaking, rechecks_by_signals};
 ghost use Rattle.life.specs.Machines.{Changes, Costs, IsThere, IfThere, with_processes};
 

@@ -1,9 +1,7 @@
 //! Births.
 
 ghost use Rattle.std.specs.Prelude.{◌≡◌, ◌+◌, ◌<◌, ◌≤◌, ◌^◌, Some, OnOk, OnErr};
-ghost use Rattle.posix.specs.States.{next_pid as next_pid_of};
-ghost use Rattle.posix.specs.Births.{born};
-ghost use Rattle.posix.specs.Regular.{IsPlaced};
+ghost use Rattle.posix.specs.Common.{next_pid as next_pid_of, born, IsPlaced};
 ghost use Rattle.pidset.specs.Numbers.{with_number};
 ghost use Rattle.life.specs.Machines.{Costs, AreSameButRoom, IfThere};
 ghost use Rattle.life.specs.Rechecks.{rechecks};

@@ -1,10 +1,7 @@
 //! The caller of a system call.
 
 ghost use Rattle.std.specs.Prelude.{◌≡◌, ◌≤◌, ◌+◌, IfOk, IfSome};
-ghost use Rattle.posix.specs.States.{process};
-ghost use Rattle.posix.specs.Targets.{target_in};
-ghost use Rattle.posix.specs.Transfers.{span_in};
-ghost use Rattle.posix.specs.Waits.{asked_by};
+ghost use Rattle.posix.specs.Common.{process, target_in, span_in, asked_by};
 ghost use Rattle.proctable.specs.Records.{process_of};
 ghost use Rattle.life.specs.Callers.{caller_of, process_like};
 ghost use Rattle.life.specs.Machines.{Finds, IsThere};

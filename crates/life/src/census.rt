@@ -1,7 +1,7 @@
 //! How many processes there are.
 
 ghost use Rattle.std.specs.Prelude.{◌≡◌, ◌+◌, ◌*◌, ◌<◌, ◌^◌, length};
-ghost use Rattle.posix.specs.Processes.{is_zombie as is_zombie_of};
+ghost use Rattle.posix.specs.Common.{is_zombie as is_zombie_of};
 ghost use Rattle.life.specs.Censuses.{census_of};
 ghost use Rattle.life.specs.Machines.{Finds, IfThere};
 

@@ -2,11 +2,7 @@
 //! and whether a foreground process group may have lost its members.
 
 ghost use Rattle.std.specs.Prelude.{◌≡◌, ◌≢◌, ◌+◌, ◌*◌, ◌<◌, ◌&&◌, ◌||◌, not, IsSome, Some, length, if◌then◌else◌, false};
-ghost use Rattle.posix.specs.Processes.{Process, is_zombie};
-ghost use Rattle.posix.specs.States.{is_in, process};
-ghost use Rattle.posix.specs.Tables.{IsRising, changed, children_in, lookup, parent_of};
-ghost use Rattle.posix.specs.Notices.{child_signal as child_signal_of, noticed_of_change, told_of_change};
-ghost use Rattle.posix.specs.Regular.{IsPlaced};
+ghost use Rattle.posix.specs.Common.{Process, is_zombie, is_in, process, IsRising, changed, children_in, lookup, parent_of, child_signal as child_signal_of, noticed_of_change, told_of_change, IsPlaced};
 ghost use Rattle.pidalloc.specs.Rows.{regrouped};
 ghost use Rattle.pidset.specs.Numbers.{with_number};
 ghost use Rattle.jobs.specs.Indexes.{seen_of};

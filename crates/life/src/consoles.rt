@@ -3,15 +3,7 @@
 
 ghost use Rattle.std.specs.Prelude.{◌≡◌, ◌≢◌, ◌==◌, ◌+◌, ◌<◌, ◌≤◌, ◌||◌, ℕ, List, IfOk, IfSome, Some, None, [], count_by, length, false, true, if◌then◌else◌, option_map, map, replicate, slice_get, slice_set};
 ghost use Rattle.std.specs.Option.{option_copied};
-ghost use Rattle.posix.specs.Processes.{Process};
-ghost use Rattle.posix.specs.States.{process, is_in, without};
-ghost use Rattle.posix.specs.Consoles.{Console as ConsoleValue, unused_console, console_of, changed_console, keyed, key_signal, signal_typed, session_told, disconnected, acquired, released, with_foreground, with_tostop, line_taken};
-ghost use Rattle.posix.specs.GroupCalls.{is_group_of};
-ghost use Rattle.posix.specs.Ends.{hang_up as hanging_up};
-ghost use Rattle.posix.specs.Settle.{wakes, refreshed, clear_foregrounds as clearing_foregrounds, NoWakeIsLost};
-ghost use Rattle.posix.specs.Step.{key as keying, hangup as hanging};
-ghost use Rattle.posix.specs.Regular.{AreConsoles, AreGrouped, IsRegular};
-ghost use Rattle.posix.specs.Tables.{members_in, pids};
+ghost use Rattle.posix.specs.Common.{Process, process, is_in, without, Console as ConsoleValue, unused_console, console_of, changed_console, keyed, key_signal, signal_typed, session_told, disconnected, acquired, released, with_foreground, with_tostop, line_taken, is_group_of, hang_up as hanging_up, wakes, refreshed, clear_foregrounds as clearing_foregrounds, NoWakeIsLost, key as keying, hangup as hanging, AreConsoles, AreGrouped, IsRegular, members_in, pids};
 ghost use Rattle.pidset.specs.Numbers.{with_number};
 ghost use Rattle.pidset.specs.Indexes.{IsMoved, IsNextPair, is_pair_in};
 ghost use Rattle.life.specs.Machines.{AreTerminals, Costs, Finds, IsThere, IfThere, with_consoles, IfConsole, AreWatched};

@@ -2,12 +2,7 @@
 
 ghost use Rattle.std.specs.Prelude.{◌≡◌, ◌≢◌, ℕ, ◌≤◌, ◌+◌, ◌*◌, length, Some, option_map, true, if◌then◌else◌};
 ghost use Rattle.posix.specs.declared.process.Life.TheVariants.{Zombie};
-ghost use Rattle.posix.specs.Processes.{Process, is_zombie};
-ghost use Rattle.posix.specs.Tables.{children_in, parent_of};
-ghost use Rattle.posix.specs.Regular.{CanInherit};
-ghost use Rattle.posix.specs.States.{process};
-ghost use Rattle.posix.specs.Ends.{leave_children_and_die as departing, halt as halting, end_with_heir, notice_of_end as noticing_end, drop_child as dropping_child, is_dropping, tell_of_all, zombies_of};
-ghost use Rattle.posix.specs.Notices.{noticed, child_signal as child_signal_of};
+ghost use Rattle.posix.specs.Common.{Process, is_zombie, children_in, parent_of, CanInherit, process, leave_children_and_die as departing, halt as halting, end_with_heir, notice_of_end as noticing_end, drop_child as dropping_child, is_dropping, tell_of_all, zombies_of, noticed, child_signal as child_signal_of};
 ghost use Rattle.pidset.specs.Numbers.{with_number};
 ghost use Rattle.life.specs.Ends.{slots_of_orphans};
 ghost use Rattle.life.specs.Rechecks.{rechecks_by_signals, without_gone};

@@ -2,10 +2,7 @@
 
 ghost use Rattle.std.specs.Prelude.{◌≡◌, not, false};
 ghost use Rattle.std.specs.Option.{option_map_or};
-ghost use Rattle.posix.specs.States.{process};
-ghost use Rattle.posix.specs.Tables.{first_pid, above, is_member as is_member_of, members_in};
-ghost use Rattle.posix.specs.Groups.{is_orphaned as is_orphaned_of, has_stopped as has_stopped_of, some_stopped};
-ghost use Rattle.posix.specs.Regular.{IsRegular};
+ghost use Rattle.posix.specs.Common.{process, first_pid, above, is_member as is_member_of, members_in, is_orphaned as is_orphaned_of, has_stopped as has_stopped_of, some_stopped, IsRegular};
 
 use crate::machine::Machine;
 use posix::Pid;

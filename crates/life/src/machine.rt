@@ -1,17 +1,10 @@
 //! The machine: all that the state of a world consists of.
 
 ghost use Rattle.std.specs.Prelude.{◌≡◌, ◌≢◌, ◌+◌, ◌<◌, ◌≤◌, ◌^◌, ◌++◌, ◌∷◌, [], ⊤, IfOk, IfSome, OnOk, option_map, replicate, false, true, if◌then◌else◌};
-ghost use Rattle.posix.specs.Consoles.{unused_console};
+ghost use Rattle.posix.specs.Common.{unused_console, first_process, boot as boot_of, process, change, current as current_of, lose_place as losing_place, go_last as going_last, has_place as has_place_in, is_in, IsRegular, IsPlaced, exec_one as executed, StaysUnlessRun, can_act, code_of, set_cpu, is_in_read};
 ghost use Rattle.pidalloc.specs.Rows.{IsPids, born_in, unborne_table};
 ghost use mathlib.Core.Option.{none};
 ghost use Rattle.std.specs.Borrow.{sem, Lends, follows_so};
-ghost use Rattle.posix.specs.Processes.{first_process};
-ghost use Rattle.posix.specs.States.{boot as boot_of, process, change, current as current_of, lose_place as losing_place, go_last as going_last, has_place as has_place_in, is_in};
-ghost use Rattle.posix.specs.Regular.{IsRegular, IsPlaced};
-ghost use Rattle.posix.specs.Execute.{exec_one as executed, StaysUnlessRun};
-ghost use Rattle.posix.specs.Settle.{can_act};
-ghost use Rattle.posix.specs.Step.{code_of, set_cpu};
-ghost use Rattle.posix.specs.Terminals.{is_in_read};
 ghost use Rattle.proctable.specs.Records.{snapshot_of, own_of, own_row};
 ghost use Rattle.life.specs.contracts.machine.Machine.{the_row as machine_row};
 ghost use Rattle.life.specs.Loans.{lent, looked};

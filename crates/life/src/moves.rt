@@ -2,11 +2,7 @@
 
 ghost use Rattle.std.specs.Prelude.{◌≡◌, ◌==◌, ◌||◌, ◌+◌, ◌*◌, length, Some, Ok, Err, true, false, IfOk, OnErr, OnOk};
 ghost use Rattle.posix.specs.declared.errno.Errno.TheVariants.{EPERM};
-ghost use Rattle.posix.specs.Processes.{Process};
-ghost use Rattle.posix.specs.States.{process, change};
-ghost use Rattle.posix.specs.Tables.{children_in};
-ghost use Rattle.posix.specs.Regular.{IsPlaced};
-ghost use Rattle.posix.specs.GroupCalls.{named as named_by, move_to, in_group, in_session, is_group_of_others};
+ghost use Rattle.posix.specs.Common.{Process, process, change, children_in, IsPlaced, named as named_by, move_to, in_group, in_session, is_group_of_others};
 ghost use Rattle.life.specs.Callers.{caller_of};
 ghost use Rattle.life.specs.Rechecks.{rechecks_changed};
 ghost use Rattle.life.specs.Machines.{Costs, AreSame, IfThere};

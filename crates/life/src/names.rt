@@ -1,9 +1,7 @@
 //! What a register names to a call: a process, or a program.
 
 ghost use Rattle.std.specs.Prelude.{◌≡◌, ℕ, pos, true, false, if◌then◌else◌, Some, None, option_map, slice_get};
-ghost use Rattle.posix.specs.States.{Program, change};
-ghost use Rattle.posix.specs.GroupCalls.{named as named_by};
-ghost use Rattle.posix.specs.Programs.{executed};
+ghost use Rattle.posix.specs.Common.{Program, change, named as named_by, executed};
 ghost use Rattle.proctable.specs.Records.{snapshot_of};
 ghost use Rattle.life.specs.Rechecks.{rechecks};
 ghost use Rattle.life.specs.Machines.{Costs, Finds, IsThere, IfThere};

@@ -1,15 +1,9 @@
 //! Process groups that an end orphans (XSH _exit, Consequences of Process Termination).
 
 ghost use Rattle.std.specs.Prelude.{◌≡◌, ◌≢◌, ◌+◌, ◌*◌, ◌≤◌, ◌&&◌, ℕ, Some, true, if◌then◌else◌, filter, length};
-ghost use Rattle.posix.specs.Processes.{Process, is_zombie};
-ghost use Rattle.posix.specs.Numbers.{with_number};
-ghost use Rattle.posix.specs.States.{process, is_in, without};
-ghost use Rattle.posix.specs.Tables.{children_in};
-ghost use Rattle.posix.specs.Groups.{is_anchor as is_anchor_of, is_orphaned as is_orphaned_of, has_stopped as has_stopped_of, loses_anchor};
-ghost use Rattle.posix.specs.Ends.{hup_and_cont as hup_and_cont_of, hup_and_cont_all as hup_and_cont_all_of, hup_and_cont_orphans, leave_children_and_die as departing, tell_of_all, zombies_of};
+ghost use Rattle.posix.specs.Common.{Process, is_zombie, with_number, process, is_in, without, children_in, is_anchor as is_anchor_of, is_orphaned as is_orphaned_of, has_stopped as has_stopped_of, loses_anchor, hup_and_cont as hup_and_cont_of, hup_and_cont_all as hup_and_cont_all_of, hup_and_cont_orphans, leave_children_and_die as departing, tell_of_all, zombies_of, IsRegular, CanInherit};
 ghost use Rattle.pidset.specs.Numbers.{Rises};
 ghost use Rattle.life.specs.Ends.{slots_of_hup_and_cont, slots_of_hups, slots_of_orphans};
-ghost use Rattle.posix.specs.Regular.{IsRegular, CanInherit};
 ghost use Rattle.life.specs.Machines.{Notes, IsThere, IfThere, with_processes};
 
 use crate::machine::Machine;

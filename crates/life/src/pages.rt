@@ -1,7 +1,7 @@
 //! The memory for numbers that nobody bears any more.
 
 ghost use Rattle.std.specs.Prelude.{◌≡◌, ◌/◌, ℕ, true};
-ghost use Rattle.posix.specs.States.{is_in};
+ghost use Rattle.posix.specs.Common.{is_in};
 ghost use Rattle.pidset.specs.Lists.{IsPageUnused, without_page_of};
 ghost use Rattle.pidset.specs.Rows.{IsOnAnotherPage, sizes_without};
 ghost use Rattle.pidalloc.specs.Rows.{is_free_in};

@@ -1,8 +1,7 @@
 //! Programs that a process runs in place of its own (XSH exec).
 
 ghost use Rattle.std.specs.Prelude.{◌≡◌, Some, None, true, false, if◌then◌else◌, slice_get};
-ghost use Rattle.posix.specs.States.{Program, change};
-ghost use Rattle.posix.specs.Programs.{executed};
+ghost use Rattle.posix.specs.Common.{Program, change, executed};
 ghost use Rattle.life.specs.Rechecks.{rechecks};
 ghost use Rattle.life.specs.Machines.{Costs, IsThere};
 

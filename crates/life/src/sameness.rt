@@ -1,7 +1,7 @@
 //! Whether two machines are in the same state.
 
 ghost use Rattle.std.specs.Prelude.{◌≡◌, ◌+◌, ◌*◌, length, true};
-ghost use Rattle.posix.specs.States.{process};
+ghost use Rattle.posix.specs.Common.{process};
 ghost use Rattle.life.specs.Machines.{IsThere, Looks};
 ghost use Rattle.life.specs.Sameness.{HaveSameCounts};
 

@@ -2,11 +2,7 @@
 
 ghost use Rattle.std.specs.Prelude.{◌≡◌, Bool, true, false, ◌+◌, ◌*◌, ◌<◌, ◌≤◌, Some, None, IfSome, [], ◌∷◌, filter, length};
 ghost use Rattle.posix.specs.declared.process.PendingSignal.{PendingSignal as PendingValue};
-ghost use Rattle.posix.specs.Processes.{Process};
-ghost use Rattle.posix.specs.Tables.{IsNext, above, first_pid, has_pid};
-ghost use Rattle.posix.specs.SignalNumbers.{is_realtime};
-ghost use Rattle.posix.specs.Credentials.{may};
-ghost use Rattle.posix.specs.Sends.{is_target as is_target_of, targets, permitted, sending_permitted, sending as sending_of, sending_granted, queuers, queuers_among, number_of as number_in, sent_among, sent as sent_to};
+ghost use Rattle.posix.specs.Common.{Process, IsNext, above, first_pid, has_pid, is_realtime, may, is_target as is_target_of, targets, permitted, sending_permitted, sending as sending_of, sending_granted, queuers, queuers_among, number_of as number_in, sent_among, sent as sent_to};
 ghost use Rattle.proctable.specs.Records.{snapshot_of};
 ghost use Rattle.life.specs.Callers.{process_like};
 ghost use Rattle.life.specs.Queues.{HaveRoom, Sends};

@@ -1,13 +1,7 @@
 //! Signals that are generated for a process, and for each member of a process group.
 
 ghost use Rattle.std.specs.Prelude.{◌≡◌, ◌+◌, ◌*◌, ◌≤◌, ◌==◌, ◌∷◌, [], Some, true, false, if◌then◌else◌, length};
-ghost use Rattle.posix.specs.SignalNumbers.{is_realtime};
-ghost use Rattle.posix.specs.States.{process};
-ghost use Rattle.posix.specs.Tables.{members_in};
-ghost use Rattle.posix.specs.Choice.{from_kernel};
-ghost use Rattle.posix.specs.Notices.{generated_for};
-ghost use Rattle.posix.specs.Ends.{signalled_group, signalled_members};
-ghost use Rattle.posix.specs.Sends.{queuers};
+ghost use Rattle.posix.specs.Common.{is_realtime, process, members_in, from_kernel, generated_for, signalled_group, signalled_members, queuers};
 ghost use Rattle.life.specs.Queues.{HaveRoom};
 ghost use Rattle.life.specs.Rechecks.{rechecking_generated, rechecking_members, slots_of_signal};
 ghost use Rattle.life.specs.Machines.{Changes, IsThere, IfThere, with_processes};

@@ -1,10 +1,5 @@
 //! Stops and continuations.
-ghost use Rattle.posix.specs.Statuses.{continued};
-ghost use Rattle.posix.specs.Tables.{changed};
-ghost use Rattle.posix.specs.States.{process, without};
-ghost use Rattle.posix.specs.Regular.{IsPlaced};
-ghost use Rattle.posix.specs.Notices.{resumed, stopped_by, told_of_change};
-ghost use Rattle.posix.specs.Delivery.{stop_process as stopping};
+ghost use Rattle.posix.specs.Common.{continued, changed, process, without, IsPlaced, resumed, stopped_by, told_of_change, stop_process as stopping};
 ghost use Rattle.life.specs.Rechecks.{rechecking_told};
 ghost use Rattle.life.specs.Machines.{Changes, IfThere, with_processes};
 

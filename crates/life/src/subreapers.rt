@@ -2,9 +2,7 @@
 
 ghost use Rattle.std.specs.Prelude.{◌≡◌, ◌≤◌, ◌+◌, not};
 ghost use Rattle.std.specs.List.{list_any};
-ghost use Rattle.posix.specs.States.{change};
-ghost use Rattle.posix.specs.Heirs.{heir_in};
-ghost use Rattle.posix.specs.Subreapers.{marked_as};
+ghost use Rattle.posix.specs.Common.{change, heir_in, marked_as};
 ghost use Rattle.jobs.specs.Indexes.{is_living_subreaper};
 ghost use Rattle.life.specs.Ends.{slots_of_heir};
 ghost use Rattle.life.specs.Rechecks.{rechecks};

@@ -1,8 +1,7 @@
 //! A look at the processes for which a real-time signal would be queued, before it is.
 
 ghost use Rattle.std.specs.Prelude.{◌≡◌, ◌+◌, ◌*◌, ◌<◌, ◌≤◌, ◌^◌, true, filter, length};
-ghost use Rattle.posix.specs.Tables.{has_pid};
-ghost use Rattle.posix.specs.Sends.{targets};
+ghost use Rattle.posix.specs.Common.{has_pid, targets};
 ghost use Rattle.life.specs.Callers.{process_like};
 ghost use Rattle.life.specs.Queues.{joined_surveys, survey_of};
 ghost use Rattle.life.specs.Rechecks.{is_candidate, is_one};

@@ -2,19 +2,14 @@
 
 ghost use Rattle.std.specs.Prelude.{◌≡◌, ◌≢◌, ◌<◌, ◌≤◌, ◌+◌, ℕ, filter, length, option_map, Some, true, if◌then◌else◌};
 ghost use Rattle.std.specs.List.{list_any};
-ghost use Rattle.posix.specs.Processes.{Process, is_zombie};
-ghost use Rattle.posix.specs.Tables.{lookup, removed, children_in, first_pid, is_member, parent_of};
-ghost use Rattle.posix.specs.States.{process, change};
-ghost use Rattle.posix.specs.Regular.{IsRegular};
+ghost use Rattle.posix.specs.Common.{Process, is_zombie, lookup, removed, children_in, first_pid, is_member, parent_of, process, change, IsRegular, is_named as is_named_by, is_something, report, report_change as report_change_of, report_life as report_life_of, report_of as report_of_child, wanted_in, report_of_meant, news_told};
 ghost use Rattle.posix.specs.declared.process.Report.TheVariants.{NoChild, Nothing};
 ghost use Rattle.posix.specs.declared.target.Target.TheVariants as whom;
-ghost use Rattle.posix.specs.Waits.{is_named as is_named_by, is_something, report, report_change as report_change_of, report_life as report_life_of, report_of as report_of_child, wanted_in, report_of_meant, news_told};
 ghost use Rattle.life.specs.Waits.{is_meant as is_meant_by, is_reported};
-ghost use Rattle.proctable.specs.Records.{snapshot_of};
+ghost use Rattle.proctable.specs.Records.{snapshot_of, process_of};
 ghost use Rattle.life.specs.Machines.{Finds, Changes, Removes, IsThere, IfThere, with_processes, CanGo, IsGone};
 ghost use Rattle.jobs.specs.Indexes.{seen_of};
 ghost use Rattle.life.specs.Rechecks.{asked_in as asked_in_call, awaits as awaiting, without_gone};
-ghost use Rattle.proctable.specs.Records.{process_of};
 ghost use Rattle.life.specs.Foregrounds.{also_in as also_in_by};
 
 use crate::caller::{Caller, caller_in};

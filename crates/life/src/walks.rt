@@ -2,10 +2,7 @@
 //! from member to member of a process group.
 
 ghost use Rattle.std.specs.Prelude.{◌≡◌, slice_get};
-ghost use Rattle.posix.specs.Tables.{IsNext, first_pid, above, next_above, children_in};
-ghost use Rattle.posix.specs.Regular.{IsRegular};
-ghost use Rattle.posix.specs.Settle.{wakes};
-ghost use Rattle.posix.specs.Waits.{wanted_in};
+ghost use Rattle.posix.specs.Common.{IsNext, first_pid, above, next_above, children_in, IsRegular, wakes, wanted_in};
 ghost use Rattle.life.specs.Machines.{Finds, IsThere};
 ghost use Rattle.pidset.specs.Numbers.{Rises};
 

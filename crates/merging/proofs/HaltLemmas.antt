@@ -2,9 +2,7 @@
 use Rattle.std.proofs.Common.{◌≡◌, ℕ, zero, suc, ◌+◌, ◌-◌, Bool, true, List, [], ◌∷◌, ◌++◌, length, drop, remove, slice_index_or, refl, ap, ap₂, sym, ◌∙◌}
 use Rattle.posix.specs.declared.event.Event.{Event}
 use Rattle.posix.specs.declared.event.Event.TheVariants.{Tick}
-use Rattle.posix.specs.Entries.{numbered}
-use Rattle.posix.specs.Outcomes.{Outcome}
-use Rattle.posix.specs.States.{State}
+use Rattle.posix.specs.Common.{numbered, Outcome, State}
 use Rattle.posix.proofs.CountLemmas.{next_halted}
 use Rattle.schedules.specs.Families.{spot}
 use Rattle.schedules.specs.Schedules.{event_of}

@@ -1,14 +1,13 @@
 -- The nodes of a layer: what is kept where one is put in place of another, comes to them, or has its reads counted.
 use Rattle.std.proofs.Common.{◌≡◌, ℕ, zero, suc, ◌-◌, ◌<◌, List, [], ◌∷◌, ◌++◌, length, map, Some, refl, ap, ap₂, sym, subst, ◌∙◌, arith, slice_get, slice_set, get_or}
-use Rattle.std.specs.Prelude.{Result, Ok, Err, OnOk}
 use Rattle.std.specs.List.{All}
 use Rattle.std.proofs.lemmas.List.Elements.{All-cons, All-head, All-nil, All-push, All-set, All-tail}
 use Rattle.std.proofs.lemmas.Option.{get_or_from_slice_get, slice_get_within}
-use Rattle.posix.specs.States.{State, World, boot}
+use Rattle.posix.specs.Common.{State, World, boot}
 use Rattle.counting.specs.Tallies.{TallyView, both}
 use Rattle.merging.specs.declared.node.Node.{Node}
 use Rattle.merging.specs.declared.search.Search.{Search}
-use Rattle.merging.specs.Merging.{AreAlike, AreSameNodes, IsNode, IsOne, IsSameNode, Outlook, Seen, StandsAt, behind, seen, tally_of_node, tally_of_nodes, world_of}
+use Rattle.merging.specs.Merging.{AreAlike, AreSameNodes, IsNode, IsOne, IsSameNode, Outlook, SeenNode, StandsAt, behind, seen, tally_of_node, tally_of_nodes, world_of}
 use Rattle.merging.proofs.TallyLemmas.{and_none, both_regrouped, both_swapped, none_and}
 use Rattle.merging.proofs.WorldLemmas.{course_keeps_world}
 
@@ -30,7 +29,7 @@ pub one_still : (n m k l : Node) → IsSameNode n m → IsSameNode k l → IsOne
 one_still n m k l a b one = subst (λ v. AreAlike v (seen l)) (sym a) (subst (AreAlike (seen n)) (sym b) one)
 
 pub tally_same : (n m : Node) (go_on : Outlook) (most : ℕ) → IsSameNode n m → tally_of_node go_on most m ≡ tally_of_node go_on most n
-tally_same n m go_on most same = ap (λ (v : Seen). behind v.count v.spots (go_on (most - length v.spots) v.left v.state v.marks)) same
+tally_same n m go_on most same = ap (λ (v : SeenNode). behind v.count v.spots (go_on (most - length v.spots) v.left v.state v.marks)) same
 
 pub tallies_same : (ns ms : List Node) (go_on : Outlook) (most : ℕ) → AreSameNodes ns ms → tally_of_nodes go_on most ms ≡ tally_of_nodes go_on most ns
 tallies_same [] [] go_on most same = refl
@@ -41,13 +40,8 @@ tallies_same (n ∷ ns) (m ∷ ms) go_on most same =
     let rest : AreSameNodes ns ms = cc in
     ap₂ both (tally_same n m go_on most first) (tallies_same ns ms go_on most rest)
 
--- what holds anyway holds on success
-pub always_ok : {T E P : Type 0} (r : Result T E) → P → OnOk r P
-always_ok (Ok x) p = p
-always_ok (Err e) p = tt
-
 -- what is said of all that is seen of each
-pub all_still : (P : Seen → Type 0) (ns ms : List Node) → AreSameNodes ns ms → All (λ n. P (seen n)) ns → All (λ m. P (seen m)) ms
+pub all_still : (P : SeenNode → Type 0) (ns ms : List Node) → AreSameNodes ns ms → All (λ n. P (seen n)) ns → All (λ m. P (seen m)) ms
 all_still P [] [] same all = all
 all_still P [] (m ∷ ms) same all = cc
 all_still P (n ∷ ns) [] same all = All-nil (λ m. P (seen m))
@@ -135,5 +129,5 @@ all_worlds search place least ns m all is = λ k d l. node_world search place le
 pub worlds_still : (ns ms : List Node) (n m : Node) → AreSameNodes ns ms → IsSameNode n m → All (λ (k : Node). k.kernel.state.world ≡ n.kernel.state.world) ns
     → All (λ (k : Node). k.kernel.state.world ≡ m.kernel.state.world) ms
 worlds_still ns ms n m all same worlds =
-    subst (λ (w : World). All (λ (k : Node). k.kernel.state.world ≡ w) ms) (sym (ap (λ (v : Seen). v.state.world) same))
+    subst (λ (w : World). All (λ (k : Node). k.kernel.state.world ≡ w) ms) (sym (ap (λ (v : SeenNode). v.state.world) same))
     (all_still (λ v. v.state.world ≡ n.kernel.state.world) ns ms all worlds)

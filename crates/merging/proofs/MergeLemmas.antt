@@ -2,6 +2,7 @@
 use Rattle.std.proofs.Common.{◌≡◌, ℕ, zero, suc, ◌+◌, ◌-◌, ◌<◌, ◌≤◌, inl, inr, Bool, true, false, ◌||◌, ◌&&◌, ◌==◌, cond, Option, Some, None, List, [], ◌∷◌, ◌++◌, length, map, find, take, drop, remove, slice_index_or, refl, ap, ap₂, sym, ◌∙◌, append-nil, arith}
 use Rattle.std.specs.Prelude.{count_by, nat_lt, slice_get, IfSome}
 use Rattle.std.specs.List.{All, AllPairs, list_any}
+use Rattle.std.proofs.Math.Bool.{or_assoc}
 use Rattle.std.proofs.lemmas.Bool.Decides.{nat_tests}
 use Rattle.std.proofs.lemmas.List.{map-append}
 use Rattle.std.proofs.lemmas.List.Elements.{All-head, All-tail, All-weaker}
@@ -9,9 +10,7 @@ use Rattle.std.proofs.lemmas.List.Folds.{list_any-append}
 use Rattle.std.proofs.lemmas.List.Sums.{sum_by-cons}
 use Rattle.posix.specs.declared.entry.Entry.{Entry}
 use Rattle.posix.specs.declared.event.Event.{Event}
-use Rattle.posix.specs.Entries.{Line, numbered}
-use Rattle.posix.specs.States.{State, World, boot}
-use Rattle.posix.specs.Step.{next}
+use Rattle.posix.specs.Common.{Line, numbered, State, World, boot, next}
 use Rattle.schedules.specs.Families.{IsBefore, IsEarlier, IsSchedule, Spots, each_kind, family, kinds_of, of_at_most, of_spots, place_of, spot, with_spot}
 use Rattle.schedules.specs.Schedules.{event_of, from_front, scheduled}
 use Rattle.schedules.proofs.FamilyLemmas.{AreKinds, IsAtMost, all_kinds, at_most_is, in_order, kind_of_spot, kinds_left, place_of_spot}
@@ -47,17 +46,13 @@ mark_is [] lines i t e = cc
 mark_is (u ∷ texts) lines zero t e = let same : u ≡ t = cc in ap (λ x. have_text x lines) same
 mark_is (u ∷ texts) lines (suc i) t e = mark_is texts lines i t e
 
-or_regrouped : (a b c : Bool) → (a || (b || c)) ≡ ((a || b) || c)
-or_regrouped true b c = refl
-or_regrouped false b c = refl
-
 -- by the first lines, and then by the others
 pub marked_then : (texts : List (List ℕ)) (ls ms : List Line) (marks : List Bool) → marked texts (ls ++ ms) marks ≡ marked texts ms (marked texts ls marks)
 marked_then [] ls ms marks = refl
 marked_then (t ∷ ts) ls ms [] = refl
 marked_then (t ∷ ts) ls ms (m ∷ marks) =
     ap₂ (λ b bs. b ∷ bs)
-    (ap (λ b. m || b) (list_any-append (λ (l : Line). has_text t (shown l.entry)) ls ms) ∙ or_regrouped m (have_text t ls) (have_text t ms))
+    (ap (λ b. m || b) (list_any-append (λ (l : Line). has_text t (shown l.entry)) ls ms) ∙ sym (or_assoc m (have_text t ls) (have_text t ms)))
     (marked_then ts ls ms marks)
 
 abbrev entries_of : List Line → List Entry

@@ -6,7 +6,7 @@ use Rattle.std.proofs.Common.{◌≡◌, ℕ, ◌-◌, List, [], length, drop, r
 use Rattle.std.specs.List.{All}
 use Rattle.std.proofs.lemmas.List.Elements.{All-weaker}
 use Rattle.posix.specs.declared.event.Event.{Event}
-use Rattle.posix.specs.States.{World, boot}
+use Rattle.posix.specs.Common.{World, boot}
 use Rattle.schedules.specs.Families.{family, kinds_of}
 use Rattle.counting.specs.Books.{empty_book}
 use Rattle.counting.specs.Counts.{book_over}

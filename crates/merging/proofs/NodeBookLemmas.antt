@@ -5,7 +5,7 @@ use Rattle.std.specs.List.{All}
 use Rattle.std.proofs.lemmas.List.Elements.{All-head, All-tail}
 use Rattle.std.proofs.lemmas.List.Sums.{sum_by-cons}
 use Rattle.posix.specs.declared.event.Event.{Event}
-use Rattle.posix.specs.States.{World, boot}
+use Rattle.posix.specs.Common.{World, boot}
 use Rattle.schedules.specs.Families.{Spots, family, kinds_of}
 use Rattle.counting.specs.declared.ending.Ending.{Ending}
 use Rattle.counting.specs.declared.ending.Ending.TheVariants.{AtRest, AwaitsAlarm, Going, Halted}

@@ -1,8 +1,7 @@
 -- Schedules that begin as nodes say are counted, node by node.
 use Rattle.std.proofs.Common.{◌≡◌, ℕ, ◌+◌, ◌≤◌, Bool, List, [], ◌∷◌, ◌++◌, length, map, Some, refl, ap, ap₂, sym, ◌∙◌, arith}
 use Rattle.posix.specs.declared.event.Event.{Event}
-use Rattle.posix.specs.Entries.{Line}
-use Rattle.posix.specs.States.{State}
+use Rattle.posix.specs.Common.{Line, State}
 use Rattle.text.specs.EventTexts.{most_events}
 use Rattle.counting.specs.declared.ending.Ending.{Ending}
 use Rattle.counting.specs.Books.{BookView, with_many_runs}

@@ -2,11 +2,7 @@
 use Rattle.std.proofs.Common.{◌≡◌, ℕ, suc, ◌+◌, ◌-◌, ◌<◌, ◌≤◌, Bool, true, false, cond, inl, inr, ◌⊎◌, List, [], ◌∷◌, ◌++◌, length, length-append, map, refl, ap, ap₂, sym, subst, ◌∙◌, append-nil, arith}
 use Rattle.std.specs.Prelude.{replicate}
 use Rattle.posix.specs.declared.event.Event.{Event}
-use Rattle.posix.specs.Entries.{Line, numbered}
-use Rattle.posix.specs.Regular.{IsRegular}
-use Rattle.posix.specs.Settle.{IsSettled}
-use Rattle.posix.specs.States.{State, boot}
-use Rattle.posix.specs.Step.{next}
+use Rattle.posix.specs.Common.{Line, numbered, IsRegular, IsSettled, State, boot, next}
 use Rattle.schedules.specs.Families.{Spots}
 use Rattle.counting.specs.Courses.{Adds, Course, course_from}
 use Rattle.counting.specs.Tallies.{TallyView, both, is_before}
@@ -14,7 +10,7 @@ use Rattle.counting.specs.Texts.{marked}
 use Rattle.counting.proofs.CourseLemmas.{granted_course}
 use Rattle.merging.specs.declared.node.Node.{Node}
 use Rattle.merging.specs.declared.search.Search.{Search}
-use Rattle.merging.specs.Merging.{AreOneState, ForgetsHalted, IsNode, IsOne, Outlook, Seen, StandsAt, behind, marks_after, most_of, state_after, tally_of_node, texts_of, world_of}
+use Rattle.merging.specs.Merging.{AreOneState, ForgetsHalted, IsNode, IsOne, Outlook, SeenNode, StandsAt, behind, marks_after, most_of, state_after, tally_of_node, texts_of, world_of}
 use Rattle.merging.proofs.MergeLemmas.{entries_numbered, marked_by_entries}
 use Rattle.merging.proofs.TallyLemmas.{behind_meets}
 
@@ -136,7 +132,7 @@ joined_node old other mid n (inr (same, first)) search place least i j =
 -- ---- nodes that are given events
 
 -- with one more event, before the same event of the list or the next
-with_event : (search : Search) (place later least more : ℕ) (x : Event) (old : Node) (new : Seen) → IsNode search place least old → new.state ≡ state_after x old.kernel.state
+with_event : (search : Search) (place later least more : ℕ) (x : Event) (old : Node) (new : SeenNode) → IsNode search place least old → new.state ≡ state_after x old.kernel.state
     → IsRegular new.state → IsSettled new.state → new.events ≤ length old.given + 1 → new.marks ≡ marks_after (texts_of search) x old.kernel.state old.marks.items
     → new.given ≡ old.given ++ x ∷ [] → length new.given ≡ later + length new.spots → more ≤ length new.spots → length new.spots + length new.left ≤ most_of search
     → (later ≡ search.family.now.upto → new.left ≡ []) → StandsAt search later more new
@@ -153,7 +149,7 @@ with_event search place later least more x old new i state regular settled event
 }
 
 -- the event of the list
-pub given_node : (search : Search) (place least : ℕ) (x : Event) (old : Node) (new : Seen) → IsNode search place least old → (place + 1 ≡ search.family.now.upto → old.left.items ≡ [])
+pub given_node : (search : Search) (place least : ℕ) (x : Event) (old : Node) (new : SeenNode) → IsNode search place least old → (place + 1 ≡ search.family.now.upto → old.left.items ≡ [])
     → new.state ≡ state_after x old.kernel.state → IsRegular new.state → IsSettled new.state → new.events ≡ old.kernel.events + 1
     → new.marks ≡ marks_after (texts_of search) x old.kernel.state old.marks.items → new.given ≡ old.given ++ x ∷ [] → new.spots ≡ old.spots → new.left ≡ old.left.items
     → StandsAt search (place + 1) least new
@@ -167,7 +163,7 @@ given_node search place least x old new i none state regular settled events mark
     (omega (arith, long, same, ap length given, length-append old.given (x ∷ []))) (omega (arith, least_was, same)) (omega (arith, few, same, ap length left)) (λ end. left ∙ none end)
 
 -- a tick or a loose event before it, with as many left as still can be put in
-pub put_node : (search : Search) (place least q : ℕ) (x : Event) (n : Node) (m : Seen) → IsNode search place least n → place < search.family.now.upto
+pub put_node : (search : Search) (place least q : ℕ) (x : Event) (n : Node) (m : SeenNode) → IsNode search place least n → place < search.family.now.upto
     → m.state ≡ state_after x n.kernel.state → IsRegular m.state → IsSettled m.state → m.events ≤ length n.given + 1
     → m.marks ≡ marks_after (texts_of search) x n.kernel.state n.marks.items → m.given ≡ n.given ++ x ∷ [] → m.spots ≡ n.spots ++ q ∷ []
     → length n.spots + 1 + length m.left ≤ most_of search → StandsAt search place (least + 1) m

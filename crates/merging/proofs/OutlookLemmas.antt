@@ -4,7 +4,7 @@ use Rattle.std.specs.Prelude.{slice_get}
 use Rattle.std.proofs.lemmas.List.Edits.{length-remove}
 use Rattle.posix.specs.declared.event.Event.{Event}
 use Rattle.posix.specs.declared.event.Event.TheVariants.{Tick}
-use Rattle.posix.specs.States.{State}
+use Rattle.posix.specs.Common.{State}
 use Rattle.schedules.specs.Families.{spot}
 use Rattle.schedules.specs.Schedules.{event_of}
 use Rattle.counting.specs.Tallies.{TallyView, both, no_schedules}

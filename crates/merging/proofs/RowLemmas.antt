@@ -4,9 +4,7 @@ use Rattle.std.specs.List.{All}
 use Rattle.std.proofs.lemmas.List.{length-map}
 use Rattle.std.proofs.lemmas.List.Elements.{All-append, All-head, All-nil, All-weaker}
 use Rattle.std.proofs.lemmas.List.Concat.{flat_map-append}
-use Rattle.posix.specs.Regular.{IsRegular}
-use Rattle.posix.specs.Settle.{IsSettled}
-use Rattle.posix.specs.States.{boot}
+use Rattle.posix.specs.Common.{IsRegular, IsSettled, boot}
 use Rattle.schedules.specs.Families.{kinds_of}
 use Rattle.schedules.proofs.SizeLemmas.{length_kinds_of}
 use Rattle.counting.specs.Courses.{course_from}

@@ -4,19 +4,7 @@ use Rattle.posix.specs.declared.call.Call.{Call}
 use Rattle.posix.specs.declared.call.Call.TheVariants.{Read, Write}
 use Rattle.posix.specs.declared.event.Event.{Event}
 use Rattle.posix.specs.declared.event.Event.TheVariants.{Hangup, Key, Step, Tick}
-use Rattle.posix.specs.Alarms.{pass_time}
-use Rattle.posix.specs.Consoles.{Console, console_at}
-use Rattle.posix.specs.Delivery.{stop_process}
-use Rattle.posix.specs.Ends.{end_process, end_with_heir, hang_up}
-use Rattle.posix.specs.Heirs.{heir_in}
-use Rattle.posix.specs.Outcomes.{Outcome}
-use Rattle.posix.specs.Processes.{Process, argument}
-use Rattle.posix.specs.Settle.{clear_foregrounds, give_places, settle}
-use Rattle.posix.specs.States.{State, current}
-use Rattle.posix.specs.Statuses.{exited, killed}
-use Rattle.posix.specs.Step.{hangup, hangup_on, happens, key, key_on, next, rotate, tick}
-use Rattle.posix.specs.Terminals.{finish_moved}
-use Rattle.posix.specs.Transfers.{bytes_in}
+use Rattle.posix.specs.Common.{pass_time, Console, console_at, stop_process, end_process, end_with_heir, hang_up, heir_in, Outcome, Process, argument, clear_foregrounds, give_places, settle, State, current, exited, killed, hangup, hangup_on, happens, key, key_on, next, rotate, tick, finish_moved, bytes_in}
 use Rattle.posix.proofs.AttemptLemmas.{Meets, Retries, Ways}
 use Rattle.posix.proofs.CountLemmas.{by_next}
 use Rattle.posix.proofs.DeliveryLemmas.{Deliveries, by_act, by_return, by_step}

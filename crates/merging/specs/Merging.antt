@@ -3,11 +3,7 @@ use Rattle.std.specs.Prelude.{◌≡◌, ◌⊎◌, ◌≤◌, ◌-◌, ℕ, zer
 use Rattle.std.specs.List.{All}
 use Rattle.posix.specs.declared.event.Event.{Event}
 use Rattle.posix.specs.declared.event.Event.TheVariants.{Tick}
-use Rattle.posix.specs.Entries.{numbered}
-use Rattle.posix.specs.Regular.{IsRegular}
-use Rattle.posix.specs.Settle.{IsSettled}
-use Rattle.posix.specs.States.{State, World, boot}
-use Rattle.posix.specs.Step.{next}
+use Rattle.posix.specs.Common.{numbered, IsRegular, IsSettled, State, World, boot, next}
 use Rattle.schedules.specs.Families.{Spots, spot}
 use Rattle.schedules.specs.Schedules.{event_of}
 use Rattle.counting.specs.declared.ending.Ending.{Ending}
@@ -138,7 +134,7 @@ abbrev pub nodes_in : List Layer → List Node
 nodes_in rows = flat_map (λ row. row.nodes.items) rows
 
 -- what is seen of a node: all but the count of reads of its kernel
-pub record Seen : Type 0 where
+pub record SeenNode : Type 0 where
   pub state : State
   pub events : ℕ
   pub count : ℕ
@@ -147,13 +143,13 @@ pub record Seen : Type 0 where
   pub given : List Event
   pub marks : List Bool
 
-abbrev pub seen : Node → Seen
+abbrev pub seen : Node → SeenNode
 seen n = record { state = n.kernel.state; events = n.kernel.events; count = n.count; spots = n.spots; left = n.left.items; given = n.given; marks = n.marks.items }
 
 -- A node stands before the event with this place: it was given all events before it, and what it put in, at so many spots at least. Its events
 -- lead to its state in the world of the search. Its kernel was given no more than these, there is a mark for each text, and what is left can
 -- still be put in.
-pub record StandsAt (s : Search) (place fewest : ℕ) (n : Seen) : Type 0 where
+pub record StandsAt (s : Search) (place fewest : ℕ) (n : SeenNode) : Type 0 where
   pub reached : n.state ≡ (course_from 1 (boot (world_of s)) n.given).last
   pub regular : IsRegular n.state
   pub settled : IsSettled n.state
@@ -181,7 +177,7 @@ abbrev pub AreOneState : State → State → Type 0
 AreOneState s t = (s ≡ t) ⊎ ((s.halted ≡ true) × (t.halted ≡ true))
 
 -- Two nodes are one state, led to by as many spots, with the same loose events left and the same marks.
-pub record AreAlike (node other : Seen) : Type 0 where
+pub record AreAlike (node other : SeenNode) : Type 0 where
   pub state : AreOneState node.state other.state
   pub marks : node.marks ≡ other.marks
   pub spots : length node.spots ≡ length other.spots

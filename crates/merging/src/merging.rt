@@ -1,9 +1,7 @@
 //! Schedules that meet in one state are gone on with once.
 
 ghost use Rattle.std.specs.Prelude.{◌≡◌, ◌+◌, ◌<◌, ◌≤◌, ◌++◌, ℕ, length, map, All, IfErr, IfOk, OnOk};
-ghost use Rattle.posix.specs.Regular.{IsRegular};
-ghost use Rattle.posix.specs.Settle.{IsSettled};
-ghost use Rattle.posix.specs.States.{boot};
+ghost use Rattle.posix.specs.Common.{IsRegular, IsSettled, boot};
 ghost use Rattle.schedules.specs.Families.{family as family_of, kinds_of};
 ghost use Rattle.text.specs.EventTexts.{most_events};
 ghost use Rattle.counting.specs.Counts.{book_over};

@@ -1,9 +1,7 @@
 //! States, and the beginnings of schedules that lead to them.
 
 ghost use Rattle.std.specs.Prelude.{◌≡◌, ◌+◌, ◌<◌, ◌≤◌, ◌++◌, [], ◌∷◌, ℕ, true, length, map, IfOk, OnOk};
-ghost use Rattle.posix.specs.States.{boot};
-ghost use Rattle.posix.specs.Regular.{IsRegular};
-ghost use Rattle.posix.specs.Settle.{IsSettled};
+ghost use Rattle.posix.specs.Common.{boot, IsRegular, IsSettled};
 ghost use Rattle.text.specs.EventTexts.{most_events};
 ghost use Rattle.schedules.specs.Families.{kinds_of as all_kinds};
 ghost use Rattle.counting.specs.Courses.{course_from};

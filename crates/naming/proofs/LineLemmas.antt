@@ -1,11 +1,18 @@
 -- Lines without a line feed, and what stands for them.
-use Rattle.std.proofs.Common.{◌≡◌, ◌≢◌, ℕ, List, [], ◌∷◌, ◌++◌, Bor, length, not, take, drop, refl, ap, subst, ◌∙◌}
+use Rattle.std.proofs.Common.{◌≡◌, ◌≢◌, ℕ, List, [], ◌∷◌, ◌++◌, ◌==◌, Bor, length, not, take, drop, refl, ap, subst, sym, true, ◌∙◌}
 use Rattle.std.specs.Prelude.{All, Err, IfOk, MatchOption, None, Ok, Option, Result, Some}
 use Rattle.std.proofs.Math.Seq.{take-append_seam, drop-append_seam}
 use Rattle.std.proofs.lemmas.List.Elements.{All-append, All-cons, All-drop, All-nil, All-take}
+use Rattle.std.proofs.lemmas.Bool.{false≢true}
+use Rattle.std.proofs.lemmas.List.Folds.{list_all_at}
 use Rattle.std.specs.List.{position_or_len}
 use Rattle.text.specs.Words.{from_word, is_separator}
+use Rattle.trace.specs.Lines.{is_one_line}
 use Rattle.naming.specs.Lines.{IsOneLine}
+
+-- said of all bytes, and of each
+pub each_of_one : (line : List ℕ) → is_one_line line ≡ true → IsOneLine line
+each_of_one line one = λ i d within is. false≢true (sym (list_all_at (λ b. not (b == 10)) line i d within (rw is refl)) ∙ one)
 
 -- one line before another is one line
 pub both_one_line : (xs ys : List ℕ) → IsOneLine xs → IsOneLine ys → IsOneLine (xs ++ ys)

@@ -1,7 +1,6 @@
 -- Keys that are pressed with Ctrl, and bytes in digits.
-use Rattle.std.specs.Prelude.{ℕ, ◌-◌, ◌/◌, ◌%◌, ◌==◌, ◌&&◌, nat_le, true, List, [], ◌∷◌, Option, None, Some, if◌then◌else◌}
+use Rattle.std.specs.Prelude.{ℕ, ◌-◌, ◌==◌, ◌&&◌, nat_le, List, [], ◌∷◌, Option, None, Some, if◌then◌else◌}
 use Rattle.std.specs.Char.{to_ascii_uppercase}
-use Rattle.std.specs.Fmt.{digit_glyph}
 
 -- `^?`, and `^@` to `^_`, of the capital letter
 abbrev pub byte_with_control : ℕ → Option ℕ
@@ -11,7 +10,3 @@ byte_with_control b = if b == 63 then Some 127 else if nat_le 64 b && nat_le b 9
 abbrev pub control : List ℕ → Option ℕ
 control (c ∷ b ∷ []) = if c == 94 then byte_with_control (to_ascii_uppercase b) else None
 control _ = None
-
--- a byte as two digits to base 16
-abbrev pub two_digits : ℕ → List ℕ
-two_digits byte = digit_glyph true (byte / 16) ∷ digit_glyph true (byte % 16) ∷ []

@@ -2,7 +2,8 @@
 
 ghost use Rattle.std.specs.Prelude.{◌≡◌, ◌<◌, ◌++◌, IfOk, OnOk, true};
 ghost use Rattle.std.specs.Fmt.{digit_glyph};
-ghost use Rattle.naming.specs.Keys.{control as control_of, two_digits};
+ghost use Rattle.text.specs.Numbers.{two_digits};
+ghost use Rattle.naming.specs.Keys.{control as control_of};
 ghost use Rattle.naming.specs.Lines.{IsOneLine};
 ghost use Rattle.wording.specs.Proses.{Grows};
 

@@ -1,14 +1,13 @@
 //! Lines `set rA, NAMES`.
 
 ghost use Rattle.std.specs.Prelude.{◌≡◌, ◌≢◌, ◌≤◌, IfOk, IfSome, MatchOption, OnOk, length};
-ghost use Rattle.std.specs.Fmt.{signed_decimal};
-ghost use Rattle.std.specs.String.{string_bytes};
 ghost use Rattle.naming.specs.Lines.{IsOneLine};
 ghost use Rattle.wording.specs.Proses.{Grows};
 
 use crate::fault::Fault;
 use crate::line::joined;
 use crate::number::{Form, number_of};
+use itoa::Buffer;
 use std::alloc::{AllocError, Global};
 use text::{is_separator, next_word, skip_separators, split_comment, word_len};
 use wording::Prose;
@@ -79,13 +78,6 @@ fn number_before<'a>(form: Form, names: &'a [u8], behind: &'a [u8]) -> Result<i6
     }
 }
 
-/// The decimal digits of a number, and its sign.
-fn digits_of(alloc: Global, number: i64) -> Result<String, AllocError>
-    ensures { IfOk result (λ t. string_bytes t ≡ signed_decimal number) }
-{
-    format!(in alloc; "{number}")
-}
-
 /// A place in a line: what stands before the names, and the comment.
 #[derive(Clone, Copy)]
 struct Around<'a> {
@@ -98,9 +90,9 @@ impl Around<'_> {
     fn with_number(self, alloc: Global, number: i64, behind: &[u8]) -> Result<Vec<u8>, AllocError>
         ensures { IsOneLine self.entry.before.now → IsOneLine self.entry.comment.now → IsOneLine behind.now → IfOk result (λ v. IsOneLine v.items) }
     {
-        let digits = digits_of(alloc, number)?;
-        let bytes = digits.as_str().as_bytes();
-        joined(alloc, &[self.before, bytes, behind, self.comment])
+        let mut buffer = Buffer::new();
+        let digits = buffer.format(number).as_bytes();
+        joined(alloc, &[self.before, digits, behind, self.comment])
     }
 
     /// The line with the number of names; none where one is refused, and told.

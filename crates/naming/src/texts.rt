@@ -1,6 +1,6 @@
 //! A text with numbers for its names.
 
-ghost use Rattle.std.specs.Prelude.{◌≡◌, ◌≢◌, ◌++◌, ◌∷◌, ◌<◌, ℕ, List, [], IfOk, IfSome, MatchOption, OnOk, length};
+ghost use Rattle.std.specs.Prelude.{◌≡◌, ◌≢◌, ◌++◌, ℕ, List, [], IfOk, MatchOption, OnOk};
 ghost use Rattle.naming.specs.Lines.{IsOneLine};
 ghost use Rattle.naming.specs.Texts.{AddsLine, IsNamed, StandsFor};
 
@@ -10,6 +10,7 @@ use crate::line::{Sort, is_plain, sort_of};
 use crate::set_line::set_line;
 use crate::type_line::type_line;
 use std::alloc::{AllocError, Global};
+use trace::next_line;
 use wording::Prose;
 
 /// A text with numbers for its names, and what is wrong with names.
@@ -70,15 +71,6 @@ fn push_line(
     }
 }
 
-/// The first line of a text, and what follows its line feed; none where there is no line feed.
-fn first_line(text: &[u8]) -> Option<(&[u8], &[u8])>
-    ensures line { MatchOption result (IsOneLine text.now) (λ f. IsOneLine f.0.now × (text.now ≡ f.0.now ++ 10 ∷ f.1.now)) }
-    ensures shorter { IfSome result (λ f. length f.1.now < length text.now) }
-{
-    let end = text.iter().position(|b| *b == b'\n')?;
-    Some((&text[..end], &text[end + 1..]))
-}
-
 /// A text with numbers for its names.
 pub fn name_text(alloc: Global, text: &[u8]) -> Result<Named, AllocError>
     ensures { IfOk result (λ n. IsNamed text.now n.text.items n.told.items) }
@@ -87,7 +79,7 @@ pub fn name_text(alloc: Global, text: &[u8]) -> Result<Named, AllocError>
     let mut told = Prose::new(alloc);
     let mut rest = text;
     let mut number: u64 = 1;
-    while let Some((line, more)) = first_line(rest) {
+    while let Some((line, more)) = next_line(rest) {
         push_line(alloc, number, line, &mut named, &mut told)?;
         named.push(b'\n')?;
         number = number.saturating_add(1);

@@ -1,10 +1,9 @@
 -- Texts of words, cut at their zero bytes.
-use Rattle.std.proofs.Common.{◌≡◌, ◌≢◌, ◌∙◌, ℕ, zero, suc, ◌+◌, ◌-◌, ◌<◌, ◌≤◌, ◌==◌, true, false, List, [], ◌∷◌, ◌++◌, Option, None, Some, length, take, drop, get_or, refl, ap, arith, length-drop, IfSome, IsUtf8, IsErr, MatchResult, Result, Ok, Err}
+use Rattle.std.proofs.Common.{◌≡◌, ◌≢◌, ◌∙◌, ℕ, zero, suc, ◌+◌, ◌-◌, ◌<◌, ◌==◌, true, false, List, [], ◌∷◌, ◌++◌, Option, None, Some, length, take, drop, get_or, refl, ap, arith, length-drop, IfSome, IsUtf8}
 use Rattle.std.specs.List.{AllByRecursion}
-use Rattle.std.proofs.lemmas.Grind.{common_steps}
+use Rattle.std.proofs.lemmas.List.{take_all}
 use Rattle.std.proofs.lemmas.Bool.{false_from_ne_true}
 use Rattle.memchr.specs.Find.{IsFirstByte, is_byte}
-use Rattle.inputs.specs.declared.command_line.WordsFault.{WordsFault}
 use Rattle.inputs.specs.Reads.{Text}
 use Rattle.page.specs.Words.{IsNoText, behind, with_byte_if, with_word, words_of}
 
@@ -37,11 +36,8 @@ pub first_cut : (text word rest : List ℕ) (end : ℕ) → IsFirstByte (is_byte
 first_cut text word rest end h is_word is_rest =
     let cut = cut_at text end h.0.high h.1 (λ k low. false_from_ne_true _ (h.0.before k (omega arith) low)) in
     let next : end + 1 ≡ suc end = omega arith in
-    let whole : rest ≡ drop (suc end) text = is_rest ∙ long (length text - (end + 1)) (drop (end + 1) text) (omega (arith, length-drop (end + 1) text)) ∙ ap (λ n. drop n text) next in
+    let whole : rest ≡ drop (suc end) text = is_rest ∙ take_all (length text - (end + 1)) (drop (end + 1) text) (omega (arith, length-drop (end + 1) text)) ∙ ap (λ n. drop n text) next in
     rw (is_word, whole) cut
-  where
-    long : (n : ℕ) (bs : List ℕ) → length bs ≤ n → take n bs ≡ bs
-    long n bs h = grind (arith, common_steps, h)
 
 -- ---- what is no text of words that are UTF-8
 
@@ -67,14 +63,3 @@ no_text_behind text rest first cut h = rw cut (by (words_of rest) h)
     by : (words : Option (List Text)) → IfSome words (λ ws. AllByRecursion IsUtf8 ws → ⊥) → IfSome (behind first words) (λ ws. AllByRecursion IsUtf8 ws → ⊥)
     by None h = tt
     by (Some words) h = λ all. h (all_behind first words all)
-
--- ---- the words of a text
-
-pub some_left : (text : List ℕ) → (length text == 0) ≡ false → text ≢ []
-some_left [] h = λ e. cc
-some_left (b ∷ text) h = λ e. cc
-
--- an error, of which something is said
-pub refused : {V : Type 0} (P : V → Type 0) (Q : WordsFault → Type 0) (result : Result V WordsFault) → IsErr result → ((fault : WordsFault) → Q fault) → MatchResult result P Q
-refused P Q (Ok words) h all = absurd (let bad : false ≡ true = h in cc)
-refused P Q (Err fault) h all = all fault

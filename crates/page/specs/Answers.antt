@@ -1,9 +1,7 @@
 -- What a page is answered.
 use Rattle.std.specs.Prelude.{◌≡◌, ◌≢◌, ◌≤◌, ◌<◌, ◌⊎◌, ℕ, List, [], ◌∷◌, ◌++◌, Some, codes, drop, length}
 use Rattle.posix.specs.declared.event.Event.{Event}
-use Rattle.posix.specs.Entries.{Line}
-use Rattle.posix.specs.States.{State}
-use Rattle.posix.specs.Printing.{print}
+use Rattle.posix.specs.Common.{Line, State, print}
 use Rattle.kernel.specs.Headline.{RunsTexts}
 use Rattle.trace.specs.Sinks.{Seen}
 use Rattle.audit.specs.Texts.{IsLawful}

@@ -1,7 +1,7 @@
 //! Nobody is at a terminal.
 
 use exploring::Progress;
-use inputs::Unread;
+use inputs::ReadFault;
 use showing::Ask;
 
 /// Is told nothing, and asks for nothing.
@@ -19,7 +19,7 @@ impl Ask for Nobody {
         false
     }
 
-    fn ask(&mut self, _line: &mut String) -> Result<bool, Unread<'static>> {
+    fn ask(&mut self, _line: &mut String) -> Result<bool, ReadFault<'static>> {
         Ok(false)
     }
 }

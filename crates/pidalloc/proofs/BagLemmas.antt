@@ -4,7 +4,7 @@ use Rattle.std.specs.List.{last_or}
 use Rattle.std.proofs.lemmas.Bool.{eqb-true}
 use Rattle.std.proofs.lemmas.Bool.Decides.{nat_tests}
 use Rattle.std.proofs.lemmas.List.{length-replicate}
-use Rattle.posix.specs.NextPid.{next_free}
+use Rattle.posix.specs.Common.{next_free}
 use Rattle.pidalloc.specs.Rows.{Role, Process, Group, Session, Pids, row, count_of, one_more, one_less, borne, given_up, unborne, unborne_table, is_free_in}
 use Rattle.pidalloc.specs.Bags.{Change, Bear, GiveUp, after, AreAllowed, times_borne, times_given_up, is_free_after, number_of_process, last_borne}
 use Rattle.pidalloc.proofs.RowLemmas.{row_with, no_row}

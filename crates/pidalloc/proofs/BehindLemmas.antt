@@ -1,8 +1,7 @@
 -- Who comes after a number in a ring.
 use Rattle.std.proofs.Common.{◌≡◌, ℕ, zero, suc, true, false, cond, refl, ap, List, [], ◌∷◌, Some, None, slice_get, take, ◌==◌, arith}
 use Rattle.std.proofs.lemmas.Bool.{eqb-true, eq-eqb}
-use Rattle.posix.specs.States.{is_in}
-use Rattle.posix.specs.Regular.{IsDistinct}
+use Rattle.posix.specs.Common.{is_in, IsDistinct}
 use Rattle.posix.proofs.MemberLemmas.{in_none}
 use Rattle.pidalloc.specs.Rings.{Nodes, next_of, IsLinked, IsRing, IsKept}
 use Rattle.pidalloc.specs.Places.{next_behind}

@@ -2,7 +2,7 @@
 use Rattle.std.proofs.Common.{◌≡◌, ℕ, zero, suc, ◌+◌, ◌-◌, ◌<◌, ◌≤◌, Bool, true, false, cond, List, refl, sym, ap, ◌∙◌, arith, find, Some, None, inl, inr}
 use Rattle.std.specs.List.{range_with_len}
 use Rattle.std.proofs.lemmas.Bool.{cases_eq}
-use Rattle.posix.specs.NextPid.{first_free}
+use Rattle.posix.specs.Common.{first_free}
 use Rattle.posix.proofs.RangeLemmas.{find_range_none}
 use Rattle.pidalloc.specs.Rows.{Row, is_free_row, is_free_in, row_in, rows_in, AreAllBorne}
 use Rattle.pidalloc.proofs.TableLemmas.{row_of}

@@ -2,8 +2,7 @@
 use Rattle.std.proofs.Common.{◌≡◌, ℕ, zero, suc, true, false, cond, refl, ap, sym, ◌∙◌, subst, List, [], ◌∷◌, ◌++◌, length, ◌==◌, arith, inl, inr}
 use Rattle.std.proofs.lemmas.Bool.{eqb-true, eq-eqb, ne_eqb, cases_eq}
 use Rattle.std.proofs.lemmas.Bool.Decides.{nat_tests}
-use Rattle.posix.specs.States.{is_in, without}
-use Rattle.posix.specs.Regular.{IsDistinct}
+use Rattle.posix.specs.Common.{is_in, without, IsDistinct}
 use Rattle.posix.proofs.MemberLemmas.{in_first, in_none}
 use Rattle.posix.proofs.OrderLemmas.{without_absent}
 use Rattle.pidset.specs.Rows.{HasRow, with_row}

@@ -1,8 +1,7 @@
 -- Who is in a list of numbers, and how many distinct numbers are in it.
 use Rattle.std.proofs.Common.{◌≡◌, ℕ, zero, suc, ◌<◌, ◌≤◌, true, arith, List, [], ◌∷◌, length, ◌==◌}
 use Rattle.std.proofs.lemmas.Bool.{or_right}
-use Rattle.posix.specs.States.{is_in, without}
-use Rattle.posix.specs.Regular.{IsDistinct}
+use Rattle.posix.specs.Common.{is_in, without, IsDistinct}
 use Rattle.posix.proofs.MemberLemmas.{in_first, is_other}
 use Rattle.posix.proofs.OrderLemmas.{one_less_at_most}
 use Rattle.posix.proofs.RegularLemmas.{distinct_without}

@@ -2,7 +2,7 @@
 use Rattle.std.proofs.Common.{◌≡◌, ℕ, ◌<◌, ◌≤◌, ◌^◌, Bool, refl, ap, ◌∙◌, arith, List, length, Some, ◌==◌, length-set}
 use Rattle.std.proofs.lemmas.Bool.{eq-eqb}
 use Rattle.posix.specs.Processes as records
-use Rattle.posix.specs.Tables.{IsRising, at, lookup, changed, removed}
+use Rattle.posix.specs.Common.{IsRising, at, lookup, changed, removed}
 use Rattle.posix.proofs.TableLemmas.{pid_looked, rising_changed}
 use Rattle.posix.proofs.MapLemmas.{at_pid, lookup_on}
 use Rattle.posix.proofs.PassingLemmas.{removed_changed}

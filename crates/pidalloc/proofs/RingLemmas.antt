@@ -2,8 +2,7 @@
 use Rattle.std.proofs.Common.{◌≡◌, ◌≢◌, ℕ, suc, ◌+◌, ◌-◌, ◌/◌, ◌≤◌, ◌==◌, true, false, not, cond, refl, ap, sym, ◌∙◌, arith, subst, List, [], ◌∷◌, ◌++◌, length, length-append, None, Some, slice_get, inl, inr}
 use Rattle.std.proofs.lemmas.Bool.{eqb-true, eq-eqb, ne_eqb, cases_eq}
 use Rattle.std.proofs.lemmas.Bool.Decides.{nat_tests}
-use Rattle.posix.specs.States.{is_in, without}
-use Rattle.posix.specs.Regular.{IsDistinct}
+use Rattle.posix.specs.Common.{is_in, without, IsDistinct}
 use Rattle.posix.proofs.MemberLemmas.{in_first, in_none, in_last, in_without, is_other, out_of}
 use Rattle.posix.proofs.OrderLemmas.{distinct_last, one_less, without_absent}
 use Rattle.posix.proofs.RegularLemmas.{distinct_without}

@@ -2,9 +2,7 @@
 use Rattle.std.proofs.Common.{◌≡◌, ℕ, ◌+◌, ◌<◌, ◌≤◌, ◌^◌, false, refl, ap, sym, ◌∙◌, arith, List, [], ◌∷◌, length, map, Some, ◌==◌}
 use Rattle.std.proofs.lemmas.Bool.{eq-eqb}
 use Rattle.std.proofs.lemmas.Bool.Decides.{nat_tests}
-use Rattle.posix.specs.Processes.{Process}
-use Rattle.posix.specs.Tables.{IsRising, lookup, inserted, removed}
-use Rattle.posix.specs.NextPid.{is_free, next_free}
+use Rattle.posix.specs.Common.{Process, IsRising, lookup, inserted, removed, is_free, next_free}
 use Rattle.posix.proofs.TableLemmas.{pid_looked}
 use Rattle.posix.proofs.PassingLemmas.{counted_inserted, counted_removed, counted_map, counted_found, filter_at_most}
 use Rattle.pidalloc.specs.Rows.{Row, Pids, unborne_table, row, count_of, is_free_row, is_free_in, one_more, one_less, borne, given_up, born_in, gone_from}

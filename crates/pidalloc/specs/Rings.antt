@@ -1,7 +1,6 @@
 -- Processes in a ring, as nodes that are linked both ways.
 use Rattle.std.specs.Prelude.{◌≡◌, ℕ, zero, suc, ◌≤◌, ◌==◌, cond, true, not, List, [], ◌∷◌}
-use Rattle.posix.specs.States.{is_in}
-use Rattle.posix.specs.Regular.{IsDistinct}
+use Rattle.posix.specs.Common.{is_in, IsDistinct}
 use Rattle.pidset.specs.Rows.{row_or, sizes_of}
 use Rattle.pidalloc.specs.declared.order.Node.{Node}
 

@@ -1,6 +1,6 @@
 -- Rows that count the records of processes.
 use Rattle.std.specs.Prelude.{◌≡◌, ℕ, ◌≤◌, ◌==◌, List, length, filter}
-use Rattle.posix.specs.Processes.{Process}
+use Rattle.posix.specs.Common.{Process}
 use Rattle.pidalloc.specs.Rows.{Row, Pids, row}
 
 -- how often n is the number of a process, of its group and of its session

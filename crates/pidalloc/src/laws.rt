@@ -1,7 +1,7 @@
 //! Laws of the definitions, each the contract of a function that does nothing.
 
 ghost use Rattle.std.specs.Prelude.{ℕ, ◌+◌, ◌≡◌, List};
-ghost use Rattle.posix.specs.NextPid.{next_free};
+ghost use Rattle.posix.specs.Common.{next_free};
 ghost use Rattle.pidalloc.specs.Rows.{Role, row, count_of, is_free_in, unborne_table};
 ghost use Rattle.pidalloc.specs.Bags.{Change, after, AreAllowed, times_borne, times_given_up, is_free_after, last_borne};
 

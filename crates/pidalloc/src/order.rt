@@ -1,8 +1,7 @@
 //! Which processes have a place, and in which order.
 
 ghost use Rattle.std.specs.Prelude.{ℕ, ◌≡◌, ◌+◌, ◌≤◌, ◌==◌, cond, true, false, [], ◌∷◌, ◌++◌, length, slice_get, OnOk};
-ghost use Rattle.posix.specs.States.{is_in, without};
-ghost use Rattle.posix.specs.Regular.{IsDistinct};
+ghost use Rattle.posix.specs.Common.{is_in, without, IsDistinct};
 ghost use Rattle.pidset.specs.Rows.{Grows, HasRoom, HasRow, IsOnAnotherPage, sizes_without};
 ghost use Rattle.pidalloc.specs.Places.{next_behind};
 ghost use Rattle.pidalloc.specs.Rings.{IsJoined};

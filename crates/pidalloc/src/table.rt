@@ -1,7 +1,7 @@
 //! The numbers up to a greatest one, and who bears them.
 
 ghost use Rattle.std.specs.Prelude.{◌≡◌, ◌+◌, ◌-◌, ◌<◌, ◌≤◌, ◌/◌, ◌%◌, ◌*◌, ◌⊎◌, ◌==◌, ◌&&◌, ℕ, true, false, Some, None, [], OnOk, length, slice_index_or};
-ghost use Rattle.posix.specs.NextPid.{next_free, first_free};
+ghost use Rattle.posix.specs.Common.{next_free, first_free};
 ghost use Rattle.pidset.specs.Rows.{Grows, HasRoom, HasRow, sizes_of, sizes_without};
 ghost use Rattle.pidalloc.specs.Rows.{IsPids, unborne_table, row, is_free_in, is_free_row, count_of, borne, given_up, born_in, gone_from, regrouped, row_in, one, one_more, one_less, last_given, IsRowChanged};
 

@@ -6,9 +6,7 @@ use Rattle.std.specs.Option.{option_map_or}
 use Rattle.std.specs.List.{list_any}
 use Rattle.std.specs.Prelude.{option_and_then}
 use Rattle.std.proofs.lemmas.Bool.{cases_eq, eq-eqb, ne_eqb}
-use Rattle.posix.specs.Processes.{Process, is_living}
-use Rattle.posix.specs.Tables.{lookup, has_pid, is_child, children_in, left_of, first_pid, above, reparented, adopted}
-use Rattle.posix.specs.Groups.{is_anchor, is_outside}
+use Rattle.posix.specs.Common.{Process, is_living, lookup, has_pid, is_child, children_in, left_of, first_pid, above, reparented, adopted, is_anchor, is_outside}
 use Rattle.posix.proofs.TableLemmas.{pid_looked, pid_reparented, reparented_keeps}
 use Rattle.posix.proofs.MapLemmas.{lookup_map}
 use Rattle.posix.proofs.WalkLemmas.{AtChild, any_filter, any_looked}

@@ -6,9 +6,7 @@ use Rattle.std.specs.Prelude.{option_and_then}
 use Rattle.std.proofs.lemmas.Bool.{eqb-true, eq-eqb, ne_eqb, ltb-true, cases_order, and_parts, false_from_ne_true}
 use Rattle.std.proofs.lemmas.Bool.Decides.{nat_tests}
 use Rattle.std.proofs.lemmas.List.{length-map}
-use Rattle.posix.specs.Processes.{Process}
-use Rattle.posix.specs.Tables.{IsRising, lookup, pids, members_in, above, first_pid, changed, inserted, removed}
-use Rattle.posix.specs.States.{is_in}
+use Rattle.posix.specs.Common.{Process, IsRising, lookup, pids, members_in, above, first_pid, changed, inserted, removed, is_in}
 use Rattle.posix.proofs.TableLemmas.{pid_looked, lookup_changed, rising_removed}
 use Rattle.posix.proofs.MapLemmas.{lookup_map}
 use Rattle.posix.proofs.MemberLemmas.{in_first, in_none}

@@ -5,7 +5,7 @@ use Rattle.std.specs.Option.{option_map_or}
 use Rattle.std.proofs.lemmas.Bool.{eqb-true, eq-eqb, ne_eqb, ltb-true, ltb-false, le-leb, lt-leb, cases_eq, false_from_ne_true, or_right}
 use Rattle.std.proofs.lemmas.Bool.Decides.{nat_tests}
 use Rattle.std.proofs.Math.Bool.{and-false}
-use Rattle.posix.specs.States.{is_in}
+use Rattle.posix.specs.Common.{is_in}
 use Rattle.pidset.specs.declared.index.Pair.{Pair}
 use Rattle.pidset.specs.Numbers.{Rises, with_number, inserted_in_order, IsInsertionPoint}
 use Rattle.pidset.specs.Indexes.{ArePairs, IsPair, IsNextPair, has_within, keyed_number, pair_number, is_pair, is_pair_in}

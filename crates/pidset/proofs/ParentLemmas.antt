@@ -2,8 +2,7 @@
 use Rattle.std.proofs.Common.{◌≡◌, ◌≢◌, ℕ, true, false, cond, ap, sym, ◌∙◌, subst, List, [], ◌∷◌, map, Some, None, ◌==◌, arith, inl, inr}
 use Rattle.std.specs.Option.{IsSome}
 use Rattle.std.proofs.lemmas.Bool.{cases_eq, eqb-false}
-use Rattle.posix.specs.Processes.{Process}
-use Rattle.posix.specs.Tables.{lookup, children_in, inserted, removed, reparented, adopted}
+use Rattle.posix.specs.Common.{Process, lookup, children_in, inserted, removed, reparented, adopted}
 use Rattle.posix.proofs.TableLemmas.{pid_reparented}
 use Rattle.posix.proofs.MapLemmas.{lookup_back, some_map}
 use Rattle.posix.proofs.RegularLemmas.{lookup_inserted, lookup_new, lookup_kept, lookup_left, some_inserted}

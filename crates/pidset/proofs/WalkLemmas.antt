@@ -4,7 +4,7 @@ use Rattle.std.specs.Option.{IfSome}
 use Rattle.std.proofs.lemmas.Bool.{or_right}
 use Rattle.std.proofs.lemmas.Bool.Decides.{nat_tests}
 use Rattle.std.proofs.lemmas.Option.{IfSome_then}
-use Rattle.posix.specs.States.{is_in, without}
+use Rattle.posix.specs.Common.{is_in, without}
 use Rattle.posix.proofs.MemberLemmas.{in_first}
 use Rattle.pidset.specs.Numbers.{Rises, numbers_above}
 use Rattle.pidset.proofs.NumberLemmas.{AllAbove, IsLeastAbove, in_above, next_is, rises_without}

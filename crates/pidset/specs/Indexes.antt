@@ -2,9 +2,7 @@
 use Rattle.std.specs.Prelude.{◌≡◌, ℕ, ◌+◌, ◌-◌, ◌*◌, ◌<◌, ◌≤◌, ◌==◌, Bool, true, false, ◌&&◌, ◌||◌, not, nat_le, if◌then◌else◌, List, length, map, Option, Some, None, option_and_then, IsSome}
 use Rattle.std.specs.List.{AllByRecursion, list_any}
 use Rattle.std.specs.Option.{option_map_or}
-use Rattle.posix.specs.Processes.{Process}
-use Rattle.posix.specs.Tables.{lookup}
-use Rattle.posix.specs.Groups.{is_anchor}
+use Rattle.posix.specs.Common.{Process, lookup, is_anchor}
 use Rattle.pidset.specs.declared.index.Pair.{Pair}
 use Rattle.pidset.specs.Numbers.{Rises}
 

@@ -1,7 +1,7 @@
 //! Numbers of processes in rising order, each once.
 
 ghost use Rattle.std.specs.Prelude.{◌≡◌, ◌<◌, ◌^◌, false, [], length, max, slice_get, OnOk, OnErr, IfOk, IfErr};
-ghost use Rattle.posix.specs.States.{is_in, without};
+ghost use Rattle.posix.specs.Common.{is_in, without};
 ghost use Rattle.pidset.specs.Numbers.{Rises, with_number, numbers_above, IsNumberAt, IsInsertionPoint};
 
 use crate::gap_vec::GapVec;

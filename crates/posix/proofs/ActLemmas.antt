@@ -3,15 +3,7 @@ use Rattle.std.proofs.Common.{◌≡◌, ◌≤◌, ℕ, ◌+◌, Bool, true, fa
 use Rattle.std.proofs.lemmas.Bool.{eqb-true}
 use Rattle.posix.specs.declared.call.Call.{Call}
 use Rattle.posix.specs.declared.call.Call.TheVariants.{Read, Write}
-use Rattle.posix.specs.Statuses.{exited, killed}
-use Rattle.posix.specs.Processes.{Process, argument}
-use Rattle.posix.specs.States.{State, without}
-use Rattle.posix.specs.Heirs.{heir_in}
-use Rattle.posix.specs.Ends.{end_with_heir, hang_up, end_process}
-use Rattle.posix.specs.Delivery.{stop_process}
-use Rattle.posix.specs.Transfers.{bytes_in}
-use Rattle.posix.specs.Terminals.{finish_moved}
-use Rattle.posix.specs.Step.{act}
+use Rattle.posix.specs.Common.{exited, killed, Process, argument, State, without, heir_in, end_with_heir, hang_up, end_process, stop_process, bytes_in, finish_moved, act}
 use Rattle.posix.proofs.NoticeLemmas.{end_first, end_other, only_hung_up}
 use Rattle.posix.proofs.AttemptLemmas.{Meets, Retries, Ways}
 use Rattle.posix.proofs.DeliveryLemmas.{Deliveries, by_return, by_act}

@@ -17,33 +17,7 @@ use Rattle.posix.specs.declared.span.Span.{Span}
 use Rattle.posix.specs.declared.target.Target.{Target}
 use Rattle.posix.specs.declared.waits.WaitCall.{WaitCall}
 use Rattle.posix.specs.declared.waits.WaitCall.TheVariants as wait
-use Rattle.posix.specs.SignalNumbers.{TTIN, TTOU}
-use Rattle.posix.specs.SignalSets.{word_of}
-use Rattle.posix.specs.Statuses.{exited}
-use Rattle.posix.specs.Calls.{call_of_wait}
-use Rattle.posix.specs.Processes.{Process, Signals, Credentials, argument}
-use Rattle.posix.specs.Tables.{lookup, removed}
-use Rattle.posix.specs.States.{Program, State, change, go_last, next_pid}
-use Rattle.posix.specs.Consoles.{Console, acquired, with_foreground, with_tostop, line_taken}
-use Rattle.posix.specs.Transfers.{span_in, bytes_in}
-use Rattle.posix.specs.Outcomes.{Outcome, Attempted, Done, Block, Again, finish_call, finish_with, refused, no_memory, written}
-use Rattle.posix.specs.Credentials.{setuid, seteuid, setgid, setegid}
-use Rattle.posix.specs.Generation.{action}
-use Rattle.posix.specs.Groups.{is_orphaned}
-use Rattle.posix.specs.Handlers.{set_action}
-use Rattle.posix.specs.Births.{born, fork_as}
-use Rattle.posix.specs.Subreapers.{subreaper, finish_marked}
-use Rattle.posix.specs.Ends.{end_process, signalled_group}
-use Rattle.posix.specs.Targets.{target_in, process_in}
-use Rattle.posix.specs.Waits.{report, news_told, gives_nothing, wait_by}
-use Rattle.posix.specs.Delivery.{return_from_handler}
-use Rattle.posix.specs.Sends.{permitted, targets, sent, sending_permitted, sending_found, sending, queued_for, queuers_among, sending_granted, message, send_with, signal_in, signal_or_none, send, kill, sigqueue}
-use Rattle.posix.specs.SignalCalls.{give_credentials, set_credentials, is_question, are_flags, action_in, gives_action, sigaction_with, sigaction_of, sigaction, how_in, sigprocmask_with, sigprocmask, pending_set, sigpending}
-use Rattle.posix.specs.Programs.{exec_as, exec_of, exec}
-use Rattle.posix.specs.GroupCalls.{named, tells, getpgid, getsid, move_of, move_to, setpgid_with, setpgid, is_group_of, is_group_of_others, in_session, setsid}
-use Rattle.posix.specs.Alarms.{ticks_in, alarm_in, alarm}
-use Rattle.posix.specs.Terminals.{terminal, change_console, is_in_background, blocks_or_ignores, if_allowed, console_named, may_acquire, setctty_of, setctty_at, setctty, foreground_told, tcgetpgrp_on, tcgetpgrp, put_foreground, tcsetpgrp_on, tcsetpgrp, is_nonzero, settostop_on, settostop, finish_moved, with_bytes, read_from, read_in, read_on, read, write_in, write_on, write}
-use Rattle.posix.specs.Attempts.{attempt, attempt_again}
+use Rattle.posix.specs.Common.{TTIN, TTOU, word_of, exited, asks_memory, call_of_wait, Process, Signals, Credentials, argument, lookup, removed, Program, State, change, go_last, next_pid, Console, acquired, with_foreground, with_tostop, line_taken, span_in, bytes_in, Outcome, Attempted, Done, Block, Again, finish_call, finish_with, refused, no_memory, written, setuid, seteuid, setgid, setegid, action, is_orphaned, set_action, born, fork_as, subreaper, finish_marked, end_process, signalled_group, target_in, process_in, report, news_told, gives_nothing, wait_by, return_from_handler, permitted, targets, sent, sending_permitted, sending_found, sending, queued_for, queuers_among, sending_granted, message, send_with, signal_in, signal_or_none, send, kill, sigqueue, give_credentials, set_credentials, is_question, are_flags, action_in, gives_action, sigaction_with, sigaction_of, sigaction, how_in, sigprocmask_with, sigprocmask, pending_set, sigpending, exec_as, exec_of, exec, named, tells, getpgid, getsid, move_of, move_to, setpgid_with, setpgid, is_group_of, is_group_of_others, in_session, setsid, ticks_in, alarm_in, alarm, terminal, change_console, is_in_background, blocks_or_ignores, if_allowed, console_named, may_acquire, setctty_of, setctty_at, setctty, foreground_told, tcgetpgrp_on, tcgetpgrp, put_foreground, tcsetpgrp_on, tcsetpgrp, is_nonzero, settostop_on, settostop, finish_moved, with_bytes, read_from, read_in, read_on, read, write_in, write_on, write, attempt, attempt_again}
 use Rattle.posix.proofs.WaitLemmas.{by_wait, IfTold}
 
 -- An attempt that is done has an outcome of which M holds, and one that begins again leads to a state of which A does.
@@ -64,13 +38,6 @@ abbrev pub Sends : Process → Call → ℤ → Type 0
 Sends me Kill value = value ≡ pos 0
 Sends me Sigqueue value = value ≡ argument me 3
 Sends me _ value = ⊥
-
--- calls for which there may be no memory
-abbrev pub may_want_memory : Call → Bool
-may_want_memory Fork = true
-may_want_memory Kill = true
-may_want_memory Sigqueue = true
-may_want_memory _ = false
 
 -- calls that set these ids
 abbrev pub SetsIds : Process → Call → Credentials → Type 0
@@ -114,7 +81,7 @@ pub record Retries (M : Outcome → Type 0) (A : State → Type 0) (s : State) (
 -- what holds of the ways in which a call ends
 pub record Ways (M : Outcome → Type 0) (A : State → Type 0) (granted : Bool) (s : State) (me : Process) : Type 0 where
   pub retries : Retries M A s me
-  pub wants_memory : (call : Call) → may_want_memory call ≡ true → granted ≡ false → Meets M A (no_memory s me.pid call)
+  pub wants_memory : (call : Call) → asks_memory call ≡ true → granted ≡ false → Meets M A (no_memory s me.pid call)
   pub exits : M (end_process s me (exited (argument me 1)))
   pub bears : (n : ℕ) → next_pid s ≡ Some n → Meets M A (finish_with (born s me n) me.pid Fork (pos n))
   pub yields : Meets M A (finish_with (go_last s me.pid) me.pid SchedYield (pos 0))
@@ -222,7 +189,7 @@ wanting_memory granted me target n rs e = by granted (queuers_among me target n 
 record IsSend (me : Process) (call : Call) (value : ℤ) : Type 0 where
   sends : Sends me call value
   fails : may_fail call ≡ true
-  wants : may_want_memory call ≡ true
+  wants : asks_memory call ≡ true
 
 -- ---- all calls
 

@@ -6,15 +6,7 @@ use Rattle.posix.specs.declared.process.Effect.TheVariants as effect
 use Rattle.posix.specs.declared.process.Life.{Life}
 use Rattle.posix.specs.declared.process.Life.TheVariants.{Zombie}
 use Rattle.posix.specs.declared.process.PendingSignal.{PendingSignal}
-use Rattle.posix.specs.SignalNumbers.{CONT}
-use Rattle.posix.specs.Processes.{Process, is_zombie, is_stopped}
-use Rattle.posix.specs.Tables.{IsRising, lookup, at, changed}
-use Rattle.posix.specs.States.{State, change}
-use Rattle.posix.specs.Statuses.{continued, stopped}
-use Rattle.posix.specs.Regular.{IsRegular, IsAhead}
-use Rattle.posix.specs.Generation.{signalled, effect_of}
-use Rattle.posix.specs.Notices.{ignores_stops, noticed_of_change, child_signal, told_of_change, stopped_by, resumed, acted_upon, generated_for, signalled_all}
-use Rattle.posix.specs.Delivery.{stop_process}
+use Rattle.posix.specs.Common.{CONT, Process, is_zombie, is_stopped, IsRising, lookup, at, changed, State, change, continued, stopped, IsRegular, IsAhead, signalled, effect_of, ignores_stops, noticed_of_change, child_signal, told_of_change, stopped_by, resumed, acted_upon, generated_for, signalled_all, stop_process}
 use Rattle.posix.proofs.TableLemmas.{changed_same, pid_looked}
 use Rattle.posix.proofs.MapLemmas.{at_pid, lookup_on}
 use Rattle.posix.proofs.RegularLemmas.{Keeps, keeps_none, keeps_cond, keeps_signalled, regular_change, regular_lose}

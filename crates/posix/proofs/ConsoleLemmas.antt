@@ -3,17 +3,7 @@ use Rattle.std.proofs.Common.{◌≡◌, ◌≢◌, ◌⊎◌, ℕ, zero, suc, �
 use Rattle.std.proofs.lemmas.Bool.{eqb-true, eq-eqb, ne_eqb, cond_both}
 use Rattle.std.proofs.lemmas.List.{length-map, length-set}
 use Rattle.std.proofs.lemmas.Option.{slice_get-map}
-use Rattle.posix.specs.SignalNumbers.{HUP}
-use Rattle.posix.specs.Processes.{Process}
-use Rattle.posix.specs.Consoles.{Console, edit, finish_line, key_signal, signal_typed, is_told, disconnected, flushed, keyed_by, keyed, released, with_foreground, is_of_session, console_of, changed_at, changed_console}
-use Rattle.posix.specs.States.{State}
-use Rattle.posix.specs.Regular.{IsRegular, AreConsoles}
-use Rattle.posix.specs.Choice.{from_kernel}
-use Rattle.posix.specs.Notices.{signalled_all}
-use Rattle.posix.specs.Ends.{signalled_members, signalled_group, hung_up, hang_up}
-use Rattle.posix.specs.Settle.{is_fresh, refreshed, clear_foregrounds}
-use Rattle.posix.specs.Terminals.{change_console}
-use Rattle.posix.specs.Step.{signalled_from, key_on, key, with_leader_told, hangup_on, hangup}
+use Rattle.posix.specs.Common.{HUP, Process, Console, edit, finish_line, key_signal, signal_typed, is_told, disconnected, flushed, keyed_by, keyed, released, with_foreground, is_of_session, console_of, changed_at, changed_console, State, IsRegular, AreConsoles, from_kernel, signalled_all, signalled_members, signalled_group, hung_up, hang_up, is_fresh, refreshed, clear_foregrounds, change_console, signalled_from, key_on, key, with_leader_told, hangup_on, hangup}
 use Rattle.posix.proofs.RegularLemmas.{regular_with}
 use Rattle.posix.proofs.ChangeLemmas.{regular_signalled}
 

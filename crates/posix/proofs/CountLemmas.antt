@@ -3,12 +3,7 @@ use Rattle.std.proofs.Common.{◌≡◌, ◌+◌, ◌≤◌, Bool, true, false, 
 use Rattle.std.proofs.lemmas.Bool.{cond_both}
 use Rattle.posix.specs.declared.event.Event.{Event}
 use Rattle.posix.specs.declared.event.Event.TheVariants.{Step, Tick, Key, Hangup}
-use Rattle.posix.specs.States.{State, current, current_process}
-use Rattle.posix.specs.Consoles.{console_at}
-use Rattle.posix.specs.Outcomes.{Outcome, silent}
-use Rattle.posix.specs.Settle.{give_places, clear_foregrounds, settle}
-use Rattle.posix.specs.Alarms.{pass_time}
-use Rattle.posix.specs.Step.{step, tick, rotate, key_on, key, hangup_on, hangup, happens, settled, next}
+use Rattle.posix.specs.Common.{State, current, current_process, console_at, Outcome, silent, give_places, clear_foregrounds, settle, pass_time, step, tick, rotate, key_on, key, hangup_on, hangup, happens, settled, next}
 use Rattle.posix.proofs.ActLemmas.{acted}
 
 -- births and ticks are at most one more than before

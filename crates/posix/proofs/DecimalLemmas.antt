@@ -5,7 +5,7 @@ use Rattle.std.specs.List.{list_all}
 use Rattle.std.specs.Str.Parse.{AllDigits}
 use Rattle.std.proofs.lemmas.Str.Parse.{FoldsDigits, numerals_by_fold, tells_digits, digit_from_value}
 use Rattle.std.proofs.lemmas.Fmt.{digits_value-decimal}
-use Rattle.posix.specs.Decimals.{value_of, decimal_value}
+use Rattle.posix.specs.Common.{value_of, decimal_value}
 
 -- what each digit meets
 pub digits_all : (P : ℕ → Bool) → ((b : ℕ) → 48 ≤ b → b ≤ 57 → P b ≡ true) → (ds : List ℕ) → AllDigits 10 ds → list_all P ds ≡ true

@@ -12,22 +12,7 @@ use Rattle.posix.specs.declared.process.Handler.TheVariants as handler
 use Rattle.posix.specs.declared.process.PendingSignal.{PendingSignal}
 use Rattle.posix.specs.declared.sig.DefaultAction.{DefaultAction}
 use Rattle.posix.specs.declared.sig.DefaultAction.TheVariants as default
-use Rattle.posix.specs.SignalNumbers.{KILL, SEGV, STOP, is_signal, is_stop_signal, default_action}
-use Rattle.posix.specs.SignalSets.{has}
-use Rattle.posix.specs.Statuses.{killed}
-use Rattle.posix.specs.Processes.{Process}
-use Rattle.posix.specs.Tables.{lookup}
-use Rattle.posix.specs.States.{State, change, lose_place, current, process, current_process}
-use Rattle.posix.specs.Execute.{exec_one}
-use Rattle.posix.specs.Outcomes.{Outcome, silent, Attempted, Done, Block, Again}
-use Rattle.posix.specs.Generation.{action, is_pending}
-use Rattle.posix.specs.Groups.{is_orphaned}
-use Rattle.posix.specs.Choice.{chosen, carried_by, from_kernel}
-use Rattle.posix.specs.Handlers.{handles, is_full, newest_frame, returned}
-use Rattle.posix.specs.Ends.{end_process}
-use Rattle.posix.specs.Delivery.{interruption, handle, discard, stop_process, act_by_default, act_on, take_out, deliver, fault_with, fault, return_to, return_from_handler}
-use Rattle.posix.specs.Attempts.{attempt, attempt_again}
-use Rattle.posix.specs.Step.{set_cpu, enter, begin_call, after_trap, deliver_or, out_of_call, go_on, code_of, act_in, act, step}
+use Rattle.posix.specs.Common.{KILL, SEGV, STOP, is_signal, is_stop_signal, default_action, has, killed, Process, lookup, State, change, lose_place, current, process, current_process, exec_one, Outcome, silent, Attempted, Done, Block, Again, action, is_pending, is_orphaned, chosen, carried_by, from_kernel, handles, is_full, newest_frame, returned, end_process, interruption, handle, discard, stop_process, act_by_default, act_on, take_out, deliver, fault_with, fault, return_to, return_from_handler, attempt, attempt_again, set_cpu, enter, begin_call, after_trap, deliver_or, out_of_call, go_on, code_of, act_in, act, step}
 use Rattle.posix.proofs.SignalLemmas.{chosen_signal, default_stop, IsSignalled, trap_signalled}
 use Rattle.posix.proofs.AttemptLemmas.{Meets, Ways, by_attempt, by_again}
 

@@ -1,12 +1,7 @@
 -- Foreground process groups with a member in their console's session: to settle leaves no other.
 use Rattle.std.proofs.Common.{◌≡◌, ℕ, zero, suc, true, refl, ap, ◌∙◌, arith, List, [], ◌∷◌, map, replicate}
 use Rattle.std.specs.List.{AllByRecursion}
-use Rattle.posix.specs.Processes.{Process}
-use Rattle.posix.specs.Tables.{at, changed, inserted}
-use Rattle.posix.specs.States.{State, World, boot}
-use Rattle.posix.specs.Consoles.{Console, with_foreground, unused_console}
-use Rattle.posix.specs.GroupCalls.{is_group_of}
-use Rattle.posix.specs.Settle.{is_fresh, refreshed, clear_foregrounds, AreFresh}
+use Rattle.posix.specs.Common.{Process, at, changed, inserted, State, World, boot, Console, with_foreground, unused_console, is_group_of, is_fresh, refreshed, clear_foregrounds, AreFresh}
 use Rattle.posix.proofs.MapLemmas.{at_keeps}
 
 -- ---- foregrounds are cleared

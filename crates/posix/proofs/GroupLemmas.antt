@@ -1,12 +1,7 @@
 -- Calls on process groups, sessions and programs keep a state regular.
 use Rattle.std.proofs.Common.{◌≡◌, ◌≢◌, ℕ, ◌≤◌, true, false, not, ◌&&◌, ◌||◌, ◌==◌, refl, ap, sym, ◌∙◌, arith, List, Some, Ok, ⊎_elim}
 use Rattle.std.proofs.lemmas.Bool.{eqb-true, eq-eqb, ne_eqb, and_parts, or_cases}
-use Rattle.posix.specs.Processes.{Process}
-use Rattle.posix.specs.Tables.{IsRising, lookup}
-use Rattle.posix.specs.States.{State, Program, change}
-use Rattle.posix.specs.Regular.{IsRegular}
-use Rattle.posix.specs.Programs.{executed}
-use Rattle.posix.specs.GroupCalls.{is_group_of, group_meant, can_join, can_move, move_of, in_group, is_group_of_others, in_session}
+use Rattle.posix.specs.Common.{Process, IsRising, lookup, State, Program, change, IsRegular, executed, is_group_of, group_meant, can_join, can_move, move_of, in_group, is_group_of_others, in_session}
 use Rattle.posix.proofs.TableLemmas.{pid_looked, none_found}
 use Rattle.posix.proofs.WalkLemmas.{some_looked}
 use Rattle.posix.proofs.GroupedLemmas.{FitsIn}

@@ -1,9 +1,7 @@
 -- The members of a process group stay in one session.
 use Rattle.std.proofs.Common.{◌≡◌, ◌≢◌, ℕ, refl, ap, sym, ◌∙◌, List, map, Some, inl, inr}
 use Rattle.std.proofs.lemmas.Bool.{cases_eq}
-use Rattle.posix.specs.Processes.{Process}
-use Rattle.posix.specs.Tables.{lookup}
-use Rattle.posix.specs.Regular.{AreGrouped}
+use Rattle.posix.specs.Common.{Process, lookup, AreGrouped}
 use Rattle.posix.proofs.MapLemmas.{lookup_back}
 
 -- ---- groups and sessions that stay

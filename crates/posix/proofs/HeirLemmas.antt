@@ -2,10 +2,7 @@
 use Rattle.std.proofs.Common.{◌≡◌, ◌≢◌, ◌⊎◌, inl, inr, ℕ, zero, suc, ◌-◌, true, false, cond, not, ◌&&◌, refl, ap, ◌∙◌, arith, List, Option, Some, None, ◌==◌, option_and_then}
 use Rattle.std.specs.Option.{option_map_or}
 use Rattle.std.proofs.lemmas.Bool.{and_parts, not-true, eqb-false, cond_both}
-use Rattle.posix.specs.Processes.{Process}
-use Rattle.posix.specs.Tables.{lookup}
-use Rattle.posix.specs.Heirs.{Forebear, nearest_marked, most_processes, heir_among, forebear_of, forebears, heir_in}
-use Rattle.posix.specs.Regular.{IsPlaced, CanInherit}
+use Rattle.posix.specs.Common.{Process, lookup, Forebear, nearest_marked, most_processes, heir_among, forebear_of, forebears, heir_in, IsPlaced, CanInherit}
 
 -- process 1, or another one than p that lives
 abbrev pub IsFound : (ℕ → Option Forebear) → ℕ → ℕ → Type 0

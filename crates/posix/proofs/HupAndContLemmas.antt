@@ -6,19 +6,10 @@ use Rattle.posix.specs.declared.process.Life.{Life}
 use Rattle.posix.specs.declared.process.Life.TheVariants.{Running, Stopped, Zombie}
 use Rattle.posix.specs.declared.process.News.TheVariants as news
 use Rattle.posix.specs.declared.process.PendingSignal.{PendingSignal}
-use Rattle.posix.specs.SignalNumbers.{HUP, CONT}
-use Rattle.posix.specs.Processes.{Process, initial_signals, is_zombie}
-use Rattle.posix.specs.Tables.{IsRising, lookup, pids, changed, members_in}
-use Rattle.posix.specs.States.{State}
-use Rattle.posix.specs.Statuses.{continued}
-use Rattle.posix.specs.Regular.{IsRegular}
-use Rattle.posix.specs.Generation.{signalled, effect_of}
-use Rattle.posix.specs.Notices.{ignores_stops, noticed_of_change, child_signal, told_of_change, resumed, acted_upon, generated_for, signalled_all}
-use Rattle.posix.specs.Choice.{from_kernel}
-use Rattle.posix.specs.Groups.{newly_orphaned}
-use Rattle.posix.specs.Ends.{signalled_members, hup_and_cont, hup_and_cont_all, hup_and_cont_orphans}
+use Rattle.posix.specs.Common.{HUP, CONT, Process, initial_signals, is_zombie, IsRising, lookup, pids, changed, members_in, State, continued, IsRegular, signalled, effect_of, ignores_stops, noticed_of_change, child_signal, told_of_change, resumed, acted_upon, generated_for, signalled_all, from_kernel, newly_orphaned, signalled_members, hup_and_cont, hup_and_cont_all, hup_and_cont_orphans}
 use Rattle.posix.proofs.TableLemmas.{rising_changed}
-use Rattle.posix.proofs.MapLemmas.{at_keeps, back, lookup_map}
+use Rattle.posix.proofs.MapLemmas.{at_keeps, lookup_map}
+use Rattle.posix.proofs.ResultLemmas.{back}
 use Rattle.posix.proofs.ChangeLemmas.{among_living, keeps_noticed_of_change, changed_among, lives_resumed, keeps_among, continued_stopped, stopped_living, life_signalled, lookup_signalled, regular_signalled}
 
 -- ---- what lasts
@@ -156,7 +147,7 @@ lasting_lookup p old new same = sym (lookup_map lasting (λ r. refl) p new) ∙ 
 -- who is there goes on to be there
 pub still_there : (p : ℕ) (old new : List Process) → map lasting new ≡ map lasting old → (r : Process) → lookup p old ≡ Some r → IsLasting (lookup p new) r
 still_there p old new same r e =
-    let b = back (lookup p new) lasting (lasting r) (lasting_lookup p old new same ∙ ap (option_map lasting) e) in
+    let b = back (lookup p new) lasting (lasting r) (sym (lasting_lookup p old new same ∙ ap (option_map lasting) e)) in
     lasting_one (lookup p new) b.what r b.found (sym b.is)
 
 -- ---- a regular state

@@ -1,6 +1,7 @@
 pub mod MemberLemmas
 pub mod TableLemmas
 pub mod WalkLemmas
+pub mod ResultLemmas
 pub mod MapLemmas
 pub mod GroupedLemmas
 pub mod RegularLemmas

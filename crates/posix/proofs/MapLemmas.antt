@@ -1,10 +1,10 @@
 -- What is done to each record of a table.
-use Rattle.std.proofs.Common.{◌≡◌, ◌≢◌, ℕ, Bool, not, refl, ap, sym, ◌∙◌, arith, List, [], ◌∷◌, length, map, filter, Option, Some, None, option_map, ◌==◌, inl, inr}
+use Rattle.std.proofs.Common.{◌≡◌, ◌≢◌, ℕ, Bool, not, refl, ap, sym, ◌∙◌, arith, List, [], ◌∷◌, length, map, filter, Some, option_map, is_some, ◌==◌, inl, inr}
 use Rattle.std.specs.Option.{IsSome}
 use Rattle.std.proofs.lemmas.Bool.{eqb-true, eqb-false, cases_eq, cond_both}
 use Rattle.std.proofs.lemmas.List.{length-map}
-use Rattle.posix.specs.Processes.{Process}
-use Rattle.posix.specs.Tables.{lookup, at, changed, removed, is_child, children_in, reparented, adopted}
+use Rattle.posix.specs.Common.{Process, lookup, at, changed, removed, is_child, children_in, reparented, adopted}
+use Rattle.posix.proofs.ResultLemmas.{Back, back, some_mapped}
 
 -- made to one process only, a change keeps what it keeps
 pub at_keeps : {A : Type 0} (field : Process → A) (p : ℕ) (f : Process → Process) → ((r : Process) → field (f r) ≡ field r) → (r : Process) → field (at p f r) ≡ field r
@@ -20,20 +20,9 @@ unfolding lookup
 lookup_map g keeps q [] = refl
 lookup_map g keeps q (r ∷ rs) = grind (arith, keeps r, lookup_map g keeps q rs)
 
--- what was there before
-pub record Back (o : Option Process) (g : Process → Process) (r : Process) : Type 0 where
-  pub what : Process
-  pub found : o ≡ Some what
-  pub is : r ≡ g what
-
--- what is there after a change was there before it
-pub back : (o : Option Process) (g : Process → Process) (r : Process) → option_map g o ≡ Some r → Back o g r
-back None g r e = absurd (cc)
-back (Some x) g r e = record { what = x; found = refl; is = cc }
-
 -- who is found after a change of each record was there before it
 pub lookup_back : (g : Process → Process) → ((r : Process) → (g r).pid ≡ r.pid) → (q : ℕ) (rs : List Process) (r : Process) → lookup q (map g rs) ≡ Some r → Back (lookup q rs) g r
-lookup_back g keeps q rs r e = back (lookup q rs) g r (sym (lookup_map g keeps q rs) ∙ e)
+lookup_back g keeps q rs r e = back (lookup q rs) g r (sym e ∙ lookup_map g keeps q rs)
 
 -- who is found before a change of each record is found changed
 pub lookup_on : (g : Process → Process) → ((r : Process) → (g r).pid ≡ r.pid) → (q : ℕ) (rs : List Process) (r : Process) → lookup q rs ≡ Some r → lookup q (map g rs) ≡ Some (g r)
@@ -41,7 +30,7 @@ lookup_on g keeps q rs r e = lookup_map g keeps q rs ∙ ap (option_map g) e
 
 -- who is there is there after a change of each record
 pub some_map : (g : Process → Process) → ((r : Process) → (g r).pid ≡ r.pid) → (q : ℕ) (rs : List Process) → IsSome (lookup q rs) → IsSome (lookup q (map g rs))
-some_map g keeps q rs h = rw (lookup_map g keeps q rs) (elim (lookup q rs) as (λ o. IsSome o → IsSome (option_map g o)) [ None ↦ λ k. k | Some r ↦ λ k. refl ] h)
+some_map g keeps q rs h = ap is_some (lookup_map g keeps q rs) ∙ some_mapped (lookup q rs) g ∙ h
 
 -- who passes a test still does after a change of each record that the test doesn't see
 pub filter_map : (t : Process → Bool) (g : Process → Process) → ((r : Process) → t (g r) ≡ t r) → (rs : List Process) → filter t (map g rs) ≡ map g (filter t rs)
@@ -57,6 +46,11 @@ children_map g keeps p rs = filter_map (is_child p) g (λ r. ap (λ n. n == p) (
 pub length_children : (p : ℕ) (f : Process → Process) → ((r : Process) → (f r).parent ≡ r.parent) → (q : ℕ) (rs : List Process) → length (children_in q (changed p f rs)) ≡ length (children_in q rs)
 unfolding changed
 length_children p f keeps q rs = ap length (children_map (at p f) (at_keeps (λ r. r.parent) p f keeps) q rs) ∙ length-map (children_in q rs) (at p f)
+
+-- as many records
+pub length_changed : (p : ℕ) (f : Process → Process) (rs : List Process) → length (changed p f rs) ≡ length rs
+unfolding changed
+length_changed p f rs = length-map rs (at p f)
 
 -- a removal and a change of each record may come in either order
 pub removed_map : (c : ℕ) (g : Process → Process) → ((r : Process) → (g r).pid ≡ r.pid) → (rs : List Process) → removed c (map g rs) ≡ map g (removed c rs)

@@ -1,10 +1,6 @@
 -- The process that setpgid moves.
 use Rattle.std.proofs.Common.{◌≡◌, ℕ, ap, ◌∙◌, List, Some, None, Ok, ℤ, pos, negsuc}
-use Rattle.posix.specs.Processes.{Process}
-use Rattle.posix.specs.Tables.{lookup}
-use Rattle.posix.specs.States.{State, change}
-use Rattle.posix.specs.Regular.{IsRegular}
-use Rattle.posix.specs.GroupCalls.{named, move_to, in_group}
+use Rattle.posix.specs.Common.{Process, lookup, State, change, IsRegular, named, move_to, in_group}
 use Rattle.posix.proofs.TableLemmas.{pid_looked}
 use Rattle.posix.proofs.AttemptLemmas.{named_there}
 use Rattle.posix.proofs.GroupLemmas.{regular_move}

@@ -1,10 +1,8 @@
 -- The number of the next process.
 use Rattle.std.proofs.Common.{◌≡◌, ◌≢◌, ℕ, ◌+◌, ◌-◌, ◌≤◌, Bool, true, false, refl, ap, ◌∙◌, sym, arith, List, [], ◌∷◌, Some, None}
+use Rattle.std.specs.Option.{option_or}
 use Rattle.std.proofs.lemmas.Bool.{eq-eqb}
-use Rattle.posix.specs.Processes.{Process}
-use Rattle.posix.specs.Tables.{lookup, bears}
-use Rattle.posix.specs.States.{State, next_pid}
-use Rattle.posix.specs.NextPid.{is_free, first_free, or_else, next_free}
+use Rattle.posix.specs.Common.{Process, lookup, bears, State, next_pid, is_free, first_free, next_free}
 use Rattle.posix.proofs.TableLemmas.{none_found}
 use Rattle.posix.proofs.RangeLemmas.{find_range}
 
@@ -12,7 +10,7 @@ use Rattle.posix.proofs.RangeLemmas.{find_range}
 next_found : (f : ℕ → Bool) (last pidmax k : ℕ) → next_free f last pidmax ≡ Some k → (f k ≡ true) × (1 ≤ k) × (k ≤ pidmax)
 unfolding next_free
 next_found f last pidmax k e =
-    elim (first_free f (last + 1) (pidmax - last)) as (λ o. first_free f (last + 1) (pidmax - last) ≡ o → or_else o (first_free f 2 (pidmax - 1)) ≡ Some k → (f k ≡ true) × (1 ≤ k) × (k ≤ pidmax)) [
+    elim (first_free f (last + 1) (pidmax - last)) as (λ o. first_free f (last + 1) (pidmax - last) ≡ o → option_or o (first_free f 2 (pidmax - 1)) ≡ Some k → (f k ≡ true) × (1 ≤ k) × (k ≤ pidmax)) [
       | Some q ↦ λ u h. let same : q ≡ k = cc in let i = find_range f (last + 1) (pidmax - last) q u in (ap f (sym same) ∙ i.0, omega (arith, i.1, same), omega (arith, i.1, i.2, same))
       | None ↦ λ u h. let i = find_range f 2 (pidmax - 1) k h in (i.0, omega (arith, i.1), omega (arith, i.1, i.2))
     ] refl e

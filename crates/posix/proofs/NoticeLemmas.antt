@@ -1,10 +1,6 @@
 -- Notices of ends, and what they are followed by, change the records, and the count of those dropped without a report, and nothing else of a state.
 use Rattle.std.proofs.Common.{◌≡◌, ℕ, Bool, true, false, cond, not, ◌&&◌, refl, ap, ◌∙◌, List, [], ◌∷◌, ◌==◌, Option, None}
-use Rattle.posix.specs.Processes.{Process}
-use Rattle.posix.specs.States.{State, change}
-use Rattle.posix.specs.Consoles.{Console, console_of}
-use Rattle.posix.specs.Ends.{is_dropping, drop_child, notice_of_end, status_of, zombies_of, tell_of_all, hup_and_cont_orphans, halt, leave_children_and_die, end_with_heir, hung_up, hang_up}
-use Rattle.posix.specs.Notices.{noticed, child_signal}
+use Rattle.posix.specs.Common.{Process, State, change, Console, console_of, is_dropping, drop_child, notice_of_end, status_of, zombies_of, tell_of_all, hup_and_cont_orphans, halt, leave_children_and_die, end_with_heir, hung_up, hang_up, noticed, child_signal}
 
 -- only the records, and the count of those dropped, may have changed
 abbrev pub OnlyRecords : State → State → Type 0

@@ -2,10 +2,7 @@
 use Rattle.std.proofs.Common.{◌≡◌, ℕ, ◌+◌, ◌≤◌, true, false, refl, ap, sym, ◌∙◌, arith, subst, List, [], ◌∷◌, ◌++◌, length, Some, ◌==◌, slice_get, inl, inr}
 use Rattle.std.specs.Option.{IsSome}
 use Rattle.std.proofs.lemmas.Bool.{eqb-true, eq-eqb, ne_eqb, or_from, or_cases, cases_Bool}
-use Rattle.posix.specs.Processes.{Process}
-use Rattle.posix.specs.Tables.{IsRising, lookup, pids}
-use Rattle.posix.specs.States.{State, is_in, without, lose_place, go_last}
-use Rattle.posix.specs.Regular.{IsRegular, IsPlaced, IsDistinct}
+use Rattle.posix.specs.Common.{Process, IsRising, lookup, pids, State, is_in, without, lose_place, go_last, IsRegular, IsPlaced, IsDistinct}
 use Rattle.posix.proofs.TableLemmas.{Above}
 use Rattle.posix.proofs.MemberLemmas.{in_last, apart_first, apart_rest, out_of}
 use Rattle.posix.proofs.RegularLemmas.{regular_with, regular_lose}

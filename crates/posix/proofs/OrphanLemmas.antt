@@ -4,14 +4,7 @@ use Rattle.std.specs.Option.{IfSome, option_map_or}
 use Rattle.std.specs.List.{list_any}
 use Rattle.std.proofs.lemmas.Bool.{eqb-true, eqb-false, eq-eqb, cond_both, and_parts, or_parts, not-true, not-false, false_from_ne_true, cases_eq}
 use Rattle.posix.specs.declared.process.PendingSignal.{PendingSignal}
-use Rattle.posix.specs.Processes.{Process, is_zombie}
-use Rattle.posix.specs.Tables.{IsRising, lookup, at, pids, changed, is_child, children_in, reparented, adopted, is_member, members_in, first_pid}
-use Rattle.posix.specs.States.{State, process, is_in, change}
-use Rattle.posix.specs.Generation.{signalled}
-use Rattle.posix.specs.Notices.{child_signal, ignores_children, noticed}
-use Rattle.posix.specs.Groups.{is_outside, is_anchor, is_orphaned, loses_anchor}
-use Rattle.posix.specs.Ends.{made_zombie, leave_children_and_die, is_dropping, drop_child, notice_of_end, status_of, zombies_of, tell_of_all}
-use Rattle.posix.specs.Regular.{IsRegular}
+use Rattle.posix.specs.Common.{Process, is_zombie, IsRising, lookup, at, pids, changed, is_child, children_in, reparented, adopted, is_member, members_in, first_pid, State, process, is_in, change, signalled, child_signal, ignores_children, noticed, is_outside, is_anchor, is_orphaned, loses_anchor, made_zombie, leave_children_and_die, is_dropping, drop_child, notice_of_end, status_of, zombies_of, tell_of_all, IsRegular}
 use Rattle.posix.proofs.MemberLemmas.{apart_first, apart_rest}
 use Rattle.posix.proofs.TableLemmas.{pid_looked, pid_reparented, reparented_keeps, rising_filter}
 use Rattle.posix.proofs.MapLemmas.{at_keeps, lookup_on}

@@ -3,8 +3,7 @@ use Rattle.std.proofs.Common.{◌≡◌, ℕ, ◌≤◌, Bool, true, refl, ap, �
 use Rattle.std.proofs.lemmas.Bool.{eqb-true}
 use Rattle.std.proofs.lemmas.List.{length-map}
 use Rattle.std.proofs.lemmas.List.Sums.{length-filter, count_by-le-length}
-use Rattle.posix.specs.Processes.{Process}
-use Rattle.posix.specs.Tables.{IsRising, lookup, changed, inserted, removed, left_of}
+use Rattle.posix.specs.Common.{Process, IsRising, lookup, changed, inserted, removed, left_of}
 use Rattle.posix.proofs.MapLemmas.{filter_map}
 use Rattle.posix.proofs.TableLemmas.{Above, remove_above}
 

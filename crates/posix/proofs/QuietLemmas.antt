@@ -1,13 +1,7 @@
 -- Where no process is stopped no process group gets HUP and CONT at an end.
 use Rattle.std.proofs.Common.{◌≡◌, ℕ, Bool, true, false, cond, not, ◌&&◌, ◌==◌, refl, arith, List, [], ◌∷◌, map, filter}
 use Rattle.std.proofs.lemmas.Bool.{cond_both}
-use Rattle.posix.specs.Processes.{Process, is_stopped}
-use Rattle.posix.specs.Tables.{at, changed, removed, reparented, adopted, members_in}
-use Rattle.posix.specs.States.{State, change}
-use Rattle.posix.specs.Generation.{signalled}
-use Rattle.posix.specs.Notices.{ignores_children, noticed, child_signal}
-use Rattle.posix.specs.Groups.{some_stopped, has_stopped, is_newly_orphaned, newly_orphaned, group_numbers}
-use Rattle.posix.specs.Ends.{made_zombie, leave_children_and_die, is_dropping, drop_child, notice_of_end, tell_of_all, status_of, zombies_of}
+use Rattle.posix.specs.Common.{Process, is_stopped, at, changed, removed, reparented, adopted, members_in, State, change, signalled, ignores_children, noticed, child_signal, some_stopped, has_stopped, is_newly_orphaned, newly_orphaned, group_numbers, made_zombie, leave_children_and_die, is_dropping, drop_child, notice_of_end, tell_of_all, status_of, zombies_of}
 use Rattle.posix.proofs.OrphanLemmas.{after_departure}
 
 -- nobody is stopped among some of them

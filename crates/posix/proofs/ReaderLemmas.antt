@@ -3,15 +3,7 @@ use Rattle.std.proofs.Common.{◌≡◌, ◌≢◌, ℕ, zero, suc, ◌≤◌, B
 use Rattle.std.proofs.lemmas.Bool.{eqb-true, eq-eqb, ne_eqb, or_parts}
 use Rattle.posix.specs.declared.errno.Errno.{Errno}
 use Rattle.posix.specs.declared.span.Span.{Span}
-use Rattle.posix.specs.Processes.{Process, argument}
-use Rattle.posix.specs.Tables.{lookup}
-use Rattle.posix.specs.States.{State, is_in}
-use Rattle.posix.specs.Consoles.{Console, console_of, is_of_session, with_foreground}
-use Rattle.posix.specs.Transfers.{span_in}
-use Rattle.posix.specs.GroupCalls.{is_group_of}
-use Rattle.posix.specs.Terminals.{waits_in, waits_on, waits_to_read}
-use Rattle.posix.specs.Settle.{is_fresh, refreshed, clear_foregrounds}
-use Rattle.posix.specs.Regular.{IsRegular}
+use Rattle.posix.specs.Common.{Process, argument, lookup, State, is_in, Console, console_of, is_of_session, with_foreground, span_in, is_group_of, waits_in, waits_on, waits_to_read, is_fresh, refreshed, clear_foregrounds, IsRegular}
 use Rattle.posix.proofs.TableLemmas.{none_found}
 use Rattle.posix.proofs.ConsoleLemmas.{session_refreshed}
 use Rattle.posix.proofs.SeeLemmas.{acts_reading}

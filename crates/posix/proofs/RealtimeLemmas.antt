@@ -4,12 +4,7 @@ use Rattle.std.proofs.lemmas.Bool.Decides.{nat_tests}
 use Rattle.posix.specs.declared.process.Effect.TheVariants as effect
 use Rattle.posix.specs.declared.process.Life.{Life}
 use Rattle.posix.specs.declared.process.PendingSignal.{PendingSignal}
-use Rattle.posix.specs.SignalNumbers.{is_realtime, is_stop_signal, CONT}
-use Rattle.posix.specs.Processes.{Process, Signals}
-use Rattle.posix.specs.Tables.{lookup, changed}
-use Rattle.posix.specs.Consoles.{key_signal}
-use Rattle.posix.specs.Generation.{signalled, effect_of}
-use Rattle.posix.specs.Notices.{acted_upon, generated_for}
+use Rattle.posix.specs.Common.{is_realtime, is_stop_signal, CONT, Process, Signals, lookup, changed, key_signal, signalled, effect_of, acted_upon, generated_for}
 use Rattle.posix.proofs.TableLemmas.{pid_looked, changed_absent}
 
 -- none is CONT or stops

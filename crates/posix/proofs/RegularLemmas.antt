@@ -5,19 +5,7 @@ use Rattle.std.proofs.lemmas.Bool.{eqb-true, eqb-false, eq-eqb, ne_eqb, cases_eq
 use Rattle.std.proofs.lemmas.List.{length-replicate, get_or-replicate}
 use Rattle.std.proofs.lemmas.Option.{slice_get_within, get_or_from_slice_get}
 use Rattle.posix.specs.declared.process.PendingSignal.{PendingSignal}
-use Rattle.posix.specs.Processes.{Process, Cpu, is_zombie, first_process}
-use Rattle.posix.specs.Tables.{IsRising, lookup, at, changed, inserted, removed, children_in, reparented, adopted}
-use Rattle.posix.specs.Consoles.{Console, unused_console}
-use Rattle.posix.specs.States.{World, State, boot, is_in, without, change, lose_place}
-use Rattle.posix.specs.Regular.{IsRegular, IsBounded, IsPlaced, CanInherit, IsDistinct, IsAhead, AreGrouped, AreConsoles}
-use Rattle.posix.specs.Generation.{signalled}
-use Rattle.posix.specs.Handlers.{handles, is_full}
-use Rattle.posix.specs.Ends.{ended, made_zombie, halt, leave_children_and_die}
-use Rattle.posix.specs.Notices.{noticed, ignores_children}
-use Rattle.posix.specs.Waits.{news_told}
-use Rattle.posix.specs.Delivery.{take_out}
-use Rattle.posix.specs.Step.{set_cpu}
-use Rattle.posix.specs.Alarms.{most_ticks, due_in, is_due, ring_at, rung, with_alarm, ring_all, pass_time}
+use Rattle.posix.specs.Common.{Process, Cpu, is_zombie, first_process, IsRising, lookup, at, changed, inserted, removed, children_in, reparented, adopted, Console, unused_console, World, State, boot, is_in, without, change, lose_place, IsRegular, IsBounded, IsPlaced, CanInherit, IsDistinct, IsAhead, AreGrouped, AreConsoles, signalled, handles, is_full, ended, made_zombie, halt, leave_children_and_die, noticed, ignores_children, news_told, take_out, set_cpu, most_ticks, due_in, is_due, ring_at, rung, with_alarm, ring_all, pass_time}
 use Rattle.posix.proofs.MemberLemmas.{in_without, is_other, in_one}
 use Rattle.posix.proofs.TableLemmas.{rising_map, rising_inserted, rising_removed, reparented_keeps, pid_reparented, pid_looked}
 use Rattle.posix.proofs.WalkLemmas.{children_removed}

@@ -5,11 +5,7 @@ use Rattle.std.proofs.lemmas.Bool.{eqb-true, eq-eqb}
 use Rattle.posix.specs.declared.process.Report.{Report}
 use Rattle.posix.specs.declared.target.Target.{Target}
 use Rattle.posix.specs.declared.process.Report.TheVariants as found
-use Rattle.posix.specs.Processes.{Process, is_zombie}
-use Rattle.posix.specs.Tables.{IsRising, lookup, changed, removed, is_child, children_in, at}
-use Rattle.posix.specs.States.{State}
-use Rattle.posix.specs.Regular.{IsRegular, IsPlaced}
-use Rattle.posix.specs.Waits.{is_named, report_of, reports, report_found, report_among, report}
+use Rattle.posix.specs.Common.{Process, is_zombie, IsRising, lookup, changed, removed, is_child, children_in, at, State, IsRegular, IsPlaced, is_named, report_of, reports, report_found, report_among, report}
 use Rattle.posix.proofs.TableLemmas.{rising_filter}
 use Rattle.posix.proofs.WaitLemmas.{by_report}
 use Rattle.posix.proofs.WalkLemmas.{in_filter, found_above}

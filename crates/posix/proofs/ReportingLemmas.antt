@@ -5,9 +5,7 @@ use Rattle.std.proofs.lemmas.Bool.{eq-eqb, ne_eqb}
 use Rattle.posix.specs.declared.process.Report.{Report}
 use Rattle.posix.specs.declared.process.Report.TheVariants as found
 use Rattle.posix.specs.declared.target.Target.TheVariants as whom
-use Rattle.posix.specs.Processes.{Process}
-use Rattle.posix.specs.Tables.{IsRising, lookup, has_pid, is_child, children_in, first_pid, above, left_of}
-use Rattle.posix.specs.Waits.{is_named, wanted_in, report_of, reports, report_found, report_among, report, report_of_meant}
+use Rattle.posix.specs.Common.{Process, IsRising, lookup, has_pid, is_child, children_in, first_pid, above, left_of, is_named, wanted_in, report_of, reports, report_found, report_among, report, report_of_meant}
 use Rattle.posix.proofs.TableLemmas.{pid_looked, rising_filter}
 use Rattle.posix.proofs.WalkLemmas.{AtOne, one_here, one_less, passing_above, all_left, has_first, head_left_of, next_begins, in_filter, found_above, numbered_one, numbered_none, filters_commute}
 use Rattle.posix.proofs.WaitLemmas.{one_among}

@@ -11,20 +11,9 @@ use Rattle.posix.specs.declared.target.Target.{Target}
 use Rattle.posix.specs.declared.target.Target.TheVariants as whom
 use Rattle.posix.specs.declared.errno.Errno.{Errno}
 use Rattle.posix.specs.declared.span.Span.{Span}
-use Rattle.posix.specs.SignalNumbers.{KILL}
-use Rattle.posix.specs.Processes.{Process, first_process, is_running, is_living, argument}
-use Rattle.posix.specs.Tables.{children_in, reparented}
-use Rattle.posix.specs.States.{State}
-use Rattle.posix.specs.Consoles.{Console}
-use Rattle.posix.specs.Transfers.{span_in}
+use Rattle.posix.specs.Common.{KILL, Process, first_process, is_running, is_living, argument, children_in, reparented, State, Console, span_in, wait_by, wait_for, wait_with, asked_by, is_named, report, report_of, report_found, report_among, reports, is_pending, chosen, terminal, read, read_on, read_in, waits_in, waits_on, waits_to_read, attempt_again, can_act, can_go_on, is_block}
 use Rattle.posix.specs.declared.waits.WaitCall.{WaitCall}
 use Rattle.posix.specs.declared.waits.Asked.{Asked}
-use Rattle.posix.specs.Waits.{wait_by, wait_for, wait_with, asked_by, is_named, report, report_of, report_found, report_among, reports}
-use Rattle.posix.specs.Generation.{is_pending}
-use Rattle.posix.specs.Choice.{chosen}
-use Rattle.posix.specs.Terminals.{terminal, read, read_on, read_in, waits_in, waits_on, waits_to_read}
-use Rattle.posix.specs.Attempts.{attempt_again}
-use Rattle.posix.specs.Settle.{can_act, can_go_on, is_block}
 
 -- what a parent that waits sees of a child
 pub record Seen : Type 0 where
@@ -143,15 +132,16 @@ pub acts_less : (s t : State) (r : Process) → (is_running r.life ≡ true → 
 unfolding can_act
 acts_less s t r h e = grind (arith, h, e)
 
+-- what waits only where another does goes on where that does
+pub less : (a b : Bool) → (a ≡ true → b ≡ true) → not b ≡ true → not a ≡ true
+less true b k e = sym (ap not (k refl)) ∙ e
+less false b k e = refl
+
 -- one whose read waits where it did, the processes being the same
 pub acts_reading : (s t : State) (r : Process) → t.processes ≡ s.processes → (is_running r.life ≡ true → r.blocked ≡ Some blocked.Read → waits_to_read s.consoles r ≡ true → waits_to_read t.consoles r ≡ true) → can_act t r ≡ true → can_act s r ≡ true
 unfolding attempt_again
 acts_reading s t r same h e = acts_less s t r (λ l k. goes r.blocked (h l) k) e
   where
-    less : (a b : Bool) → (a ≡ true → b ≡ true) → not b ≡ true → not a ≡ true
-    less true b k e = sym (ap not (k refl)) ∙ e
-    less false b k e = refl
-
     goes : (b : Option Blocked) → (b ≡ Some blocked.Read → waits_to_read s.consoles r ≡ true → waits_to_read t.consoles r ≡ true) → can_go_on t r b ≡ true → can_go_on s r b ≡ true
     goes (Some (blocked.Wait call)) k e = sym (ap not (block_wait s t r r.parent call (ap (sees r.pid) same))) ∙ e
     goes (Some blocked.Read) k e = less (is_block (read s r)) (is_block (read t r)) (λ w. block_read t r ∙ k refl (sym (block_read s r) ∙ w)) e

@@ -7,17 +7,10 @@ use Rattle.std.proofs.lemmas.Bool.Decides.{nat_tests}
 use Rattle.std.proofs.lemmas.List.{map-append}
 use Rattle.posix.specs.declared.process.Life.{Life}
 use Rattle.posix.specs.declared.process.Life.TheVariants.{Zombie}
-use Rattle.posix.specs.SignalNumbers.{KILL}
-use Rattle.posix.specs.Processes.{Process, is_running, is_zombie}
-use Rattle.posix.specs.Tables.{IsRising, IsNext, lookup, pids, above, left_of}
-use Rattle.posix.specs.States.{State, is_in}
-use Rattle.posix.specs.Generation.{is_pending}
-use Rattle.posix.specs.Choice.{chosen}
-use Rattle.posix.specs.Settle.{woken, woken_if, give_places, wakes, can_act, can_go_on}
+use Rattle.posix.specs.Common.{KILL, Process, is_running, is_zombie, IsRising, IsNext, lookup, pids, above, left_of, State, is_in, is_pending, chosen, woken, woken_if, give_places, wakes, can_act, can_go_on, IsRegular, IsPlaced}
 use Rattle.posix.proofs.MemberLemmas.{in_append}
 use Rattle.posix.proofs.TableLemmas.{pid_looked}
 use Rattle.posix.proofs.SeeLemmas.{can_act_order}
-use Rattle.posix.specs.Regular.{IsRegular, IsPlaced}
 use Rattle.posix.proofs.WalkLemmas.{numbered, numbered_one, numbered_none, rest_of_walk, walk_begins, walk_splits}
 
 -- ---- who can act lives

@@ -8,11 +8,8 @@ use Rattle.posix.specs.declared.instr.Trap.{Trap}
 use Rattle.posix.specs.declared.instr.Trap.TheVariants as trap
 use Rattle.posix.specs.declared.process.Life.{Life}
 use Rattle.posix.specs.declared.sig.DefaultAction.TheVariants as default
-use Rattle.posix.specs.SignalNumbers.{is_signal, is_stop_signal, default_action}
-use Rattle.posix.specs.Processes.{Cpu, Signals}
-use Rattle.posix.specs.Choice.{is_ready, all_signals, least_ready, chosen}
+use Rattle.posix.specs.Common.{is_signal, is_stop_signal, default_action, Cpu, Signals, is_ready, all_signals, least_ready, chosen, execute, execute_fetched, exec_one, fetched, computed, register, put_result, load_from, store_at, address_of}
 use Rattle.posix.proofs.RangeLemmas.{find_range}
-use Rattle.posix.specs.Execute.{execute, execute_fetched, exec_one, fetched, computed, register, put_result, load_from, store_at, address_of}
 
 -- ---- the signal that is chosen
 

@@ -3,8 +3,7 @@ use Rattle.std.proofs.Common.{◌≡◌, ℕ, zero, suc, ◌+◌, ◌<◌, Bool,
 use Rattle.std.specs.List.{AllByRecursion, list_any}
 use Rattle.std.proofs.lemmas.Bool.{eqb-true, eqb-false, ne_eqb}
 use Rattle.std.proofs.lemmas.Bool.Decides.{nat_tests}
-use Rattle.posix.specs.Processes.{Process}
-use Rattle.posix.specs.Tables.{IsRising, lookup, at, changed, inserted, removed, reparented, adopted}
+use Rattle.posix.specs.Common.{Process, IsRising, lookup, at, changed, inserted, removed, reparented, adopted}
 use Rattle.posix.proofs.MapLemmas.{at_pid}
 
 -- each pid is above n

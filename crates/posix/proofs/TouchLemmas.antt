@@ -3,14 +3,7 @@ use Rattle.std.proofs.Common.{◌≡◌, ◌≢◌, ℕ, true, false, not, refl,
 use Rattle.std.specs.Option.{IfSome, IsSome}
 use Rattle.std.proofs.lemmas.Bool.{eqb-true, ne_eqb, not-true, and_parts, or_parts}
 use Rattle.posix.specs.declared.process.PendingSignal.{PendingSignal}
-use Rattle.posix.specs.Processes.{Process, Cpu}
-use Rattle.posix.specs.Tables.{IsRising, lookup, at, changed, inserted, removed, is_child, children_in, reparented, adopted}
-use Rattle.posix.specs.States.{State, process, is_in, change, lose_place, go_last, without}
-use Rattle.posix.specs.Settle.{Covers, can_act}
-use Rattle.posix.specs.Generation.{signalled}
-use Rattle.posix.specs.Notices.{noticed}
-use Rattle.posix.specs.Alarms.{with_alarm, rung, ring_at}
-use Rattle.posix.specs.Step.{set_cpu}
+use Rattle.posix.specs.Common.{Process, Cpu, IsRising, lookup, at, changed, inserted, removed, is_child, children_in, reparented, adopted, State, process, is_in, change, lose_place, go_last, without, Covers, can_act, signalled, noticed, with_alarm, rung, ring_at, set_cpu}
 use Rattle.posix.proofs.MemberLemmas.{in_append, others_stay, apart_first, apart_rest}
 use Rattle.posix.proofs.TableLemmas.{Above, above_filter, lookup_above, changed_absent, remove_none, pid_looked, pid_reparented}
 use Rattle.posix.proofs.MapLemmas.{at_keeps, lookup_back, children_map, children_others}

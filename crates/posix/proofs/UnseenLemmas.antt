@@ -1,10 +1,7 @@
 -- Where nothing is left to settle, to settle does nothing; nor does it after a change of one process that others see nothing of.
 use Rattle.std.proofs.Common.{◌≡◌, ℕ, true, false, not, ◌&&◌, ap, sym, ◌∙◌, [], ◌∷◌, ◌++◌, append-nil, Some}
 use Rattle.std.proofs.lemmas.Bool.{not-true, and_parts, false_from_ne_true}
-use Rattle.posix.specs.Processes.{Process}
-use Rattle.posix.specs.Tables.{IsRising, pids}
-use Rattle.posix.specs.States.{State, process, is_in, change}
-use Rattle.posix.specs.Settle.{give_places, settle, IsSettled, NoWakeIsLost, AreFresh, Covers, wakes, can_act}
+use Rattle.posix.specs.Common.{Process, IsRising, pids, State, process, is_in, change, give_places, settle, IsSettled, NoWakeIsLost, AreFresh, Covers, wakes, can_act}
 use Rattle.posix.proofs.MemberLemmas.{in_none, in_one}
 use Rattle.posix.proofs.FreshLemmas.{cleared_none, fresh_changed}
 use Rattle.posix.proofs.SettleLemmas.{none_passes}

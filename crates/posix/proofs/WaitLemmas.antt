@@ -14,13 +14,7 @@ use Rattle.posix.specs.declared.process.News.{News}
 use Rattle.posix.specs.declared.process.News.TheVariants as news
 use Rattle.posix.specs.declared.process.Report.{Report}
 use Rattle.posix.specs.declared.process.Report.TheVariants as found
-use Rattle.posix.specs.Statuses.{stopped, continued}
-use Rattle.posix.specs.Processes.{Process, is_zombie}
-use Rattle.posix.specs.Calls.{call_of_wait}
-use Rattle.posix.specs.Tables.{removed}
-use Rattle.posix.specs.States.{State, change}
-use Rattle.posix.specs.Outcomes.{Attempted, Block, refused}
-use Rattle.posix.specs.Waits.{is_something, has_option, WSTOPPED, WEXITED, WCONTINUED, WNOHANG, WNOWAIT, report_change, report_life, report_of, report_found, report_among, report, asked_by, news_told, gives_nothing, gives_report, wait_with, wait_for, wait_by}
+use Rattle.posix.specs.Common.{stopped, continued, Process, is_zombie, call_of_wait, removed, State, change, Attempted, Block, refused, is_something, has_option, WSTOPPED, WEXITED, WCONTINUED, WNOHANG, WNOWAIT, report_change, report_life, report_of, report_found, report_among, report, asked_by, news_told, gives_nothing, gives_report, wait_with, wait_for, wait_by}
 
 -- what holds of nothing and of each change holds of what news report
 by_news : (P : Report → Type 0) (options p : ℕ) → P found.Nothing → ((w : ℕ) → P (found.Change p w)) → (n : News) → P (report_change options p n)

@@ -2,14 +2,7 @@
 use Rattle.std.proofs.Common.{◌≡◌, ℕ, ◌+◌, Bool, true, false, refl, ap, sym, ◌∙◌, arith, subst, List, [], ◌∷◌, filter, Some}
 use Rattle.posix.specs.declared.event.Event.{Event}
 use Rattle.posix.specs.declared.entry.Entry.{Entry}
-use Rattle.posix.specs.Processes.{Process}
-use Rattle.posix.specs.Tables.{lookup, pids}
-use Rattle.posix.specs.States.{State, World, boot, is_in}
-use Rattle.posix.specs.Outcomes.{Outcome}
-use Rattle.posix.specs.Entries.{Line}
-use Rattle.posix.specs.Runs.{RunsFrom}
-use Rattle.posix.specs.Settle.{give_places, clear_foregrounds, settle, wakes, can_act, IsSettled, NoWakeIsLost}
-use Rattle.posix.specs.Step.{IsStep, next, happens, act}
+use Rattle.posix.specs.Common.{Process, lookup, pids, State, World, boot, is_in, Outcome, Line, RunsFrom, give_places, clear_foregrounds, settle, wakes, can_act, IsSettled, NoWakeIsLost, IsStep, next, happens, act}
 use Rattle.posix.proofs.MemberLemmas.{in_append}
 use Rattle.posix.proofs.TableLemmas.{pid_looked}
 use Rattle.posix.proofs.SeeLemmas.{can_act_order}

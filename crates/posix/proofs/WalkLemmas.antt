@@ -6,9 +6,7 @@ use Rattle.std.proofs.lemmas.List.Elements.{filter-append}
 use Rattle.std.proofs.lemmas.Bool.{eqb-true, eq-eqb, ne_eqb, ltb-true, cases_order, and_parts, or_cases, false_from_ne_true}
 use Rattle.std.proofs.lemmas.Bool.Decides.{nat_tests}
 use Rattle.std.proofs.lemmas.Option.{IfSome_then}
-use Rattle.posix.specs.Processes.{Process}
-use Rattle.posix.specs.Tables.{IsRising, IsNext, has_pid, lookup, pids, removed, is_child, children_in, first_pid, above, next_above, left_of}
-use Rattle.posix.specs.States.{is_in}
+use Rattle.posix.specs.Common.{Process, IsRising, IsNext, has_pid, lookup, pids, removed, is_child, children_in, first_pid, above, next_above, left_of, is_in}
 use Rattle.posix.proofs.TableLemmas.{Above, above_less, lookup_above, pid_looked, rising_filter}
 
 -- of a list above n, all lie above n

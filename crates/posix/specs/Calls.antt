@@ -1,5 +1,5 @@
 -- System calls by their names.
-use Rattle.std.specs.Prelude.{ℕ, List, [], ◌∷◌, codes, Option, Some, None, find, bytes_eq}
+use Rattle.std.specs.Prelude.{ℕ, Bool, true, false, List, [], ◌∷◌, codes, Option, Some, None, find, bytes_eq}
 use Rattle.posix.specs.declared.call.Call.{Call}
 use Rattle.posix.specs.declared.waits.WaitCall.{WaitCall}
 use Rattle.posix.specs.declared.waits.WaitCall.TheVariants as wait
@@ -66,3 +66,10 @@ all_calls = Exit ∷ Fork ∷ Waitpid ∷ Waitid ∷ Pause ∷ SchedYield ∷ Ge
 -- the call that a word names
 abbrev pub call_named : List ℕ → Option Call
 call_named w = find (λ c. bytes_eq w (call_text c)) all_calls
+
+-- calls for which there may be no memory
+abbrev pub asks_memory : Call → Bool
+asks_memory Fork = true
+asks_memory Kill = true
+asks_memory Sigqueue = true
+asks_memory _ = false

@@ -40,3 +40,4 @@ pub mod Runs
 pub mod Printing
 pub mod Regular
 pub mod Ranges
+pub mod Common

@@ -1,9 +1,6 @@
 -- What another record for a process changes.
 use Rattle.std.proofs.Common.{◌≡◌, ℕ, refl, ap, ◌∙◌, List, Some}
-use Rattle.posix.specs.Processes.{Process}
-use Rattle.posix.specs.Births.{child_of}
-use Rattle.posix.specs.Outcomes.{finished}
-use Rattle.posix.specs.Tables.{IsRising, lookup, changed, parent_of}
+use Rattle.posix.specs.Common.{Process, child_of, finished, IsRising, lookup, changed, parent_of}
 use Rattle.posix.proofs.TableLemmas.{changed_same, changed_id, rising_changed}
 use Rattle.proctable.specs.declared.own_part.OwnPart.{OwnPart}
 use Rattle.proctable.specs.declared.records.Record.{Record}

@@ -2,12 +2,7 @@
 use Rattle.std.specs.Prelude.{ℕ, Bool, false, ◌&&◌, not, if◌then◌else◌, [], List, None, pos}
 use Rattle.std.specs.Borrow.{RattleType}
 use Rattle.posix.specs.declared.process.PendingSignal.{PendingSignal}
-use Rattle.posix.specs.Processes.{Process, first_process, nothing_pending}
-use Rattle.posix.specs.Generation.{signalled}
-use Rattle.posix.specs.Sends.{has_full_queue}
-use Rattle.posix.specs.Execute.{set_register, move_on}
-use Rattle.posix.specs.Choice.{chosen}
-use Rattle.posix.specs.Tables.{changed}
+use Rattle.posix.specs.Common.{Process, first_process, nothing_pending, signalled, has_full_queue, set_register, move_on, chosen, changed}
 use Rattle.proctable.specs.declared.records.Record.{Record}
 use Rattle.proctable.specs.declared.snapshot.Snapshot.{Snapshot}
 use Rattle.proctable.specs.declared.own_part.OwnPart.{OwnPart}

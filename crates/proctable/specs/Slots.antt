@@ -2,7 +2,7 @@
 use Rattle.std.specs.Prelude.{ℕ, ◌+◌, ◌-◌, ◌^◌, min, max}
 use Rattle.std.specs.Borrow.{RattleType}
 use Rattle.slab.specs.Slab.{Slab, with_value}
-use Rattle.posix.specs.Processes.{Process}
+use Rattle.posix.specs.Common.{Process}
 use Rattle.proctable.specs.contracts.slot.Slot.{the_row as the_slot_row}
 
 -- the processes by slot, and how many slots were read

@@ -2,7 +2,7 @@
 use Rattle.std.specs.Prelude.{◌≡◌, ℕ, List, length, filter_map, Some}
 use Rattle.std.specs.List.{AllByRecursion}
 use Rattle.slab.specs.Slab.{Slab, get, slab_len}
-use Rattle.posix.specs.Processes.{Process}
+use Rattle.posix.specs.Common.{Process}
 use Rattle.pidset.specs.Numbers.{Rises}
 use Rattle.pidset.specs.Pages.{Entry, pids_of}
 use Rattle.proctable.specs.declared.records.Record.{Record}

@@ -2,13 +2,7 @@
 
 ghost use Rattle.std.specs.Prelude.{◌≡◌, IfOk, OnOk, OnErr, Some, None, ◌∷◌, [], true, false};
 ghost use Rattle.posix.specs.declared.process.Frame.{Frame};
-ghost use Rattle.posix.specs.Processes.{Process, first_process};
-ghost use Rattle.posix.specs.Outcomes.{finished};
-ghost use Rattle.posix.specs.Waits.{results_of, results_of_nothing};
-ghost use Rattle.posix.specs.Handlers.{handles, is_full, newest_frame, returned};
-ghost use Rattle.posix.specs.Step.{enter, out_of_call};
-ghost use Rattle.posix.specs.States.{Program};
-ghost use Rattle.posix.specs.Programs.{executed};
+ghost use Rattle.posix.specs.Common.{Process, first_process, finished, results_of, results_of_nothing, handles, is_full, newest_frame, returned, enter, out_of_call, Program, executed};
 ghost use Rattle.proctable.specs.Records.{own_of, give_own, forked};
 
 use crate::spare::Spare;

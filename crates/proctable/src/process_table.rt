@@ -2,8 +2,7 @@
 
 ghost use Rattle.std.specs.Prelude.{◌≡◌, ◌+◌, ◌^◌, ◌<◌, ◌≤◌, ℕ, [], List, None, Some, IsSome, IfSome, OnOk, option_map, length};
 ghost use Rattle.std.specs.Borrow.{sem, Lends};
-ghost use Rattle.posix.specs.Processes.{Process};
-ghost use Rattle.posix.specs.Tables.{IsRising, lookup, changed, inserted, removed, next_above, parent_of};
+ghost use Rattle.posix.specs.Common.{Process, IsRising, lookup, changed, inserted, removed, next_above, parent_of};
 ghost use Rattle.proctable.specs.declared.records.Record.{Record};
 ghost use Rattle.proctable.specs.Records.{process_of, snapshot_of, with_parent, with_record, record_row};
 

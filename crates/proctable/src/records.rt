@@ -1,16 +1,7 @@
 //! What a table keeps of a process beside its number and its parent's.
 
 ghost use Rattle.std.specs.Prelude.{◌≡◌, ◌⊎◌, true, false, is_some, IfOk, ℕ};
-ghost use Rattle.posix.specs.SignalNumbers.{is_realtime};
-ghost use Rattle.posix.specs.Processes.{first_process};
-ghost use Rattle.posix.specs.Births.{child_of};
-ghost use Rattle.posix.specs.Ends.{made_zombie, ended};
-ghost use Rattle.posix.specs.Notices.{noticed, noticed_of_change};
-ghost use Rattle.posix.specs.Generation.{signalled, effect_of};
-ghost use Rattle.posix.specs.Sends.{is_queuer};
-ghost use Rattle.posix.specs.Waits.{news_told};
-ghost use Rattle.posix.specs.Subreapers.{marked_as};
-ghost use Rattle.posix.specs.Alarms.{ring_at as ring_at_tick, with_alarm};
+ghost use Rattle.posix.specs.Common.{is_realtime, first_process, child_of, made_zombie, ended, noticed, noticed_of_change, signalled, effect_of, is_queuer, news_told, marked_as, ring_at as ring_at_tick, with_alarm};
 ghost use Rattle.proctable.specs.Records.{process_of, queued, snapshot_of};
 
 use crate::own_part::OwnPart;

@@ -1,6 +1,6 @@
 -- Words of a line, and what is seen of it.
 use Rattle.std.proofs.Common.{◌≡◌, ℕ, ◌-◌, ◌<◌, ◌≤◌, zero, suc, List, [], ◌∷◌, ◌++◌, length, take, drop, refl, ap, sym, ◌∙◌, append_assoc, length-append, arith}
-use Rattle.std.proofs.lemmas.List.{take_at}
+use Rattle.std.proofs.lemmas.List.{nil_from_length, take_at}
 use Rattle.std.specs.Prelude.{not}
 use Rattle.std.specs.List.{position_or_len}
 use Rattle.text.specs.Words.{before_comment, behind_word, from_word, is_separator}
@@ -13,12 +13,8 @@ pub behind_nothing : (count : ℕ) → behind_words count [] ≡ []
 behind_nothing zero = refl
 behind_nothing (suc count) = behind_nothing count
 
-is_nothing : (text : List ℕ) → length text ≡ 0 → text ≡ []
-is_nothing [] e = refl
-is_nothing (b ∷ bs) e = absurd (omega (arith, e))
-
 no_word : (text : List ℕ) → length (from_word text) ≡ 0 → behind_word text ≡ []
-no_word text e = let none = is_nothing (from_word text) e in rw none refl
+no_word text e = let none = nil_from_length (from_word text) e in rw none refl
 
 pub behind_no_word : (count : ℕ) (text : List ℕ) → 0 < count → length (from_word text) ≡ 0 → behind_words count text ≡ []
 behind_no_word zero text some e = absurd (omega (arith, some))

@@ -3,7 +3,7 @@ use Rattle.std.specs.Prelude.{◌≡◌, ◌≢◌, ◌⊎◌, ◌++◌, ◌==�
 use Rattle.inputs.specs.Reads.{Text}
 use Rattle.naming.specs.Texts.{IsNamed}
 use Rattle.posix.specs.declared.event.Event.{Event}
-use Rattle.posix.specs.States.{World}
+use Rattle.posix.specs.Common.{World}
 use Rattle.text.specs.EventTexts.{event_text}
 use Rattle.text.specs.Lines.{all_lines}
 use Rattle.text.specs.WorldTexts.{world_text}

@@ -1,7 +1,7 @@
 -- Text as a terminal may show it, and what stands below it.
 use Rattle.std.specs.Prelude.{ℕ, ◌-◌, ◌==◌, ◌&&◌, ◌||◌, ◌++◌, not, Bool, List, [], ◌∷◌, codes, length, take, nat_le, nat_lt, flat_map, if◌then◌else◌}
 use Rattle.std.specs.List.{list_all, list_any}
-use Rattle.naming.specs.Keys.{two_digits}
+use Rattle.text.specs.Numbers.{two_digits}
 
 -- ---- a text
 

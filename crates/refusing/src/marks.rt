@@ -11,7 +11,7 @@ use std::alloc::AllocError;
 fn continues(byte: u8) -> bool
     ensures { result ≡ continues_of byte }
 {
-    0x80 <= byte && byte <= 0xBF
+    matches!(byte, 0x80..=0xBF)
 }
 
 /// How many bytes follow the first byte of a letter, by that byte; 0 where it begins none of several bytes.
@@ -67,7 +67,7 @@ fn more_of(byte: u8, behind: &[u8]) -> usize
 fn is_shown(byte: u8) -> bool
     ensures { result ≡ is_shown_of byte }
 {
-    byte == b'\t' || (b' ' <= byte && byte <= b'~')
+    matches!(byte, b'\t' | b' '..=b'~')
 }
 
 /// Adds the first byte of a letter that has so many more, or a byte by its number, as `\x1B`.

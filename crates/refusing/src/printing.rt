@@ -1,21 +1,14 @@
 //! What is told of a refusal, as it is printed.
 
-ghost use Rattle.std.specs.Prelude.{◌≡◌, ◌++◌, IfOk, OnOk, decimal};
-ghost use Rattle.std.specs.String.{string_bytes};
+ghost use Rattle.std.specs.Prelude.{◌≡◌, ◌++◌, IfOk, OnOk};
 ghost use Rattle.refusing.specs.Marks.{shown};
 ghost use Rattle.refusing.specs.Printing.{behind_marks, file_line, first_lines, mark_line, note_line, place_line, printed as printed_of, sentence_line, text_line};
 
 use crate::marks::{write_blanks, write_marks, write_shown};
 use crate::sight::Sight;
 use crate::telling::{Shown, Told};
+use itoa::Buffer;
 use std::alloc::{AllocError, Global};
-
-/// The decimal digits of a number.
-fn digits_of(alloc: Global, number: u64) -> Result<String, AllocError>
-    ensures { IfOk result (λ t. string_bytes t ≡ decimal number) }
-{
-    format!(in alloc; "{number}")
-}
 
 /// Adds the line with the name of the file.
 fn write_file(out: &mut Vec<u8>, name: &str) -> Result<(), AllocError>
@@ -27,14 +20,13 @@ fn write_file(out: &mut Vec<u8>, name: &str) -> Result<(), AllocError>
 }
 
 /// Adds the line with the name of the file and the number of a line in it.
-fn write_place(alloc: Global, out: &mut Vec<u8>, name: &str, number: u64) -> Result<(), AllocError>
+fn write_place(out: &mut Vec<u8>, name: &str, number: u64) -> Result<(), AllocError>
     ensures { OnOk result (out.new.items ≡ out.old.items ++ place_line name.now number) }
 {
-    let digits = digits_of(alloc, number)?;
     out.extend_from_slice(b" --> ")?;
     out.extend_from_slice(name.as_bytes())?;
     out.extend_from_slice(b":")?;
-    out.extend_from_slice(digits.as_str().as_bytes())?;
+    out.extend_from_slice(Buffer::new().format(number).as_bytes())?;
     out.extend_from_slice(b"\n")
 }
 
@@ -48,12 +40,11 @@ fn write_sentence(out: &mut Vec<u8>, sentence: &[u8]) -> Result<(), AllocError>
 }
 
 /// Adds a line with its number.
-fn write_line(alloc: Global, out: &mut Vec<u8>, number: u64, line: &[u8]) -> Result<(), AllocError>
+fn write_line(out: &mut Vec<u8>, number: u64, line: &[u8]) -> Result<(), AllocError>
     ensures { OnOk result (out.new.items ≡ out.old.items ++ text_line number line.now) }
 {
-    let digits = digits_of(alloc, number)?;
     out.extend_from_slice(b"  ")?;
-    out.extend_from_slice(digits.as_str().as_bytes())?;
+    out.extend_from_slice(Buffer::new().format(number).as_bytes())?;
     out.extend_from_slice(b" | ")?;
     write_shown(out, line)?;
     out.extend_from_slice(b"\n")
@@ -89,11 +80,10 @@ fn write_mark_line(
 ) -> Result<(), AllocError>
     ensures { OnOk result (out.new.items ≡ out.old.items ++ mark_line number sight.now.before.now sight.now.marked.now why.now) }
 {
-    let digits = digits_of(alloc, number)?;
     let before = shown_text(alloc, sight.before)?;
     let marked = shown_text(alloc, sight.marked)?;
     out.extend_from_slice(b"  ")?;
-    write_blanks(out, digits.as_str().as_bytes())?;
+    write_blanks(out, Buffer::new().format(number).as_bytes())?;
     out.extend_from_slice(b" | ")?;
     write_blanks(out, before.as_slice())?;
     write_marks(out, marked.as_slice())?;
@@ -127,12 +117,12 @@ fn write_first(
             write_sentence(out, why)
         }
         Shown::FirstLine => {
-            write_place(alloc, out, name, 1)?;
+            write_place(out, name, 1)?;
             write_sentence(out, why)
         }
         Shown::Line(number, sight) => {
-            write_place(alloc, out, name, *number)?;
-            write_line(alloc, out, *number, sight.line)?;
+            write_place(out, name, *number)?;
+            write_line(out, *number, sight.line)?;
             write_mark_line(alloc, out, *number, sight, why)
         }
     }

@@ -9,7 +9,7 @@ ghost use Rattle.refusing.specs.Texts.{AreAccepted, IsInput, IsRefused, IsUnread
 
 use crate::printing::printed;
 use crate::telling::{Refused, told_of_events, told_of_world};
-use inputs::{FileFailure, ReadFiles, Unread};
+use inputs::{FileFailure, ReadFault, ReadFiles};
 use naming::{Named, name_text};
 use std::alloc::{AllocError, Global};
 use text::{TextFault, next_line, read_events, read_world};
@@ -54,9 +54,9 @@ impl<'a> Input<'a> {
         ensures err { IfErr result IsUnread }
     {
         match Input::read(alloc, files, name) {
-            Err(why @ FileFailure::Unread(Unread::CannotRead(_))) => {
+            Err(why @ FileFailure::Unread(ReadFault::CannotRead(_))) => {
                 match Input::read(alloc, files, other) {
-                    Err(FileFailure::Unread(Unread::CannotRead(_))) => Err(why),
+                    Err(FileFailure::Unread(ReadFault::CannotRead(_))) => Err(why),
                     read => read,
                 }
             }
@@ -65,11 +65,11 @@ impl<'a> Input<'a> {
     }
 
     /// A copy of the text with numbers for its names.
-    fn copy_named<'n>(&self, alloc: Global) -> Result<Vec<u8>, Unread<'n>>
+    fn copy_named<'n>(&self, alloc: Global) -> Result<Vec<u8>, ReadFault<'n>>
         ensures ok { IfOk result (λ copy. copy.items ≡ self.now.named.text.items) }
-        ensures err { IfErr result (λ why. why ≡ Unread.Memory) }
+        ensures err { IfErr result (λ why. why ≡ ReadFault.Memory) }
     {
-        Vec::from_slice(alloc, self.named.text.as_slice()).map_err(|_| Unread::Memory)
+        Vec::from_slice(alloc, self.named.text.as_slice()).map_err(|_| ReadFault::Memory)
     }
 
     /// What is told of the text's first fault, and the line to leave out for the others: of events for a world of so many
@@ -194,11 +194,11 @@ impl ReadFiles for Texts<'_> {
 
     ghost contents = { λ texts. named_files texts };
 
-    fn read_file<'a>(&self, name: &'a str) -> Result<Vec<u8>, Unread<'a>> {
+    fn read_file<'a>(&self, name: &'a str) -> Result<Vec<u8>, ReadFault<'a>> {
         match name {
             "world" => self.world.copy_named(self.alloc),
             "events" => self.events.copy_named(self.alloc),
-            _ => Err(Unread::CannotRead(name)),
+            _ => Err(ReadFault::CannotRead(name)),
         }
     }
 }

@@ -1,8 +1,7 @@
 -- Lines that are added, one after another, while some keys wait.
-use Rattle.std.proofs.Common.{◌≡◌, ℕ, zero, suc, ◌+◌, ◌-◌, ◌<◌, ◌≤◌, true, List, [], ◌∷◌, ◌++◌, length, length-append, take, drop, get_or, map, ap, sym, ◌∙◌, refl, subst, append_assoc, append-nil, arith}
+use Rattle.std.proofs.Common.{◌≡◌, ℕ, ◌+◌, ◌-◌, ◌<◌, ◌≤◌, true, List, [], ◌∷◌, ◌++◌, length, length-append, take, drop, get_or, map, ap, sym, ◌∙◌, refl, subst, append_assoc, append-nil, arith}
 use Rattle.std.specs.Prelude.{codes, decimal, replicate, nat_lt, Result, Ok, Err, OnOk}
 use Rattle.std.specs.List.{list_all}
-use Rattle.std.proofs.lemmas.Bool.{lt-ltb}
 use Rattle.std.proofs.lemmas.Grind.{common_steps}
 use Rattle.std.proofs.lemmas.List.{length-replicate, replicate-append-replicate, take-append-drop, take_all, take_more}
 use Rattle.std.proofs.lemmas.List.Concat.{flat_map-append}
@@ -11,7 +10,8 @@ use Rattle.posix.specs.declared.event.Event.TheVariants.{Key, Hangup}
 use Rattle.text.specs.EventLists.{CountedEvent, expanded, run_events}
 use Rattle.text.specs.EventTexts.{most_events}
 use Rattle.text.proofs.EventLemmas.{expanded_push}
-use Rattle.schedules.specs.EventLines.{AddsLines, AddsFirst, AddsText, IsWordOf, two_digits}
+use Rattle.text.specs.Numbers.{two_digits}
+use Rattle.schedules.specs.EventLines.{AddsLines, AddsFirst, AddsText, IsWordOf}
 use Rattle.schedules.proofs.LineLemmas.{line, spaced}
 use Rattle.schedules.proofs.SayLemmas.{says_nothing, says_joined, stands, counted_says, key_words, keys_say, hangup_says}
 
@@ -79,10 +79,6 @@ keys_more console bytes i lt = grind (arith, common_steps)
 pub keys_added : (old new : List ℕ) (console : ℕ) (bytes : List ℕ) → console < 256 → 0 < length bytes → length bytes ≤ 16 → list_all (λ b. nat_lt b 256) bytes ≡ true
     → new ≡ old ++ (keys_begun console bytes ++ 10 ∷ []) → AddsLines old (map (Key console) bytes) new
 keys_added old new console bytes small some few fit h = (line (key_words console bytes), h, keys_say console bytes small some few fit)
-
-pub bytes_fit : (bytes : List ℕ) → ((i : ℕ) → get_or bytes i 0 < 256) → list_all (λ b. nat_lt b 256) bytes ≡ true
-bytes_fit [] fit = refl
-bytes_fit (b ∷ bs) fit = rw (lt-ltb b 256 (fit zero), bytes_fit bs (λ i. fit (suc i))) refl
 
 -- what a formatted line is
 pub counted_line : (word : List ℕ) (n : ℕ) → codes "    " ++ (word ++ (codes " " ++ (decimal n ++ codes "\n"))) ≡ line (word ∷ decimal n ∷ [])

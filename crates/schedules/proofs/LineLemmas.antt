@@ -2,14 +2,14 @@
 use Rattle.std.proofs.Common.{◌≡◌, ℕ, ◌≤◌, ◌==◌, Bool, true, false, not, List, [], ◌∷◌, ◌++◌, length, refl, ap, sym, ◌∙◌, append_assoc, append-nil, arith, Ok}
 use Rattle.std.specs.Prelude.{◌&&◌, ◌||◌, nat_le, nat_lt, codes, flat_map}
 use Rattle.std.specs.List.{list_all, list_any, prefix_len}
-use Rattle.std.proofs.lemmas.Bool.{and_parts}
+use Rattle.std.proofs.lemmas.Bool.{and_parts, ltb-true}
 use Rattle.std.proofs.lemmas.Bool.Decides.{nat_tests}
 use Rattle.std.proofs.lemmas.List.{take_all}
 use Rattle.std.proofs.lemmas.List.Folds.{list_all-append}
-use Rattle.text.specs.Lines.{all_lines}
-use Rattle.text.specs.Words.{words, words_from, closed, is_separator, before_comment}
+use Rattle.text.specs.Lines.{all_lines, closed}
+use Rattle.text.specs.Words.{words, words_from, is_separator, before_comment}
 use Rattle.text.specs.Reading.{words_within}
-use Rattle.text.proofs.LineLemmas.{all_from, all_from-end, all_from-more}
+use Rattle.text.proofs.LineLemmas.{closed_some, all_from, all_from-end, all_from-more}
 use Rattle.text.proofs.WordLemmas.{words_from-more}
 
 -- each word behind a blank
@@ -38,9 +38,6 @@ all_weaker : (p q : ℕ → Bool) → ((b : ℕ) → p b ≡ true → q b ≡ tr
 all_weaker p q k [] h = refl
 all_weaker p q k (b ∷ bs) h = let both = and_parts (p b) (list_all p bs) h in rw (k b both.0, all_weaker p q k bs both.1) refl
 
-all_joined : (p : ℕ → Bool) (xs ys : List ℕ) → list_all p xs ≡ true → list_all p ys ≡ true → list_all p (xs ++ ys) ≡ true
-all_joined p xs ys h k = list_all-append p xs ys ∙ rw (h, k) refl
-
 prefix_all : (p : ℕ → Bool) (bs : List ℕ) → list_all p bs ≡ true → prefix_len p bs ≡ length bs
 prefix_all p [] h = refl
 prefix_all p (b ∷ bs) h = let both = and_parts (p b) (list_all p bs) h in rw both.0 (omega (arith, prefix_all p bs both.1))
@@ -62,7 +59,7 @@ spaced_bytes [] h = refl
 spaced_bytes (w ∷ ws) h =
     let both = and_parts (is_plain_word w) (list_all is_plain_word ws) h in
     let word = and_parts (nat_lt 0 (length w)) (list_all is_plain w) both.0 in
-    all_joined is_blank_or_plain w (spaced ws) (all_weaker is_plain is_blank_or_plain blank_or_plain w word.1) (spaced_bytes ws both.1)
+    list_all-append is_blank_or_plain w (spaced ws) ∙ rw (all_weaker is_plain is_blank_or_plain blank_or_plain w word.1, spaced_bytes ws both.1) refl
 
 -- ---- the first line
 
@@ -95,10 +92,6 @@ word_taken begun (b ∷ bs) rest h =
     ∙ word_taken (begun ++ b ∷ []) bs rest both.1
     ∙ ap (λ (l : List ℕ). words_from l rest) (append_assoc begun (b ∷ []) bs)
 
-word_closed : (w : List ℕ) → nat_lt 0 (length w) ≡ true → closed w ≡ w ∷ []
-word_closed [] h = cc
-word_closed (b ∷ bs) h = refl
-
 spaced_words : (begun : List ℕ) (ws : List (List ℕ)) → list_all is_plain_word ws ≡ true → words_from begun (spaced ws) ≡ closed begun ++ ws
 spaced_words begun [] h = sym (append-nil (closed begun))
 spaced_words begun (w ∷ ws) h =
@@ -107,7 +100,7 @@ spaced_words begun (w ∷ ws) h =
     ap (λ (l : List (List ℕ)). closed begun ++ l) (
     word_taken [] w (spaced ws) word.1
     ∙ spaced_words w ws both.1
-    ∙ ap (λ (l : List (List ℕ)). l ++ ws) (word_closed w word.0)
+    ∙ ap (λ (l : List (List ℕ)). l ++ ws) (closed_some w (ltb-true 0 (length w) word.0))
     )
 
 pub words_back : (ws : List (List ℕ)) → list_all is_plain_word ws ≡ true → length (spaced ws) ≤ 197 → words_within (codes "   " ++ spaced ws) ≡ Ok ws

@@ -9,11 +9,10 @@ use Rattle.std.proofs.lemmas.Str.Parse.{digit_from_value}
 use Rattle.std.proofs.lemmas.Fmt.{decimal_is_IsNumeral, decimal_nonempty}
 use Rattle.std.proofs.lemmas.Bool.{and_parts, lt-ltb, ltb-true}
 use Rattle.std.proofs.lemmas.Bool.Decides.{nat_tests}
-use Rattle.posix.specs.Decimals.{value_of}
+use Rattle.posix.specs.Common.{value_of}
 use Rattle.posix.proofs.DecimalLemmas.{digits_all, value_back}
-use Rattle.text.specs.Numbers.{number, number_in, byte_in, hex_digit}
+use Rattle.text.specs.Numbers.{number, number_in, byte_in, hex_digit, two_digits}
 use Rattle.text.specs.EventTexts.{bytes_within}
-use Rattle.schedules.specs.EventLines.{two_digits}
 use Rattle.schedules.proofs.LineLemmas.{is_plain, is_plain_word}
 
 -- ---- decimal digits

@@ -12,7 +12,8 @@ use Rattle.posix.specs.declared.event.Event.TheVariants.{Step, Tick, Key, Hangup
 use Rattle.text.specs.Lines.{all_lines}
 use Rattle.text.specs.Reading.{◌>>=◌}
 use Rattle.text.specs.EventTexts.{read_lines, start, answer, event_text, event_words, judged, judged_line, counted, keys, hangup, most_events}
-use Rattle.schedules.specs.EventLines.{Says, StandsFor, IsWordOf, read_well, is_possible, two_digits}
+use Rattle.text.specs.Numbers.{two_digits}
+use Rattle.schedules.specs.EventLines.{Says, StandsFor, IsWordOf, read_well, is_possible}
 use Rattle.schedules.proofs.LineLemmas.{is_plain_word, spaced, line, first_line, line_first, no_feeds, words_back}
 use Rattle.schedules.proofs.NumberLemmas.{decimal_plain, number_back, bytes_plain, bytes_back}
 

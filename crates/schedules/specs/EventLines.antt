@@ -1,15 +1,10 @@
 -- What lines of an event text stand for, whatever the world.
-use Rattle.std.specs.Prelude.{◌≡◌, ℕ, ◌+◌, ◌/◌, ◌%◌, ◌≤◌, ◌&&◌, Bool, true, List, [], ◌∷◌, ◌++◌, length, nat_le, codes, None, Ok}
+use Rattle.std.specs.Prelude.{◌≡◌, ℕ, ◌+◌, ◌≤◌, ◌&&◌, Bool, true, List, ◌++◌, length, nat_le, codes, None, Ok}
 use Rattle.std.specs.List.{list_all}
-use Rattle.std.specs.Fmt.{digit_glyph}
 use Rattle.posix.specs.declared.event.Event.{Event}
 use Rattle.posix.specs.declared.event.Event.TheVariants.{Step, Tick, Key, Hangup}
 use Rattle.text.specs.Lines.{all_lines}
 use Rattle.text.specs.EventTexts.{Reading, read_lines, event_text, most_events}
-
--- a byte as two digits to base 16
-abbrev pub two_digits : ℕ → List ℕ
-two_digits byte = digit_glyph true (byte / 16) ∷ digit_glyph true (byte % 16) ∷ []
 
 -- whether an event can happen where there are so many consoles
 abbrev pub is_possible : ℕ → Event → Bool

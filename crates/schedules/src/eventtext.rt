@@ -6,7 +6,8 @@ ghost use Rattle.arrayvec.specs.ArrayVec.{array_vec_len};
 ghost use Rattle.posix.specs.declared.event.Event.{Event as AnEvent};
 ghost use Rattle.posix.specs.declared.event.Event.TheVariants.{Key, Hangup};
 ghost use Rattle.text.specs.EventTexts.{most_events};
-ghost use Rattle.schedules.specs.EventLines.{AddsFirst, AddsLines, AddsText, IsWordOf, two_digits};
+ghost use Rattle.text.specs.Numbers.{two_digits};
+ghost use Rattle.schedules.specs.EventLines.{AddsFirst, AddsLines, AddsText, IsWordOf};
 
 use arrayvec::{ArrayString, ArrayVec};
 use posix::Event;

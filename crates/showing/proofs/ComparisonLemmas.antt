@@ -9,9 +9,7 @@ use Rattle.kernel.specs.declared.texts.RunError.{RunError}
 use Rattle.kernel.specs.declared.texts.RunError.TheVariants as error
 use Rattle.kernel.specs.declared.summary.Summary.{Summary}
 use Rattle.posix.specs.declared.event.Event.{Event}
-use Rattle.posix.specs.Entries.{Line}
-use Rattle.posix.specs.Printing.{print}
-use Rattle.posix.specs.States.{State, World}
+use Rattle.posix.specs.Common.{Line, print, State, World}
 use Rattle.trace.proofs.SinkLemmas.{put_fits, slice_more}
 use Rattle.trace.specs.Sinks.{Seen}
 use Rattle.text.specs.EventTexts.{event_text}

@@ -5,10 +5,7 @@ use Rattle.std.proofs.lemmas.List.{length-replicate, length-take-le, take-append
 use Rattle.std.proofs.Math.Seq.{take-append-add}
 use Rattle.posix.specs.declared.entry.Entry.{Entry}
 use Rattle.posix.specs.declared.event.Event.{Event}
-use Rattle.posix.specs.Entries.{numbered}
-use Rattle.posix.specs.States.{State, World, boot}
-use Rattle.posix.specs.Step.{IsStep}
-use Rattle.posix.specs.Runs.{Runs, RunsFrom}
+use Rattle.posix.specs.Common.{numbered, State, World, boot, IsStep, Runs, RunsFrom}
 use Rattle.text.specs.EventLists.{CountedEvent, expanded}
 use Rattle.kernel.specs.Views.{KernelView}
 use Rattle.kernel.proofs.EventLemmas.{expanded_split, replicate_joined, run_fits}

@@ -3,9 +3,7 @@ use Rattle.std.specs.Prelude.{◌≡◌, ◌≢◌, ℕ, ◌+◌, ◌==◌, List
 use Rattle.inputs.specs.Reads.{AreInFiles, Contents, Text}
 use Rattle.kernel.specs.Headline.{RunsTexts}
 use Rattle.posix.specs.declared.event.Event.{Event}
-use Rattle.posix.specs.Entries.{Line}
-use Rattle.posix.specs.Printing.{print}
-use Rattle.posix.specs.States.{State}
+use Rattle.posix.specs.Common.{Line, print, State}
 
 -- Two texts are the same before a place, and differ there, or one of them ends.
 pub record DifferAt (text other : List ℕ) (place : ℕ) : Type 0 where

@@ -1,9 +1,7 @@
 -- Kernels that have been given the first of some events.
 use Rattle.std.specs.Prelude.{◌≡◌, ◌+◌, ◌-◌, ◌≤◌, List, length, take, replicate}
 use Rattle.posix.specs.declared.event.Event.{Event}
-use Rattle.posix.specs.Entries.{Line}
-use Rattle.posix.specs.States.{World}
-use Rattle.posix.specs.Runs.{Runs, RunsFrom}
+use Rattle.posix.specs.Common.{Line, World, Runs, RunsFrom}
 use Rattle.kernel.specs.Views.{KernelView}
 
 -- The state is the last one of a run of the world: of as many of the events as were given.

@@ -2,7 +2,7 @@
 
 ghost use Rattle.std.specs.Prelude.{◌≡◌, ◌+◌, ◌<◌, ◌≤◌, List, IfOk, OnErr, OnOk, length, max, min};
 ghost use Rattle.posix.specs.declared.event.Event.{Event as EventValue};
-ghost use Rattle.posix.specs.States.{World as WorldValue};
+ghost use Rattle.posix.specs.Common.{World as WorldValue};
 ghost use Rattle.text.specs.EventTexts.{most_events};
 ghost use Rattle.showing.specs.Pasts.{AreGiven, IsReached, IsSame};
 
@@ -112,12 +112,6 @@ impl Observer for Silent {
     }
 }
 
-/// Whether entries tell that the host had no memory for a call.
-fn deny_memory(entries: &[Entry]) -> bool {
-    let mut entries = entries.iter();
-    entries.any(|entry| matches!(entry, Entry::NoMemory { .. }))
-}
-
 /// Gives an event. An error where there is no memory for what a process of the world asks, or to note what the event
 /// tells, or whoever hears of it has none.
 fn give<H: Observer>(replay: &mut Replay, event: Event, observer: &mut H) -> Result<(), AllocError>
@@ -129,7 +123,8 @@ fn give<H: Observer>(replay: &mut Replay, event: Event, observer: &mut H) -> Res
     observer.before(replay, event)?;
     let acting = replay.acting();
     let entries = replay.kernel.event(event);
-    if deny_memory(entries.as_slice()) {
+    let mut shown = entries.iter();
+    if shown.any(|entry| matches!(entry, Entry::NoMemory { .. })) {
         return Err(AllocError);
     }
     replay.note(entries.as_slice(), acting)?;

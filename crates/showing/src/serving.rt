@@ -9,9 +9,9 @@ use crate::hearing::Telling;
 use crate::replay::{Replay, past_at, run_to};
 use crate::state::put_state;
 use crate::stepping::{Ask, Steps, put_text};
-use crate::words::{Request, process_of, requested};
+use crate::words::{Request, requested};
 use inputs::{
-    InputFault, Inputs, NoRequest, NumberFault, ReadFiles, Unread, number, number_up_to,
+    InputFault, Inputs, NoRequest, NumberFault, ReadFault, ReadFiles, number, number_up_to,
     read_inputs, tell,
 };
 use kernel::{Sink, SinkFault};
@@ -20,7 +20,7 @@ use std::alloc::{AllocError, Global};
 use telling::{Teller, View};
 use text::EventList;
 use thiserror::Error;
-use wording::{Listing, Prose};
+use wording::{Listing, Prose, process_in};
 
 /// Why the program doesn't end with status 0.
 #[derive(Clone, Copy, Debug, Error)]
@@ -42,7 +42,7 @@ pub enum Failure<'a> {
     #[error("jobk: cannot write")]
     Write,
     #[error("jobk: {0}")]
-    Unread(#[from] Unread<'a>),
+    Unread(#[from] ReadFault<'a>),
 }
 
 impl From<AllocError> for Failure<'_> {
@@ -103,7 +103,7 @@ fn at_of<'a>(word: Option<&str>, events: u64) -> Result<u64, Failure<'a>>
 fn processes_of<'a>(alloc: Global, words: &[&str]) -> Result<Vec<Pid>, Failure<'a>> {
     let mut pids = Vec::new(alloc);
     for word in words {
-        let Some(pid) = number(word).and_then(process_of) else {
+        let Some(pid) = number(word).and_then(|number| process_in(number.into())) else {
             return Err(Failure::Process);
         };
         pids.push(pid).map_err(|_| Failure::Memory)?;

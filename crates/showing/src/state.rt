@@ -7,7 +7,7 @@ use kernel::Kernel;
 use posix::{Life, Pid};
 use proctable::Snapshot;
 use std::alloc::{AllocError, Global};
-use telling::{Around, Terminal, Times, View, put_console, put_process, put_turns};
+use telling::{Around, Terminal, Times, View, put_console, put_counted, put_process, put_turns};
 use wording::Prose;
 
 /// More numbers than processes can have.
@@ -176,8 +176,8 @@ fn put_consoles(text: &mut Prose, kernel: &mut Kernel)
 pub fn put_head(text: &mut Prose, kernel: &Kernel, events: u64) {
     match kernel.events() {
         0 => {
-            text.push_with("before the first of ", events);
-            text.push_str(if events == 1 { " event: " } else { " events: " });
+            put_counted(text, "before the first of ", events, "event");
+            text.push_str(": ");
         }
         event => {
             text.push_with("after event ", event);

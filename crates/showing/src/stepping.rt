@@ -7,14 +7,13 @@ use crate::hearing::Telling;
 use crate::replay::{Replay, Silent, run_to};
 use crate::serving::Failure;
 use crate::state::{put_head, put_state};
-use crate::words::process_of;
-use inputs::Unread;
+use inputs::ReadFault;
 use kernel::{Sink, put_all};
 use posix::Pid;
 use std::alloc::{AllocError, Global};
 use telling::{Teller, View};
 use text::{EventList, World};
-use wording::Prose;
+use wording::{Prose, process_in};
 
 /// Asks a person for commands.
 pub trait Ask {
@@ -23,7 +22,7 @@ pub trait Ask {
 
     /// Adds the next line; whether there was one. An error where the device failed, the line is no text in UTF-8, or there
     /// was no memory for it.
-    fn ask(&mut self, line: &mut String) -> Result<bool, Unread<'static>>;
+    fn ask(&mut self, line: &mut String) -> Result<bool, ReadFault<'static>>;
 }
 
 /// What a person asks for.
@@ -68,7 +67,10 @@ fn command_with(word: &str, number: u64) -> Command {
         "n" => Command::Next(number),
         "b" => Command::Back(number),
         "g" => Command::Go(number),
-        "p" => process_of(number).map_or(Command::NoProcess, |pid| Command::Until(Some(pid))),
+        "p" => process_in(number.into()).map_or(
+            Command::NoProcess,
+            |pid| Command::Until(Some(pid)),
+        ),
         _ => Command::Help,
     }
 }
@@ -86,7 +88,7 @@ fn command_of(line: &str) -> Command {
 }
 
 /// What a person asks for next: the end, where there is no line.
-fn next_command<A: Ask>(alloc: Global, ask: &mut A) -> Result<Command, Unread<'static>> {
+fn next_command<A: Ask>(alloc: Global, ask: &mut A) -> Result<Command, ReadFault<'static>> {
     let mut line = String::new(alloc);
     if ask.ask(&mut line)? {
         Ok(command_of(line.as_str()))

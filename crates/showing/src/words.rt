@@ -2,7 +2,6 @@
 
 use clap::ArgAction;
 use inputs::{NoRequest, command, named_files, words_behind};
-use posix::Pid;
 use std::alloc::Global;
 
 /// What the words ask for.
@@ -48,9 +47,4 @@ pub fn requested<'a>(alloc: Global, words: &'a [&'a str]) -> Result<Request<'a>,
         trace: matches.get_flag("trace"),
         step: matches.get_flag("step"),
     })
-}
-
-/// The process with a number; none where no process can have it.
-pub fn process_of(number: u64) -> Option<Pid> {
-    Pid::new(u32::try_from(number).ok()?).filter(|pid| *pid != Pid::NONE)
 }

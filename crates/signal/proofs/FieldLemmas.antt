@@ -8,8 +8,7 @@ use Rattle.std.proofs.lemmas.List.FromFn.{length-map-range_with_len, get_or-map-
 use Rattle.posix.specs.declared.process.Action.{Action}
 use Rattle.posix.specs.declared.process.Handler.{Handler}
 use Rattle.posix.specs.declared.sa_flags.SaFlags.{SaFlags}
-use Rattle.posix.specs.Processes.{initial_action, no_flags, default_actions}
-use Rattle.posix.specs.Programs.{handler_on_exec, action_on_exec}
+use Rattle.posix.specs.Common.{initial_action, no_flags, default_actions, handler_on_exec, action_on_exec}
 use Rattle.signal.specs.declared.action_fields.Actions.{Actions}
 use Rattle.signal.specs.declared.action_fields.Disposition.{Disposition}
 use Rattle.signal.specs.declared.action_fields.Disposition.TheVariants as disposition

@@ -10,11 +10,7 @@ use Rattle.std.proofs.lemmas.List.Sums.{fails_before_first}
 use Rattle.posix.specs.declared.process.Carried.{Carried}
 use Rattle.posix.specs.declared.process.Life.{Life}
 use Rattle.posix.specs.declared.process.PendingSignal.{PendingSignal}
-use Rattle.posix.specs.SignalNumbers.{CONT, STOP, TTOU, is_realtime, is_stop_signal}
-use Rattle.posix.specs.SignalSets.{has}
-use Rattle.posix.specs.Processes.{Signals}
-use Rattle.posix.specs.Generation.{after_discards, generated, gets_no_signals, has_sig, is_pending, keeps, make_pending, with_pending, with_queue, without_stops}
-use Rattle.posix.specs.Choice.{first_carried, from_kernel, taken, without_first}
+use Rattle.posix.specs.Common.{CONT, STOP, TTOU, is_realtime, is_stop_signal, has, Signals, after_discards, generated, gets_no_signals, has_sig, is_pending, keeps, make_pending, with_pending, with_queue, without_stops, first_carried, from_kernel, taken, without_first}
 use Rattle.signal.specs.SignalTables.{TablesView, MarksQueued, signals_of}
 use Rattle.signal.proofs.SetLemmas.{less_other, less_same, same_standard}
 

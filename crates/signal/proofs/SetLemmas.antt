@@ -11,12 +11,7 @@ use Rattle.std.proofs.lemmas.Nat.Bits.{bit_at_lowest, bit_at-suc, bit_at-zero, b
 use Rattle.std.proofs.lemmas.Nat.{pow_below}
 use Rattle.posix.proofs.RangeLemmas.{find_range_none, find_range_first}
 use Rattle.posix.specs.declared.process.Carried.{Carried}
-use Rattle.posix.specs.SignalNumbers.{is_realtime, is_signal}
-use Rattle.posix.specs.SignalSets.{has}
-use Rattle.posix.specs.Processes.{nothing_pending}
-use Rattle.posix.specs.Generation.{has_sig, is_pending}
-use Rattle.posix.specs.SignalCalls.{set_of, bit_of}
-use Rattle.posix.specs.Choice.{all_signals, carried_by, first_carried, from_kernel, is_ready}
+use Rattle.posix.specs.Common.{is_realtime, is_signal, except, has, nothing_pending, has_sig, is_pending, set_of, bit_of, all_signals, carried_by, first_carried, from_kernel, is_ready}
 use Rattle.signal.specs.SignalTables.{TablesView, MarksQueued, pending_at, signals_of, standard_of}
 use Rattle.signal.proofs.FieldLemmas.{made_at, made_same, set_made}
 
@@ -166,14 +161,11 @@ carried_standard mask p t s standard pending =
 
 -- ---- the least signal that is ready
 
-abbrev pub ready_set : ℕ → ℕ → ℕ
-ready_set p mask = bit_and p (2 ^ 64 - 1 - mask)
-
 two_bits : (m n : ℕ) → m < 2 → n < 2 → (min m (1 - n) == 1) ≡ ((m == 1) && not (n == 1))
 two_bits m n l k = grind (arith, nat_tests)
 
 -- signal s is in the set of those that are ready
-pub is_ready_by : (mask p : ℕ) (t : TablesView) → MarksQueued p t.queue → mask < 2 ^ 64 → (s : ℕ) → s < 65 → is_ready (signals_of mask p t) s ≡ has (ready_set p mask) s
+pub is_ready_by : (mask p : ℕ) (t : TablesView) → MarksQueued p t.queue → mask < 2 ^ 64 → (s : ℕ) → s < 65 → is_ready (signals_of mask p t) s ≡ has (except p mask) s
 is_ready_by mask p t marks small s l =
     ap (λ b. b && not (has mask s)) (is_pending_by mask p t marks s)
     ∙ sym (two_bits (bit_at p (s - 1)) (bit_at mask (s - 1)) (bit_at-lt p (s - 1)) (bit_at-lt mask (s - 1)))

@@ -5,7 +5,7 @@ use Rattle.posix.specs.declared.process.Action.{Action}
 use Rattle.posix.specs.declared.process.Handler.{Handler}
 use Rattle.posix.specs.declared.process.Handler.TheVariants as handler
 use Rattle.posix.specs.declared.sa_flags.SaFlags.{SaFlags}
-use Rattle.posix.specs.Processes.{no_flags}
+use Rattle.posix.specs.Common.{no_flags}
 use Rattle.signal.specs.declared.action_fields.Actions.{Actions}
 use Rattle.signal.specs.declared.action_fields.Disposition.{Disposition}
 use Rattle.signal.specs.declared.action_fields.Disposition.TheVariants as disposition

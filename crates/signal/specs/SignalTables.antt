@@ -6,11 +6,7 @@ use Rattle.posix.specs.declared.process.Action.{Action}
 use Rattle.posix.specs.declared.process.Carried.{Carried}
 use Rattle.posix.specs.declared.process.Frame.{Frame}
 use Rattle.posix.specs.declared.process.PendingSignal.{PendingSignal}
-use Rattle.posix.specs.SignalNumbers.{is_realtime}
-use Rattle.posix.specs.SignalSets.{has}
-use Rattle.posix.specs.Processes.{Signals, default_actions}
-use Rattle.posix.specs.Generation.{has_sig}
-use Rattle.posix.specs.Choice.{from_kernel}
+use Rattle.posix.specs.Common.{is_realtime, has, Signals, default_actions, has_sig, from_kernel}
 use Rattle.signal.specs.declared.action_fields.Actions.{Actions}
 use Rattle.signal.specs.ActionFields.{actions_of, actions_or_blank}
 

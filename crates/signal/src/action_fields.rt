@@ -1,8 +1,7 @@
 //! The actions of a process for signals, by field.
 
 ghost use Rattle.std.specs.Prelude.{◌≡◌, ◌-◌, ◌<◌, ◌≤◌, true, length, map, slice_index_or, slice_set, vec_capacity};
-ghost use Rattle.posix.specs.Processes.{initial_action};
-ghost use Rattle.posix.specs.Programs.{action_on_exec};
+ghost use Rattle.posix.specs.Common.{initial_action, action_on_exec};
 ghost use Rattle.signal.specs.ActionFields.{AreFields, action_at, actions_of, actions_or_blank, blank_actions, handler_from, disposition_on_exec};
 
 use arena::Arena;

@@ -1,8 +1,7 @@
 //! What a process does with signals.
 
 ghost use Rattle.std.specs.Prelude.{◌≡◌};
-ghost use Rattle.posix.specs.Generation.{does_nothing as does_nothing_with, is_caught as is_caught_by, is_harmless as is_harmless_action};
-ghost use Rattle.posix.specs.SignalNumbers.{is_stop_signal as is_stop_number};
+ghost use Rattle.posix.specs.Common.{does_nothing as does_nothing_with, is_caught as is_caught_by, is_harmless as is_harmless_action, is_stop_signal as is_stop_number};
 
 use posix::{DefaultAction, Handler, Sig};
 

@@ -1,8 +1,7 @@
 //! The ids of one process.
 
 ghost use Rattle.std.specs.Prelude.{◌≡◌, true, OnOk, OnErr, IfErr, Ok, Err};
-ghost use Rattle.posix.specs.Processes.{root as root_credentials};
-ghost use Rattle.posix.specs.Credentials.{is_privileged as is_privileged_by, id_in, may_signal as may_signal_by, setuid as setuid_of, seteuid as seteuid_of, setgid as setgid_of, setegid as setegid_of, on_exec as on_exec_of};
+ghost use Rattle.posix.specs.Common.{root as root_credentials, is_privileged as is_privileged_by, id_in, may_signal as may_signal_by, setuid as setuid_of, seteuid as seteuid_of, setgid as setgid_of, setegid as setegid_of, on_exec as on_exec_of};
 
 use posix::{Errno, Gid, Ids, Sig, Uid};
 use std::marker::Model;

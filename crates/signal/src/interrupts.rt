@@ -1,7 +1,7 @@
 //! The call that a process is blocked in as a handler is entered.
 
 ghost use Rattle.std.specs.Prelude.{◌≡◌, Some};
-ghost use Rattle.posix.specs.Handlers.{is_interrupted as is_interrupted_by, is_restarted as is_restarted_by, leave_call as leave_call_of, mask_before as mask_before_of};
+ghost use Rattle.posix.specs.Common.{is_interrupted as is_interrupted_by, is_restarted as is_restarted_by, leave_call as leave_call_of, mask_before as mask_before_of};
 
 use bitflags::Flags;
 use posix::{Action, Blocked, Errno, Register, SaFlags, SigSet};

@@ -2,9 +2,7 @@
 
 ghost use Rattle.std.specs.Prelude.{ℕ, ◌≡◌, ◌+◌, ◌-◌, ◌<◌, ◌≤◌, ◌++◌, ◌∷◌, [], not, IsSome, Some, None, IfOk, OnOk, OnErr, filter, length};
 ghost use Rattle.std.specs.List.{position};
-ghost use Rattle.posix.specs.Choice.{first_carried, without_first};
-ghost use Rattle.posix.specs.Generation.{has_sig};
-ghost use Rattle.posix.specs.Sends.{most_queued};
+ghost use Rattle.posix.specs.Common.{first_carried, without_first, has_sig, most_queued};
 
 use posix::{Carried, PendingSignal, Sig};
 use std::alloc::{AllocError, Global};

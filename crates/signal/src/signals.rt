@@ -1,16 +1,7 @@
 //! The signals of one process.
 
 ghost use Rattle.std.specs.Prelude.{◌≡◌, ◌⊎◌, ◌<◌, ◌&&◌, [], true, false, not, nat_le, length, slice_get, None, Some, Ok, Err, OnOk, OnErr, IfOk, IfErr, IfSome, IsSome};
-ghost use Rattle.posix.specs.SignalNumbers.{is_realtime};
-ghost use Rattle.posix.specs.Processes.{initial_signals, nothing_pending};
-ghost use Rattle.posix.specs.Ends.{forgotten, drops_children as drops_children_of};
-ghost use Rattle.posix.specs.Notices.{ignores_children as ignores_children_of, ignores_stops as ignores_stops_of};
-ghost use Rattle.posix.specs.Generation.{action as action_of, is_pending as is_pending_of, with_pending, without_stops, after_discards, gets_no_signals as gets_no_signals_of, keeps as keeps_of, generated, effect_of};
-ghost use Rattle.posix.specs.Choice.{chosen, least_ready as least_ready_of, carried_by, discarded, taken};
-ghost use Rattle.posix.specs.Sends.{most_queued};
-ghost use Rattle.posix.specs.Handlers.{is_full as is_full_of, handler_mask as handler_mask_of, entered, at_handler, after_entry as after_entry_of, handler_arguments, newest_frame, left, restore, set_action as set_action_of, set_mask as set_mask_of, give_mask};
-ghost use Rattle.posix.specs.Programs.{signals_on_exec};
-ghost use Rattle.posix.specs.SignalCalls.{pending_set};
+ghost use Rattle.posix.specs.Common.{is_realtime, initial_signals, nothing_pending, forgotten, drops_children as drops_children_of, ignores_children as ignores_children_of, ignores_stops as ignores_stops_of, action as action_of, is_pending as is_pending_of, with_pending, without_stops, after_discards, gets_no_signals as gets_no_signals_of, keeps as keeps_of, generated, effect_of, chosen, least_ready as least_ready_of, carried_by, discarded, taken, most_queued, is_full as is_full_of, handler_mask as handler_mask_of, entered, at_handler, after_entry as after_entry_of, handler_arguments, newest_frame, left, restore, set_action as set_action_of, set_mask as set_mask_of, give_mask, signals_on_exec, pending_set};
 
 use crate::actions::{does_nothing, is_caught, is_stop_signal};
 use crate::realtime_pool::RealtimePool;

@@ -2,12 +2,7 @@
 
 ghost use Rattle.std.specs.Prelude.{◌≡◌, ◌-◌, ◌<◌, ◌≤◌, ◌++◌, ◌∷◌, [], false, true, not, None, IsSome, IfOk, OnOk, OnErr, filter, length, map, take, nat_le, slice_get, slice_index_or, slice_set, vec_capacity};
 ghost use Rattle.std.specs.List.{list_any};
-ghost use Rattle.posix.specs.Processes.{initial_action};
-ghost use Rattle.posix.specs.Generation.{has_sig};
-ghost use Rattle.posix.specs.Choice.{from_kernel, first_carried, without_first};
-ghost use Rattle.posix.specs.Sends.{most_queued};
-ghost use Rattle.posix.specs.Handlers.{most_frames};
-ghost use Rattle.posix.specs.Programs.{action_on_exec};
+ghost use Rattle.posix.specs.Common.{initial_action, has_sig, from_kernel, first_carried, without_first, most_queued, most_frames, action_on_exec};
 ghost use Rattle.signal.specs.SignalTables.{initial_tables, nothing_carried, carried_or_blank, pending_at, queue_in, standard_of};
 
 use crate::action_fields::{Actions, are_same_actions, keep_actions, row_of};

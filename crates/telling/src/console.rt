@@ -2,7 +2,7 @@
 
 use posix::Pid;
 use tty::Console;
-use wording::{Prose, put_quoted};
+use wording::{Prose, plural, put_quoted};
 
 /// Writes the order of turns, where a process can act.
 pub fn put_turns(text: &mut Prose, turns: &[Pid]) {
@@ -20,9 +20,7 @@ pub fn put_turns(text: &mut Prose, turns: &[Pid]) {
 pub fn put_counted(text: &mut Prose, piece: &str, count: u64, word: &str) {
     text.push_with(piece, count);
     text.push_word(" ", word.as_bytes());
-    if count != 1 {
-        text.push_str("s");
-    }
+    text.push_str(plural(count));
 }
 
 /// Writes whose terminal a console is.

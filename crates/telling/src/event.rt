@@ -2,7 +2,7 @@
 
 use crate::process::{end_cell, put_carried, put_name};
 use crate::reading::{Concern, Reading, Rows, row_of};
-use crate::sending::{Row, Sent, Whom, has_sent, is_taken, words_behind};
+use crate::sending::{Row, Sent, Whom, fate_words, has_sent, is_taken};
 use crate::view::View;
 use posix::{Call, Entry, Event, Instr, Life, Pid, Register, Sig, SigSet, Target};
 use proctable::{OwnPart, Snapshot};
@@ -10,8 +10,8 @@ use std::alloc::AllocError;
 use std::fmt::Write;
 use trace::print_entry;
 use wording::{
-    Arguments, Prose, Source, Written, place_of, put_call, put_look, put_moved, put_report,
-    put_result, put_signal, put_status, signal_in,
+    Arguments, Prose, Source, Written, place_of, process_in, put_call, put_look, put_moved,
+    put_report, put_result, put_signal, put_status, signal_in,
 };
 
 /// What the current process was about to do.
@@ -72,7 +72,7 @@ fn other_of(actor: &Actor, entries: &[Entry]) -> Option<Pid> {
         Entry::Reported { child, .. } => return Some(child),
         _ => return None,
     };
-    Pid::new(u32::try_from(word).ok()?)
+    process_in(word.into())
 }
 
 /// Writes a key by its byte, and as it is typed.
@@ -292,7 +292,7 @@ impl<'l, 't> Teller<'l, 't> {
     fn put_discarded(&mut self, old: &Row, new: &Row, entries: &[Entry]) -> bool {
         let pid = new.snapshot.pid;
         let mut is_told = false;
-        for sig in (1..65u8).filter_map(|number| Sig::new(number)) {
+        for sig in (1..65u8).filter_map(Sig::new) {
             let is_gone = old.pending.contains(sig) && !new.pending.contains(sig);
             if is_gone && !is_taken(entries, pid, sig) {
                 put_signal_of(&mut self.line, "; discards ", sig, " pending for ", pid);
@@ -305,8 +305,8 @@ impl<'l, 't> Teller<'l, 't> {
     /// Writes which signals a process was sent, `sent` among them. Whether there are such.
     fn put_sent(&mut self, old: &Row, new: &Row, hears: bool, sent: Option<Sig>) -> bool {
         let mut is_told = false;
-        for sig in (1..65u8).filter_map(|number| Sig::new(number)) {
-            if let Some(words) = words_behind(old, new, hears, sent == Some(sig), sig) {
+        for sig in (1..65u8).filter_map(Sig::new) {
+            if let Some(words) = fate_words(old, new, hears, sent == Some(sig), sig) {
                 put_signal_of(&mut self.line, "; sends ", sig, " to ", new.snapshot.pid);
                 self.line.push_str(words);
                 is_told = true;

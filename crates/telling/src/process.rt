@@ -161,7 +161,7 @@ fn put_caught(
 /// Writes the signals that a process catches, and those that it ignores by their actions.
 fn put_actions(text: &mut Prose, source: Option<&Source<'_>>, own: &OwnPart) {
     let mut ignored = SigSet::EMPTY;
-    for sig in (1..65u8).filter_map(|number| Sig::new(number)) {
+    for sig in (1..65u8).filter_map(Sig::new) {
         let action = own.signals.action(sig);
         match action.handler {
             Handler::At(address) => put_caught(text, source, sig, action, address),

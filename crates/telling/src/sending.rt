@@ -169,7 +169,7 @@ pub fn is_taken(entries: &[Entry], taker: Pid, signal: Sig) -> bool {
 
 /// What is told behind a signal of a process, which hears of a child, and which was sent the signal; nothing where the
 /// signal isn't told.
-pub fn words_behind(
+pub fn fate_words(
     old: &Row,
     new: &Row,
     hears: bool,

@@ -2,14 +2,14 @@
 use Rattle.std.proofs.Common.{◌≡◌, ℕ, ◌+◌, ◌<◌, suc, Bool, true, false, List, [], ◌∷◌, ◌++◌, length, drop, take, refl, ap, sym, ◌∙◌, append_assoc, append-nil, length-append, arith}
 use Rattle.std.specs.Prelude.{◌==◌}
 use Rattle.std.specs.List.{after_first, before_first, position_or_len}
-use Rattle.text.specs.Lines.{lines_from, all_lines, last_line, behind_line}
+use Rattle.text.specs.Lines.{lines_from, all_lines, closed, behind_line}
 
 abbrev is_feed : ℕ → Bool
 is_feed b = b == 10
 
 -- all lines of a text, of whose first line some bytes have come
 abbrev pub all_from : List ℕ → List ℕ → List (List ℕ)
-all_from begun bs = (lines_from begun bs).whole ++ last_line (lines_from begun bs).rest
+all_from begun bs = (lines_from begun bs).whole ++ closed (lines_from begun bs).rest
 
 -- a line feed ends the first line
 pub all_from-end : (begun : List ℕ) (c : ℕ) (bs : List ℕ) → (c == 10) ≡ true → all_from begun (c ∷ bs) ≡ begun ∷ all_lines bs
@@ -19,10 +19,10 @@ all_from-end begun c bs h = rw h refl
 pub all_from-more : (begun : List ℕ) (c : ℕ) (bs : List ℕ) → (c == 10) ≡ false → all_from begun (c ∷ bs) ≡ all_from (begun ++ c ∷ []) bs
 all_from-more begun c bs h = rw h refl
 
--- a last line that lacks its line feed
-pub some_line : (bs : List ℕ) → 0 < length bs → last_line bs ≡ bs ∷ []
-some_line [] h = absurd (omega arith)
-some_line (b ∷ bs) h = refl
+-- a last line that lacks its line feed, or a last word
+pub closed_some : (bs : List ℕ) → 0 < length bs → closed bs ≡ bs ∷ []
+closed_some [] h = absurd (omega arith)
+closed_some (b ∷ bs) h = refl
 
 by_byte : (begun : List ℕ) (b : ℕ) (bs : List ℕ) (t : Bool) → is_feed b ≡ t
     → (all_from (begun ++ b ∷ []) bs ≡ ((begun ++ b ∷ []) ++ before_first is_feed bs) ∷ all_lines (after_first is_feed bs))
@@ -36,7 +36,7 @@ by_byte begun b bs false e h =
     ∙ ap (λ n. (begun ++ before_first is_feed (b ∷ bs)) ∷ all_lines (drop n (b ∷ bs))) behind
 
 all_from_first : (begun bs : List ℕ) → 0 < length begun → all_from begun bs ≡ (begun ++ before_first is_feed bs) ∷ all_lines (after_first is_feed bs)
-all_from_first begun [] some = some_line begun some ∙ ap (λ (l : List ℕ). l ∷ []) (sym (append-nil begun))
+all_from_first begun [] some = closed_some begun some ∙ ap (λ (l : List ℕ). l ∷ []) (sym (append-nil begun))
 all_from_first begun (b ∷ bs) some =
     by_byte begun b bs (is_feed b) refl (all_from_first (begun ++ b ∷ []) bs (omega (arith, length-append begun (b ∷ []))))
 

@@ -1,5 +1,5 @@
 -- Names that are found by a number.
-use Rattle.std.proofs.Common.{◌≡◌, ◌≢◌, ℕ, ◌<◌, ◌≤◌, ◌^◌, Bool, true, false, cond, ◌&&◌, nat_le, nat_lt, ◌==◌, List, [], ◌∷◌, ◌++◌, length, Option, Some, None, is_some, option_map, Decides, Bor, Result, Ok, Err, OnErr, refl, ap, sym, ◌∙◌, arith, nat_cmp, Less, Equal, Greater}
+use Rattle.std.proofs.Common.{◌≡◌, ◌≢◌, ℕ, ◌<◌, ◌≤◌, ◌^◌, Bool, true, false, cond, ◌&&◌, nat_le, nat_lt, ◌==◌, List, [], ◌∷◌, ◌++◌, length, Option, Some, None, is_some, option_map, Decides, Bor, refl, ap, sym, ◌∙◌, arith, nat_cmp, Less, Equal, Greater}
 use Rattle.std.specs.Prelude.{bytes_eq, find}
 use Rattle.std.specs.Option.{option_or, option_copied}
 use Rattle.std.specs.Ordering.{is_eq}
@@ -81,14 +81,6 @@ defined_more n ds d = ap (option_map (λ (x : Definition). x.number)) (find-appe
 pub copied_some : (x : Option (Bor ℕ)) → is_some (option_copied x) ≡ is_some x
 copied_some None = refl
 copied_some (Some b) = refl
-
-pub copied_none : (x : Option (Bor ℕ)) → is_some x ≡ false → option_copied x ≡ None
-copied_none None h = refl
-copied_none (Some b) h = absurd (cc)
-
-pub on_err : {T E P : Type 0} → (r : Result T E) → P → OnErr r P
-on_err (Ok x) p = tt
-on_err (Err e) p = p
 
 -- a number stands for what it stood for, where its name is another one
 none_more : (x : Option ℕ) → x ≡ option_or x None

@@ -2,15 +2,15 @@
 use Rattle.std.proofs.Common.{◌≡◌, ℕ, ◌+◌, ◌-◌, ◌<◌, ◌≤◌, Bool, true, false, cond, List, [], ◌∷◌, ◌++◌, length, take, refl, ap, sym, ◌∙◌, append_assoc, arith, length-append, append-nil, length-take, ltb, Option, Some, None, inl, inr, subst}
 use Rattle.std.specs.Prelude.{◌==◌, ◌⊎◌, Ok, Err, is_some}
 use Rattle.std.proofs.lemmas.List.Sums.{fold_push}
-use Rattle.std.proofs.lemmas.List.{take_all, take-append-le}
+use Rattle.std.proofs.lemmas.List.{nil_from_length, take_all, take-append-le}
 use Rattle.std.proofs.lemmas.Bool.{cases_lt}
 use Rattle.std.proofs.lemmas.Bool.Decides.{nat_tests}
 use Rattle.posix.specs.declared.event.Event.{Event}
-use Rattle.text.proofs.LineLemmas.{some_line}
+use Rattle.text.proofs.LineLemmas.{closed_some}
 use Rattle.text.specs.declared.fault.Reason.{Reason}
 use Rattle.text.specs.declared.fault.Reason.TheVariants.{Memory}
 use Rattle.text.specs.declared.fault.TextFault.{TextFault}
-use Rattle.text.specs.Lines.{Lines, lines_from, lines_of, after_line, all_lines, last_line}
+use Rattle.text.specs.Lines.{Lines, lines_from, lines_of, after_line, all_lines, closed}
 use Rattle.text.specs.Reading.{IsFaultOf}
 use Rattle.text.specs.EventTexts.{Reading, next_line, read_lines, read_whole, start, judged_line, event_line, EndsLine, EndsLineTo, Meets, MeetsTo, answer, event_text, HasRead, HasReadTo, Progress, most_events}
 
@@ -43,11 +43,6 @@ lines_end begun (b ∷ bs) c h = ended_if (b == 10) begun (lines_from [] (bs ++ 
 lines_more : (begun bs : List ℕ) (c : ℕ) → (c == 10) ≡ false → lines_from begun (bs ++ c ∷ []) ≡ extended c (lines_from begun bs)
 lines_more begun [] c h = rw h refl
 lines_more begun (b ∷ bs) c h = extended_if c (b == 10) begun (lines_from [] (bs ++ c ∷ [])) (lines_from [] bs) (lines_from (begun ++ b ∷ []) (bs ++ c ∷ [])) (lines_from (begun ++ b ∷ []) bs) (lines_more [] bs c h) (lines_more (begun ++ b ∷ []) bs c h)
-
--- whether a text's last line lacks its line feed
-no_last : (rest : List ℕ) → length rest ≡ 0 → last_line rest ≡ []
-no_last [] h = refl
-no_last (b ∷ bs) h = absurd (omega arith)
 
 -- ---- the beginning of a line, up to a byte above the limit
 
@@ -108,7 +103,7 @@ whole_stays true n text c f e h = rw (lines_end [] text c e) (fault_stays n star
 whole_stays false n text c f e h = rw (lines_more [] text c e) h
 
 -- a fault stays at the end of the text, whatever its last line is
-fault_at_end : (n : ℕ) (text rest : List ℕ) (f : TextFault) → (read_whole n text).fault ≡ Some f → (read_lines n start ((lines_of text).whole ++ last_line rest)).fault ≡ Some f
+fault_at_end : (n : ℕ) (text rest : List ℕ) (f : TextFault) → (read_whole n text).fault ≡ Some f → (read_lines n start ((lines_of text).whole ++ closed rest)).fault ≡ Some f
 fault_at_end n text [] f h = rw append-nil h
 fault_at_end n text (b ∷ rest) f h = fault_stays n start (lines_of text).whole (b ∷ rest) f h
 
@@ -149,11 +144,6 @@ read_fault text p f e h =
 -- whatever comes
 pub fault_answers : (text more : List ℕ) (n : ℕ) (p : Progress) (f : TextFault) → p.reading.fault ≡ Some f → p.consoles ≡ n → HasRead text p → IsFaultOf (event_text n (text ++ more)) f
 fault_answers text more n p f e same h = rw (← same) (read_fault (text ++ more) p f e (kept_all more text p (ap is_some e) h))
-
--- where no fault is seen, there is none
-pub no_fault : (o : Option TextFault) → is_some o ≡ false → o ≡ None
-no_fault None h = refl
-no_fault (Some f) h = cc
 
 -- ---- a line, judged
 
@@ -220,7 +210,7 @@ unfolding event_text
 meets_no_last text p e none h =
     let f : HasReadTo None text p = subst (λ o. HasReadTo o text p) e h in
     let rest : length (lines_of text).rest ≡ 0 = empty_taken 201 (lines_of text).rest (omega arith) (ap length (sym f.1) ∙ none) in
-    let lines : all_lines text ≡ (lines_of text).whole = ap (λ (l : List (List ℕ)). (lines_of text).whole ++ l) (no_last (lines_of text).rest rest) ∙ append-nil (lines_of text).whole in
+    let lines : all_lines text ≡ (lines_of text).whole = ap (λ (l : List ℕ). (lines_of text).whole ++ closed l) (nil_from_length (lines_of text).rest rest) ∙ append-nil (lines_of text).whole in
     subst (λ o. MeetsTo o p.reading.events (event_text p.consoles text)) (sym e)
     (ap (λ (ls : List (List ℕ)). answer (read_lines p.consoles start ls)) lines ∙ ap answer (sym f.0) ∙ answer_fine p.reading e)
 
@@ -229,7 +219,7 @@ all_read : (text : List ℕ) (old : Progress) → old.reading.fault ≡ None →
     read_lines old.consoles start (all_lines text) ≡ judged_line old.consoles old.reading old.partial
 all_read text old e some f =
     let rest : 0 < length (lines_of text).rest = rest_some 201 (lines_of text).rest (subst (λ (l : List ℕ). 0 < length l) f.1 some) in
-    rw (some_line (lines_of text).rest rest, read_more old.consoles start (lines_of text).whole (lines_of text).rest, ← f.0, f.1) (next_at old.consoles old.reading (lines_of text).rest e)
+    rw (closed_some (lines_of text).rest rest, read_more old.consoles start (lines_of text).whole (lines_of text).rest, ← f.0, f.1) (next_at old.consoles old.reading (lines_of text).rest e)
 
 -- a last line that is begun is judged, and the text means that, by its fault then
 meets_ends : (o : Option TextFault) (text : List ℕ) (old new : Progress) → o ≡ new.reading.fault → old.reading.fault ≡ None → 0 < length old.partial →

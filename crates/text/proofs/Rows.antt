@@ -8,7 +8,7 @@ use Rattle.posix.specs.declared.instr.Instr.TheVariants.{Set, Move, Compute, Loa
 use Rattle.posix.specs.declared.instr.Operator.TheVariants.{Add, Sub, Mul, Div, Rem, And, Or, Xor}
 use Rattle.posix.specs.declared.instr.Condition.TheVariants.{Zero, NotZero, Negative}
 use Rattle.posix.specs.declared.call.Call.TheVariants.{Exit, Fork, Waitpid, Pause, SchedYield, Getpid, Getuid, Geteuid, Getgid, Getegid, Setuid, Seteuid, Setgid, Setegid, Kill, Sigaction, Sigprocmask, Sigpending, Sigsuspend, Sigreturn}
-use Rattle.posix.specs.States.{Program, World}
+use Rattle.posix.specs.Common.{Program, World}
 use Rattle.text.specs.declared.fault.Reason.{Reason}
 use Rattle.text.specs.declared.fault.Reason.TheVariants.{UnknownWord, BadNumber, OutOfRange, NameUnknown, NameTwice, LineTooLong, EndMissing, NoProgram}
 use Rattle.text.specs.declared.fault.TextFault.{TextFault}

@@ -3,8 +3,11 @@ use Rattle.std.proofs.Common.{◌≡◌, ℕ, ◌<◌, suc, Bool, true, false, L
 use Rattle.std.specs.Prelude.{nat_lt, not, unwrap_or}
 use Rattle.std.specs.List.{before_first, position, position_or_len}
 use Rattle.std.proofs.lemmas.Bool.{ltb-false}
+use Rattle.std.proofs.lemmas.List.{nil_from_length}
 use Rattle.std.proofs.lemmas.List.Sums.{prefix_len-le-length}
-use Rattle.text.specs.Words.{behind_word, closed, first_word, from_word, is_separator, words, words_from}
+use Rattle.text.specs.Lines.{closed}
+use Rattle.text.specs.Words.{behind_word, first_word, from_word, is_separator, words, words_from}
+use Rattle.text.proofs.LineLemmas.{closed_some}
 
 by_test : (p : ℕ → Bool) (xs : List ℕ) (b : Bool) → nat_lt (position_or_len p xs) (length xs) ≡ b → unwrap_or (position p xs) (length xs) ≡ position_or_len p xs
 by_test p xs true e = rw e refl
@@ -55,14 +58,6 @@ words_take : (begun text : List ℕ) → words_from begun text ≡ closed (begun
 words_take begun [] = rw (append-nil begun) (sym (append-nil (closed begun)))
 words_take begun (b ∷ bs) = take_word begun b bs (is_separator b) refl (words_take (begun ++ b ∷ []) bs)
 
-closed_some : (w : List ℕ) → 0 < length w → closed w ≡ w ∷ []
-closed_some [] h = absurd (omega arith)
-closed_some (b ∷ bs) h = refl
-
-no_bytes : (text : List ℕ) → length text ≡ 0 → text ≡ []
-no_bytes [] e = refl
-no_bytes (b ∷ bs) e = absurd (omega (arith, e))
-
 abbrev WordHasBytes : List ℕ → Type 0
 WordHasBytes rest = 0 < length rest → 0 < position_or_len is_separator rest
 
@@ -85,6 +80,6 @@ words_by_first text some =
     ∙ ap (λ ws. ws ++ words (behind_word text)) (closed_some (first_word text) (simp length-take (omega (arith, has, some))))
 
 pub no_words : (text : List ℕ) → length (from_word text) ≡ 0 → words text ≡ []
-no_words text none = words_skip text ∙ ap words (no_bytes (from_word text) none)
+no_words text none = words_skip text ∙ ap words (nil_from_length (from_word text) none)
 
 pub ruleset word_rules = (word_has_bytes, words_by_first, no_words)

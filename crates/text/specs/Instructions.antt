@@ -1,6 +1,6 @@
 -- Instructions in a world text, before their names are looked up.
 use Rattle.std.specs.Prelude.{ℕ, ◌-◌, ◌==◌, ◌&&◌, List, [], ◌∷◌, codes, nat_le, if◌then◌else◌, Option, find, Result, Ok, Err, bytes_eq}
-use Rattle.posix.specs.Calls.{call_named}
+use Rattle.posix.specs.Common.{call_named}
 use Rattle.posix.specs.declared.instr.Instr.TheVariants as instr
 use Rattle.posix.specs.declared.instr.Operator.{Operator}
 use Rattle.posix.specs.declared.instr.Operator.TheVariants.{Add, Sub, Mul, Div, Rem, And, Or, Xor}

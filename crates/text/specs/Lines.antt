@@ -20,14 +20,14 @@ lines_from begun (b ∷ bs) = if b == 10 then after_line begun (lines_from [] bs
 abbrev pub lines_of : List ℕ → Lines
 lines_of text = lines_from [] text
 
--- a final line feed doesn't begin another line
-abbrev pub last_line : List ℕ → List (List ℕ)
-last_line [] = []
-last_line (b ∷ bs) = (b ∷ bs) ∷ []
+-- a line or a word that has begun, if any byte of it has come
+abbrev pub closed : List ℕ → List (List ℕ)
+closed [] = []
+closed (b ∷ bs) = (b ∷ bs) ∷ []
 
--- every line, the last also where it lacks its line feed
+-- Every line, the last also where it lacks its line feed. A final line feed doesn't begin another line.
 abbrev pub all_lines : List ℕ → List (List ℕ)
-all_lines text = (lines_of text).whole ++ last_line (lines_of text).rest
+all_lines text = (lines_of text).whole ++ closed (lines_of text).rest
 
 -- the first line; none of the empty text
 abbrev pub first_line : List ℕ → Option (List ℕ)

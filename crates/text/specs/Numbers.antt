@@ -1,8 +1,9 @@
 -- Numbers in words.
-use Rattle.std.specs.Prelude.{ℕ, ◌+◌, ◌*◌, length, nat_lt, ◌==◌, ◌&&◌, ℤ, pos, neg_ℤ, negsuc, Bool, List, [], ◌∷◌, if◌then◌else◌, Option, Some, None, Result, Ok, Err, int_le, unsigned_abs, option_map}
+use Rattle.std.specs.Prelude.{ℕ, ◌+◌, ◌*◌, ◌/◌, ◌%◌, true, length, nat_lt, ◌==◌, ◌&&◌, ℤ, pos, neg_ℤ, negsuc, Bool, List, [], ◌∷◌, if◌then◌else◌, Option, Some, None, Result, Ok, Err, int_le, unsigned_abs, option_map}
 use Rattle.std.specs.List.{list_all}
 use Rattle.std.specs.Char.{is_ascii_digit, is_digit, digit_value}
-use Rattle.posix.specs.Decimals.{value_of}
+use Rattle.std.specs.Fmt.{digit_glyph}
+use Rattle.posix.specs.Common.{value_of}
 use Rattle.text.specs.declared.fault.Reason.{Reason}
 use Rattle.text.specs.declared.fault.Reason.TheVariants.{BadNumber, OutOfRange}
 use Rattle.text.specs.Reading.{◌>>=◌}
@@ -57,3 +58,7 @@ byte_in (h ∷ l ∷ []) = do
   low ← hex_digit l
   Ok (high * 16 + low)
 byte_in _ = Err BadNumber
+
+-- a byte as two of them
+abbrev pub two_digits : ℕ → List ℕ
+two_digits byte = digit_glyph true (byte / 16) ∷ digit_glyph true (byte % 16) ∷ []

@@ -3,7 +3,7 @@ use Rattle.std.specs.Prelude.{ℕ, List, Option, Some, None, Result, Ok, Err, po
 use Rattle.posix.specs.declared.instr.Instr.{Instr}
 use Rattle.posix.specs.declared.instr.Instr.TheVariants.{Set, Jump}
 use Rattle.posix.specs.declared.instr.Instr.TheVariants as instr
-use Rattle.posix.specs.States.{Program}
+use Rattle.posix.specs.Common.{Program}
 use Rattle.text.specs.declared.fault.Reason.TheVariants.{NameUnknown}
 use Rattle.text.specs.declared.fault.TextFault.{TextFault}
 use Rattle.text.specs.declared.names.Definition.{Definition}

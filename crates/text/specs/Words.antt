@@ -1,6 +1,7 @@
 -- The words of a line, and names.
 use Rattle.std.specs.Prelude.{ℕ, length, ◌==◌, ◌&&◌, ◌||◌, Bool, false, not, List, [], ◌∷◌, ◌++◌, drop, if◌then◌else◌, nat_le}
 use Rattle.std.specs.List.{before_first, list_all, position_or_len}
+use Rattle.text.specs.Lines.{closed}
 
 -- space, tab, carriage return and comma separate words
 abbrev pub is_separator : ℕ → Bool
@@ -9,11 +10,6 @@ is_separator b = (b == 32) || (b == 9) || (b == 13) || (b == 44)
 -- `#` and what follows it is skipped
 abbrev pub before_comment : List ℕ → List ℕ
 before_comment line = before_first (λ b. b == 35) line
-
--- a word that has begun, if any byte of it has come
-abbrev pub closed : List ℕ → List (List ℕ)
-closed [] = []
-closed (b ∷ bs) = (b ∷ bs) ∷ []
 
 -- the words of the rest of a line, of whose first word some bytes have come
 abbrev pub words_from : List ℕ → List ℕ → List (List ℕ)

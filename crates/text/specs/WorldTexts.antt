@@ -1,6 +1,6 @@
 -- World texts: what a line says, and what a text says.
 use Rattle.std.specs.Prelude.{◌≡◌, ◌⊎◌, ℕ, ◌+◌, ◌-◌, List, [], ◌∷◌, ◌++◌, length, drop, take, codes, nat_le, if◌then◌else◌, Option, Some, None, Result, Ok, Err, bytes_eq}
-use Rattle.posix.specs.States.{Program, World}
+use Rattle.posix.specs.Common.{Program, World}
 use Rattle.text.specs.declared.fault.Reason.{Reason}
 use Rattle.text.specs.declared.fault.Reason.TheVariants.{UnknownWord, OutOfRange, EndMissing, NoProgram, Memory}
 use Rattle.text.specs.declared.fault.TextFault.{TextFault}

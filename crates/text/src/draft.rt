@@ -2,7 +2,7 @@
 
 ghost use Rattle.std.specs.Prelude.{◌≡◌, ◌≤◌, length, true, Ok, Err, Some, IfOk, IfSome, MatchOption, MatchResult};
 ghost use Rattle.std.specs.List.{list_all};
-ghost use Rattle.posix.specs.Ranges.{is_program};
+ghost use Rattle.posix.specs.Common.{is_program};
 ghost use Rattle.text.specs.Words.{words};
 ghost use Rattle.text.specs.Reading.{Answers, AnswersAs, IsFaultOf};
 ghost use Rattle.text.specs.declared.fault.Reason.TheVariants.{Memory};

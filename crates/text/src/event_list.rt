@@ -2,7 +2,7 @@
 
 ghost use Rattle.std.specs.Prelude.{◌≡◌, ◌==◌, ◌+◌, ◌<◌, ◌≤◌, ◌^◌, [], ◌++◌, length, map, replicate, MatchBool, OnOk, OnErr, vec_len, vec_capacity};
 ghost use Rattle.std.specs.List.{AllByRecursion};
-ghost use Rattle.posix.specs.Ranges.{IsEvent};
+ghost use Rattle.posix.specs.Common.{IsEvent};
 ghost use Rattle.posix.specs.declared.event.Event.TheVariants.{Key};
 ghost use Rattle.text.specs.EventLists.{expanded};
 

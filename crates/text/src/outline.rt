@@ -2,7 +2,7 @@
 
 ghost use Rattle.std.specs.Prelude.{◌≡◌, ◌<◌, ◌≤◌, ◌+◌, ◌++◌, ◌∷◌, [], length, true, IfOk, OnOk, OnErr, nat_le};
 ghost use Rattle.std.specs.List.{list_all};
-ghost use Rattle.posix.specs.Ranges.{is_instruction, is_program};
+ghost use Rattle.posix.specs.Common.{is_instruction, is_program};
 ghost use Rattle.text.specs.Names.{new_name as new_name_of};
 ghost use Rattle.text.specs.Outlines.{completed, names_for, program_of};
 ghost use Rattle.text.specs.Reading.{Answers, AnswersAs, each};

@@ -1,20 +1,15 @@
 -- Bytes are read back from their digits to base 16.
-use Rattle.std.proofs.Common.{◌≡◌, ℕ, zero, suc, ◌*◌, ◌/◌, ◌<◌, ◌≤◌, true, List, [], ◌∷◌, length, Some, refl, ap, sym, ◌∙◌, arith, get_or}
+use Rattle.std.proofs.Common.{◌≡◌, ℕ, zero, suc, ◌*◌, ◌/◌, ◌≤◌, true, List, [], ◌∷◌, length, Some, ap, sym, ◌∙◌, arith}
 use Rattle.std.specs.Prelude.{nat_le}
 use Rattle.std.specs.List.{list_all}
-use Rattle.std.proofs.lemmas.Bool.{and_parts, ltb-true, lt-ltb}
+use Rattle.std.proofs.lemmas.Bool.{and_parts, ltb-true}
 use Rattle.std.proofs.lemmas.Bool.Decides.{nat_tests}
-use Rattle.posix.specs.Printing.{hex}
+use Rattle.posix.specs.Common.{hex}
 use Rattle.laws.specs.Kinds.{is_byte}
 use Rattle.hex.specs.Hex.{IsBytes, lower_digits, decode_of}
 use Rattle.hex.proofs.HexLemmas.{decode_of-encode_lower, length-encode_with}
 use Rattle.trace.proofs.HexLemmas.{same_digits}
 use Rattle.trace.specs.Words.{bytes_in, decoded}
-
--- the items of a list of u8
-pub bytes_fit : (bytes : List ℕ) → ((i : ℕ) → get_or bytes i 0 < 256) → list_all is_byte bytes ≡ true
-bytes_fit [] fit = refl
-bytes_fit (b ∷ bs) fit = rw (lt-ltb b 256 (fit zero), bytes_fit bs (λ i. fit (suc i))) refl
 
 are_bytes : (bytes : List ℕ) → list_all is_byte bytes ≡ true → IsBytes bytes
 are_bytes [] h i = omega arith

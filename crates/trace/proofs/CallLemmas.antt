@@ -1,7 +1,7 @@
 -- A call is read back from its name.
 use Rattle.std.proofs.Common.{◌≡◌, true, length, Some, refl}
 use Rattle.std.specs.Prelude.{nat_le}
-use Rattle.posix.specs.Calls.{call_text, call_named}
+use Rattle.posix.specs.Common.{call_text, call_named}
 use Rattle.posix.specs.declared.call.Call.{Call}
 use Rattle.posix.specs.declared.call.Call.TheVariants.{Exit, Fork, Waitpid, Waitid, Pause, SchedYield, Getpid, Getppid, Getuid, Geteuid, Getgid, Getegid, Setuid, Seteuid, Setgid, Setegid, Kill, Sigqueue, Sigaction, Sigprocmask, Sigpending, Sigsuspend, Sigreturn, Alarm, Exec, Getpgid, Getsid, Setpgid, Setsid, Setctty, Tcgetpgrp, Tcsetpgrp, Settostop, Read, Write, Subreaper}
 use Rattle.trace.proofs.WordLemmas.{is_clean}

@@ -6,20 +6,15 @@ use Rattle.std.specs.List.{join_with_byte, list_all}
 use Rattle.std.proofs.lemmas.Bool.{and_parts, leb-true}
 use Rattle.std.proofs.lemmas.Bool.Decides.{nat_tests}
 use Rattle.std.proofs.lemmas.List.{append_cancel_right}
-use Rattle.posix.specs.SignalNumbers.{is_signal, is_stop_signal}
-use Rattle.posix.specs.Printing.{bit, hex, words_of, printed}
+use Rattle.posix.specs.Common.{is_signal, is_stop_signal, bit, hex, words_of, printed, asks_memory, call_text, Line, line, is_i64, is_end_word}
 use Rattle.posix.proofs.PrintingLemmas.{number_and_words}
-use Rattle.posix.specs.Calls.{call_text}
-use Rattle.posix.specs.Entries.{Line, line}
 use Rattle.posix.specs.declared.call.Call.{Call}
 use Rattle.posix.specs.declared.call.Call.TheVariants.{Waitpid, Subreaper, Waitid}
 use Rattle.posix.specs.declared.waits.WaitCall.TheVariants as wait
 use Rattle.posix.specs.declared.entry.Entry.{Entry}
 use Rattle.posix.specs.declared.entry.Entry.TheVariants.{Noted, Called, Moved, Reported, Looked, NoMemory, Marked, Handled, Discarded, Stopped, Returned, Ended, Halted}
 use Rattle.laws.specs.Kinds.{is_byte}
-use Rattle.laws.specs.TraceLines.{is_number, is_result, moves_bytes, asks_memory, is_entry, is_line, Says}
-use Rattle.posix.specs.Ranges.{is_i64}
-use Rattle.posix.specs.Statuses.{is_end_word}
+use Rattle.laws.specs.TraceLines.{is_number, is_result, moves_bytes, is_entry, is_line, Says}
 use Rattle.trace.specs.Guesses.{form_named, guess, guess_entry}
 use Rattle.trace.specs.declared.guesses.Form.TheVariants as form
 use Rattle.trace.proofs.WordLemmas.{joined_len, behind_back, word_back}

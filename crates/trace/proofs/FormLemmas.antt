@@ -2,9 +2,7 @@
 use Rattle.std.proofs.Common.{◌≡◌, ℕ, ◌^◌, ◌<◌, ◌≤◌, Bool, true, false, List, ◌∷◌, ◌++◌, length, Some, refl, arith}
 use Rattle.std.specs.Prelude.{codes, decimal, ℤ}
 use Rattle.std.specs.Fmt.{signed_decimal}
-use Rattle.posix.specs.SignalNumbers.{is_signal}
-use Rattle.posix.specs.Printing.{hex, bit}
-use Rattle.posix.specs.Calls.{call_text}
+use Rattle.posix.specs.Common.{is_signal, hex, bit, call_text, is_i64}
 use Rattle.posix.specs.declared.call.Call.{Call}
 use Rattle.posix.specs.declared.call.Call.TheVariants.{Waitpid, Subreaper, Waitid}
 use Rattle.posix.specs.declared.waits.WaitCall.TheVariants as wait
@@ -12,7 +10,6 @@ use Rattle.posix.specs.declared.entry.Entry.{Entry}
 use Rattle.posix.specs.declared.entry.Entry.TheVariants.{Noted, Called, Moved, Reported, Looked, NoMemory, Marked, Handled, Discarded, Stopped, Ended}
 use Rattle.std.specs.List.{list_all}
 use Rattle.laws.specs.Kinds.{is_byte}
-use Rattle.posix.specs.Ranges.{is_i64}
 use Rattle.trace.specs.Words.{word, behind}
 use Rattle.trace.specs.Guesses.{form_named, shown_by, child_and_status, guess, guess_entry, guess_note, guess_call, guess_result, guess_handler, guess_discard, guess_stop, guess_end}
 use Rattle.trace.specs.declared.guesses.Form.{Form}

@@ -1,6 +1,6 @@
 -- The digits to base 16 of the library are those of the definitions.
 use Rattle.std.proofs.Common.{◌≡◌, ℕ, ◌/◌, ◌%◌, List, [], ◌∷◌, ap, refl, Result, Ok, Err, IsOk, OnOk}
-use Rattle.posix.specs.Printing.{digit, hex}
+use Rattle.posix.specs.Common.{digit, hex}
 use Rattle.hex.specs.Hex.{encode_with, encode_lower}
 
 -- what holds where there is a value, as there is one

@@ -1,7 +1,7 @@
 -- A text, cut at its first line feed.
 use Rattle.std.proofs.Common.{◌≡◌, ℕ, suc, ◌+◌, ◌-◌, ◌<◌, ◌≤◌, ◌==◌, ◌⊎◌, Some, None, take, drop, get_or, true, false, List, [], ◌∷◌, ◌++◌, length, length-drop, inl, inr, refl, ap, sym, ◌∙◌, arith}
 use Rattle.std.specs.List.{position_or_len, before_first, after_first}
-use Rattle.std.proofs.lemmas.Grind.{common_steps}
+use Rattle.std.proofs.lemmas.List.{take_all}
 use Rattle.std.proofs.lemmas.List.Sums.{split_at_first, passes_at_first, fails_before_first}
 use Rattle.std.proofs.lemmas.Bool.{cases_Bool, cases_lt, cases_order, eqb-true, false≢true}
 use Rattle.memchr.specs.Find.{IsFirstByte, is_byte}
@@ -22,10 +22,6 @@ before_one (b ∷ bs) = elim (cases_Bool (b == 10)) [
         let next : 1 + n ≡ suc n = omega arith in
         ap (λ i. is_one_line (take i (b ∷ bs))) next ∙ rw (h, k) refl
 
--- as many bytes as there are
-take_long : (n : ℕ) (bs : List ℕ) → length bs ≤ n → take n bs ≡ bs
-take_long n bs h = grind (arith, common_steps, h)
-
 pub cut_at : (text : List ℕ) (end : ℕ) → IsFirstByte (is_byte 10) text (Some end) → IsCut text (take end text) (take (length text - (end + 1)) (drop (end + 1) text))
 cut_at text end h =
     let same : end ≡ position_or_len (λ b. b == 10) text = elim (cases_order end (position_or_len (λ b. b == 10) text)) [
@@ -35,7 +31,7 @@ cut_at text end h =
     ] in
     let within : position_or_len (λ b. b == 10) text < length text = rw (← same) h.0.high in
     let feed : get_or text (position_or_len (λ b. b == 10) text) 0 ≡ 10 = eqb-true _ 10 (passes_at_first (λ b. b == 10) text 0 within) in
-    let rest = take_long (length text - (end + 1)) (drop (end + 1) text) (omega (arith, length-drop (end + 1) text)) in
+    let rest = take_all (length text - (end + 1)) (drop (end + 1) text) (omega (arith, length-drop (end + 1) text)) in
     record {
       is = split_at_first (λ b. b == 10) text 0 within
           ∙ ap (λ (b : ℕ). before_first (λ b. b == 10) text ++ b ∷ after_first (λ b. b == 10) text) feed
@@ -44,7 +40,7 @@ cut_at text end h =
     }
 
 pub cut_nowhere : (text : List ℕ) → IsFirstByte (is_byte 10) text None → is_one_line text ≡ true
-cut_nowhere text h = ap is_one_line (sym (take_long _ text (by (cases_lt (position_or_len (λ b. b == 10) text) (length text))))) ∙ before_one text
+cut_nowhere text h = ap is_one_line (sym (take_all _ text (by (cases_lt (position_or_len (λ b. b == 10) text) (length text))))) ∙ before_one text
   where
     by : (position_or_len (λ b. b == 10) text < length text) ⊎ (length text ≤ position_or_len (λ b. b == 10) text) → length text ≤ position_or_len (λ b. b == 10) text
     by (inl within) = absurd (h (position_or_len (λ b. b == 10) text) (omega arith) within (passes_at_first (λ b. b == 10) text 0 within))

@@ -7,10 +7,8 @@ use Rattle.std.proofs.lemmas.Str.Parse.{digit_from_value}
 use Rattle.std.proofs.lemmas.Fmt.{decimal_is_IsNumeral, decimal_nonempty, length-decimal-le}
 use Rattle.std.proofs.lemmas.Bool.{ltb-true}
 use Rattle.std.proofs.lemmas.Bool.Decides.{nat_tests}
-use Rattle.posix.specs.SignalNumbers.{is_signal}
-use Rattle.posix.specs.Decimals.{decimal_value}
+use Rattle.posix.specs.Common.{is_signal, decimal_value, is_i64}
 use Rattle.posix.proofs.DecimalLemmas.{digits_all, decimal_back}
-use Rattle.posix.specs.Ranges.{is_i64}
 use Rattle.trace.specs.Words.{integer, fitting, pid_in, sig_in, status_in}
 use Rattle.trace.proofs.WordLemmas.{is_clean}
 

@@ -1,13 +1,12 @@
 -- A text and a printed line, compared.
-use Rattle.std.proofs.Common.{◌≡◌, ℕ, ◌-◌, Bool, true, false, List, [], ◌∷◌, ◌++◌, length, take, ap, sym, subst, ◌∙◌, arith}
+use Rattle.std.proofs.Common.{◌≡◌, ℕ, ◌-◌, Bool, true, false, List, [], ◌∷◌, ◌++◌, length, take, ap, sym, subst, ◌∙◌, arith, length-append}
 use Rattle.std.specs.Prelude.{◌↔◌, bytes_eq, decimal}
 use Rattle.std.specs.List.{join_with_byte}
-use Rattle.posix.specs.Printing.{printed, words_of}
+use Rattle.posix.specs.Common.{printed, words_of}
 use Rattle.posix.specs.declared.entry.Entry.{Entry}
 use Rattle.std.proofs.lemmas.List.{append_cancel_right}
 use Rattle.std.proofs.lemmas.Slice.Eq.{bytes_eq-Decides}
 use Rattle.std.proofs.Math.Seq.{take-append_seam}
-use Rattle.std.proofs.Common.{length-append}
 
 -- the bytes before the last one
 before_last : (line : List ℕ) (b : ℕ) → take (length (line ++ b ∷ []) - 1) (line ++ b ∷ []) ≡ line

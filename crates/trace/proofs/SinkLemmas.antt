@@ -1,18 +1,11 @@
 -- Laws of what a sink took.
-use Rattle.std.specs.Prelude.{Result, Err}
 use Rattle.std.proofs.Common.{◌≡◌, ℕ, ◌+◌, ◌-◌, ◌%◌, ◌^◌, ◌<◌, ◌≤◌, true, List, [], ◌++◌, length, take, drop, subst, ap, sym, ◌∙◌, append_assoc, append-nil, length-take, length-drop, arith, Ok}
 use Rattle.std.proofs.lemmas.List.{take_all, take-append-drop, drop-take}
 use Rattle.std.proofs.lemmas.Grind.{common_steps}
 use Rattle.std.proofs.lemmas.Bool.Decides.{nat_tests}
 use Rattle.std.specs.Io.KnownBytes.{Appends}
 use Rattle.std.proofs.KnownBytes.{Appends-trans}
-use Rattle.std.specs.Result.{OnErr}
 use Rattle.trace.specs.Sinks.{Seen, TakesAll, BreaksOff, Gathers, failures_after, is_failure}
-
--- what holds at any error holds at this one
-pub on_err : {T E P : Type 0} (r : Result T E) → P → OnErr r P
-on_err (Ok x) p = tt
-on_err (Err e) p = p
 
 -- ---- puts of the rest of a slice
 

@@ -3,6 +3,7 @@ use native.Mathlib.Omega.{arith}
 use Rattle.std.proofs.Common.{◌≡◌, ℕ, suc, ◌+◌, ◌-◌, ◌≤◌, ◌==◌, Bool, true, List, [], ◌∷◌, ◌++◌, length, take, drop, Some, None, refl, ap, ◌∙◌, length-append, length-drop, not}
 use Rattle.std.specs.List.{position, position_or_len, list_all}
 use Rattle.std.proofs.lemmas.Bool.{and_parts}
+use Rattle.std.proofs.lemmas.List.{take_all}
 use Rattle.std.proofs.Math.Seq.{take-append_seam}
 use Rattle.std.proofs.lemmas.Grind.{common_steps}
 use Rattle.std.proofs.lemmas.Bool.Decides.{nat_tests}
@@ -12,16 +13,12 @@ use Rattle.trace.specs.Words.{word, behind}
 abbrev place : List ℕ → ℕ
 place text = position_or_len (λ b. b == 32) text
 
--- as many bytes as there are
-take_long : (n : ℕ) (bs : List ℕ) → length bs ≤ n → take n bs ≡ bs
-take_long n bs h = grind (arith, common_steps, h)
-
 -- what stands before the first space and behind it
 space_at : (text : List ℕ) (at : ℕ) → position (λ b. b == 32) text ≡ Some at → (take at text ≡ word text) × (take (length text - (at + 1)) (drop (at + 1) text) ≡ behind text)
 space_at text at h =
     let same : at ≡ place text = grind (arith, h) in (
       ap (λ i. take i text) same,
-      take_long (length text - (at + 1)) (drop (at + 1) text) (omega (arith, length-drop (at + 1) text)) ∙ ap (λ i. drop (i + 1) text) same,
+      take_all (length text - (at + 1)) (drop (at + 1) text) (omega (arith, length-drop (at + 1) text)) ∙ ap (λ i. drop (i + 1) text) same,
     )
 
 pub before_space : (text : List ℕ) (at : ℕ) → position (λ b. b == 32) text ≡ Some at → take at text ≡ word text
@@ -76,7 +73,7 @@ behind_back w rest h = ap (λ i. drop (i + 1) (w ++ 32 ∷ rest)) (place_space w
 
 -- the last word
 pub last_word : (w : List ℕ) → is_clean w ≡ true → word w ≡ w
-last_word w h = ap (λ i. take i w) (place_none w h) ∙ take_long (length w) w (omega arith)
+last_word w h = ap (λ i. take i w) (place_none w h) ∙ take_all (length w) w (omega arith)
 
 pub last_behind : (w : List ℕ) → is_clean w ≡ true → behind w ≡ []
 last_behind w h = ap (λ i. drop (i + 1) w) (place_none w h) ∙ grind (arith, common_steps)

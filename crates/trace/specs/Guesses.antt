@@ -1,7 +1,6 @@
 -- What a line may say, by its words at their places. It may be any nonsense: it is tested and printed.
 use Rattle.std.specs.Prelude.{ℕ, List, [], ◌∷◌, Option, Some, codes, find, bytes_eq}
-use Rattle.posix.specs.Calls.{call_named}
-use Rattle.posix.specs.Decimals.{decimal_value}
+use Rattle.posix.specs.Common.{call_named, decimal_value}
 use Rattle.posix.specs.declared.call.Call.{Call as SystemCall}
 use Rattle.posix.specs.declared.entry.Entry.{Entry}
 use Rattle.posix.specs.declared.waits.WaitCall.TheVariants as wait

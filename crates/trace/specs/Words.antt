@@ -4,9 +4,7 @@ use Rattle.std.specs.Prelude.{ℕ, ◌/◌, ◌==◌, length, nat_le, ℤ, pos, 
 use Rattle.std.specs.List.{before_first, after_first}
 use Rattle.hex.specs.Hex.{decode_of}
 use Rattle.hex.specs.declared.error.FromHexError.{FromHexError}
-use Rattle.posix.specs.Decimals.{decimal_value}
-use Rattle.posix.specs.SignalNumbers.{is_signal}
-use Rattle.posix.specs.Ranges.{is_i64}
+use Rattle.posix.specs.Common.{decimal_value, is_signal, is_i64}
 
 infixl 10 ◌>>=◌
 abbrev pub ◌>>=◌ : {A B : Type 0} → Option A → (A → Option B) → Option B

@@ -2,10 +2,9 @@
 
 ghost use Rattle.std.specs.Prelude.{◌≡◌, ◌&&◌, length, nat_le};
 ghost use Rattle.std.specs.List.{list_all};
-ghost use Rattle.posix.specs.Entries.{line};
-ghost use Rattle.posix.specs.SignalNumbers.{is_stop_signal as is_stop_signal_of};
+ghost use Rattle.posix.specs.Common.{line, is_stop_signal as is_stop_signal_of, asks_memory as asks_memory_of};
 ghost use Rattle.laws.specs.Kinds.{is_byte};
-ghost use Rattle.laws.specs.TraceLines.{asks_memory as asks_memory_of, is_entry as is_entry_of, is_line as is_line_of, is_number, is_result as is_result_of, moves_bytes as moves_bytes_of};
+ghost use Rattle.laws.specs.TraceLines.{is_entry as is_entry_of, is_line as is_line_of, is_number, is_result as is_result_of, moves_bytes as moves_bytes_of};
 
 use posix::{Call, DefaultAction, Entry, Pid, Sig};
 

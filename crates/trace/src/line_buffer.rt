@@ -1,7 +1,7 @@
 //! Lines of a trace that wait to be put.
 
 ghost use Rattle.std.specs.Prelude.{◌≡◌, ◌<◌, ◌≤◌, ◌++◌, [], take, OnOk, OnErr};
-ghost use Rattle.posix.specs.Printing.{printed};
+ghost use Rattle.posix.specs.Common.{printed};
 ghost use Rattle.trace.specs.Sinks.{TakesAll, BreaksOff, Gathers};
 
 use crate::sinks::{Sink, SinkFault, put_all};

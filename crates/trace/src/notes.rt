@@ -3,7 +3,7 @@
 //! Most lines of a trace are notes, and many notes of one process follow each other.
 
 ghost use Rattle.std.specs.Prelude.{◌≡◌, ◌+◌, ◌≤◌, ◌++◌, length, take, codes, decimal};
-ghost use Rattle.posix.specs.Printing.{printed};
+ghost use Rattle.posix.specs.Common.{printed};
 
 use crate::print::{put, put_number, put_signed};
 use posix::{Entry, Pid};

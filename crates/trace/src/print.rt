@@ -6,8 +6,7 @@
 ghost use Rattle.std.specs.Prelude.{◌≡◌, ◌+◌, ◌*◌, ◌<◌, ◌≤◌, ◌++◌, length, ◌∷◌, take, codes, decimal};
 ghost use Rattle.std.specs.List.{join_with_byte};
 ghost use Rattle.std.specs.Fmt.{signed_decimal};
-ghost use Rattle.posix.specs.Calls.{call_text};
-ghost use Rattle.posix.specs.Printing.{bit, hex, printed, words_of};
+ghost use Rattle.posix.specs.Common.{call_text, bit, hex, printed, words_of};
 
 use arrayvec::ArrayVec;
 use hex::encode_to_slice;

@@ -1,8 +1,7 @@
 //! A line of a trace, read by a guess that is printed.
 
 ghost use Rattle.std.specs.Prelude.{◌≡◌, ◌↔◌, ◌++◌, ◌∷◌, [], true, IfSome, IfNone};
-ghost use Rattle.posix.specs.Entries.{Line, line};
-ghost use Rattle.posix.specs.Printing.{printed};
+ghost use Rattle.posix.specs.Common.{Line, line, printed};
 ghost use Rattle.laws.specs.TraceLines.{Says};
 
 use crate::forms::is_line;

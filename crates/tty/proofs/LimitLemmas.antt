@@ -2,7 +2,7 @@
 use Rattle.std.proofs.Common.{ℕ, List, [], ◌∷◌, length, drop, nat_le, arith, length-drop}
 use Rattle.std.proofs.lemmas.Bool.{cond_both}
 use Rattle.std.proofs.lemmas.List.Sums.{sum_by-cons}
-use Rattle.posix.specs.Consoles.{waiting, lines_left}
+use Rattle.posix.specs.Common.{waiting, lines_left}
 use Rattle.tty.specs.Limits.{AreFew}
 
 pub few_none : AreFew []

@@ -4,7 +4,7 @@ use Rattle.std.specs.List.{AllByRecursion, sum}
 use Rattle.std.proofs.lemmas.List.{append-nil, take-append-le, drop-append-le, take_all, drop_all, drop-drop, drop-take, take-take, take_at, drop_at, take_min}
 use Rattle.std.proofs.lemmas.List.Sums.{sum_by-cons, sum_by_push}
 use Rattle.std.proofs.lemmas.Bool.{and_parts, ltb-true, leb-true, lt-leb, cond-false}
-use Rattle.posix.specs.Consoles.{has_room, lines_left, waiting, most_lines, most_waiting}
+use Rattle.posix.specs.Common.{has_room, lines_left, waiting, most_lines, most_waiting}
 use Rattle.circular_buffer.specs.Buffer.{Buffer, buffer, keep_last}
 use Rattle.tty.specs.Limits.{most_in_line, IsShort, AreFew}
 use Rattle.tty.specs.Lines.{cut, AreLines, TakesLine}

@@ -1,7 +1,7 @@
 -- How much a console holds.
 use Rattle.std.specs.Prelude.{ℕ, ◌≤◌, List, length}
 use Rattle.std.specs.List.{AllByRecursion}
-use Rattle.posix.specs.Consoles.{Console, waiting, most_edited, most_lines, most_waiting}
+use Rattle.posix.specs.Common.{Console, waiting, most_edited, most_lines, most_waiting}
 
 -- the bytes that are edited, and one that ends them
 abbrev pub most_in_line : ℕ

@@ -1,7 +1,7 @@
 -- Lines that wait to be read, as bytes and lengths, and what a read takes of them.
 use Rattle.std.specs.Prelude.{◌≡◌, ℕ, ◌≤◌, min, List, [], ◌∷◌, length, sum, take, drop, Option, MatchOption}
 use Rattle.std.specs.List.{AllByRecursion}
-use Rattle.posix.specs.Consoles.{most_lines, most_waiting}
+use Rattle.posix.specs.Common.{most_lines, most_waiting}
 use Rattle.circular_buffer.specs.Buffer.{Buffer}
 use Rattle.tty.specs.Limits.{most_in_line}
 

@@ -1,7 +1,7 @@
 //! A console: the keys that are typed at it, the lines that they make, and whose terminal it is.
 
 ghost use Rattle.std.specs.Prelude.{◌≡◌, ◌≤◌, ◌==◌, ◌||◌, ◌++◌, not, length, true, IfOk};
-ghost use Rattle.posix.specs.Consoles.{unused_console, keyed, keyed_by, key_signal, signal_typed, disconnected, session_told, edit as edited_by, finish_line, flushed, erased, with_byte, line_taken, acquired, released, with_foreground, with_tostop};
+ghost use Rattle.posix.specs.Common.{unused_console, keyed, keyed_by, key_signal, signal_typed, disconnected, session_told, edit as edited_by, finish_line, flushed, erased, with_byte, line_taken, acquired, released, with_foreground, with_tostop};
 ghost use Rattle.tty.specs.Limits.{IsWithinLimits};
 ghost use Rattle.tty.specs.Lines.{Takes};
 

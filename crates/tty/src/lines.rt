@@ -1,7 +1,7 @@
 //! Finished lines of a console, which wait to be read.
 
 ghost use Rattle.std.specs.Prelude.{◌≡◌, ◌+◌, ◌≤◌, ◌==◌, ◌&&◌, nat_lt, nat_le, [], ◌∷◌, ◌++◌, length, true, if◌then◌else◌, IfOk};
-ghost use Rattle.posix.specs.Consoles.{has_room, lines_left, waiting, most_lines, most_waiting};
+ghost use Rattle.posix.specs.Common.{has_room, lines_left, waiting, most_lines, most_waiting};
 ghost use Rattle.tty.specs.Limits.{AreFew};
 ghost use Rattle.tty.specs.Lines.{Takes};
 

@@ -4,8 +4,7 @@ use Rattle.posix.specs.declared.call.Call.{Call}
 use Rattle.posix.specs.declared.instr.Instr.{Instr}
 use Rattle.posix.specs.declared.instr.Trap.{Trap}
 use Rattle.posix.specs.declared.instr.Trap.TheVariants as trap
-use Rattle.posix.specs.Processes.{Cpu}
-use Rattle.posix.specs.Execute.{exec_one, StaysUnlessRun}
+use Rattle.posix.specs.Common.{Cpu, exec_one, StaysUnlessRun}
 use Rattle.umach.specs.Bursts.{Burst, then_rest, exec_until}
 
 -- after so many plain instructions

@@ -2,7 +2,7 @@
 use Rattle.std.proofs.Common.{◌≡◌, ℕ, zero, suc, ◌+◌, ◌-◌, ◌<◌, ◌≤◌, ◌∙◌, min, List, [], ◌∷◌, ◌++◌, length, length-take, length-drop, get_or, set, take, drop, drop_of_length-le, drop-cons, refl, sym, ap, arith, add-one, ℤ, pos}
 use Rattle.std.specs.Prelude.{map, replicate}
 use Rattle.std.proofs.lemmas.List.{append_assoc, map-append, length-map, length-take-le, set-append_right, take-replicate, drop-replicate, take_more, take_min, drop_min}
-use Rattle.posix.specs.Transfers.{stored}
+use Rattle.posix.specs.Common.{stored}
 use Rattle.umach.specs.Memories.{words_of}
 
 -- one of them is put, and the rest after it

@@ -3,8 +3,7 @@ use Rattle.std.specs.Prelude.{◌≡◌, ℕ, zero, suc, ◌+◌, ◌<◌, List}
 use Rattle.posix.specs.declared.instr.Instr.{Instr}
 use Rattle.posix.specs.declared.instr.Trap.{Trap}
 use Rattle.posix.specs.declared.instr.Trap.TheVariants as trap
-use Rattle.posix.specs.Processes.{Cpu}
-use Rattle.posix.specs.Execute.{exec_one}
+use Rattle.posix.specs.Common.{Cpu, exec_one}
 
 -- how many instructions were plain, how the one after them came out, and the processor then
 pub record Burst : Type 0 where

@@ -1,10 +1,7 @@
 //! The processor of a process, and the run of one instruction.
 
 ghost use Rattle.std.specs.Prelude.{◌≡◌, ◌+◌, ◌<◌, ◌≤◌, true, length, IfOk, IfSome, if◌then◌else◌, pos, slice_index_or};
-ghost use Rattle.posix.specs.Processes.{fresh_cpu};
-ghost use Rattle.posix.specs.Execute.{exec_one as executed, execute as execute_instr, set_register, register as register_of, move_on, put_result, load_from, store_at, address_of, jump, computed, passes as passed, fetched, StaysUnlessRun};
-ghost use Rattle.posix.specs.Handlers.{frame_of, restore};
-ghost use Rattle.posix.specs.Transfers.{stored, bytes_in};
+ghost use Rattle.posix.specs.Common.{fresh_cpu, exec_one as executed, execute as execute_instr, set_register, register as register_of, move_on, put_result, load_from, store_at, address_of, jump, computed, passes as passed, fetched, StaysUnlessRun, frame_of, restore, stored, bytes_in};
 ghost use Rattle.umach.specs.Bursts.{exec_until, IsWithin};
 
 use crate::memory::{UserMem, are_equal};

@@ -1,8 +1,7 @@
 //! The memory of a process.
 
 ghost use Rattle.std.specs.Prelude.{◌≡◌, ◌+◌, ◌-◌, ◌<◌, ◌≤◌, ◌++◌, true, EachIndex, IfOk, pos, length, map, replicate, vec_capacity, slice_index_or, slice_set};
-ghost use Rattle.posix.specs.Processes.{zero_memory};
-ghost use Rattle.posix.specs.Transfers.{stored, low_byte, bytes_in};
+ghost use Rattle.posix.specs.Common.{zero_memory, stored, low_byte, bytes_in};
 ghost use Rattle.umach.specs.Memories.{words_of};
 
 use arena::{Arena, refill};

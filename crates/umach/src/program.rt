@@ -2,7 +2,7 @@
 
 ghost use Rattle.std.specs.Prelude.{◌≡◌, ◌≤◌, length, slice_get, true, IfOk};
 ghost use Rattle.std.specs.List.{list_all};
-ghost use Rattle.posix.specs.Ranges.{is_instruction, is_program};
+ghost use Rattle.posix.specs.Common.{is_instruction, is_program};
 
 use posix::{Gid, Instr, Uid};
 use std::alloc::{AllocError, Global};

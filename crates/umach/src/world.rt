@@ -2,7 +2,7 @@
 
 ghost use Rattle.std.specs.Prelude.{◌≡◌, ◌≤◌, IfOk, length, true};
 ghost use Rattle.std.specs.List.{list_all};
-ghost use Rattle.posix.specs.Ranges.{IsWorld, is_program};
+ghost use Rattle.posix.specs.Common.{IsWorld, is_program};
 
 use crate::program::Program;
 use std::alloc::{AllocError, Global};

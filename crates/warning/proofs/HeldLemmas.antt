@@ -1,8 +1,6 @@
 -- What is still known once a register is written.
 use Rattle.std.proofs.Common.{◌≡◌, ◌≢◌, ◌<◌, ◌<ℤ◌, ◌⊎◌, ⊎_elim, ap, ℕ, zero, suc, ℤ, pos, negsuc, List, [], ◌∷◌, Option, Some, None, length, slice_set, slice_index_or, refl, sym, ◌∙◌, subst, arith}
-use Rattle.posix.specs.Processes.{Cpu}
-use Rattle.posix.specs.Execute.{put_result, load_from, store_at, address_of, register, execute, faulted}
-use Rattle.posix.specs.SignalNumbers.{SEGV}
+use Rattle.posix.specs.Common.{Cpu, put_result, load_from, store_at, address_of, register, execute, faulted, SEGV}
 use Rattle.posix.specs.declared.call.Call.{Call}
 use Rattle.posix.specs.declared.call.Call.TheVariants.{Waitpid, Waitid, Sigaction, Sigprocmask, Sigpending}
 use Rattle.posix.specs.declared.instr.Instr.{Instr}

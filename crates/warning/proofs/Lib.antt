@@ -1,2 +1,3 @@
 pub mod HeldLemmas
+pub mod TargetLemmas
 pub mod WayLemmas

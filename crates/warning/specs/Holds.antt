@@ -1,7 +1,6 @@
 -- What is known of registers, and what they hold.
 use Rattle.std.specs.Prelude.{◌≡◌, ◌≢◌, ℕ, ℤ, pos, List, slice_index_or}
-use Rattle.posix.specs.Processes.{Cpu}
-use Rattle.posix.specs.Execute.{execute}
+use Rattle.posix.specs.Common.{Cpu, execute}
 use Rattle.posix.specs.declared.call.Call.{Call}
 use Rattle.posix.specs.declared.call.Call.TheVariants.{Waitpid, Waitid, Sigaction, Sigprocmask, Sigpending}
 use Rattle.posix.specs.declared.instr.Instr.{Instr}

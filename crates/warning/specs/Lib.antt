@@ -1,3 +1,4 @@
 pub mod Holds
+pub mod Targets
 pub mod Tells
 pub mod Ways

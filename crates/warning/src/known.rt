@@ -1,8 +1,9 @@
 //! What the registers of a process surely hold.
 
-ghost use Rattle.std.specs.Prelude.{◌≡◌, ◌<◌, ℤ, IfSome, List, length, slice_set};
-ghost use Rattle.posix.specs.Processes.{Cpu};
+ghost use Rattle.std.specs.Prelude.{◌≡◌, ◌<◌, ℤ, IfSome, IsTrue, List, length, slice_set};
+ghost use Rattle.posix.specs.Common.{Cpu};
 ghost use Rattle.warning.specs.Holds.{Holds, IsBehind, IsBehindCall, held};
+ghost use Rattle.warning.specs.Targets.{told_of};
 
 use crate::held::Held;
 use crate::targets::Targets;
@@ -148,7 +149,8 @@ impl Known {
 
     /// A process comes to a place: nothing is known where a jump goes to, as it may come from there.
     pub fn come_to(&mut self, targets: &Targets, place: usize)
-        ensures { (registers : List ℤ) → Holds self.old registers → Holds self.new registers }
+        ensures holds { (registers : List ℤ) → Holds self.old registers → Holds self.new registers }
+        ensures nothing { IsTrue (told_of targets.now.are_targets.items place) → (registers : List ℤ) → Holds self.new registers }
     {
         if targets.have(place) {
             *self = Known::nothing();

@@ -1,9 +1,7 @@
 //! The rules: what of an instruction is surely not meant, by what its registers surely hold.
 
 ghost use Rattle.std.specs.Prelude.{◌≡◌, IfSome, IsTrue, None};
-ghost use Rattle.posix.specs.Execute.{address_of, execute, faulted};
-ghost use Rattle.posix.specs.Processes.{Cpu};
-ghost use Rattle.posix.specs.SignalNumbers.{SEGV};
+ghost use Rattle.posix.specs.Common.{address_of, execute, faulted, Cpu, SEGV};
 ghost use Rattle.warning.specs.Holds.{Holds};
 ghost use Rattle.warning.specs.Tells.{Tells};
 

@@ -1,5 +1,8 @@
 //! The places that jumps go to.
 
+ghost use Rattle.std.specs.Prelude.{◌≡◌, ◌<◌, ◌||◌, ℕ, IfOk, length};
+ghost use Rattle.warning.specs.Targets.{AreTold, jumps_to, told_of};
+
 use posix::Instr;
 use std::alloc::{AllocError, Global};
 use umach::Program;
@@ -14,29 +17,38 @@ pub struct Targets {
 
 impl Targets {
     /// Those of a program.
-    pub fn new(alloc: Global, program: &Program) -> Result<Targets, AllocError> {
+    pub fn new(alloc: Global, program: &Program) -> Result<Targets, AllocError>
+        ensures { IfOk result (λ targets. AreTold program.now.instructions program.now.instructions targets.are_targets.items) }
+    {
         let mut targets = Targets {
             are_targets: vec![in alloc; false; program.len()]?,
         };
         for place in 0..program.len() {
-            if let Some(Instr::Jump(address) | Instr::JumpIf(_, _, address)) = program.get(place) {
-                targets.add(address);
+            if let Some(instr) = program.get(place) {
+                targets.add(instr);
             }
         }
         Ok(targets)
     }
 
-    /// A jump goes to a code address.
-    fn add(&mut self, address: u16) {
-        if let Some(place) = place_of(i64::from(address)) {
-            if let Some(is_target) = self.are_targets.get_mut(place) {
-                *is_target = true;
+    /// Adds the place that an instruction jumps to, if it is a jump within the program.
+    fn add(&mut self, instr: Instr)
+        ensures len { length self.new.are_targets.items ≡ length self.old.are_targets.items }
+        ensures told { (place : ℕ) → place < length self.old.are_targets.items → told_of self.new.are_targets.items place ≡ (told_of self.old.are_targets.items place || jumps_to place instr) }
+    {
+        if let Instr::Jump(address) | Instr::JumpIf(_, _, address) = instr {
+            if let Some(place) = place_of(i64::from(address)) {
+                if let Some(is_target) = self.are_targets.get_mut(place) {
+                    *is_target = true;
+                }
             }
         }
     }
 
     /// Whether a jump goes to a place.
-    pub fn have(&self, place: usize) -> bool {
+    pub fn have(&self, place: usize) -> bool
+        ensures { result ≡ told_of self.now.are_targets.items place }
+    {
         self.are_targets.get(place).copied().unwrap_or(false)
     }
 }

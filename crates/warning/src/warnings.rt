@@ -1,5 +1,7 @@
 //! Warnings, and how they are told.
 
+ghost use Rattle.wording.specs.Proses.{Grows};
+
 use posix::{Call, Sig, SigSet};
 use wording::{Prose, Source, put_address, put_set, put_signal};
 
@@ -21,7 +23,9 @@ pub enum Warning {
 }
 
 /// Tells that the set which a call takes is the number of a signal.
-fn put_number_for_set(text: &mut Prose, call: Call, sig: Sig) {
+fn put_number_for_set(text: &mut Prose, call: Call, sig: Sig)
+    ensures { Grows text.old.text text.new.text }
+{
     let number = i64::from(sig.number());
     text.push_bytes(call.name());
     text.push_str(match call {
@@ -37,7 +41,9 @@ fn put_number_for_set(text: &mut Prose, call: Call, sig: Sig) {
 }
 
 /// Tells that a handler has no sigreturn.
-fn put_no_return(text: &mut Prose, source: &Source<'_>, sig: Sig, address: i64) {
+fn put_no_return(text: &mut Prose, source: &Source<'_>, sig: Sig, address: i64)
+    ensures { Grows text.old.text text.new.text }
+{
     text.push_str("from ");
     put_address(text, Some(source), address);
     text.push_str(", the handler of ");
@@ -46,7 +52,9 @@ fn put_no_return(text: &mut Prose, source: &Source<'_>, sig: Sig, address: i64) 
 }
 
 /// Tells that the handler which is set for a signal is the one that another had.
-fn put_handler_of_another(text: &mut Prose, sig: Sig, other: Sig) {
+fn put_handler_of_another(text: &mut Prose, sig: Sig, other: Sig)
+    ensures { Grows text.old.text text.new.text }
+{
     text.push_str("sigaction sets for ");
     put_signal(text, sig);
     text.push_str(" the old handler of ");
@@ -55,7 +63,9 @@ fn put_handler_of_another(text: &mut Prose, sig: Sig, other: Sig) {
 }
 
 /// Writes a store of one register at the address in another, and what they hold.
-fn put_store(text: &mut Prose, value: usize, address: usize, stored: i64, at: i64) {
+fn put_store(text: &mut Prose, value: usize, address: usize, stored: i64, at: i64)
+    ensures { Grows text.old.text text.new.text }
+{
     text.push_with("st r", value);
     text.push_with(", r", address);
     text.push_with(" stores ", stored);
@@ -64,7 +74,9 @@ fn put_store(text: &mut Prose, value: usize, address: usize, stored: i64, at: i6
 
 impl Warning {
     /// Tells it.
-    fn put(&self, text: &mut Prose, source: &Source<'_>) {
+    fn put(&self, text: &mut Prose, source: &Source<'_>)
+        ensures { Grows text.old.text text.new.text }
+    {
         match *self {
             Warning::NumberForSet(call, sig) => put_number_for_set(text, call, sig),
             Warning::NoReturn(sig, address) => put_no_return(text, source, sig, address),
@@ -82,7 +94,9 @@ impl Warning {
     }
 
     /// Tells it of the instruction at a place, in a line.
-    pub fn put_line(&self, text: &mut Prose, source: &Source<'_>, place: usize) {
+    pub fn put_line(&self, text: &mut Prose, source: &Source<'_>, place: usize)
+        ensures { Grows text.old.text text.new.text }
+    {
         if let Some(written) = source.at(place) {
             text.push_with("line ", written.line);
             text.push_str(": ");

@@ -1,5 +1,7 @@
 //! The warnings of a world.
 
+ghost use Rattle.wording.specs.Proses.{Grows};
+
 use crate::addresses::Addresses;
 use crate::known::Known;
 use crate::rules::{exchanged, handler_of_another, no_return, number_for_set};
@@ -22,14 +24,18 @@ struct View<'a, 't> {
 
 impl View<'_, '_> {
     /// Adds a line for a warning of the instruction at a place, if there is one.
-    fn put(&self, text: &mut Prose, place: usize, warning: Option<Warning>) {
+    fn put(&self, text: &mut Prose, place: usize, warning: Option<Warning>)
+        ensures { Grows text.old.text text.new.text }
+    {
         if let Some(warning) = warning {
             warning.put_line(text, self.source, place);
         }
     }
 
     /// Adds the warnings of an instruction.
-    fn put_instr(&self, text: &mut Prose, place: usize, known: &Known, instr: &Instr) {
+    fn put_instr(&self, text: &mut Prose, place: usize, known: &Known, instr: &Instr)
+        ensures { Grows text.old.text text.new.text }
+    {
         self.put(text, place, exchanged(known, instr, &self.addresses));
         if let Instr::Sys(call) = *instr {
             self.put(text, place, number_for_set(known, call));
@@ -49,7 +55,9 @@ fn put_program(
     program: &Program,
     source: &Source<'_>,
     text: &mut Prose,
-) -> Result<(), AllocError> {
+) -> Result<(), AllocError>
+    ensures { Grows text.old.text text.new.text }
+{
     let targets = Targets::new(alloc, program)?;
     let view = View {
         program,
@@ -74,7 +82,9 @@ pub fn put_warnings(
     world: &World,
     world_text: &[u8],
     text: &mut Prose,
-) -> Result<(), AllocError> {
+) -> Result<(), AllocError>
+    ensures { Grows text.old.text text.new.text }
+{
     let listing = Listing::new(alloc, world_text)?;
     for (number, program) in world.programs().iter().enumerate() {
         if let Some(source) = listing.program(number) {

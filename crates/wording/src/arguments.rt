@@ -1,7 +1,8 @@
 //! Calls with their arguments, as the programs give them, and what they gave.
 
 ghost use Rattle.std.specs.Prelude.{◌≡◌, ◌+◌, ◌<ℤ◌, IfSome, None, pos};
-ghost use Rattle.posix.specs.Waits.{asked};
+ghost use Rattle.posix.specs.Common.{asked};
+ghost use Rattle.wording.specs.Proses.{Grows};
 
 use crate::listing::{Listing, Source};
 use crate::names::{put_flags_or, put_name, put_set, put_signal_word, put_status};
@@ -55,7 +56,9 @@ pub fn place_of(address: i64) -> Option<usize>
 
 /// Writes the label nearest before a place, and how far behind it the place is: `loop`, `loop+2`; nothing where no label
 /// stands before it. Whether one does.
-pub fn put_label(text: &mut Prose, source: Option<&Source<'_>>, place: usize, mark: &str) -> bool {
+pub fn put_label(text: &mut Prose, source: Option<&Source<'_>>, place: usize, mark: &str) -> bool
+    ensures { Grows text.old.text text.new.text }
+{
     let Some(label) = source.and_then(|source| source.label_of(place)) else {
         return false;
     };
@@ -82,7 +85,9 @@ pub fn put_place(text: &mut Prose, source: Option<&Source<'_>>, pc: i64) {
 }
 
 /// Writes a code address by the label before it, `@ended`; as a number where there is none.
-pub fn put_address(text: &mut Prose, source: Option<&Source<'_>>, address: i64) {
+pub fn put_address(text: &mut Prose, source: Option<&Source<'_>>, address: i64)
+    ensures { Grows text.old.text text.new.text }
+{
     if let Some(place) = place_of(address) {
         if put_label(text, source, place, "@") {
             return;
@@ -102,11 +107,11 @@ fn put_program(text: &mut Prose, listing: &Listing<'_>, word: i64) {
 
 /// What a word in a register is for a call.
 #[derive(Clone, Copy)]
-enum Word {
+enum Argument {
     Number,
     Signal,
     Set,
-    Options,
+    WaitpidOptions,
     WaitidOptions,
     Children,
     How,
@@ -116,7 +121,7 @@ enum Word {
 }
 
 /// What the words in the registers are for a call, from r1 on: for a sigaction that sets nothing no mask and no flags.
-fn words_of(call: Call, with: Arguments) -> &'static [Word] {
+fn arguments_of(call: Call, with: Arguments) -> &'static [Argument] {
     match call {
         Call::Fork
         | Call::Pause
@@ -142,47 +147,60 @@ fn words_of(call: Call, with: Arguments) -> &'static [Word] {
         | Call::Setctty
         | Call::Tcsetpgrp
         | Call::Settostop
-        | Call::Subreaper => &[Word::Number],
-        Call::Setpgid | Call::Read | Call::Write => &[Word::Number, Word::Number],
-        Call::Waitpid => &[Word::Number, Word::Options],
-        Call::Waitid => &[Word::Children, Word::Number, Word::WaitidOptions],
-        Call::Kill => &[Word::Number, Word::Signal],
-        Call::Sigqueue => &[Word::Number, Word::Signal, Word::Number],
-        Call::Sigaction if with.second == -1 => &[Word::Signal, Word::Handler],
-        Call::Sigaction => &[Word::Signal, Word::Handler, Word::Set, Word::Flags],
-        Call::Sigprocmask => &[Word::How, Word::Set],
-        Call::Sigsuspend => &[Word::Set],
-        Call::Exec => &[Word::Program, Word::Number, Word::Number],
+        | Call::Subreaper => &[Argument::Number],
+        Call::Setpgid | Call::Read | Call::Write => &[Argument::Number, Argument::Number],
+        Call::Waitpid => &[Argument::Number, Argument::WaitpidOptions],
+        Call::Waitid => &[
+            Argument::Children,
+            Argument::Number,
+            Argument::WaitidOptions,
+        ],
+        Call::Kill => &[Argument::Number, Argument::Signal],
+        Call::Sigqueue => &[Argument::Number, Argument::Signal, Argument::Number],
+        Call::Sigaction if with.second == -1 => &[Argument::Signal, Argument::Handler],
+        Call::Sigaction => &[
+            Argument::Signal,
+            Argument::Handler,
+            Argument::Set,
+            Argument::Flags,
+        ],
+        Call::Sigprocmask => &[Argument::How, Argument::Set],
+        Call::Sigsuspend => &[Argument::Set],
+        Call::Exec => &[Argument::Program, Argument::Number, Argument::Number],
     }
 }
 
 /// Writes a word in a register as what it is for a call.
-fn put_word(
+fn put_argument(
     text: &mut Prose,
-    kind: Word,
+    kind: Argument,
     word: i64,
     source: Option<&Source<'_>>,
     listing: &Listing<'_>,
 ) {
     match kind {
-        Word::Number => text.push_number(word),
-        Word::Signal => put_signal_word(text, word),
-        Word::Set => put_set(text, SigSet::from_word(word)),
-        Word::Options => put_flags_or(text, WaitOptions::from_bits(word.cast_unsigned()), word),
-        Word::WaitidOptions => {
+        Argument::Number => text.push_number(word),
+        Argument::Signal => put_signal_word(text, word),
+        Argument::Set => put_set(text, SigSet::from_word(word)),
+        Argument::WaitpidOptions => put_flags_or(
+            text,
+            WaitOptions::from_bits(word.cast_unsigned()),
+            word,
+        ),
+        Argument::WaitidOptions => {
             put_flags_or(text, WaitidOptions::from_bits(word.cast_unsigned()), word);
         }
-        Word::Children => put_name(text, Kind::Children, word),
-        Word::How => put_name(text, Kind::How, word),
-        Word::Handler => match name_of(Kind::Handler, word) {
+        Argument::Children => put_name(text, Kind::Children, word),
+        Argument::How => put_name(text, Kind::How, word),
+        Argument::Handler => match name_of(Kind::Handler, word) {
             Some(name) => text.push_str(name),
             None => put_address(text, source, word),
         },
-        Word::Flags => {
+        Argument::Flags => {
             let flags = u32::try_from(word).ok().and_then(SaFlags::from_bits);
             put_flags_or(text, flags, word);
         }
-        Word::Program => put_program(text, listing, word),
+        Argument::Program => put_program(text, listing, word),
     }
 }
 
@@ -197,9 +215,9 @@ pub fn put_call(
     text.push_around("", call.name(), "(");
     let words = [with.first, with.second, with.third, with.fourth];
     let mut is_first = true;
-    for (kind, word) in words_of(call, with).iter().zip(words) {
+    for (kind, word) in arguments_of(call, with).iter().zip(words) {
         text.push_str(if is_first { "" } else { ", " });
-        put_word(text, *kind, word, source, listing);
+        put_argument(text, *kind, word, source, listing);
         is_first = false;
     }
     text.push_str(")");

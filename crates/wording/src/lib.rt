@@ -3,6 +3,7 @@
 #![tactic(auto)]
 
 mod arguments;
+mod counted;
 mod listing;
 mod names;
 mod nearest;
@@ -13,8 +14,11 @@ pub use arguments::{
     Arguments, place_of, put_address, put_byte, put_call, put_look, put_moved, put_place,
     put_quoted, put_report, put_result,
 };
+pub use counted::plural;
 pub use listing::{Label, Listing, Source, Written};
-pub use names::{put_flags, put_set, put_set_or_none, put_signal, put_status, signal_in};
+pub use names::{
+    process_in, put_flags, put_set, put_set_or_none, put_signal, put_status, signal_in,
+};
 pub use nearest::{distance, meant, nearest_name};
 pub use prose::Prose;
 pub use table::{Kind, SIGRTMIN, name_of, named};

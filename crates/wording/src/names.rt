@@ -1,17 +1,20 @@
 //! The names of signals, sets, errors, statuses and options.
 
-ghost use Rattle.std.specs.Prelude.{◌≡◌, IfSome, pos};
+ghost use Rattle.std.specs.Prelude.{◌≡◌, ◌⊎◌, ◌<◌, ◌<ℤ◌, ◌≤ℤ◌, IfSome, None, pos};
+ghost use Rattle.wording.specs.Proses.{Grows};
 
 use crate::prose::Prose;
 use crate::table::{Kind, SIGRTMIN, name_of};
 use bitflags::Flags;
-use posix::{Sig, SigSet, Status};
+use posix::{Pid, Sig, SigSet, Status};
 
 /// So many signals there are.
 const SIGNAL_COUNT: usize = 62;
 
 /// Writes the name of a number of a kind; the number where it has none.
-pub fn put_name(text: &mut Prose, kind: Kind, number: i64) {
+pub fn put_name(text: &mut Prose, kind: Kind, number: i64)
+    ensures { Grows text.old.text text.new.text }
+{
     match name_of(kind, number) {
         Some(name) => text.push_str(name),
         None => text.push_number(number),
@@ -19,7 +22,9 @@ pub fn put_name(text: &mut Prose, kind: Kind, number: i64) {
 }
 
 /// Writes the name of a signal.
-pub fn put_signal(text: &mut Prose, sig: Sig) {
+pub fn put_signal(text: &mut Prose, sig: Sig)
+    ensures { Grows text.old.text text.new.text }
+{
     match sig.number() {
         number @ 35..=63 => text.push_with("SIGRTMIN+", number - SIGRTMIN),
         number => put_name(text, Kind::Signal, i64::from(number)),
@@ -33,6 +38,15 @@ pub fn signal_in(word: i64) -> Option<Sig>
     Sig::new(u8::try_from(word).ok()?)
 }
 
+/// The process with a number; none where no process can have it.
+pub fn process_in(number: i128) -> Option<Pid>
+    ensures some { IfSome result (λ pid. (number ≡ pos pid) × (0 < pid)) }
+    ensures none { result ≡ None → (number ≤ℤ pos 0) ⊎ (pos 2147483647 <ℤ number) }
+{
+    let pid = Pid::new(u32::try_from(number).ok()?)?;
+    Some(pid).filter(|pid| *pid != Pid::NONE)
+}
+
 /// Writes the name of the signal that a word is, or the word.
 pub fn put_signal_word(text: &mut Prose, word: i64) {
     match signal_in(word) {
@@ -42,9 +56,11 @@ pub fn put_signal_word(text: &mut Prose, word: i64) {
 }
 
 /// Writes the signals that are in a set, or that aren't, with blanks between them.
-fn put_signals(text: &mut Prose, set: SigSet, is_in: bool) {
+fn put_signals(text: &mut Prose, set: SigSet, is_in: bool)
+    ensures { Grows text.old.text text.new.text }
+{
     let start = text.len();
-    for sig in (1..65u8).filter_map(|number| Sig::new(number)) {
+    for sig in (1..65u8).filter_map(Sig::new) {
         if set.contains(sig) == is_in {
             if text.len() != start {
                 text.push_str(" ");
@@ -56,12 +72,14 @@ fn put_signals(text: &mut Prose, set: SigSet, is_in: bool) {
 
 /// How many signals are in a set.
 fn count_of(set: SigSet) -> usize {
-    let signals = (1..65u8).filter_map(|number| Sig::new(number));
+    let signals = (1..65u8).filter_map(Sig::new);
     signals.filter(|sig| set.contains(*sig)).count()
 }
 
 /// Writes a set of signals: `{SIGINT SIGCHLD}`, or `~{SIGKILL SIGSTOP}` for all but these, where most are in it.
-pub fn put_set(text: &mut Prose, set: SigSet) {
+pub fn put_set(text: &mut Prose, set: SigSet)
+    ensures { Grows text.old.text text.new.text }
+{
     let most = count_of(set) > SIGNAL_COUNT / 2;
     text.push_str(if most { "~{" } else { "{" });
     put_signals(text, set, !most);

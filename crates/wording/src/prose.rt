@@ -1,7 +1,7 @@
 //! A text that grows piece by piece.
 
-ghost use Rattle.std.specs.Prelude.{◌≡◌, ◌&&◌, ◌++◌, ◌∷◌, [], IfOk, is_ok, length, true};
-ghost use Rattle.wording.specs.Proses.{Adds, Grows};
+ghost use Rattle.std.specs.Prelude.{◌≡◌, ◌&&◌, ◌++◌, ◌∷◌, [], IfOk, MatchResult, None, false, is_ok, length, option_map, true};
+ghost use Rattle.wording.specs.Proses.{Adds, Grows, meant};
 
 use itoa::{Buffer, Integer};
 use std::alloc::{AllocError, Global};
@@ -108,7 +108,8 @@ impl Prose {
 
     /// What was looked for, to be told here. Where there was no memory to find it this text isn't given out.
     pub fn found<'n>(&mut self, what: Result<Option<&'n [u8]>, AllocError>) -> Option<&'n [u8]>
-        ensures { self.new ≡ record self.old { is_whole = is_ok what.entry && self.old.is_whole } }
+        ensures state { self.new ≡ record self.old { is_whole = is_ok what.entry && self.old.is_whole } }
+        ensures given { MatchResult what.entry (λ known. option_map (λ name. name.now) result ≡ option_map (λ name. name.now) known) (λ e. result ≡ None) }
     {
         match what {
             Ok(what) => what,
@@ -121,7 +122,8 @@ impl Prose {
 
     /// Adds which name is meant, if one is near.
     pub fn push_meant(&mut self, near: Result<Option<&[u8]>, AllocError>)
-        ensures { Grows self.old.text self.new.text }
+        ensures grows { Grows self.old.text self.new.text }
+        ensures meant { MatchResult near.entry (λ name. Adds (meant (option_map (λ n. n.now) name)) self.old self.new) (λ e. self.new ≡ record self.old { is_whole = false }) }
     {
         if let Some(name) = self.found(near) {
             self.push_around("; did you mean ", name, "?");

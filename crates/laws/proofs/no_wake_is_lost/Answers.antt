@@ -1,9 +1,7 @@
 -- The laws that no search finds.
 use Rattle.std.proofs.Common.{ap, sym, ◌∙◌}
-use Rattle.posix.specs.Outcomes.{Outcome}
+use Rattle.posix.specs.Common.{Outcome, boot, IsSettled}
 use Rattle.posix.proofs.CountLemmas.{next_halted}
-use Rattle.posix.specs.States.{boot}
-use Rattle.posix.specs.Settle.{IsSettled}
 use Rattle.posix.proofs.WakeLemmas.{first_settled, next_settled, settled_stays, nothing_after_halt, run_keeps}
 use Rattle.laws.proofs.PlaceLemmas.{given_can_act, reader_has_place}
 use Rattle.laws.proofs.no_wake_is_lost.Goals as goal

@@ -1,6 +1,5 @@
 -- The laws that no search finds.
-use Rattle.posix.specs.States.{boot}
-use Rattle.posix.specs.Regular.{IsRegular}
+use Rattle.posix.specs.Common.{boot, IsRegular}
 use Rattle.posix.proofs.RegularLemmas.{regular_first}
 use Rattle.posix.proofs.WakeLemmas.{run_keeps}
 use Rattle.laws.proofs.RegularStays.{step_regular}

@@ -2,10 +2,10 @@
 use Rattle.std.proofs.Common.{◌≡◌, ℕ, ◌^◌, ◌<◌, List, [], ◌∷◌, refl, sym, w64, Bor}
 use seplogic.Ra.Ura.{Ura}
 use mir.Syntax.{Ty, Args, Fn, a_type, dnil, dcons}
-use mir.Val.{Val, vint, vptr}
+use mir.Val.{Val, vint, vptr, vunit}
 use mir.MapTy.{inst_fn}
-use base.Logic.{SProp, ent}
-use base.Fml.{Lft, Share, ftrue, flft}
+use base.Logic.{SProp, ent, never_e}
+use base.Fml.{Lft, Share, ftrue, flft, ffalse, fsep, froom}
 use prog.Memory.{Memory, size, align, capped}
 use prog.Routine.{Routine}
 use prog.Wp.{WpFn, Tables}
@@ -14,7 +14,7 @@ use contract.BorrowLft.{◌⊑◌, ⊑_trans}
 use contract.Monad.{Fun, fact}
 use contract.Running.{tables, tables_of}
 use sound.WpLaws.{fm_of, WpFn-mono}
-use types.Run.{no_more, and_then, of_opd, returns, enter}
+use types.Run.{no_more, and_then, of_opd, returns, enter, unit_lit}
 use denote.Exit.{yes}
 use denote.RattleType.{owns}
 use denote.Ref.{shr_vals}
@@ -27,11 +27,7 @@ use denote.Triple.Spec.{triple_of}
 use denote.Triple.Statement.{Triple}
 use denote.Triple.Table.{entered}
 use denote.Triple.Walked.{Stays, stay_dropped, walk_of, ends_at, walked, Goes-dropped, walk_Meets}
-use mir.Val.{vunit}
-use base.Logic.{never_e}
-use base.Fml.{ffalse, fsep, froom}
 use types.Kit.{Item, ‵, raw, ◌⊛◌, some, later, given, ◌$◌, ◌∵◌, !, qed, by, move, keep, use1, use2, pick, rewrite, split, split3, join, learn, fsplit, fjoin, feq_i, suffices, await, done}
-use types.Run.{unit_lit}
 use types.ByLocal.{alloc_all, pass_all, free_all, look_at, get, sets, lands_as}
 use denote.RawPtr.{Ptr, block_ptr, null_ptr, ptr_val, rawptr_vals, rawptr_Tells}
 use denote.Builtin.{usize, RawPtr, RefOf}

@@ -3,11 +3,11 @@ use Rattle.std.proofs.lemmas.Bool.{ltb-true, ltb-false}
 use Rattle.audit.specs.declared.records.Record.{Record}
 use Rattle.audit.specs.Records.{record_in}
 use Rattle.audit.proofs.ChildLemmas.{begun_unlisted, begun_away, begun_anew}
-use Rattle.audit.proofs.KeptLemmas.{on_err_too}
+use Rattle.posix.proofs.ResultLemmas.{on_err}
 use Rattle.audit.proofs.children.begin.Goals as goal
 
 pub returns-in_err-insert-clause-err : goal.returns-in_err-insert-clause-err
-returns-in_err-insert-clause-err c = on_err_too c.from_residual.result (c.in_err-insert.ensures.err ∙ c.relink.ensures.none c.in_default.is)
+returns-in_err-insert-clause-err c = on_err c.from_residual.result (c.in_err-insert.ensures.err ∙ c.relink.ensures.none c.in_default.is)
 
 pub returns-in_default-clause-ok : goal.returns-in_default-clause-ok
 returns-in_default-clause-ok c =

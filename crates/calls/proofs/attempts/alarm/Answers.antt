@@ -3,12 +3,7 @@ use Rattle.std.specs.Option.{IsSome}
 use Rattle.std.proofs.lemmas.Int.{to_z_pos}
 use Rattle.posix.specs.declared.call.Call.TheVariants.{Alarm}
 use Rattle.posix.specs.declared.errno.Errno.TheVariants.{EINVAL}
-use Rattle.posix.specs.Processes.{argument}
-use Rattle.posix.specs.States.{State, process, change}
-use Rattle.posix.specs.Execute.{register}
-use Rattle.posix.specs.Outcomes.{finish_call, finish_with, refusal}
-use Rattle.posix.specs.Alarms.{alarm, alarm_in, ticks_in, ticks_left, due_in, with_alarm}
-use Rattle.posix.specs.Attempts.{attempt}
+use Rattle.posix.specs.Common.{argument, State, process, change, register, finish_call, finish_with, refusal, alarm, alarm_in, ticks_in, ticks_left, due_in, with_alarm, attempt}
 use Rattle.posix.proofs.TableLemmas.{pid_looked}
 use Rattle.posix.proofs.OrderLemmas.{placed_some}
 use Rattle.posix.proofs.TouchLemmas.{unseen_with_alarm}

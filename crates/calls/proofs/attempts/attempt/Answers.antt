@@ -1,6 +1,5 @@
 use Rattle.std.proofs.Common.{sym, subst, true}
-use Rattle.posix.specs.States.{change}
-use Rattle.posix.specs.Attempts.{attempt}
+use Rattle.posix.specs.Common.{change, attempt}
 use Rattle.proctable.specs.Records.{give_own}
 use Rattle.calls.specs.Outcomes.{Comes}
 use Rattle.calls.proofs.OwnLemmas.{answered}

@@ -1,10 +1,5 @@
 use Rattle.std.proofs.Common.{◌≡◌, ◌∙◌, ap, true, rules, to_z, of_z, w64, ◌++◌}
-use Rattle.posix.specs.States.{State, process}
-use Rattle.posix.specs.Statuses.{exited}
-use Rattle.posix.specs.Processes.{argument}
-use Rattle.posix.specs.Ends.{end_process}
-use Rattle.posix.specs.Attempts.{attempt}
-use Rattle.posix.specs.Execute.{register}
+use Rattle.posix.specs.Common.{State, process, exited, argument, end_process, attempt, register}
 use Rattle.life.proofs.LoanLemmas.{own_is}
 use Rattle.life.proofs.ViewLemmas.{state_is}
 use Rattle.calls.proofs.attempts.exit.Goals as goal

@@ -1,5 +1,5 @@
 use Rattle.std.proofs.Common.{◌≡◌, ◌∙◌, ap, rules, to_z, of_z, w64, [], ◌∷◌}
-use Rattle.posix.specs.Outcomes.{finish, finished}
+use Rattle.posix.specs.Common.{finish, finished}
 use Rattle.life.proofs.LoanLemmas.{was_written}
 use Rattle.calls.proofs.attempts.finish_shown.Goals as goal
 

@@ -3,10 +3,7 @@ use Rattle.std.specs.Option.{IsSome}
 use Rattle.posix.specs.declared.call.Call.TheVariants.{Fork}
 use Rattle.posix.specs.declared.entry.Entry.TheVariants.{NoMemory}
 use Rattle.posix.specs.declared.errno.Errno.TheVariants.{EAGAIN}
-use Rattle.posix.specs.States.{State, process, next_pid}
-use Rattle.posix.specs.Outcomes.{refusal, finish_with, no_memory}
-use Rattle.posix.specs.Births.{fork_as, born, child_of}
-use Rattle.posix.specs.Attempts.{attempt}
+use Rattle.posix.specs.Common.{State, process, next_pid, refusal, finish_with, no_memory, fork_as, born, child_of, attempt}
 use Rattle.posix.proofs.OrderLemmas.{placed_some}
 use Rattle.posix.proofs.TableLemmas.{pid_looked}
 use Rattle.life.proofs.ViewLemmas.{state_is}

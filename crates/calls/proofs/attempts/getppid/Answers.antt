@@ -1,7 +1,6 @@
 use Rattle.std.proofs.Common.{◌≡◌, ◌∙◌, ap, refl, true, pos, rules, to_z, of_z, w64}
 use Rattle.posix.specs.declared.call.Call.TheVariants.{Getppid}
-use Rattle.posix.specs.Outcomes.{finish_with}
-use Rattle.posix.specs.Attempts.{attempt}
+use Rattle.posix.specs.Common.{finish_with, attempt}
 use Rattle.posix.proofs.TableLemmas.{pid_looked}
 use Rattle.calls.proofs.CallLemmas.{gives_is}
 use Rattle.calls.proofs.attempts.getppid.Goals as goal

@@ -1,9 +1,7 @@
 use Rattle.std.proofs.Common.{ap, sym, subst, refl, true, pos}
 use Rattle.std.specs.Option.{IsSome}
 use Rattle.posix.specs.declared.call.Call.TheVariants.{SchedYield}
-use Rattle.posix.specs.States.{State, process, go_last}
-use Rattle.posix.specs.Outcomes.{finish_with}
-use Rattle.posix.specs.Attempts.{attempt}
+use Rattle.posix.specs.Common.{State, process, go_last, finish_with, attempt}
 use Rattle.posix.proofs.TableLemmas.{pid_looked}
 use Rattle.posix.proofs.OrderLemmas.{placed_some}
 use Rattle.life.proofs.ViewLemmas.{state_is}

@@ -1,10 +1,6 @@
 use Rattle.std.proofs.Common.{◌∙◌, ap, sym, true, ◌++◌, ◌∷◌, []}
 use Rattle.posix.specs.declared.entry.Entry.TheVariants.{Marked}
-use Rattle.posix.specs.Processes.{argument}
-use Rattle.posix.specs.States.{State, change}
-use Rattle.posix.specs.Attempts.{attempt}
-use Rattle.posix.specs.Subreapers.{subreaper, marked_as}
-use Rattle.posix.specs.Terminals.{is_nonzero}
+use Rattle.posix.specs.Common.{argument, State, change, attempt, subreaper, marked_as, is_nonzero}
 use Rattle.posix.proofs.TableLemmas.{pid_looked}
 use Rattle.proctable.specs.Records.{give_own}
 use Rattle.life.proofs.LoanLemmas.{own_is}

@@ -1,10 +1,9 @@
 use Rattle.std.proofs.Common.{◌∙◌, ap, sym, ◌==◌, ◌++◌, ◌∷◌, [], List, true, false}
 use Rattle.posix.specs.declared.entry.Entry.{Entry}
 use Rattle.posix.specs.declared.entry.Entry.TheVariants.{Discarded}
-use Rattle.posix.specs.Delivery.{act_by_default}
-use Rattle.posix.specs.Ends.{end_process}
+use Rattle.posix.specs.Common.{act_by_default, end_process}
 use Rattle.posix.proofs.TableLemmas.{pid_looked}
-use Rattle.life.proofs.SoundLemmas.{is_there}
+use Rattle.posix.proofs.ResultLemmas.{is_there}
 use Rattle.calls.proofs.CallLemmas.{outcome_of}
 use Rattle.calls.proofs.DeliveryLemmas.{default_ends, shown_alone, by_default_if, default_rests}
 use Rattle.calls.proofs.delivery.act_by_default.Goals as goal

@@ -1,10 +1,9 @@
 use Rattle.std.proofs.Common.{rules, ◌≡◌, ◌∙◌, ap, sym, of_z, to_z, w64}
-use Rattle.posix.specs.States.{change}
-use Rattle.posix.specs.Delivery.{deliver, handle, take_out}
+use Rattle.posix.specs.Common.{change, deliver, handle, take_out}
 use Rattle.posix.proofs.RegularLemmas.{keeps_take_out}
+use Rattle.posix.proofs.ResultLemmas.{is_there}
 use Rattle.proctable.specs.Records.{give_own}
 use Rattle.life.proofs.LoanLemmas.{was_written}
-use Rattle.life.proofs.SoundLemmas.{is_there}
 use Rattle.calls.proofs.CallLemmas.{outcome_of}
 use Rattle.calls.proofs.DeliveryLemmas.{Reads, deliver_at, deliver_ignored, deliver_default, shown_alone, there_then}
 use Rattle.calls.specs.Outcomes.{with_own}

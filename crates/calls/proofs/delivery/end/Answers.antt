@@ -2,16 +2,12 @@ use Rattle.std.proofs.Common.{◌≡◌, ℕ, ◌+◌, ◌≤◌, ◌∙◌, ap,
 use Rattle.std.proofs.Math.Nat.{le_trans}
 use Rattle.posix.specs.declared.entry.Entry.{Entry}
 use Rattle.posix.specs.declared.entry.Entry.TheVariants.{Ended, Halted}
-use Rattle.posix.specs.Processes.{Process}
-use Rattle.posix.specs.States.{State, process}
-use Rattle.posix.specs.Ends.{hang_up}
-use Rattle.posix.specs.Heirs.{heir_in}
-use Rattle.posix.specs.Regular.{CanInherit}
+use Rattle.posix.specs.Common.{Process, State, process, hang_up, heir_in, CanInherit}
 use Rattle.posix.proofs.HeirLemmas.{heir_inherits}
 use Rattle.posix.proofs.TableLemmas.{pid_looked}
 use Rattle.life.specs.Ends.{slots_of_heir, slots_of_ending}
 use Rattle.calls.proofs.CallLemmas.{end_entries}
-use Rattle.life.proofs.SoundLemmas.{there}
+use Rattle.posix.proofs.ResultLemmas.{there}
 use Rattle.calls.proofs.RemainLemmas.{end_hung, some_hung}
 use Rattle.calls.proofs.delivery.end.Goals as goal
 

@@ -1,12 +1,7 @@
 use Rattle.std.proofs.Common.{rules, true, false, sym, ◌≡◌, ◌∙◌, ap, of_z, to_z, w64, ◌++◌, ◌∷◌, [], List}
 use Rattle.posix.specs.declared.entry.Entry.{Entry}
 use Rattle.posix.specs.declared.entry.Entry.TheVariants.{Handled}
-use Rattle.posix.specs.States.{change}
-use Rattle.posix.specs.SignalNumbers.{SEGV}
-use Rattle.posix.specs.Statuses.{killed}
-use Rattle.posix.specs.Ends.{end_process}
-use Rattle.posix.specs.Handlers.{handles, is_full}
-use Rattle.posix.specs.Delivery.{handle, interruption}
+use Rattle.posix.specs.Common.{change, SEGV, killed, end_process, handles, is_full, handle, interruption}
 use Rattle.posix.proofs.RegularLemmas.{keeps_handles}
 use Rattle.proctable.specs.Records.{give_own}
 use Rattle.life.proofs.LoanLemmas.{was_written}

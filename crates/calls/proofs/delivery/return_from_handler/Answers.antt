@@ -1,8 +1,5 @@
 use Rattle.std.proofs.Common.{◌≡◌, ◌∙◌, ap, subst}
-use Rattle.posix.specs.States.{State, process, change}
-use Rattle.posix.specs.Handlers.{returned}
-use Rattle.posix.specs.Delivery.{return_from_handler, return_to, fault}
-use Rattle.posix.specs.SignalNumbers.{SEGV}
+use Rattle.posix.specs.Common.{State, process, change, returned, return_from_handler, return_to, fault, SEGV}
 use Rattle.proctable.specs.Records.{give_own}
 use Rattle.life.proofs.LoanLemmas.{was_written, only_read}
 use Rattle.calls.proofs.CallLemmas.{outcome_of}

@@ -1,8 +1,7 @@
 use Rattle.std.proofs.Common.{◌∙◌, ap, sym, [], ◌∷◌, true, false}
 use Rattle.std.proofs.Math.Nat.{le_trans}
 use Rattle.posix.specs.declared.entry.Entry.TheVariants.{Stopped, Discarded}
-use Rattle.posix.specs.States.{State, process}
-use Rattle.posix.specs.Delivery.{stop_process}
+use Rattle.posix.specs.Common.{State, process, stop_process}
 use Rattle.posix.proofs.TableLemmas.{pid_looked}
 use Rattle.calls.proofs.CallLemmas.{outcome_of}
 use Rattle.calls.proofs.DeliveryLemmas.{shown_alone, stop_if}

@@ -1,8 +1,5 @@
 use Rattle.std.proofs.Common.{◌≡◌, ◌∙◌, ap, rules, to_z, of_z, w64, option_map}
-use Rattle.posix.specs.Processes.{argument}
-use Rattle.posix.specs.States.{State, process}
-use Rattle.posix.specs.Execute.{register}
-use Rattle.posix.specs.GroupCalls.{named}
+use Rattle.posix.specs.Common.{argument, State, process, register, named}
 use Rattle.proctable.specs.Records.{snapshot_of}
 use Rattle.life.proofs.LoanLemmas.{own_is}
 use Rattle.life.proofs.ViewLemmas.{state_is}

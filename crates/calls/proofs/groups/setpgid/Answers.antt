@@ -2,11 +2,7 @@ use Rattle.std.proofs.Common.{◌≡◌, ◌∙◌, ap, sym, subst, refl, true, 
 use Rattle.std.proofs.Math.Nat.{le_trans}
 use Rattle.std.specs.Option.{IfSome, IsSome}
 use Rattle.posix.specs.declared.call.Call.TheVariants.{Setpgid}
-use Rattle.posix.specs.Processes.{Process, argument}
-use Rattle.posix.specs.States.{State, process, change}
-use Rattle.posix.specs.Outcomes.{finish_with}
-use Rattle.posix.specs.GroupCalls.{named, move_to, in_group}
-use Rattle.posix.specs.Attempts.{attempt}
+use Rattle.posix.specs.Common.{Process, argument, State, process, change, finish_with, named, move_to, in_group, attempt}
 use Rattle.posix.proofs.TableLemmas.{pid_looked}
 use Rattle.life.specs.declared.caller.Caller.{Caller}
 use Rattle.life.specs.Callers.{caller_of}

@@ -1,10 +1,7 @@
 use Rattle.std.proofs.Common.{◌≡◌, ◌∙◌, ap, sym, subst, refl, true, pos, rules, to_z, of_z, w64}
 use Rattle.std.specs.Option.{IsSome}
 use Rattle.posix.specs.declared.call.Call.TheVariants.{Setsid}
-use Rattle.posix.specs.States.{State, process, change}
-use Rattle.posix.specs.Outcomes.{finish_with, refused, refusal}
-use Rattle.posix.specs.GroupCalls.{in_session}
-use Rattle.posix.specs.Attempts.{attempt}
+use Rattle.posix.specs.Common.{State, process, change, finish_with, refused, refusal, in_session, attempt}
 use Rattle.posix.proofs.TableLemmas.{pid_looked}
 use Rattle.posix.proofs.OrderLemmas.{placed_some}
 use Rattle.calls.proofs.CallLemmas.{gives_is}

@@ -1,8 +1,6 @@
 use Rattle.std.proofs.Common.{refl, pos}
 use Rattle.posix.specs.declared.call.Call.TheVariants.{Kill}
-use Rattle.posix.specs.Attempts.{attempt}
-use Rattle.posix.specs.Sends.{kill}
-use Rattle.posix.specs.Targets.{target_in}
+use Rattle.posix.specs.Common.{attempt, kill, target_in}
 use Rattle.calls.proofs.BriefLemmas.{brief_sent_as}
 use Rattle.calls.proofs.CallLemmas.{caller_is}
 use Rattle.calls.proofs.KillLemmas.{sends_as}

@@ -1,6 +1,5 @@
 use Rattle.std.proofs.Common.{◌≡◌, ap, ◌∙◌, refl, true, rules, to_z, of_z, w64, [], ◌∷◌, ◌++◌}
-use Rattle.posix.specs.Outcomes.{refusal}
-use Rattle.posix.specs.Sends.{signal_or_none, message as message_of}
+use Rattle.posix.specs.Common.{refusal, signal_or_none, message as message_of}
 use Rattle.life.specs.Callers.{process_like}
 use Rattle.calls.proofs.CallLemmas.{gives_is}
 use Rattle.calls.proofs.KillLemmas.{send_unknown, send_comes, there_sent}

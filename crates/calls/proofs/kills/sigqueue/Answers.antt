@@ -1,8 +1,6 @@
 use Rattle.std.proofs.Common.{◌≡◌, ◌∙◌, ap, rules, to_z, of_z, w64}
 use Rattle.posix.specs.declared.call.Call.TheVariants.{Sigqueue}
-use Rattle.posix.specs.Attempts.{attempt}
-use Rattle.posix.specs.Sends.{sigqueue}
-use Rattle.posix.specs.Targets.{process_in}
+use Rattle.posix.specs.Common.{attempt, sigqueue, process_in}
 use Rattle.calls.proofs.BriefLemmas.{brief_sent_as}
 use Rattle.calls.proofs.CallLemmas.{caller_is}
 use Rattle.calls.proofs.KillLemmas.{sends_as}

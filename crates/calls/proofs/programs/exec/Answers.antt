@@ -3,12 +3,7 @@ use Rattle.std.specs.Option.{IsSome}
 use Rattle.posix.specs.declared.call.Call.TheVariants.{Exec}
 use Rattle.posix.specs.declared.entry.Entry.TheVariants.{Called}
 use Rattle.posix.specs.declared.errno.Errno.TheVariants.{ENOENT}
-use Rattle.posix.specs.Processes.{argument}
-use Rattle.posix.specs.States.{State, process, change}
-use Rattle.posix.specs.Execute.{register}
-use Rattle.posix.specs.Outcomes.{refused, refusal}
-use Rattle.posix.specs.Programs.{executed}
-use Rattle.posix.specs.Attempts.{attempt}
+use Rattle.posix.specs.Common.{argument, State, process, change, register, refused, refusal, executed, attempt}
 use Rattle.posix.proofs.TableLemmas.{pid_looked}
 use Rattle.life.proofs.LoanLemmas.{own_is}
 use Rattle.life.proofs.ViewLemmas.{state_is}

@@ -1,6 +1,6 @@
 use Rattle.std.proofs.Common.{◌≡◌, ◌∙◌, ap, rules, w64}
 use Rattle.std.specs.Int.{cast_unsigned}
-use Rattle.posix.specs.SignalCalls.{all_flags, are_flags}
+use Rattle.posix.specs.Common.{all_flags, are_flags}
 use Rattle.bitflags.specs.Sets.{known_from}
 use Rattle.posix.proofs.FlagLemmas.{some_bits}
 use Rattle.calls.proofs.replies.flags_in.Goals as goal

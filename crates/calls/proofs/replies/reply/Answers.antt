@@ -1,8 +1,6 @@
 use Rattle.std.proofs.Common.{◌≡◌, ◌∙◌, ap, refl, pos, rules, to_z, of_z, w64}
 use Rattle.posix.specs.declared.call.Call.TheVariants.{Getpid, Getuid, Geteuid, Getgid, Getegid, Setuid, Seteuid, Setgid, Setegid, Sigaction, Sigprocmask, Sigpending}
-use Rattle.posix.specs.Attempts.{attempt}
-use Rattle.posix.specs.Credentials.{setuid, seteuid, setgid, setegid}
-use Rattle.posix.specs.SignalCalls.{sigaction, sigprocmask, sigpending}
+use Rattle.posix.specs.Common.{attempt, setuid, seteuid, setgid, setegid, sigaction, sigprocmask, sigpending}
 use Rattle.calls.specs.Outcomes.{with_own}
 use Rattle.calls.proofs.OwnLemmas.{gives_plain, gives_reply, gives_ids}
 use Rattle.calls.proofs.replies.reply.Goals as goal

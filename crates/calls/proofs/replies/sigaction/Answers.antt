@@ -2,11 +2,7 @@ use Rattle.std.proofs.Common.{◌≡◌, ◌∙◌, ap, sym, subst, refl, true, 
 use Rattle.std.specs.Int.{cast_unsigned}
 use Rattle.posix.specs.declared.errno.Errno.TheVariants.{EINVAL}
 use Rattle.posix.specs.declared.process.Action.{Action}
-use Rattle.posix.specs.Processes.{argument}
-use Rattle.posix.specs.Outcomes.{refusal}
-use Rattle.posix.specs.Handlers.{set_action}
-use Rattle.posix.specs.Sends.{signal_in}
-use Rattle.posix.specs.SignalCalls.{is_question, are_flags, give_signals, holding}
+use Rattle.posix.specs.Common.{argument, refusal, set_action, signal_in, is_question, are_flags, give_signals, holding}
 use Rattle.proctable.specs.Records.{give_own}
 use Rattle.calls.specs.Outcomes.{Replies}
 use Rattle.calls.proofs.OwnLemmas.{sigaction_unflagged, sigaction_sets}

@@ -2,12 +2,7 @@ use Rattle.std.proofs.Common.{◌≡◌, ◌∙◌, ap, sym, refl, rules, to_z, 
 use Rattle.std.proofs.lemmas.Option.{cond_some}
 use Rattle.posix.specs.declared.call.Call.TheVariants.{Tcsetpgrp}
 use Rattle.posix.specs.declared.errno.Errno.TheVariants.{EPERM}
-use Rattle.posix.specs.Consoles.{with_foreground}
-use Rattle.posix.specs.Processes.{argument}
-use Rattle.posix.specs.States.{State}
-use Rattle.posix.specs.Outcomes.{refusal, finish_with, refused}
-use Rattle.posix.specs.GroupCalls.{is_group_of}
-use Rattle.posix.specs.Terminals.{change_console}
+use Rattle.posix.specs.Common.{with_foreground, argument, State, refusal, finish_with, refused, is_group_of, change_console}
 use Rattle.life.specs.declared.caller.Caller.{Caller}
 use Rattle.calls.specs.Terminals.{natural_in}
 use Rattle.calls.proofs.CallLemmas.{gives_is}

@@ -2,15 +2,14 @@ use Rattle.std.proofs.Common.{◌≡◌, ◌∙◌, ℕ, ap, sym, refl, subst, a
 use Rattle.std.specs.Option.{IsSome}
 use Rattle.posix.specs.declared.call.Call.TheVariants.{Read}
 use Rattle.posix.specs.declared.process.Blocked.TheVariants as blocked
-use Rattle.posix.specs.Consoles.{Console, console_of, line_taken}
-use Rattle.posix.specs.States.{State, process, change}
-use Rattle.posix.specs.Terminals.{change_console, finish_moved, with_bytes}
+use Rattle.posix.specs.Common.{Console, console_of, line_taken, State, process, change, change_console, finish_moved, with_bytes}
 use Rattle.posix.proofs.ReportLemmas.{some_changed}
 use Rattle.life.specs.declared.caller.Caller.{Caller}
 use Rattle.calls.specs.declared.outcome.Attempt.TheVariants as came
 use Rattle.calls.specs.Outcomes.{Comes}
 use Rattle.calls.specs.Terminals.{first_bytes}
-use Rattle.calls.proofs.TerminalCallLemmas.{in_session, console_there, moved_since, none_first, few_first, none_taken, read_none, read_some, after_read, pid_with_bytes}
+use Rattle.posix.proofs.ResultLemmas.{there}
+use Rattle.calls.proofs.TerminalCallLemmas.{in_session, moved_since, none_first, few_first, none_taken, read_none, read_some, after_read, pid_with_bytes}
 use Rattle.calls.proofs.transfers.read_line.Goals as goal
 
 pub take_bytes-requires-clause-session : goal.take_bytes-requires-clause-session
@@ -30,7 +29,7 @@ returns-in_default-clause-comes g c = λ r k e f.
 
 pub store-requires-clause-within : goal.store-requires-clause-within
 store-requires-clause-within g c =
-    let it = console_there _ c.requires.terminal in
+    let it = there _ c.requires.terminal in
     let few = few_first c.args.span.count it.what.lines c.in-Some.bytes (sym (c.take_bytes.ensures.bytes it.what it.found) ∙ c.in-Some.is) in
     let same = ap (λ (bs : List ℕ). length bs) c.as_slice.ensures.value in
     let within = c.requires.within in

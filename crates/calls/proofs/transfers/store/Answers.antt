@@ -1,6 +1,5 @@
 use Rattle.std.proofs.Common.{ap}
-use Rattle.posix.specs.Processes.{Cpu}
-use Rattle.posix.specs.Terminals.{with_bytes}
+use Rattle.posix.specs.Common.{Cpu, with_bytes}
 use Rattle.proctable.specs.Records.{give_own}
 use Rattle.life.proofs.LoanLemmas.{was_written}
 use Rattle.calls.proofs.transfers.store.Goals as goal

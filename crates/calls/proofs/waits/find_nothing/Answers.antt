@@ -1,5 +1,4 @@
-use Rattle.posix.specs.Outcomes.{finished}
-use Rattle.posix.specs.Waits.{results_of_nothing}
+use Rattle.posix.specs.Common.{finished, results_of_nothing}
 use Rattle.life.proofs.LoanLemmas.{was_written}
 use Rattle.calls.proofs.waits.find_nothing.Goals as goal
 

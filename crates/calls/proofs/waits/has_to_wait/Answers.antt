@@ -1,7 +1,5 @@
 use Rattle.std.proofs.Common.{◌∙◌, ap}
-use Rattle.posix.specs.States.{State, process}
-use Rattle.posix.specs.Waits.{wait_by}
-use Rattle.posix.specs.Settle.{is_block}
+use Rattle.posix.specs.Common.{State, process, wait_by, is_block}
 use Rattle.life.specs.Callers.{process_like}
 use Rattle.calls.proofs.CallLemmas.{wait_of}
 use Rattle.calls.proofs.waits.has_to_wait.Goals as goal

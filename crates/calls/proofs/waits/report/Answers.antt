@@ -1,5 +1,4 @@
-use Rattle.posix.specs.Outcomes.{finished}
-use Rattle.posix.specs.Waits.{results_of}
+use Rattle.posix.specs.Common.{finished, results_of}
 use Rattle.life.proofs.LoanLemmas.{was_written}
 use Rattle.calls.proofs.waits.report.Goals as goal
 

@@ -1,7 +1,5 @@
 use Rattle.std.proofs.Common.{sym, subst}
-use Rattle.posix.specs.States.{State, process}
-use Rattle.posix.specs.Regular.{IsPlaced, IsRegular}
-use Rattle.posix.specs.Waits.{wait_by}
+use Rattle.posix.specs.Common.{State, process, IsPlaced, IsRegular, wait_by}
 use Rattle.calls.specs.Outcomes.{Comes}
 use Rattle.life.specs.Callers.{process_like}
 use Rattle.calls.proofs.CallLemmas.{wait_of}

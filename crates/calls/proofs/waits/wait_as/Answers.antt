@@ -3,16 +3,12 @@ use Rattle.std.specs.Option.{IsSome}
 use Rattle.posix.specs.declared.errno.Errno.TheVariants.{ECHILD, EINVAL}
 use Rattle.posix.specs.declared.call.Call.{Call}
 use Rattle.posix.specs.declared.entry.Entry.TheVariants.{Called}
-use Rattle.posix.specs.Calls.{call_of_wait}
+use Rattle.posix.specs.Common.{call_of_wait, removed, State, process, change, has_place, Block, refusal, WNOHANG, has_option, news_told, wait_for, gives_nothing, results_of_nothing}
 use Rattle.posix.specs.declared.process.Blocked.TheVariants as blocked
 use Rattle.posix.specs.declared.process.Report.TheVariants as found
-use Rattle.posix.specs.Tables.{removed}
-use Rattle.posix.specs.States.{State, process, change, has_place}
 use Rattle.jobs.proofs.RunLemmas.{parent_is}
 use Rattle.life.specs.Rechecks.{without_gone}
 use Rattle.calls.proofs.BriefLemmas.{quiet_on, brief_on, brief_behind, brief_look, brief_more, brief_done, brief_reaped}
-use Rattle.posix.specs.Outcomes.{Block, refusal}
-use Rattle.posix.specs.Waits.{WNOHANG, has_option, news_told, wait_for, gives_nothing, results_of_nothing}
 use Rattle.posix.proofs.OrderLemmas.{placed_some}
 use Rattle.posix.proofs.RegularLemmas.{keeps_news_told, placed_least}
 use Rattle.calls.specs.declared.outcome.Attempt.TheVariants as came

@@ -1,6 +1,5 @@
 use Rattle.std.proofs.Common.{ap, sym, ◌∙◌}
-use Rattle.posix.specs.Waits.{wait_for}
-use Rattle.posix.specs.Settle.{is_block}
+use Rattle.posix.specs.Common.{wait_for, is_block}
 use Rattle.life.specs.Callers.{process_like}
 use Rattle.calls.proofs.CallLemmas.{wait_is}
 use Rattle.calls.proofs.ContinueLemmas.{first_reported}

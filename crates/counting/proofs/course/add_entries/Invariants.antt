@@ -1,5 +1,5 @@
 use Rattle.std.proofs.Common.{◌≡◌, ◌++◌, take}
-use Rattle.posix.specs.Entries.{numbered}
+use Rattle.posix.specs.Common.{numbered}
 use Rattle.counting.proofs.course.add_entries.Given as goal
 
 abbrev pub invariant-loop-entry : goal.invariant-loop-entry

@@ -1,6 +1,5 @@
 use Rattle.std.proofs.Common.{◌≤◌, ◌+◌, length}
-use Rattle.posix.specs.Regular.{IsRegular}
-use Rattle.posix.specs.Settle.{IsSettled}
+use Rattle.posix.specs.Common.{IsRegular, IsSettled}
 use Rattle.exploring.proofs.turns.add_turns.Given as goal
 
 -- so many events of the list are given, and what is put in at the spots so far

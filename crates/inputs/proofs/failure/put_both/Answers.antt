@@ -1,4 +1,5 @@
-use Rattle.trace.proofs.SinkLemmas.{break_on, on_err}
+use Rattle.trace.proofs.SinkLemmas.{break_on}
+use Rattle.posix.proofs.ResultLemmas.{on_err}
 use Rattle.inputs.proofs.PutLemmas.{break_behind}
 use Rattle.inputs.proofs.failure.put_both.Goals as goal
 

@@ -1,8 +1,8 @@
 use Rattle.std.proofs.Common.{◌∙◌, ap, sym}
 use Rattle.pidset.proofs.AnchorLemmas.{anchors_turned}
+use Rattle.posix.proofs.ResultLemmas.{is_there}
 use Rattle.jobs.specs.Indexes.{anchor_in, child_key}
 use Rattle.jobs.proofs.AnchorLemmas.{anchor_within, seen_at, seen_found, key_at, child_is, number_within, stance_kept, anchors_put, anchors_same}
-use Rattle.jobs.proofs.SnapshotLemmas.{is_there}
 use Rattle.jobs.proofs.anchors.update_anchors.Goals as goal
 
 pub put-requires-clause-pid : goal.put-requires-clause-pid

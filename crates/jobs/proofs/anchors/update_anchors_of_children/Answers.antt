@@ -1,6 +1,6 @@
 use Rattle.std.proofs.Common.{arith, ◌∙◌, ap, sym, refl}
 use Rattle.std.proofs.Math.Nat.{le_trans}
-use Rattle.posix.specs.Tables.{lookup}
+use Rattle.posix.specs.Common.{lookup}
 use Rattle.posix.proofs.WalkLemmas.{at_child}
 use Rattle.pidset.proofs.AnchorLemmas.{turned_none, turned_one}
 use Rattle.jobs.specs.Indexes.{child_key}

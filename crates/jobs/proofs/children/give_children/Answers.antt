@@ -1,6 +1,6 @@
 use Rattle.std.proofs.Common.{◌∙◌, ap, sym, arith, refl, Some}
 use Rattle.std.proofs.Math.Nat.{le_trans}
-use Rattle.posix.specs.Tables.{adopted, children_in}
+use Rattle.posix.specs.Common.{adopted, children_in}
 use Rattle.posix.proofs.TableLemmas.{rising_changed}
 use Rattle.posix.proofs.WalkLemmas.{at_child}
 use Rattle.pidset.proofs.AnchorLemmas.{turned_none, turned_one}

@@ -1,6 +1,6 @@
 use Rattle.std.proofs.Common.{◌≡◌, ◌+◌, ◌≤◌, ℕ, false, length}
 use Rattle.std.specs.List.{list_any}
-use Rattle.posix.specs.Tables.{IsRising, adopted, children_in, first_pid, has_pid, left_of}
+use Rattle.posix.specs.Common.{IsRising, adopted, children_in, first_pid, has_pid, left_of}
 use Rattle.pidset.specs.Indexes.{is_pair_in, is_turned}
 use Rattle.jobs.specs.Indexes.{child_key}
 use Rattle.jobs.proofs.children.give_children.Given as goal

@@ -4,7 +4,7 @@ use Rattle.posix.specs.declared.event.Event.{Event}
 use Rattle.text.specs.EventLists.{expanded, run_events}
 use Rattle.kernel.proofs.RunLemmas.{breaks_next, shows_next}
 use Rattle.kernel.proofs.EventLemmas.{expanded_more, expanded_split, run_fits, events_more}
-use Rattle.trace.proofs.SinkLemmas.{on_err}
+use Rattle.posix.proofs.ResultLemmas.{on_err}
 use Rattle.kernel.proofs.driver.drive.Goals as goal
 
 pub drive_to-requires-clause-few : goal.drive_to-requires-clause-few

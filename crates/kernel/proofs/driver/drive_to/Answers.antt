@@ -3,7 +3,7 @@ use Rattle.std.specs.Prelude.{replicate}
 use Rattle.std.proofs.lemmas.List.{length-replicate}
 use Rattle.kernel.proofs.RunLemmas.{breaks_all, breaks_next, shows_next, shows_once}
 use Rattle.kernel.proofs.EventLemmas.{replicate_joined, replicate_three}
-use Rattle.trace.proofs.SinkLemmas.{on_err}
+use Rattle.posix.proofs.ResultLemmas.{on_err}
 use Rattle.kernel.proofs.driver.drive_to.Goals as goal
 
 pub loop-event-preserved : goal.loop-event-preserved

@@ -1,6 +1,6 @@
 use Rattle.std.proofs.Common.{refl, arith}
 use Rattle.std.proofs.lemmas.Option.{IfSome_then}
-use Rattle.posix.specs.States.{current_process}
+use Rattle.posix.specs.Common.{current_process}
 use Rattle.kernel.proofs.kernel_on.counted_step.Goals as goal
 
 pub returns-clause-counts : goal.returns-clause-counts

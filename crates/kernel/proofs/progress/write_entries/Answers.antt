@@ -1,10 +1,9 @@
 use Rattle.std.proofs.Common.{ap, ◌∙◌, arith}
 use Rattle.std.specs.Int.{from_bool}
 use Rattle.posix.specs.declared.entry.Entry.{Entry}
-use Rattle.posix.specs.Entries.{line, reports_end}
-use Rattle.posix.specs.Printing.{printed}
+use Rattle.posix.specs.Common.{line, reports_end, printed}
 use Rattle.kernel.proofs.RunLemmas.{line_gathered, line_broken, ends_more}
-use Rattle.trace.proofs.SinkLemmas.{on_err}
+use Rattle.posix.proofs.ResultLemmas.{on_err}
 use Rattle.kernel.proofs.progress.write_entries.Goals as goal
 
 pub loop-entry-preserved : goal.loop-entry-preserved

@@ -1,6 +1,5 @@
 use Rattle.std.proofs.Common.{◌≡◌, take}
-use Rattle.posix.specs.Entries.{numbered, reported}
-use Rattle.posix.specs.Printing.{print}
+use Rattle.posix.specs.Common.{numbered, reported, print}
 use Rattle.trace.specs.Sinks.{Gathers}
 use Rattle.kernel.proofs.progress.write_entries.Given as goal
 

@@ -1,10 +1,10 @@
 use Rattle.std.proofs.Common.{◌≡◌, ◌∙◌, ap, get_or, pos, rules, to_z, of_z, w64}
 use Rattle.posix.specs.declared.entry.Entry.TheVariants.{Noted}
-use Rattle.posix.specs.Printing.{printed}
+use Rattle.posix.specs.Common.{printed}
 use Rattle.life.specs.declared.noted_bursts.Note.{Note}
 use Rattle.kernel.specs.Steps.{note_line}
 use Rattle.kernel.proofs.RunLemmas.{line_gathered, line_broken}
-use Rattle.trace.proofs.SinkLemmas.{on_err}
+use Rattle.posix.proofs.ResultLemmas.{on_err}
 use Rattle.kernel.proofs.progress.write_notes.Goals as goal
 
 pub loop-note-preserved : goal.loop-note-preserved

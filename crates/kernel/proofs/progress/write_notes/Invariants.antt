@@ -1,5 +1,5 @@
 use Rattle.std.proofs.Common.{take}
-use Rattle.posix.specs.Printing.{print}
+use Rattle.posix.specs.Common.{print}
 use Rattle.trace.specs.Sinks.{Gathers}
 use Rattle.kernel.specs.Steps.{noted_lines}
 use Rattle.kernel.proofs.progress.write_notes.Given as goal

@@ -1,5 +1,5 @@
 use Rattle.kernel.proofs.RunLemmas.{stops_break, writes_break}
-use Rattle.trace.proofs.SinkLemmas.{on_err}
+use Rattle.posix.proofs.ResultLemmas.{on_err}
 use Rattle.kernel.proofs.progress.write_trace.Goals as goal
 
 pub returns-in_err-drive-clause-err : goal.returns-in_err-drive-clause-err

@@ -1,15 +1,11 @@
 use Rattle.std.proofs.Common.{◌≡◌, ◌∙◌, ◌<◌, ap, sym, subst, arith, length, false, List, Some, ℕ}
-use Rattle.posix.specs.States.{State, process, without}
-use Rattle.posix.specs.Settle.{give_places, wakes}
-use Rattle.posix.specs.Tables.{IsNext, lookup}
-use Rattle.posix.specs.Processes.{Process}
-use Rattle.posix.specs.Regular.{IsRegular}
+use Rattle.posix.specs.Common.{State, process, without, give_places, wakes, IsNext, lookup, Process, IsRegular}
 use Rattle.posix.proofs.SettleLemmas.{asking_begins, asking_ends}
 use Rattle.pidset.proofs.WalkLemmas.{none_left}
 use Rattle.kernel.proofs.RecheckedLemmas.{same_processes, woken_rests, first_woken, without_first}
 use Rattle.std.specs.Option.{IfSome, IsSome}
 use Rattle.life.specs.Machines.{MachineView}
-use Rattle.life.proofs.SoundLemmas.{there}
+use Rattle.posix.proofs.ResultLemmas.{there}
 use Rattle.calls.specs.Counts.{neighbour, slots_of_rechecking, slots_of_rechecks}
 use Rattle.calls.proofs.CountLemmas.{rechecks_first}
 use Rattle.kernel.proofs.settle.give_places.Goals as goal

@@ -1,5 +1,5 @@
 use Rattle.std.proofs.Common.{◌≡◌, ◌+◌, ◌≤◌, ℕ, length, Option, None}
-use Rattle.posix.specs.Settle.{give_places}
+use Rattle.posix.specs.Common.{give_places}
 use Rattle.life.specs.Machines.{MachineView}
 use Rattle.calls.specs.Counts.{slots_of_rechecks}
 use Rattle.kernel.proofs.settle.give_places.Given as goal

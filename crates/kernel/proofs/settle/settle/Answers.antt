@@ -1,6 +1,5 @@
 use Rattle.std.proofs.Common.{ap, ◌∙◌, arith, None}
-use Rattle.posix.specs.States.{State}
-use Rattle.posix.specs.Settle.{clear_foregrounds}
+use Rattle.posix.specs.Common.{State, clear_foregrounds}
 use Rattle.calls.specs.Counts.{slots_of_rechecks}
 use Rattle.kernel.proofs.settle.settle.Goals as goal
 

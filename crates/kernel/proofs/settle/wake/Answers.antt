@@ -1,12 +1,10 @@
 use Rattle.std.proofs.Common.{◌≡◌, ◌∙◌, ap, refl, sym, subst, true, false, None, ◌++◌, ◌∷◌, []}
 use Rattle.std.proofs.lemmas.Bool.{eq-eqb, or_right}
-use Rattle.posix.specs.States.{State, process}
-use Rattle.posix.specs.Regular.{IsPlaced}
-use Rattle.posix.specs.Settle.{can_act}
+use Rattle.posix.specs.Common.{State, process, IsPlaced, can_act}
 use Rattle.posix.proofs.MemberLemmas.{in_last}
 use Rattle.posix.proofs.SettleLemmas.{woken_is, wakes_placed}
 use Rattle.life.specs.Consoles.{reads}
-use Rattle.life.proofs.SoundLemmas.{there}
+use Rattle.posix.proofs.ResultLemmas.{there}
 use Rattle.life.proofs.ViewLemmas.{state_is}
 use Rattle.kernel.proofs.BlockLemmas.{placed_unread}
 use Rattle.kernel.proofs.settle.wake.Goals as goal

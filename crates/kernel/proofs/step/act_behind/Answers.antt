@@ -1,9 +1,7 @@
 use Rattle.std.proofs.Common.{◌≡◌, ◌+◌, ◌∙◌, arith, option_and_then, ap, sym, subst}
 use Rattle.std.specs.Option.{IfSome}
 use Rattle.std.proofs.lemmas.Option.{IfSome_then, same_Some}
-use Rattle.posix.specs.Processes.{Process}
-use Rattle.posix.specs.States.{process, current_process}
-use Rattle.posix.specs.Step.{step}
+use Rattle.posix.specs.Common.{Process, process, current_process, step}
 use Rattle.calls.specs.Outcomes.{CostsWithRechecks}
 use Rattle.calls.proofs.BriefLemmas.{brief_more}
 use Rattle.kernel.specs.Counts.{ReadsAtMost, slots_of_acting, slots_of_step}

@@ -1,15 +1,9 @@
 use Rattle.std.proofs.Common.{◌+◌, arith, ◌≡◌, ◌∙◌, ap, sym, subst, [], Bool, Some}
-use Rattle.posix.specs.Outcomes.{Block}
+use Rattle.posix.specs.Common.{Block, wait_in, Process, wait_by, State, change, lose_place, process, attempt, begin_call, enter}
 use Rattle.posix.specs.declared.call.Call.{Call}
 use Rattle.posix.specs.declared.call.Call.TheVariants.{Waitpid, Waitid}
 use Rattle.posix.specs.declared.waits.WaitCall.{WaitCall}
-use Rattle.posix.specs.Calls.{wait_in}
-use Rattle.posix.specs.Processes.{Process}
-use Rattle.posix.specs.Waits.{wait_by}
 use Rattle.std.proofs.lemmas.Option.{same_Some, IfSome_then}
-use Rattle.posix.specs.States.{State, change, lose_place, process}
-use Rattle.posix.specs.Attempts.{attempt}
-use Rattle.posix.specs.Step.{begin_call, enter}
 use Rattle.posix.proofs.TableLemmas.{pid_looked}
 use Rattle.calls.proofs.CallLemmas.{block_is, same_outcome}
 use Rattle.std.specs.Option.{IfSome}

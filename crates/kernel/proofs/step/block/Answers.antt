@@ -1,8 +1,5 @@
 use Rattle.std.proofs.Common.{arith, ◌≡◌, ◌∙◌, ap, sym, subst, false, Some}
-use Rattle.posix.specs.Processes.{Process}
-use Rattle.posix.specs.Settle.{can_act}
-use Rattle.posix.specs.States.{State, lose_place, process}
-use Rattle.posix.specs.Terminals.{is_in_read}
+use Rattle.posix.specs.Common.{Process, can_act, State, lose_place, process, is_in_read}
 use Rattle.life.specs.Machines.{MachineView}
 use Rattle.life.proofs.ViewLemmas.{state_is}
 use Rattle.calls.proofs.BriefLemmas.{brief_alone}

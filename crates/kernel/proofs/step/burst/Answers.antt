@@ -1,7 +1,7 @@
 use Rattle.std.proofs.Common.{◌∙◌, arith, sym}
 use Rattle.std.proofs.Math.Nat.{le_trans}
 use Rattle.kernel.proofs.CountLemmas.{counts_one}
-use Rattle.posix.specs.States.{current_process}
+use Rattle.posix.specs.Common.{current_process}
 use Rattle.kernel.proofs.BurstLemmas.{placed_now, read_of_current, readies, shows}
 use Rattle.kernel.proofs.step.burst.Goals as goal
 

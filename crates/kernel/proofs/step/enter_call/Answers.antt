@@ -1,4 +1,4 @@
-use Rattle.posix.specs.Step.{enter}
+use Rattle.posix.specs.Common.{enter}
 use Rattle.life.proofs.LoanLemmas.{was_written}
 use Rattle.kernel.proofs.step.enter_call.Goals as goal
 

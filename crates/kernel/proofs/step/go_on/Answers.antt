@@ -1,21 +1,13 @@
 use Rattle.std.proofs.Common.{◌≡◌, Some, true, false, not, arith, ◌∙◌, ap, sym, subst, is_some, [], ℕ, inl, inr}
-use Rattle.posix.specs.Processes.{Process}
-use Rattle.posix.specs.States.{State, process, change, lose_place, is_in}
+use Rattle.posix.specs.Common.{Process, State, process, change, lose_place, is_in, Attempted, silent, Again, wait_by, is_block, can_go_on, IsPlaced, IsRegular, attempt_again, go_on, deliver_or, out_of_call, TTIN, TTOU}
 use Rattle.posix.specs.declared.process.Blocked.{Blocked}
-use Rattle.posix.specs.Outcomes.{Attempted, silent, Again}
-use Rattle.posix.specs.Waits.{wait_by}
-use Rattle.posix.specs.Settle.{is_block, can_go_on}
 use Rattle.life.specs.Rechecks.{is_in_wait}
 use Rattle.calls.specs.Outcomes.{IsActing}
 use Rattle.calls.proofs.BriefLemmas.{brief_on, brief_visits, quiet_on}
 use Rattle.kernel.proofs.CountLemmas.{nothing_delivered}
-use Rattle.posix.specs.Regular.{IsPlaced, IsRegular}
-use Rattle.posix.specs.Attempts.{attempt_again}
-use Rattle.posix.specs.Step.{go_on, deliver_or, out_of_call}
 use Rattle.posix.proofs.TableLemmas.{pid_looked}
 use Rattle.life.proofs.LoanLemmas.{was_written}
 use Rattle.calls.proofs.CallLemmas.{block_is, again_is, same_outcome}
-use Rattle.posix.specs.SignalNumbers.{TTIN, TTOU}
 use Rattle.posix.proofs.ConsoleLemmas.{regular_signalled_group}
 use Rattle.laws.proofs.AgainLemmas.{again_begins_again}
 use Rattle.kernel.proofs.step.go_on.Goals as goal

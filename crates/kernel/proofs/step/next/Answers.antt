@@ -1,6 +1,6 @@
 use Rattle.std.proofs.Math.Nat.{le_trans}
 use Rattle.std.proofs.lemmas.Option.{IfSome_then}
-use Rattle.posix.specs.States.{current_process}
+use Rattle.posix.specs.Common.{current_process}
 use Rattle.kernel.proofs.step.next.Goals as goal
 
 pub returns-clause-counts : goal.returns-clause-counts

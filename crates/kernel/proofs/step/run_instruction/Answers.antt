@@ -1,9 +1,7 @@
 use Rattle.std.proofs.Common.{◌≡◌, ◌∙◌, ap, sym, true, List, [], ◌∷◌, ◌++◌, rules, to_z, of_z, w64}
 use Rattle.posix.specs.declared.entry.Entry.{Entry}
 use Rattle.posix.specs.declared.entry.Entry.TheVariants.{Noted}
-use Rattle.posix.specs.States.{change}
-use Rattle.posix.specs.Execute.{exec_one}
-use Rattle.posix.specs.Step.{after_trap, code_of, set_cpu}
+use Rattle.posix.specs.Common.{change, exec_one, after_trap, code_of, set_cpu}
 use Rattle.posix.proofs.TableLemmas.{pid_looked}
 use Rattle.calls.proofs.CallLemmas.{same_outcome}
 use Rattle.kernel.proofs.step.run_instruction.Goals as goal

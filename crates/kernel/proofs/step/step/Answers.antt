@@ -2,7 +2,7 @@ use Rattle.std.proofs.Common.{◌≡◌, ◌+◌, ◌∙◌, Some, option_and_th
 use Rattle.std.specs.Option.{IfSome}
 use Rattle.std.proofs.lemmas.Option.{IfSome_then}
 use Rattle.std.proofs.Math.Nat.{le_trans}
-use Rattle.posix.specs.States.{State, process, current_process}
+use Rattle.posix.specs.Common.{State, process, current_process}
 use Rattle.posix.proofs.OrderLemmas.{first_in}
 use Rattle.calls.specs.Outcomes.{IsActing, CostsWithRechecks}
 use Rattle.calls.proofs.BriefLemmas.{brief_on, quiet_on}

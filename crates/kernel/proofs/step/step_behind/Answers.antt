@@ -1,8 +1,6 @@
 use Rattle.std.proofs.Common.{◌∙◌, ap, sym, arith, cond}
 use Rattle.std.proofs.lemmas.Option.{IfSome_then}
-use Rattle.posix.specs.States.{State, current_process}
-use Rattle.posix.specs.Outcomes.{Outcome, silent}
-use Rattle.posix.specs.Step.{next, happens, step, settled}
+use Rattle.posix.specs.Common.{State, current_process, Outcome, silent, next, happens, step, settled}
 use Rattle.kernel.specs.Counts.{slots_of_step}
 use Rattle.kernel.proofs.step.step_behind.Goals as goal
 

@@ -1,5 +1,5 @@
 use Rattle.std.proofs.Common.{refl, rules}
-use Rattle.posix.specs.Notices.{noticed_of_change}
+use Rattle.posix.specs.Common.{noticed_of_change}
 use Rattle.jobs.proofs.RunLemmas.{signals_as}
 use Rattle.life.proofs.SignalLemmas.{only_noticed_of_change}
 use Rattle.life.proofs.FunnelLemmas.{is_noticed}

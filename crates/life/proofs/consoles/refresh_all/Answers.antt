@@ -1,7 +1,6 @@
 use Rattle.std.proofs.Common.{◌∙◌, ap, arith, length, slice_set, List, ◌<◌}
 use Rattle.std.proofs.Math.Nat.{le_trans}
-use Rattle.posix.specs.Processes.{Process}
-use Rattle.posix.specs.Settle.{refreshed}
+use Rattle.posix.specs.Common.{Process, refreshed}
 use Rattle.life.proofs.ReaderLemmas.{refreshed_step}
 use Rattle.life.proofs.consoles.refresh_all.Goals as goal
 

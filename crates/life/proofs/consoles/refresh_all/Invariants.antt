@@ -1,5 +1,5 @@
 use Rattle.std.proofs.Common.{◌≡◌, ◌+◌, ◌≤◌}
-use Rattle.posix.specs.Settle.{refreshed}
+use Rattle.posix.specs.Common.{refreshed}
 use Rattle.life.proofs.ReaderLemmas.{refreshed_to}
 use Rattle.life.proofs.consoles.refresh_all.Given as goal
 

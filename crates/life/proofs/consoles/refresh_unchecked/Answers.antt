@@ -1,8 +1,7 @@
 use Rattle.std.proofs.Common.{◌≡◌, ◌∙◌, ap, arith, sym, subst, refl, slice_set, true}
 use Rattle.std.proofs.lemmas.Bool.{eqb-false, not-true}
 use Rattle.std.proofs.lemmas.Option.{get_or_from_slice_get}
-use Rattle.posix.specs.Consoles.{Console}
-use Rattle.posix.specs.Settle.{refreshed}
+use Rattle.posix.specs.Common.{Console, refreshed}
 use Rattle.life.specs.Foregrounds.{AreFreshBut, is_unchecked}
 use Rattle.life.proofs.ForegroundLemmas.{counts_all, counts_own, refreshed_fresh, refreshed_none, refreshed_one}
 use Rattle.life.proofs.consoles.refresh_unchecked.Goals.{in_default-via-in-In+else-ne, in_default-via-in_default}

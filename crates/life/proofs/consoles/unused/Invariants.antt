@@ -1,5 +1,5 @@
 use Rattle.std.proofs.Common.{◌≡◌, replicate}
-use Rattle.posix.specs.Consoles.{unused_console}
+use Rattle.posix.specs.Common.{unused_console}
 use Rattle.life.proofs.consoles.unused.Given as goal
 
 abbrev pub invariant-loop : goal.invariant-loop

@@ -1,5 +1,5 @@
 use Rattle.std.proofs.Common.{refl}
-use Rattle.posix.specs.Tables.{inserted}
+use Rattle.posix.specs.Common.{inserted}
 use Rattle.jobs.proofs.ReadLemmas.{processes_of}
 use Rattle.life.proofs.machine.put_first.Goals as goal
 

@@ -1,6 +1,5 @@
 use Rattle.std.proofs.Common.{◌≡◌, ℕ, Bool, ◌&&◌, ap, sym, ◌∙◌}
-use Rattle.posix.specs.Processes.{Process}
-use Rattle.posix.specs.Waits.{is_something, report_life, report_of, reports}
+use Rattle.posix.specs.Common.{Process, is_something, report_life, report_of, reports}
 use Rattle.jobs.specs.declared.indexes.IndexedFields.{IndexedFields}
 use Rattle.jobs.specs.Indexes.{seen_of}
 use Rattle.life.specs.Rechecks.{awaits, awaits_asked}

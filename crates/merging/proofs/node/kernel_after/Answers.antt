@@ -1,5 +1,5 @@
 use Rattle.std.proofs.Common.{arith, ap, [], ◌+◌}
-use Rattle.posix.specs.States.{boot}
+use Rattle.posix.specs.Common.{boot}
 use Rattle.merging.proofs.NodeLemmas.{booted_last}
 use Rattle.merging.proofs.node.kernel_after.Goals as goal
 

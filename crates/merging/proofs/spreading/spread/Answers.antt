@@ -2,13 +2,13 @@ use Rattle.std.proofs.Common.{◌≡◌, ◌+◌, ◌∙◌, ap, ap₂, sym}
 use Rattle.std.proofs.lemmas.Result.{on_ok_weaker}
 use Rattle.counting.specs.Tallies.{both}
 use Rattle.merging.specs.Merging.{given_tally, loose_tally, nodes_tally, tally_around, tick_tally}
-use Rattle.merging.proofs.LayerLemmas.{always_ok}
+use Rattle.posix.proofs.ResultLemmas.{on_ok}
 use Rattle.merging.proofs.SpreadLemmas.{node_parts}
 use Rattle.merging.proofs.TallyLemmas.{two_by_two}
 use Rattle.merging.proofs.spreading.spread.Goals as goal
 
 pub returns-in-Ok-clause-more : goal.returns-in-Ok-clause-more
-returns-in-Ok-clause-more c = λ least is all. always_ok c.give_to.result (c.in-Ok.ensures.nodes least is all)
+returns-in-Ok-clause-more c = λ least is all. on_ok c.give_to.result (c.in-Ok.ensures.nodes least is all)
 
 pub returns-in-Ok-clause-tally : goal.returns-in-Ok-clause-tally
 returns-in-Ok-clause-tally c = λ has.

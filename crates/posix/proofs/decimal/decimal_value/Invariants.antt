@@ -1,6 +1,6 @@
 use Rattle.std.proofs.Common.{◌≡◌, ◌-◌, ◌^◌, take}
 use Rattle.std.specs.Prelude.{min}
-use Rattle.posix.specs.Decimals.{value_of}
+use Rattle.posix.specs.Common.{value_of}
 use Rattle.posix.proofs.decimal.decimal_value.Given as goal
 
 abbrev pub invariant-loop-b : goal.invariant-loop-b

@@ -1,5 +1,5 @@
 use Rattle.bitflags.specs.Sets.{known_from}
-use Rattle.posix.specs.Waits.{waitid_options as all}
+use Rattle.posix.specs.Common.{waitid_options as all}
 use Rattle.posix.proofs.FlagLemmas.{some_bits}
 use Rattle.posix.proofs.waits.waitid_options.Goals as goal
 

@@ -1,5 +1,5 @@
 use Rattle.bitflags.specs.Sets.{known_from}
-use Rattle.posix.specs.Waits.{waitpid_options as all}
+use Rattle.posix.specs.Common.{waitpid_options as all}
 use Rattle.posix.proofs.FlagLemmas.{some_bits}
 use Rattle.posix.proofs.waits.waitpid_options.Goals as goal
 

@@ -1,8 +1,9 @@
 use Rattle.std.proofs.Common.{◌≡◌, ◌<◌, ◌∷◌, ◌++◌, [], List, ℕ, rules, arith, ap, ◌∙◌, append_assoc, take, get_or}
 use Rattle.std.specs.String.{string_bytes}
 use Rattle.std.proofs.lemmas.List.{take_all}
-use Rattle.schedules.specs.EventLines.{two_digits}
-use Rattle.schedules.proofs.AddLemmas.{keys_begun, keys_more, keys_added, bytes_fit}
+use Rattle.posix.proofs.PrintingLemmas.{bytes_fit}
+use Rattle.text.specs.Numbers.{two_digits}
+use Rattle.schedules.proofs.AddLemmas.{keys_begun, keys_more, keys_added}
 use Rattle.schedules.proofs.eventtext.write_key_line.Goals as goal
 
 pub loop-byte-preserved : goal.loop-byte-preserved

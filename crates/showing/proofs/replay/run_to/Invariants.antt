@@ -1,5 +1,5 @@
 use Rattle.std.proofs.Common.{◌≡◌, length, take, max, min}
-use Rattle.posix.specs.States.{World}
+use Rattle.posix.specs.Common.{World}
 use Rattle.text.specs.EventLists.{expanded}
 use Rattle.showing.specs.Pasts.{IsReached}
 use Rattle.showing.proofs.replay.run_to.Given as goal

@@ -2,7 +2,7 @@ use Rattle.std.proofs.Common.{◌≡◌, ◌+◌, ◌≤◌, ◌++◌, length, m
 use Rattle.std.specs.Prelude.{vec_capacity}
 use Rattle.std.specs.List.{AllByRecursion}
 use Rattle.posix.specs.declared.event.Event.TheVariants.{Key}
-use Rattle.posix.specs.Ranges.{IsEvent}
+use Rattle.posix.specs.Common.{IsEvent}
 use Rattle.text.specs.EventLists.{expanded}
 use Rattle.text.proofs.event_list.push_key_runs.Given as goal
 

@@ -1,6 +1,6 @@
 use Rattle.std.proofs.Common.{arith}
 use Rattle.std.proofs.lemmas.Bool.Decides.{nat_tests}
-use Rattle.trace.proofs.BytesLemmas.{bytes_fit}
+use Rattle.posix.proofs.PrintingLemmas.{bytes_fit}
 use Rattle.trace.proofs.forms.can_be_moved.Goals as goal
 
 pub returns-in-1-to-16 : goal.returns-in-1-to-16

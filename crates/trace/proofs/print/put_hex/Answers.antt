@@ -1,6 +1,6 @@
 use Rattle.std.proofs.Common.{◌≡◌, ◌+◌, ◌-◌, ◌*◌, ◌∙◌, ap, arith, length, take, drop, length-take, length-drop, ◌++◌}
 use Rattle.std.proofs.lemmas.Slice.{take-put_mid}
-use Rattle.posix.specs.Printing.{hex}
+use Rattle.posix.specs.Common.{hex}
 use Rattle.trace.proofs.HexLemmas.{on_ok, same_digits}
 use Rattle.trace.proofs.print.put_hex.Goals as goal
 

@@ -1,7 +1,8 @@
 use Rattle.std.proofs.Common.{◌+◌, ◌≤◌, length, arith, subst, ◌∙◌}
 use Rattle.std.specs.Io.KnownBytes.{Appends}
 use Rattle.std.proofs.KnownBytes.{Appends-trans, Appends-kept}
-use Rattle.trace.proofs.SinkLemmas.{on_err, slice_more, put_fits, none_counted, some_taken, none_fails, failed_at}
+use Rattle.trace.proofs.SinkLemmas.{slice_more, put_fits, none_counted, some_taken, none_fails, failed_at}
+use Rattle.posix.proofs.ResultLemmas.{on_err}
 use Rattle.trace.proofs.sinks.put_all.Goals as goal
 
 pub loop-done-preserved : goal.loop-done-preserved

@@ -1,7 +1,7 @@
 use Rattle.std.proofs.Common.{◌≡◌, ◌-◌, ◌∙◌, ◌++◌, ap, arith, ℤ, List, length, take, get_or, set, pos, rules, to_z, of_z, w64}
 use Rattle.std.specs.Prelude.{map, replicate}
 use Rattle.std.proofs.lemmas.List.{take_all}
-use Rattle.posix.specs.Transfers.{low_byte}
+use Rattle.posix.specs.Common.{low_byte}
 use Rattle.umach.proofs.ByteLemmas.{fill_one}
 use Rattle.umach.proofs.memory.low_bytes.Goals as goal
 

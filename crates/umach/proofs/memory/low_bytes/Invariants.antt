@@ -1,6 +1,6 @@
 use Rattle.std.proofs.Common.{◌≡◌, ◌-◌, ◌++◌, take}
 use Rattle.std.specs.Prelude.{map, replicate}
-use Rattle.posix.specs.Transfers.{low_byte}
+use Rattle.posix.specs.Common.{low_byte}
 use Rattle.umach.proofs.memory.low_bytes.Given as goal
 
 -- the first of them are there, and zeros behind them

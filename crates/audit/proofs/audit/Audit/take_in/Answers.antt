@@ -1,5 +1,5 @@
 use Rattle.std.proofs.Common.{◌≢◌, Err, rules, sym, ◌∙◌, ap}
-use Rattle.posix.specs.Entries.{line}
+use Rattle.posix.specs.Common.{line}
 use Rattle.laws.specs.Keeping.{fault_of}
 use Rattle.audit.specs.Records.{kept_by}
 use Rattle.audit.specs.Phases.{phase_said}

@@ -1,11 +1,12 @@
 use Rattle.std.proofs.Common.{ap, sym, ◌∙◌, subst, true, ◌≡◌, if◌then◌else◌, ◌==◌}
 use Rattle.laws.specs.Keeping.{lives_now, newborn}
 use Rattle.audit.specs.Records.{kept_by}
-use Rattle.audit.proofs.KeptLemmas.{begun_apart, begun_there, begun_others, there_by_life, born_kept, sound_birth, unborn_there, on_err_too}
+use Rattle.audit.proofs.KeptLemmas.{begun_apart, begun_there, begun_others, there_by_life, born_kept, sound_birth, unborn_there}
+use Rattle.posix.proofs.ResultLemmas.{on_err}
 use Rattle.audit.proofs.known.Known.bear.Goals as goal
 
 pub returns-in_err-begin-clause-new_number : goal.returns-in_err-begin-clause-new_number
-returns-in_err-begin-clause-new_number c = on_err_too c.from_residual.result (unborn_there c.args.pid c.args.self.now c.self.inside.records.entries c.self.view_is c.in_err-begin.ensures.new_number)
+returns-in_err-begin-clause-new_number c = on_err c.from_residual.result (unborn_there c.args.pid c.args.self.now c.self.inside.records.entries c.self.view_is c.in_err-begin.ensures.new_number)
 
 pub begin-requires-clause-linked : goal.begin-requires-clause-linked
 begin-requires-clause-linked c = c.self.invariant.0

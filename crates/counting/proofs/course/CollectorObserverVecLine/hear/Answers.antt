@@ -1,5 +1,5 @@
 use Rattle.std.proofs.Common.{rules}
-use Rattle.posix.specs.Entries.{numbered}
+use Rattle.posix.specs.Common.{numbered}
 use Rattle.counting.proofs.CourseLemmas.{both_added, on_ok_both}
 use Rattle.counting.proofs.course.CollectorObserverVecLine.hear.Goals as goal
 

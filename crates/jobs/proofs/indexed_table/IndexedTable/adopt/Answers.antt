@@ -1,5 +1,5 @@
 use Rattle.std.proofs.Common.{◌∙◌, ap, sym}
-use Rattle.posix.specs.Tables.{adopted}
+use Rattle.posix.specs.Common.{adopted}
 use Rattle.jobs.specs.declared.indexes.Indexes.{Indexes}
 use Rattle.jobs.proofs.ChildLemmas.{none_adopted}
 use Rattle.jobs.proofs.KeptLemmas.{kept_adopted, kin_kept, number_kept, widen}

@@ -2,7 +2,7 @@ use Rattle.std.proofs.Common.{ap, arith, nat_eq, sym, subst, refl, rules, true, 
 use Rattle.std.proofs.Math.Nat.{le_trans}
 use Rattle.std.specs.Option.{option_map_or}
 use Rattle.std.proofs.lemmas.Bool.{and_parts, eqb-true}
-use Rattle.posix.specs.Processes.{Process}
+use Rattle.posix.specs.Common.{Process}
 use Rattle.posix.proofs.MapLemmas.{length_children}
 use Rattle.proctable.specs.Records.{give_record}
 use Rattle.jobs.specs.Indexes.{keeps_group_and_session}

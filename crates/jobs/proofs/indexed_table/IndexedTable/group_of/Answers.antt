@@ -1,5 +1,5 @@
 use Rattle.std.proofs.Common.{Some, None, ap, arith, cond, refl, sym, ◌∙◌}
-use Rattle.posix.specs.Tables.{first_pid, members_in}
+use Rattle.posix.specs.Common.{first_pid, members_in}
 use Rattle.jobs.proofs.MoveLemmas.{by_first, no_number}
 use Rattle.jobs.proofs.indexed_table.IndexedTable.group_of.Goals as goal
 

@@ -1,5 +1,5 @@
 use Rattle.std.proofs.Common.{◌∙◌, ap, sym}
-use Rattle.posix.specs.Tables.{removed}
+use Rattle.posix.specs.Common.{removed}
 use Rattle.jobs.proofs.KeptLemmas.{can_leave, kept_removed}
 use Rattle.jobs.proofs.RoomLemmas.{anchors_room, children_room}
 use Rattle.jobs.proofs.indexed_table.IndexedTable.remove.Goals as goal

@@ -1,6 +1,5 @@
 use Rattle.std.proofs.Common.{sym, subst, arith, ◌≤◌, []}
-use Rattle.posix.specs.States.{State}
-use Rattle.posix.specs.Settle.{IsSettled}
+use Rattle.posix.specs.Common.{State, IsSettled}
 use Rattle.posix.proofs.WakeLemmas.{first_settled}
 use Rattle.laws.specs.Agree.{Agree, IsOrderly}
 use Rattle.laws.proofs.AgreeRuns.{first_orderly, first_agrees}

@@ -1,11 +1,10 @@
 use Rattle.std.proofs.Common.{◌≡◌, ◌<◌, true, ap, sym, subst, ◌∙◌}
-use Rattle.posix.specs.Outcomes.{Outcome}
+use Rattle.posix.specs.Common.{Outcome, is_free}
 use Rattle.posix.proofs.WakeLemmas.{settled_stays}
 use Rattle.posix.proofs.CountLemmas.{next_halted}
 use Rattle.kernel.specs.Counts.{CountsOne}
 use Rattle.kernel.specs.Views.{KernelView}
 use Rattle.kernel.proofs.EventLemmas.{counts_on}
-use Rattle.posix.specs.NextPid.{is_free}
 use Rattle.laws.proofs.AgreeRuns.{step_agrees, step_orderly}
 use Rattle.laws.proofs.FormStays.{step_formed}
 use Rattle.laws.proofs.RefusalLemmas.{birth_free}

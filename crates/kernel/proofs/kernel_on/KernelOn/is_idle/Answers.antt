@@ -1,8 +1,6 @@
 use Rattle.std.proofs.Common.{◌≡◌, rules, subst, sym, None, false, true}
 use Rattle.posix.specs.declared.event.Event.TheVariants.{Step}
-use Rattle.posix.specs.Outcomes.{silent}
-use Rattle.posix.specs.Step.{next}
-use Rattle.posix.specs.States.{current}
+use Rattle.posix.specs.Common.{silent, next, current}
 use Rattle.posix.proofs.CountLemmas.{next_halted}
 use Rattle.kernel.proofs.EventLemmas.{rest_idle}
 use Rattle.kernel.proofs.kernel_on.KernelOn.is_idle.Goals as goal

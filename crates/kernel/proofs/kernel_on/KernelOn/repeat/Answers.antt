@@ -1,11 +1,7 @@
 use Rattle.std.proofs.Common.{◌≡◌, ◌+◌, ◌-◌, ◌++◌, List, [], ap, ap₂, rules, subst, sym, true}
 use Rattle.std.specs.Prelude.{replicate}
 use Rattle.posix.specs.declared.entry.Entry.{Entry}
-use Rattle.posix.specs.Entries.{Line, numbered}
-use Rattle.posix.specs.Outcomes.{silent}
-use Rattle.posix.specs.Runs.{RunsFrom}
-use Rattle.posix.specs.States.{State}
-use Rattle.posix.specs.Step.{next}
+use Rattle.posix.specs.Common.{Line, numbered, silent, RunsFrom, State, next}
 use Rattle.life.specs.declared.noted_bursts.Note.{Note}
 use Rattle.kernel.specs.Steps.{noted_lines}
 use Rattle.kernel.specs.Views.{KernelView}

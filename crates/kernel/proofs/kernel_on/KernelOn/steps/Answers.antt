@@ -3,7 +3,7 @@ use Rattle.std.proofs.Math.Nat.{le_trans}
 use Rattle.std.proofs.lemmas.Option.{IfSome_then}
 use Rattle.posix.specs.declared.event.Event.TheVariants.{Step}
 use Rattle.posix.proofs.WakeLemmas.{settled_stays}
-use Rattle.posix.specs.States.{current_process}
+use Rattle.posix.specs.Common.{current_process}
 use Rattle.kernel.specs.Steps.{is_followed_by_step}
 use Rattle.kernel.specs.Counts.{IsAtRest}
 use Rattle.kernel.specs.Views.{KernelView}

@@ -1,9 +1,9 @@
 use Rattle.std.proofs.Common.{refl}
 use Rattle.kernel.proofs.RunLemmas.{lines_broken, prints_both}
-use Rattle.posix.specs.Entries.{numbered}
+use Rattle.posix.specs.Common.{numbered}
 use Rattle.kernel.specs.PrintLaws.{lines_break}
 use Rattle.kernel.specs.Steps.{noted_lines}
-use Rattle.trace.proofs.SinkLemmas.{on_err}
+use Rattle.posix.proofs.ResultLemmas.{on_err}
 use Rattle.kernel.proofs.progress.PrinterObserver.hear.Goals as goal
 
 pub returns-in_err-write_notes-clause-err : goal.returns-in_err-write_notes-clause-err

@@ -1,5 +1,5 @@
 use Rattle.std.proofs.Common.{◌≡◌, ◌∙◌, ap, rules, to_z, of_z, w64}
-use Rattle.posix.specs.Waits.{asked}
+use Rattle.posix.specs.Common.{asked}
 use Rattle.life.proofs.caller.Caller.asked.Goals as goal
 
 pub returns : goal.returns

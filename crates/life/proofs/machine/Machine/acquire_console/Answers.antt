@@ -1,8 +1,7 @@
 use Rattle.std.proofs.Common.{◌≡◌, ◌∙◌, ap, sym, subst, refl, inr, slice_get, rules}
 use Rattle.std.specs.Option.{IfSome}
 use Rattle.std.proofs.lemmas.Bool.{or_left}
-use Rattle.posix.specs.Consoles.{Console, console_of, acquired}
-use Rattle.posix.specs.States.{State}
+use Rattle.posix.specs.Common.{Console, console_of, acquired, State}
 use Rattle.life.proofs.ReaderLemmas.{nobody_reads}
 use Rattle.life.specs.Foregrounds.{is_unchecked}
 use Rattle.life.proofs.ForegroundLemmas.{own_unchecked}

@@ -1,7 +1,5 @@
 use Rattle.std.proofs.Common.{rules, ◌∙◌, ◌≤◌, ◌+◌, length, subst, refl, sym, ◌∷◌, [], ap, arith}
-use Rattle.posix.specs.Tables.{changed, children_in}
-use Rattle.posix.specs.Ends.{made_zombie}
-use Rattle.posix.specs.States.{State, is_in}
+use Rattle.posix.specs.Common.{changed, children_in, made_zombie, State, is_in}
 use Rattle.life.specs.Machines.{state_of, IsNoted}
 use Rattle.life.specs.Rechecks.{with_numbers}
 use Rattle.posix.proofs.MapLemmas.{length_children}
@@ -11,7 +9,8 @@ use Rattle.jobs.proofs.RunLemmas.{run_as, parent_is, put_as, put_grouped}
 use Rattle.life.proofs.EndLemmas.{keeps_made_zombie, there_after, zombie_after}
 use Rattle.life.proofs.RecheckLemmas.{has_room, room_after, room_of, pids_of, listed_more, listed_where}
 use Rattle.life.proofs.DepartureLemmas.{listed_left, deaf_parent, quiet_zombie}
-use Rattle.life.proofs.SoundLemmas.{grows_same, there, here_in, heir_in, found_in, sound_departed, there_made_zombie, within_departed}
+use Rattle.life.proofs.SoundLemmas.{grows_same, here_in, heir_in, found_in, sound_departed, there_made_zombie, within_departed}
+use Rattle.posix.proofs.ResultLemmas.{there}
 use Rattle.life.proofs.ForegroundLemmas.{fresh_departed}
 use Rattle.life.proofs.ViewLemmas.{state_is}
 use Rattle.life.proofs.MoveLemmas.{zombie_put}

@@ -1,10 +1,6 @@
 use Rattle.std.proofs.Common.{subst, sym, ap, ◌∙◌, ◌≡◌, arith, refl, [], ◌∷◌, replicate}
-use Rattle.posix.specs.Consoles.{unused_console}
-use Rattle.posix.specs.Processes.{first_process}
-use Rattle.posix.specs.Tables.{inserted}
-use Rattle.posix.specs.Settle.{AreFresh}
+use Rattle.posix.specs.Common.{unused_console, first_process, inserted, AreFresh, boot, is_in}
 use Rattle.posix.proofs.FreshLemmas.{first_fresh}
-use Rattle.posix.specs.States.{boot, is_in}
 use Rattle.pidalloc.specs.Rows.{born_in, unborne_table}
 use Rattle.life.specs.Machines.{AreTerminals}
 use Rattle.life.proofs.RecheckLemmas.{listed_first}

@@ -2,12 +2,10 @@ use Rattle.std.proofs.Common.{rules, ◌≡◌, ◌+◌, ◌<◌, ◌≤◌, ap,
 use Rattle.std.specs.Option.{IfSome, IsSome}
 use Rattle.std.specs.Prelude.{count_by}
 use Rattle.std.proofs.lemmas.List.Sums.{length-filter}
-use Rattle.posix.specs.Processes.{Process, is_living, is_zombie}
-use Rattle.posix.specs.States.{State}
-use Rattle.posix.specs.Tables.{IsRising, IsNext, left_of, next_above, lookup}
+use Rattle.posix.specs.Common.{Process, is_living, is_zombie, State, IsRising, IsNext, left_of, next_above, lookup}
 use Rattle.posix.proofs.WalkLemmas.{least_is_next, walk_at, walk_begins}
 use Rattle.posix.proofs.PassingLemmas.{left_at_most}
-use Rattle.life.proofs.SoundLemmas.{there}
+use Rattle.posix.proofs.ResultLemmas.{there}
 use Rattle.jobs.proofs.ReadLemmas.{fewer_after, left_less}
 use Rattle.life.proofs.machine.Machine.census.Goals as goal
 use Rattle.life.proofs.machine.Machine.census.Goals.{then-is_zombie, else-is_zombie}

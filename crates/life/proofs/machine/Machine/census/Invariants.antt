@@ -1,8 +1,7 @@
 use Rattle.std.proofs.Common.{◌≡◌, ◌+◌, ◌*◌, ◌≤◌, length}
 use Rattle.std.specs.Prelude.{count_by}
 use Rattle.std.specs.Option.{IfSome, IsSome}
-use Rattle.posix.specs.Processes.{is_living, is_zombie}
-use Rattle.posix.specs.Tables.{left_of, lookup}
+use Rattle.posix.specs.Common.{is_living, is_zombie, left_of, lookup}
 use Rattle.posix.proofs.WalkLemmas.{numbers_left}
 use Rattle.life.specs.Machines.{AreSame}
 use Rattle.life.proofs.machine.Machine.census.Given as goal

@@ -1,6 +1,5 @@
 use Rattle.std.proofs.Common.{sym, subst, ap, rules, ◌∙◌, arith}
-use Rattle.posix.specs.States.{State}
-use Rattle.posix.specs.Tables.{lookup}
+use Rattle.posix.specs.Common.{State, lookup}
 use Rattle.life.specs.Changes.{StaysRegular}
 use Rattle.life.specs.Machines.{MachineView}
 use Rattle.life.specs.Rechecks.{rechecking_by_signals}

@@ -1,8 +1,8 @@
-use Rattle.jobs.specs.Indexes.{record_seen}
+use Rattle.posix.proofs.ResultLemmas.{mapped_is}
+use Rattle.jobs.specs.Indexes.{record_seen, seen_of}
 use Rattle.life.specs.Foregrounds.{also_in}
 use Rattle.std.proofs.Common.{cond, ap, sym, ◌∙◌, subst, [], ◌∷◌, refl, rules}
-use Rattle.posix.specs.States.{State}
-use Rattle.posix.specs.Tables.{lookup, parent_of}
+use Rattle.posix.specs.Common.{State, lookup, parent_of}
 use Rattle.pidset.specs.Numbers.{with_number}
 use Rattle.proctable.specs.Records.{process_of}
 use Rattle.jobs.proofs.KeptLemmas.{record_found}
@@ -12,7 +12,7 @@ use Rattle.life.specs.Changes.{StaysRegular, StaysInSession}
 use Rattle.life.proofs.SoundLemmas.{here_in}
 use Rattle.life.proofs.ReaderLemmas.{readable}
 use Rattle.life.proofs.RecheckLemmas.{has_room, room_after, pids_of, room_of}
-use Rattle.life.proofs.FunnelLemmas.{not_moved, machine_shown, can_move_numbers, seen_is, parent_there, there_record}
+use Rattle.life.proofs.FunnelLemmas.{not_moved, machine_shown, can_move_numbers, parent_there, there_record}
 use Rattle.life.proofs.ViewLemmas.{state_is}
 use Rattle.jobs.specs.IndexedTables.{StaysGrouped, StaysPut}
 use Rattle.life.proofs.machine.Machine.change_seen.Goals as goal
@@ -32,8 +32,8 @@ pub move_numbers-requires : goal.move_numbers-requires
 move_numbers-requires g c =
     let run = c.change_seen-parent.ensures.run in
     let stays = subst (λ (s : State). StaysRegular g.F.FnOnce c.args.change s c.args.pid) (sym (state_is c.self.view_is)) c.requires.regular in
-    let before = seen_is _ _ _ c.change_seen-parent.ensures.before run.found in
-    let after = seen_is _ _ _ c.change_seen-parent.ensures.after (ap (lookup c.args.pid) run.is ∙ record_found _ c.args.pid run.before run.after run.found) in
+    let before = mapped_is _ seen_of _ _ (sym c.change_seen-parent.ensures.before) run.found in
+    let after = mapped_is _ seen_of _ _ (sym c.change_seen-parent.ensures.after) (ap (lookup c.args.pid) run.is ∙ record_found _ c.args.pid run.before run.after run.found) in
     let grouped = subst (λ (s : State). StaysGrouped g.F.FnOnce c.args.change s.processes c.args.pid) (sym (state_is c.self.view_is)) c.requires.grouped in
     let session = subst (λ (s : State). StaysInSession g.F.FnOnce c.args.change s.processes c.args.pid) (sym (state_is c.self.view_is)) c.requires.session in
     rw (before, after) (can_move_numbers _ _ _ c.self.invariant.sound c.args.pid run.before run.after run.found (stays c.self.invariant.sound.regular _ _ _ run.found run.ran) (grouped _ _ _ run.found run.ran) (session _ _ _ run.found run.ran))
@@ -42,8 +42,8 @@ pub invariant_of-self : goal.invariant_of-self
 invariant_of-self g c =
     let run = c.change_seen-parent.ensures.run in
     let stays = subst (λ (s : State). StaysRegular g.F.FnOnce c.args.change s c.args.pid) (sym (state_is c.self.view_is)) c.requires.regular in
-    let before = seen_is _ _ _ c.change_seen-parent.ensures.before run.found in
-    let after = seen_is _ _ _ c.change_seen-parent.ensures.after (ap (lookup c.args.pid) run.is ∙ record_found _ c.args.pid run.before run.after run.found) in
+    let before = mapped_is _ seen_of _ _ (sym c.change_seen-parent.ensures.before) run.found in
+    let after = mapped_is _ seen_of _ _ (sym c.change_seen-parent.ensures.after) (ap (lookup c.args.pid) run.is ∙ record_found _ c.args.pid run.before run.after run.found) in
     let moved = rw (before, after) at c.move_numbers.ensures.pids in
     let mark = rw (before, after) at c.move_numbers.ensures.foregrounds_unchecked in
     let session = subst (λ (s : State). StaysInSession g.F.FnOnce c.args.change s.processes c.args.pid) (sym (state_is c.self.view_is)) c.requires.session in
@@ -65,7 +65,7 @@ returns-clause-put g c = λ h.
     let run = c.change_seen-parent.ensures.run in
     let stays = subst (λ (s : State). StaysPut g.F.FnOnce c.args.change s.processes c.args.pid) (sym (state_is c.self.view_is)) h in
     let put = c.change_seen-parent.ensures.put stays in
-    let before = seen_is _ _ _ c.change_seen-parent.ensures.before run.found in
-    let after = seen_is _ _ _ c.change_seen-parent.ensures.after (ap (lookup c.args.pid) run.is ∙ record_found _ c.args.pid run.before run.after run.found) in
+    let before = mapped_is _ seen_of _ _ (sym c.change_seen-parent.ensures.before) run.found in
+    let after = mapped_is _ seen_of _ _ (sym c.change_seen-parent.ensures.after) (ap (lookup c.args.pid) run.is ∙ record_found _ c.args.pid run.before run.after run.found) in
     let mark = rw (before, after) at c.move_numbers.ensures.foregrounds_unchecked in
     (search rules, mark ∙ ap (λ b. cond b (also_in run.before.session c.self.inside.foregrounds_unchecked) c.self.inside.foregrounds_unchecked) (not_moved (record_seen run.before) (record_seen run.after) (stays _ _ _ run.found run.ran)) ∙ ap (λ (m : MachineView). m.foregrounds_unchecked) c.self.view_is)

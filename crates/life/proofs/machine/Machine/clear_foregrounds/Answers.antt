@@ -1,5 +1,5 @@
 use Rattle.std.proofs.Common.{refl}
-use Rattle.posix.specs.Settle.{clear_foregrounds}
+use Rattle.posix.specs.Common.{clear_foregrounds}
 use Rattle.life.specs.Machines.{state_of}
 use Rattle.posix.proofs.FreshLemmas.{fresh_cleared}
 use Rattle.posix.proofs.ConsoleLemmas.{regular_cleared}

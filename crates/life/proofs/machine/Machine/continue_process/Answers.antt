@@ -1,4 +1,4 @@
-use Rattle.posix.specs.Notices.{resumed}
+use Rattle.posix.specs.Common.{resumed}
 use Rattle.life.proofs.machine.Machine.continue_process.Goals as goal
 
 pub returns : goal.returns

@@ -1,11 +1,10 @@
 use Rattle.std.proofs.Common.{rules, ℕ, ◌≡◌, ◌≤◌, ap, arith, length, ◌∙◌, subst}
-use Rattle.posix.specs.States.{State, process}
-use Rattle.posix.specs.Tables.{children_in}
+use Rattle.posix.specs.Common.{State, process, children_in}
 use Rattle.life.specs.Ends.{slots_of_hups, slots_of_orphans}
 use Rattle.posix.proofs.HupAndContLemmas.{still_there, lasts_hup_and_cont_all}
 use Rattle.posix.proofs.OrphanLemmas.{after_departure}
 use Rattle.pidset.specs.Numbers.{Rises}
-use Rattle.life.proofs.SoundLemmas.{there, is_there}
+use Rattle.posix.proofs.ResultLemmas.{is_there, there}
 use Rattle.life.proofs.OrphanLemmas.{orphaned_by_end}
 use Rattle.life.proofs.machine.Machine.die_and_hup_orphans.Goals as goal
 

@@ -1,5 +1,5 @@
 use Rattle.std.proofs.Common.{arith, ap, length}
-use Rattle.posix.specs.States.{State}
+use Rattle.posix.specs.Common.{State}
 use Rattle.life.specs.Machines.{state_of}
 use Rattle.life.proofs.PartLemmas.{machine_counted}
 use Rattle.life.proofs.ViewLemmas.{state_is}

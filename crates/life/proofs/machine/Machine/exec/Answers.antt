@@ -1,6 +1,5 @@
 use Rattle.std.proofs.Common.{rules, ◌≡◌, ◌∙◌, ap, sym, Some, None, slice_get}
-use Rattle.posix.specs.States.{State}
-use Rattle.posix.specs.Programs.{executed}
+use Rattle.posix.specs.Common.{State, executed}
 use Rattle.life.proofs.SoundLemmas.{here_in}
 use Rattle.life.proofs.RecheckLemmas.{has_room, pids_of, room_of}
 use Rattle.life.proofs.CodeLemmas.{get_some, past_none}

@@ -1,7 +1,6 @@
 use Rattle.std.proofs.Common.{◌≡◌, ◌∙◌, ap, rules, to_z, of_z, w64, slice_get}
 use Rattle.std.proofs.Math.IntN.{nat_abs}
-use Rattle.posix.specs.States.{change}
-use Rattle.posix.specs.Programs.{executed}
+use Rattle.posix.specs.Common.{change, executed}
 use Rattle.life.proofs.machine.Machine.exec_named.Goals as goal
 
 pub returns-clause-done : goal.returns-clause-done

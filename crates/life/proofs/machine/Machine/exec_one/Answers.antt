@@ -1,9 +1,5 @@
 use Rattle.std.proofs.Common.{rules, ◌≡◌, Some, ap, sym, ◌∙◌, subst, refl}
-use Rattle.posix.specs.States.{State, change, process}
-use Rattle.posix.specs.Processes.{Process}
-use Rattle.posix.specs.Tables.{IsRising}
-use Rattle.posix.specs.Execute.{Executed, exec_one}
-use Rattle.posix.specs.Step.{set_cpu}
+use Rattle.posix.specs.Common.{State, change, process, Process, IsRising, Executed, exec_one, set_cpu}
 use Rattle.life.proofs.SoundLemmas.{found_in, here_in}
 use Rattle.life.proofs.RecheckLemmas.{has_room, pids_of, room_of}
 use Rattle.life.proofs.CodeLemmas.{code_is, get_some, past_none, no_code, same_cpu, stays_by}

@@ -1,7 +1,6 @@
 use Rattle.std.proofs.Common.{◌≡◌, ◌≤◌, sym, ap, subst, ◌∙◌, Some}
 use Rattle.std.specs.Option.{IfSome}
-use Rattle.posix.specs.States.{State, process}
-use Rattle.posix.specs.Settle.{wakes}
+use Rattle.posix.specs.Common.{State, process, wakes}
 use Rattle.pidset.specs.Indexes.{is_key}
 use Rattle.pidset.specs.Rows.{HasRoom}
 use Rattle.life.specs.Consoles.{reads}

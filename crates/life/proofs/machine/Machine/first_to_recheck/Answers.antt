@@ -1,7 +1,5 @@
 use Rattle.std.proofs.Common.{subst}
-use Rattle.posix.specs.States.{State}
-use Rattle.posix.specs.Tables.{IsNext}
-use Rattle.posix.specs.Settle.{wakes}
+use Rattle.posix.specs.Common.{State, IsNext, wakes}
 use Rattle.life.proofs.RecheckLemmas.{first_rechecked}
 use Rattle.life.proofs.ViewLemmas.{state_is}
 use Rattle.life.proofs.machine.Machine.first_to_recheck.Goals as goal

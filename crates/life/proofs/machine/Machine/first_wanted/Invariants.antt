@@ -1,6 +1,5 @@
 use Rattle.std.proofs.Common.{length}
-use Rattle.posix.specs.Tables.{left_of}
-use Rattle.posix.specs.Waits.{wanted_in}
+use Rattle.posix.specs.Common.{left_of, wanted_in}
 use Rattle.posix.proofs.ReportingLemmas.{IsWantedWalk}
 use Rattle.life.specs.Waits.{is_meant}
 use Rattle.life.proofs.machine.Machine.first_wanted.Given as goal

@@ -1,18 +1,16 @@
 use Rattle.std.proofs.Common.{rules, ap, arith, refl, sym, subst, true, ◌<◌, ◌+◌, ◌∙◌, List, length}
-use Rattle.posix.specs.Processes.{Process}
-use Rattle.posix.specs.Tables.{lookup}
-use Rattle.posix.specs.Outcomes.{finished}
-use Rattle.posix.specs.Births.{child_of}
+use Rattle.posix.specs.Common.{Process, lookup, finished, child_of}
 use Rattle.pidalloc.specs.Rows.{is_free_in}
 use Rattle.pidset.specs.Numbers.{with_number}
 use Rattle.pidset.specs.Rows.{HasRoom}
+use Rattle.posix.proofs.ResultLemmas.{is_there}
 use Rattle.jobs.proofs.ReadLemmas.{processes_of}
 use Rattle.life.specs.Machines.{MachineView, IsNoted}
 use Rattle.life.specs.Rechecks.{rechecking}
 use Rattle.life.proofs.FunnelLemmas.{borne_of}
 use Rattle.life.proofs.RecheckLemmas.{has_room, listed_born, listed_where, pids_of, room_of}
 use Rattle.life.proofs.RoomLemmas.{machine_roomier, state_roomier, can_bear_all}
-use Rattle.life.proofs.SoundLemmas.{is_there, found_in, next_is_new, room_to_bear, sound_born, within_inserted}
+use Rattle.life.proofs.SoundLemmas.{found_in, next_is_new, room_to_bear, sound_born, within_inserted}
 use Rattle.proctable.specs.Records.{process_of}
 use Rattle.life.proofs.ForegroundLemmas.{fresh_still}
 use Rattle.life.proofs.ViewLemmas.{state_is}

@@ -1,6 +1,6 @@
 use Rattle.std.proofs.lemmas.Bool.{ne_eqb, both_ways}
 use Rattle.std.proofs.Common.{◌∙◌, ap, ◌||◌, ◌==◌, ◌≡◌, refl, sym, subst, true, []}
-use Rattle.posix.specs.States.{State, is_in}
+use Rattle.posix.specs.Common.{State, is_in}
 use Rattle.posix.proofs.OrderLemmas.{regular_last}
 use Rattle.posix.proofs.MemberLemmas.{in_none, in_last, still_out}
 use Rattle.posix.proofs.TouchLemmas.{touches_last}

@@ -1,7 +1,5 @@
 use Rattle.std.proofs.Common.{arith, ◌∙◌, ap, sym, rules, subst, true}
-use Rattle.posix.specs.Ends.{ended}
-use Rattle.posix.specs.Regular.{IsRegular}
-use Rattle.posix.specs.States.{is_in, change as change_of}
+use Rattle.posix.specs.Common.{ended, IsRegular, is_in, change as change_of}
 use Rattle.posix.proofs.TableLemmas.{pid_looked}
 use Rattle.pidset.specs.Numbers.{with_number}
 use Rattle.jobs.proofs.RunLemmas.{run_as, put_as, put_grouped}

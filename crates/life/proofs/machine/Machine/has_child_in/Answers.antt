@@ -1,7 +1,6 @@
 use Rattle.std.proofs.Common.{ap, sym, ◌∙◌, ◌==◌, ℕ, Option, false}
 use Rattle.std.specs.Option.{option_map_or}
-use Rattle.posix.specs.Processes.{Process}
-use Rattle.posix.specs.Tables.{is_member}
+use Rattle.posix.specs.Common.{Process, is_member}
 use Rattle.life.proofs.ChildLemmas.{child_here, child_less}
 use Rattle.life.proofs.MemberLemmas.{member_here, seek_begins, child_is, member_is, seek_on}
 use Rattle.life.proofs.machine.Machine.has_child_in.Goals as goal

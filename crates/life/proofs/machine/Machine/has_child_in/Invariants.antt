@@ -1,5 +1,5 @@
 use Rattle.std.proofs.Common.{length}
-use Rattle.posix.specs.Tables.{children_in, left_of}
+use Rattle.posix.specs.Common.{children_in, left_of}
 use Rattle.life.proofs.MemberLemmas.{IsSeeking}
 use Rattle.life.proofs.machine.Machine.has_child_in.Given as goal
 

@@ -1,6 +1,5 @@
 use Rattle.std.proofs.Common.{◌≡◌, ◌∙◌, sym, subst, Some}
-use Rattle.posix.specs.States.{State}
-use Rattle.posix.specs.Tables.{lookup, parent_of}
+use Rattle.posix.specs.Common.{State, lookup, parent_of}
 use Rattle.proctable.specs.Records.{process_of}
 use Rattle.jobs.proofs.SnapshotLemmas.{equals}
 use Rattle.life.proofs.ViewLemmas.{state_is}

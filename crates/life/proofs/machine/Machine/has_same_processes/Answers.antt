@@ -1,13 +1,12 @@
 use Rattle.std.proofs.Common.{◌≡◌, ◌<◌, ◌∙◌, ℕ, ap, sym, refl, subst, arith, Option, Some}
 use Rattle.std.proofs.Math.Nat.{le_trans}
 use Rattle.std.specs.Option.{IfSome}
-use Rattle.posix.specs.Processes.{is_living}
-use Rattle.posix.specs.States.{State}
-use Rattle.posix.specs.Tables.{lookup, next_above}
+use Rattle.posix.specs.Common.{is_living, State, lookup, next_above}
 use Rattle.posix.proofs.WalkLemmas.{least_is_next}
 use Rattle.posix.proofs.PassingLemmas.{left_at_most}
+use Rattle.posix.proofs.ResultLemmas.{is_there}
 use Rattle.jobs.proofs.ReadLemmas.{fewer_after}
-use Rattle.jobs.proofs.SnapshotLemmas.{equals, is_there}
+use Rattle.jobs.proofs.SnapshotLemmas.{equals}
 use Rattle.life.proofs.ViewLemmas.{same_then}
 use Rattle.life.proofs.SamenessLemmas.{all_are_left, at_next, left_begins, less_behind, same_behind}
 use Rattle.life.proofs.machine.Machine.has_same_processes.Goals as goal

@@ -1,5 +1,5 @@
 use Rattle.std.proofs.Common.{◌≡◌, ◌+◌, ◌*◌, ◌≤◌, length}
-use Rattle.posix.specs.Tables.{first_pid, left_of}
+use Rattle.posix.specs.Common.{first_pid, left_of}
 use Rattle.posix.proofs.WalkLemmas.{numbers_left}
 use Rattle.life.specs.Machines.{AreSame}
 use Rattle.life.proofs.machine.Machine.has_same_processes.Given as goal

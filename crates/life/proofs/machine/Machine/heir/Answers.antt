@@ -1,5 +1,5 @@
 use Rattle.std.proofs.Common.{rules, ◌≡◌, ◌∙◌, ◌&&◌, ◌==◌, ◌-◌, not, ap, sym, arith, subst, refl, false}
-use Rattle.posix.specs.Regular.{IsRegular}
+use Rattle.posix.specs.Common.{IsRegular}
 use Rattle.std.proofs.lemmas.Bool.{and_from, and_left, and_right, not-true}
 use Rattle.jobs.proofs.SnapshotLemmas.{differs, equals}
 use Rattle.life.proofs.HeirLemmas.{heir_unmarked, walk_from, walk_over, first_regular, slots_least, nobody_at, looked_at, step_gone, step_dead, step_here, step_on, step_read}

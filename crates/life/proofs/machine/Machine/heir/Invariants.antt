@@ -1,5 +1,5 @@
 use Rattle.std.proofs.Common.{◌≡◌, ◌+◌, ◌≤◌}
-use Rattle.posix.specs.Heirs.{forebears, heir_in}
+use Rattle.posix.specs.Common.{forebears, heir_in}
 use Rattle.life.specs.Ends.{slots_of_walk, slots_of_heir}
 use Rattle.life.specs.Machines.{AreSame}
 use Rattle.life.proofs.HeirLemmas.{walk_from}

@@ -1,8 +1,5 @@
 use Rattle.std.proofs.Common.{◌∙◌, ap, arith, length}
-use Rattle.posix.specs.SignalNumbers.{HUP}
-use Rattle.posix.specs.States.{State}
-use Rattle.posix.specs.Tables.{members_in}
-use Rattle.posix.specs.Choice.{from_kernel}
+use Rattle.posix.specs.Common.{HUP, State, members_in, from_kernel}
 use Rattle.posix.proofs.HupAndContLemmas.{lasts_members}
 use Rattle.life.proofs.AtRiskLemmas.{members_last}
 use Rattle.life.proofs.machine.Machine.hup_and_cont.Goals as goal

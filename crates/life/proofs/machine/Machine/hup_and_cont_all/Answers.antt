@@ -1,6 +1,5 @@
 use Rattle.std.proofs.Common.{rules, ap, sym, ◌∙◌, arith, subst, slice_get}
-use Rattle.posix.specs.States.{State}
-use Rattle.posix.specs.Ends.{hup_and_cont_all}
+use Rattle.posix.specs.Common.{State, hup_and_cont_all}
 use Rattle.pidset.specs.Numbers.{numbers_above}
 use Rattle.life.specs.Machines.{MachineView, with_processes}
 use Rattle.life.proofs.AtRiskLemmas.{IsSignalling, signalling_goes_on}

@@ -1,6 +1,5 @@
 use Rattle.std.proofs.Common.{rules, ◌&&◌, ap, ◌∙◌, arith, cond, slice_get, ℕ}
-use Rattle.posix.specs.States.{State, without}
-use Rattle.posix.specs.Groups.{is_orphaned, has_stopped}
+use Rattle.posix.specs.Common.{State, without, is_orphaned, has_stopped}
 use Rattle.pidset.specs.Numbers.{numbers_above}
 use Rattle.life.specs.Machines.{MachineView}
 use Rattle.pidset.proofs.WalkLemmas.{keeping_goes_on, keeping_ends, lies_above}

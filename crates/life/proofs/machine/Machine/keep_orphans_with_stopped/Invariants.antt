@@ -1,5 +1,5 @@
 use Rattle.std.proofs.Common.{◌≡◌, ◌&&◌}
-use Rattle.posix.specs.Groups.{is_orphaned, has_stopped}
+use Rattle.posix.specs.Common.{is_orphaned, has_stopped}
 use Rattle.posix.proofs.WalkLemmas.{numbers_left}
 use Rattle.pidset.proofs.WalkLemmas.{IsKeeping}
 use Rattle.life.proofs.machine.Machine.keep_orphans_with_stopped.Given as goal

@@ -1,7 +1,5 @@
 use Rattle.std.proofs.Common.{◌≡◌, suc, ap, sym, ◌∙◌, arith, Some, None, slice_get, ℕ, List, length, nat_lt, slice_index_or, true}
-use Rattle.posix.specs.Consoles.{Console}
-use Rattle.posix.specs.States.{State}
-use Rattle.posix.specs.Step.{signalled_from}
+use Rattle.posix.specs.Common.{Console, State, signalled_from}
 use Rattle.life.specs.Machines.{MachineView}
 use Rattle.life.proofs.TakingLemmas.{brief_none, brief_group}
 use Rattle.life.proofs.ConsoleLemmas.{key_nowhere, key_past, key_on_it, slots_of_signalled, typed_key}

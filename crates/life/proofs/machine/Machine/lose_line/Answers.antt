@@ -1,7 +1,6 @@
 use Rattle.std.proofs.Common.{◌≡◌, ◌∙◌, ap, sym, subst, option_map, inl, inr, rules, slice_get, ◌||◌, true}
 use Rattle.std.proofs.lemmas.Option.{same_Some}
-use Rattle.posix.specs.Consoles.{Console, disconnected}
-use Rattle.posix.specs.States.{State, is_in}
+use Rattle.posix.specs.Common.{Console, disconnected, State, is_in}
 use Rattle.posix.proofs.ConsoleLemmas.{session_disconnected}
 use Rattle.pidset.specs.Indexes.{is_pair_in}
 use Rattle.pidset.specs.Numbers.{Rises}

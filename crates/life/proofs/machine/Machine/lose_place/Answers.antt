@@ -2,7 +2,7 @@ use Rattle.std.proofs.Common.{inl, ◌≡◌, ap, false, ◌∙◌, refl, sym, [
 use Rattle.posix.proofs.RegularLemmas.{regular_lose}
 use Rattle.posix.proofs.MemberLemmas.{still_out}
 use Rattle.posix.proofs.OrderLemmas.{placed_some}
-use Rattle.posix.specs.States.{State, is_in}
+use Rattle.posix.specs.Common.{State, is_in}
 use Rattle.life.specs.Machines.{MachineView}
 use Rattle.life.specs.Rechecks.{with_numbers}
 use Rattle.posix.proofs.TouchLemmas.{touches_lost}

@@ -1,5 +1,5 @@
 use Rattle.std.proofs.Common.{rules, refl, ◌∙◌, ap}
-use Rattle.posix.specs.Subreapers.{marked_as}
+use Rattle.posix.specs.Common.{marked_as}
 use Rattle.posix.proofs.RegularLemmas.{regular_change}
 use Rattle.posix.proofs.TouchLemmas.{touches_unseen}
 use Rattle.jobs.proofs.RunLemmas.{run_as, put_as, put_grouped}

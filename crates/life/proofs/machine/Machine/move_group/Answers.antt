@@ -1,10 +1,8 @@
 use Rattle.std.proofs.Common.{arith, length, rules, w64, to_z, of_z, ◌≡◌, ◌∙◌, ap, sym, Some, None, option_map, inl, inr}
 use Rattle.std.proofs.lemmas.Result.{err_from_is_err_and}
-use Rattle.posix.specs.Tables.{children_in, lookup}
-use Rattle.posix.specs.Processes.{Process}
-use Rattle.posix.specs.States.{State, process}
+use Rattle.posix.specs.Common.{children_in, lookup, Process, State, process, named as named_by, in_group}
 use Rattle.posix.proofs.MoveLemmas.{named_found, moves_nobody}
-use Rattle.posix.specs.GroupCalls.{named as named_by, in_group}
+use Rattle.posix.proofs.ResultLemmas.{is_there, mapped_is}
 use Rattle.proctable.specs.declared.snapshot.Snapshot.{Snapshot}
 use Rattle.proctable.specs.Records.{snapshot_of}
 use Rattle.jobs.proofs.RunLemmas.{run_as}
@@ -12,7 +10,6 @@ use Rattle.life.specs.declared.caller.Caller.{Caller}
 use Rattle.life.specs.Machines.{state_of, with_processes}
 use Rattle.life.proofs.FunnelLemmas.{stays_so}
 use Rattle.life.proofs.MoveLemmas.{is_moving}
-use Rattle.life.proofs.SoundLemmas.{snapshot_are, is_there}
 use Rattle.life.proofs.ViewLemmas.{state_is}
 use Rattle.life.proofs.machine.Machine.move_group.Goals as goal
 
@@ -57,7 +54,7 @@ returns g c =
     let before = ap (with_processes t) c.group_to_join.ensures.looks.processes ∙ same in
     let word : to_z w64 (of_z w64 c.args.me.now.r1) ≡ c.args.me.now.r1 = search rules in
     let who = λ (me r : Process) (found : process s p ≡ Some me) (named : named_by me c.args.me.now.r1 s.processes ≡ Some r).
-    snapshot_are (named_by me c.args.me.now.r1 s.processes) r c.in-Some.it (sym c.in-Some.is ∙ c.named-target.ensures.value me found ∙ ap (λ z. option_map snapshot_of (named_by me z s.processes)) word) named in
+    mapped_is (named_by me c.args.me.now.r1 s.processes) snapshot_of r c.in-Some.it (sym c.in-Some.is ∙ c.named-target.ensures.value me found ∙ ap (λ z. option_map snapshot_of (named_by me z s.processes)) word) named in
     record {
       value = λ me found.
           let value = c.group_to_join.ensures.value me (named_by me (to_z w64 (of_z w64 c.args.me.now.r1)) s.processes) (ap (λ (d : Caller). d.pid) (c.requires.caller me found)) (ap (λ (d : Caller). d.session) (c.requires.caller me found)) (c.named-target.ensures.value me found) in

@@ -1,10 +1,6 @@
 use Rattle.std.proofs.Common.{◌≡◌, ◌<◌, ℕ, zero, suc, true, ap, sym, ◌∙◌, arith, rules, to_z, of_z, w64, List, ℤ, pos, negsuc, Some, None, option_map, refl}
 use Rattle.std.specs.Int.Signed.{lt_z}
-use Rattle.posix.specs.Processes.{Process}
-use Rattle.posix.specs.Tables.{lookup}
-use Rattle.posix.specs.States.{State}
-use Rattle.posix.specs.Regular.{IsRegular}
-use Rattle.posix.specs.GroupCalls.{named}
+use Rattle.posix.specs.Common.{Process, lookup, State, IsRegular, named}
 use Rattle.posix.proofs.TableLemmas.{pid_looked}
 use Rattle.proctable.specs.Records.{snapshot_of}
 use Rattle.life.proofs.ViewLemmas.{state_is}

@@ -1,7 +1,6 @@
 use Rattle.std.proofs.Common.{◌∙◌, ap, sym, is_ok, rules}
 use Rattle.std.proofs.lemmas.Bool.{not-true, or_parts}
-use Rattle.posix.specs.Tables.{lookup}
-use Rattle.posix.specs.GroupCalls.{in_session, is_group_of_others}
+use Rattle.posix.specs.Common.{lookup, in_session, is_group_of_others}
 use Rattle.posix.proofs.GroupLemmas.{regular_session}
 use Rattle.jobs.proofs.RunLemmas.{run_as}
 use Rattle.life.specs.Machines.{state_of}

@@ -1,8 +1,5 @@
 use Rattle.std.proofs.Common.{◌+◌, ◌∙◌, ◌≡◌, ℕ, Some, true, ap, sym, subst}
-use Rattle.posix.specs.Processes.{Process}
-use Rattle.posix.specs.States.{State, process}
-use Rattle.posix.specs.Tables.{IsNext}
-use Rattle.posix.specs.Alarms.{is_due, has_alarms}
+use Rattle.posix.specs.Common.{Process, State, process, IsNext, is_due, has_alarms}
 use Rattle.posix.proofs.WalkLemmas.{passing_is_next}
 use Rattle.life.proofs.RingLemmas.{next_is_due, quiet_next}
 use Rattle.life.proofs.ViewLemmas.{state_is}

@@ -1,5 +1,5 @@
 use Rattle.std.proofs.Common.{refl, ap, ◌∙◌}
-use Rattle.posix.specs.States.{State, next_pid}
+use Rattle.posix.specs.Common.{State, next_pid}
 use Rattle.life.proofs.SoundLemmas.{next_is}
 use Rattle.life.proofs.ViewLemmas.{state_is}
 use Rattle.life.proofs.machine.Machine.next_pid.Goals as goal

@@ -1,6 +1,5 @@
 use Rattle.std.proofs.Common.{sym, ap, refl}
-use Rattle.posix.specs.Tables.{is_member, members_in, above, first_pid, next_above}
-use Rattle.posix.specs.Sends.{is_target}
+use Rattle.posix.specs.Common.{is_member, members_in, above, first_pid, next_above, is_target}
 use Rattle.posix.proofs.WalkLemmas.{passing_is_next, least_is_next}
 use Rattle.life.specs.Callers.{process_like}
 use Rattle.life.proofs.SendLemmas.{all_candidates}

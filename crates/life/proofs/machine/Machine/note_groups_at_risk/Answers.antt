@@ -1,13 +1,9 @@
 use Rattle.std.proofs.Common.{rules, ◌≡◌, ◌||◌, arith, ap, sym, refl, ◌∙◌, subst, cond, length, List, ℕ}
 use Rattle.std.specs.List.{list_any}
-use Rattle.posix.specs.Numbers.{with_number}
-use Rattle.posix.specs.Tables.{above, children_in, is_child, first_pid}
+use Rattle.posix.specs.Common.{with_number, above, children_in, is_child, first_pid, State, process, is_in, IsRegular, is_anchor}
 use Rattle.posix.proofs.PassingLemmas.{filter_at_most}
-use Rattle.posix.specs.States.{State, process, is_in}
-use Rattle.posix.specs.Regular.{IsRegular}
-use Rattle.posix.specs.Groups.{is_anchor}
 use Rattle.pidset.specs.Numbers.{Rises}
-use Rattle.life.proofs.SoundLemmas.{there}
+use Rattle.posix.proofs.ResultLemmas.{there}
 use Rattle.life.proofs.ChildLemmas.{child_here, first_here, first_todo, child_less, next_here}
 use Rattle.life.proofs.AtRiskLemmas.{noted_again, few_noted, keeps, begin_noted, step_noted}
 use Rattle.life.proofs.ViewLemmas.{state_is}

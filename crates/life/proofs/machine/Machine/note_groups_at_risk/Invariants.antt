@@ -1,9 +1,6 @@
 use Rattle.std.proofs.Common.{◌≡◌, ◌+◌, ◌≤◌, ◌||◌, ℕ, length}
 use Rattle.std.specs.List.{list_any}
-use Rattle.posix.specs.States.{is_in}
-use Rattle.posix.specs.Regular.{IsRegular}
-use Rattle.posix.specs.Tables.{children_in, left_of}
-use Rattle.posix.specs.Groups.{loses_anchor}
+use Rattle.posix.specs.Common.{is_in, IsRegular, children_in, left_of, loses_anchor}
 use Rattle.life.proofs.AtRiskLemmas.{keeps}
 use Rattle.life.proofs.ChildLemmas.{IsAtChild}
 use Rattle.life.proofs.machine.Machine.note_groups_at_risk.Given as goal

@@ -1,7 +1,5 @@
 use Rattle.std.proofs.Common.{◌≡◌, Bool, ◌∙◌, sym, rules}
-use Rattle.posix.specs.Processes.{Process}
-use Rattle.posix.specs.Notices.{noticed}
-use Rattle.posix.specs.Ends.{drops_children, notice_of_end}
+use Rattle.posix.specs.Common.{Process, noticed, drops_children, notice_of_end}
 use Rattle.posix.proofs.RegularLemmas.{keeps_noticed}
 use Rattle.life.proofs.SignalLemmas.{only_noticed}
 use Rattle.jobs.proofs.RunLemmas.{run_as, signals_as}

@@ -1,6 +1,5 @@
 use Rattle.std.proofs.Common.{◌+◌, refl, [], ap, sym, ◌∙◌, subst}
-use Rattle.posix.specs.States.{State}
-use Rattle.posix.specs.Regular.{IsRegular}
+use Rattle.posix.specs.Common.{State, IsRegular}
 use Rattle.posix.proofs.MemberLemmas.{in_none}
 use Rattle.posix.proofs.RegularLemmas.{regular_pass}
 use Rattle.posix.proofs.TouchLemmas.{touches_none}

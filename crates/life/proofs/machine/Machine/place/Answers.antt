@@ -1,7 +1,6 @@
 use Rattle.std.proofs.lemmas.Bool.{ne_eqb}
 use Rattle.std.proofs.Common.{inl, ◌≡◌, ◌∙◌, ◌||◌, ◌==◌, ap, refl, sym, subst, arith, true, false, [], ◌∷◌}
-use Rattle.posix.specs.States.{State, is_in}
-use Rattle.posix.specs.Regular.{IsPlaced}
+use Rattle.posix.specs.Common.{State, is_in, IsPlaced}
 use Rattle.posix.proofs.OrderLemmas.{regular_placed}
 use Rattle.posix.proofs.TableLemmas.{pid_looked}
 use Rattle.posix.proofs.MemberLemmas.{in_last, in_one, apart_first}

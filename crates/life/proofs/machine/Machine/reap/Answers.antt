@@ -1,10 +1,8 @@
 use Rattle.std.proofs.lemmas.Option.{same_Some}
 use Rattle.std.proofs.Common.{◌≡◌, option_map, Some, None, rules, subst, ◌∙◌, ap, sym, arith, refl, List, length}
-use Rattle.posix.specs.Processes.{Process}
+use Rattle.posix.specs.Common.{Process, State, lookup, removed}
 use Rattle.posix.proofs.RegularLemmas.{lookup_kept}
 use Rattle.posix.proofs.TableLemmas.{length_removed}
-use Rattle.posix.specs.States.{State}
-use Rattle.posix.specs.Tables.{lookup, removed}
 use Rattle.proctable.specs.Records.{snapshot_of}
 use Rattle.proctable.specs.declared.snapshot.Snapshot.{Snapshot}
 use Rattle.life.specs.Machines.{IsNoted}

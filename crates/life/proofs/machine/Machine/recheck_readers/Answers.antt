@@ -1,7 +1,7 @@
 use Rattle.std.proofs.Common.{◌≡◌, ⊎_elim, ◌∙◌, ap, sym, subst, refl, arith, ◌<◌, Option, Some, None, ℕ, List, true}
 use Rattle.std.specs.Option.{IfSome}
 use Rattle.std.proofs.lemmas.Bool.{or_left, or_right, or_cases, eqb-true}
-use Rattle.posix.specs.States.{is_in}
+use Rattle.posix.specs.Common.{is_in}
 use Rattle.pidset.specs.declared.index.Pair.{Pair}
 use Rattle.pidset.specs.Indexes.{IsNextPair, is_pair_in}
 use Rattle.pidset.specs.Numbers.{with_number}

@@ -1,6 +1,5 @@
 use Rattle.std.proofs.Common.{◌≡◌, ◌||◌, ℕ, true}
-use Rattle.posix.specs.States.{is_in}
-use Rattle.posix.specs.Regular.{IsRegular}
+use Rattle.posix.specs.Common.{is_in, IsRegular}
 use Rattle.posix.proofs.WalkLemmas.{numbers_left}
 use Rattle.pidset.specs.Indexes.{IsNextPair, is_pair_in}
 use Rattle.life.specs.Machines.{AreWatched}

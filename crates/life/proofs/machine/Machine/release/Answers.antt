@@ -1,7 +1,6 @@
 use Rattle.std.proofs.Common.{◌≡◌, ◌∙◌, ap, sym, subst, refl, inl, inr, slice_get, rules}
 use Rattle.std.proofs.lemmas.Bool.{or_right}
-use Rattle.posix.specs.Consoles.{released}
-use Rattle.posix.specs.States.{State}
+use Rattle.posix.specs.Common.{released, State}
 use Rattle.life.specs.Consoles.{AreReaders}
 use Rattle.life.proofs.ViewLemmas.{state_is}
 use Rattle.life.proofs.machine.Machine.release.Goals as goal

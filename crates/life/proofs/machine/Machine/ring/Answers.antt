@@ -1,5 +1,5 @@
 use Rattle.std.proofs.Common.{◌+◌, ◌∙◌, ap, rules, arith}
-use Rattle.posix.specs.Alarms.{ring_at}
+use Rattle.posix.specs.Common.{ring_at}
 use Rattle.posix.proofs.RegularLemmas.{keeps_ring}
 use Rattle.life.proofs.SignalLemmas.{only_ring}
 use Rattle.jobs.proofs.RunLemmas.{run_as, signals_as}

@@ -1,13 +1,10 @@
 use Rattle.std.proofs.Common.{◌≡◌, ℕ, ◌+◌, ap, sym, ◌∙◌, subst, refl, arith, filter, length, true, Option}
 use Rattle.std.proofs.Math.Nat.{le_refl, le_trans}
 use Rattle.std.specs.Option.{IfSome, IsSome}
-use Rattle.posix.specs.Processes.{Process}
-use Rattle.posix.specs.Tables.{IsNext, lookup, changed}
-use Rattle.posix.specs.States.{State, process}
+use Rattle.posix.specs.Common.{Process, IsNext, lookup, changed, State, process, is_due, ring_at}
 use Rattle.posix.proofs.MemberLemmas.{in_none}
 use Rattle.life.specs.Rechecks.{rechecking_by_signals}
-use Rattle.posix.specs.Alarms.{is_due, ring_at}
-use Rattle.life.proofs.SoundLemmas.{there}
+use Rattle.posix.proofs.ResultLemmas.{there}
 use Rattle.life.proofs.RingLemmas.{IsRinging, IsTakingBelow, taking_on, fewer_due, ringing_begins, ringing_on, ringing_ends}
 use Rattle.life.proofs.machine.Machine.ring_all.Goals as goal
 

@@ -1,8 +1,6 @@
 use Rattle.std.proofs.Common.{◌≡◌, [], ◌+◌, ◌≤◌, ℕ, true, false, Some, None, filter, length}
 use Rattle.std.specs.Option.{IfSome, IsSome}
-use Rattle.posix.specs.Processes.{Process}
-use Rattle.posix.specs.Tables.{IsRising, lookup}
-use Rattle.posix.specs.Alarms.{has_alarms, is_due}
+use Rattle.posix.specs.Common.{Process, IsRising, lookup, has_alarms, is_due}
 use Rattle.posix.proofs.WalkLemmas.{numbers_left}
 use Rattle.life.proofs.RingLemmas.{IsRinging, IsTakingBelow}
 use Rattle.life.proofs.machine.Machine.ring_all.Given as goal

@@ -1,8 +1,6 @@
 use Rattle.std.proofs.Common.{ap, sym, ◌∙◌, subst, refl}
 use Rattle.posix.specs.declared.instr.Trap.TheVariants as trap
-use Rattle.posix.specs.States.{State, change}
-use Rattle.posix.specs.Tables.{IsRising}
-use Rattle.posix.specs.Step.{set_cpu}
+use Rattle.posix.specs.Common.{State, change, IsRising, set_cpu}
 use Rattle.life.specs.NotedBursts.{NotedBurst, most_notes, exec_with_notes}
 use Rattle.life.proofs.SoundLemmas.{found_in, here_in}
 use Rattle.life.proofs.RecheckLemmas.{has_room, pids_of, room_of}

@@ -1,5 +1,4 @@
-use Rattle.std.proofs.Common.{◌∙◌, ap}
-use Rattle.std.proofs.Common.{slice_get}
+use Rattle.std.proofs.Common.{◌∙◌, ap, slice_get}
 use Rattle.life.specs.Machines.{MachineView}
 use Rattle.life.proofs.RecheckLemmas.{second_is}
 use Rattle.life.proofs.machine.Machine.second_to_recheck.Goals as goal

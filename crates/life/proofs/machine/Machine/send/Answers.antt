@@ -1,6 +1,6 @@
 use Rattle.std.proofs.Common.{ap, ◌∙◌, true, length, filter}
 use Rattle.std.specs.List.{list_any}
-use Rattle.posix.specs.Sends.{has_full_queue, queuers_among, number_of, sending, sending_granted}
+use Rattle.posix.specs.Common.{has_full_queue, queuers_among, number_of, sending, sending_granted}
 use Rattle.life.specs.Callers.{process_like}
 use Rattle.life.specs.Rechecks.{is_candidate, slots_of_survey}
 use Rattle.life.proofs.QueueLemmas.{goes_on, room_none, sends_found, sends_more, standard_queuers}

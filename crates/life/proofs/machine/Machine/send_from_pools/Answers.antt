@@ -1,9 +1,8 @@
 use Rattle.std.proofs.Common.{subst, sym, List, rules, ap, refl, true, ◌∙◌, arith, ◌+◌, ◌≤◌, filter, length}
 use Rattle.std.proofs.Math.Nat.{mul-le-mul_left}
-use Rattle.posix.specs.Sends.{permitted, queuers, queuers_among, sending, sent, number_of}
+use Rattle.posix.specs.Common.{permitted, queuers, queuers_among, sending, sent, number_of, Process}
 use Rattle.posix.proofs.TableLemmas.{length_removed}
 use Rattle.posix.specs.declared.target.Target.{Target}
-use Rattle.posix.specs.Processes.{Process}
 use Rattle.life.specs.Queues.{HaveRoom}
 use Rattle.life.specs.Rechecks.{slots_of_send, is_candidate}
 use Rattle.life.specs.Callers.{process_like}

@@ -1,10 +1,6 @@
 use Rattle.std.proofs.Common.{◌≡◌, ◌≤◌, ◌+◌, ap, sym, ◌∙◌, arith, subst, true, false, refl, rules, [], ◌∷◌, length, Option, Some}
 use Rattle.posix.specs.declared.process.PendingSignal.{PendingSignal}
-use Rattle.posix.specs.Processes.{Process}
-use Rattle.posix.specs.States.{process}
-use Rattle.posix.specs.Credentials.{may}
-use Rattle.posix.specs.Notices.{generated_for}
-use Rattle.posix.specs.Sends.{number_of, queuers, sending_permitted, sent_among}
+use Rattle.posix.specs.Common.{Process, process, may, generated_for, number_of, queuers, sending_permitted, sent_among}
 use Rattle.posix.proofs.TableLemmas.{pid_looked}
 use Rattle.proctable.specs.Records.{snapshot_of}
 use Rattle.life.specs.Callers.{process_like}

@@ -1,8 +1,7 @@
 use Rattle.std.proofs.Common.{◌≡◌, ◌+◌, ◌*◌, ap, sym, ◌∙◌, arith, subst, true, false, filter, length, Option, Some}
 use Rattle.std.specs.List.{list_any}
 use Rattle.posix.specs.declared.process.PendingSignal.{PendingSignal}
-use Rattle.posix.specs.States.{State}
-use Rattle.posix.specs.Sends.{has_full_queue, queuers_among, sending, sending_granted}
+use Rattle.posix.specs.Common.{State, has_full_queue, queuers_among, sending, sending_granted}
 use Rattle.life.specs.Callers.{process_like}
 use Rattle.life.specs.Machines.{Looks, MachineView}
 use Rattle.life.specs.Queues.{HaveRoom, Sends, is_sent}

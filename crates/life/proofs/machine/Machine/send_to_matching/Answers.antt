@@ -1,15 +1,11 @@
 use Rattle.std.proofs.Common.{subst, List, ap, sym, ◌∙◌, arith, filter, length, Option, ℕ, ◌+◌, ◌*◌, refl}
-use Rattle.std.proofs.Math.Nat.{le_trans}
+use Rattle.std.proofs.Math.Nat.{le_trans, mul-le-mul_left}
 use Rattle.posix.specs.declared.process.Sending.TheVariants.{NobodyFound}
-use Rattle.posix.specs.Tables.{left_of}
-use Rattle.posix.specs.States.{State}
-use Rattle.posix.specs.Sends.{is_target, targets, permitted, queuers, queuers_among, number_of, sending, sent}
+use Rattle.posix.specs.Common.{left_of, State, is_target, targets, permitted, queuers, queuers_among, number_of, sending, sent, Process}
 use Rattle.posix.proofs.WalkLemmas.{numbered, walk_begins, next_begins, one_here}
-use Rattle.std.proofs.Math.Nat.{mul-le-mul_left}
 use Rattle.posix.proofs.PassingLemmas.{left_at_most}
 use Rattle.life.specs.Rechecks.{rechecking_signalled, slots_of_send, is_candidate}
 use Rattle.life.specs.Callers.{process_like}
-use Rattle.posix.specs.Processes.{Process}
 use Rattle.life.specs.Queues.{HaveRoom}
 use Rattle.life.proofs.QueueLemmas.{room_here, room_left}
 use Rattle.life.proofs.SendLemmas.{blank_sent, candidates_less, Sent, sent_to, sent_on, sent_step, sent_ends}

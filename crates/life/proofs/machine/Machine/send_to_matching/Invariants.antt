@@ -1,8 +1,7 @@
 use Rattle.std.proofs.Common.{◌≡◌, ◌+◌, ◌*◌, ◌≤◌, filter, length}
 use Rattle.std.specs.Option.{IfSome, IsSome}
 use Rattle.posix.specs.declared.process.Sending.TheVariants.{NobodyFound}
-use Rattle.posix.specs.Tables.{IsRising, first_pid, left_of, lookup}
-use Rattle.posix.specs.Sends.{targets, number_of, queuers_among}
+use Rattle.posix.specs.Common.{IsRising, first_pid, left_of, lookup, targets, number_of, queuers_among}
 use Rattle.posix.proofs.WalkLemmas.{numbers_left}
 use Rattle.life.specs.Machines.{with_processes}
 use Rattle.life.specs.Queues.{HaveRoom}

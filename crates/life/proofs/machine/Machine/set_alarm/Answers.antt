@@ -1,14 +1,10 @@
 use Rattle.std.proofs.Common.{◌≡◌, ◌∙◌, ap, rules, sym, subst, Option, ℕ}
-use Rattle.posix.specs.Processes.{Process}
-use Rattle.posix.specs.Tables.{changed}
-use Rattle.posix.specs.States.{State}
-use Rattle.posix.specs.Regular.{IsAhead}
-use Rattle.posix.specs.Alarms.{with_alarm, due_in}
+use Rattle.posix.specs.Common.{Process, changed, State, IsAhead, with_alarm, due_in}
 use Rattle.posix.proofs.RegularLemmas.{keeps_with_alarm, due_ahead}
+use Rattle.posix.proofs.ResultLemmas.{is_there}
 use Rattle.life.proofs.SignalLemmas.{only_alarm}
 use Rattle.jobs.proofs.RunLemmas.{run_as, signals_as}
 use Rattle.life.proofs.FunnelLemmas.{stays_regular, has_run}
-use Rattle.life.proofs.SoundLemmas.{is_there}
 use Rattle.life.specs.Machines.{with_processes}
 use Rattle.life.proofs.ViewLemmas.{state_is}
 use Rattle.life.proofs.machine.Machine.set_alarm.Goals as goal

@@ -1,8 +1,7 @@
 use Rattle.std.proofs.Common.{◌≡◌, ◌∙◌, ap, sym, subst, refl, inl, inr, rules, slice_get, Some}
 use Rattle.std.proofs.lemmas.Bool.{or_left}
 use Rattle.std.proofs.lemmas.Option.{same_Some}
-use Rattle.posix.specs.Consoles.{Console, changed_console, with_foreground}
-use Rattle.posix.specs.States.{State}
+use Rattle.posix.specs.Common.{Console, changed_console, with_foreground, State}
 use Rattle.life.specs.Consoles.{AreReaders, IsTerminalIndex}
 use Rattle.life.specs.Machines.{MachineView}
 use Rattle.life.proofs.ConsoleLemmas.{terminal_changed, none_changed}

@@ -1,5 +1,5 @@
 use Rattle.std.proofs.Common.{◌≡◌, refl, inl, rules}
-use Rattle.posix.specs.Consoles.{with_tostop}
+use Rattle.posix.specs.Common.{with_tostop}
 use Rattle.life.proofs.ConsoleLemmas.{terminal_changed, none_changed}
 use Rattle.life.proofs.machine.Machine.set_tostop.Goals as goal
 

@@ -1,7 +1,6 @@
 use Rattle.std.proofs.Common.{◌≡◌, ◌∙◌, ap, sym, rules}
 use Rattle.posix.specs.declared.process.Effect.{Effect}
-use Rattle.posix.specs.Processes.{Process}
-use Rattle.posix.specs.Generation.{signalled, effect_of}
+use Rattle.posix.specs.Common.{Process, signalled, effect_of}
 use Rattle.posix.proofs.RegularLemmas.{keeps_signalled}
 use Rattle.life.proofs.SignalLemmas.{only_signalled}
 use Rattle.posix.proofs.ChangeLemmas.{lookup_signalled, life_signalled, stopped_living, continued_stopped}

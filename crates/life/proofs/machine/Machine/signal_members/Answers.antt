@@ -1,8 +1,6 @@
 use Rattle.std.proofs.Common.{arith, subst}
 use Rattle.std.specs.Option.{IfSome, IsSome}
-use Rattle.posix.specs.Choice.{from_kernel}
-use Rattle.posix.specs.States.{process}
-use Rattle.posix.specs.Tables.{is_member, members_in}
+use Rattle.posix.specs.Common.{from_kernel, process, is_member, members_in}
 use Rattle.posix.proofs.WalkLemmas.{passing_is_next}
 use Rattle.jobs.proofs.ReadLemmas.{fewer_after}
 use Rattle.life.proofs.GroupSignalLemmas.{reaching_begins, reaching_goes_on, reaching_ends}

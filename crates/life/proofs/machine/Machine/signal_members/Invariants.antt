@@ -1,4 +1,4 @@
-use Rattle.posix.specs.Choice.{from_kernel}
+use Rattle.posix.specs.Common.{from_kernel}
 use Rattle.posix.proofs.WalkLemmas.{numbers_left}
 use Rattle.life.proofs.GroupSignalLemmas.{IsReaching}
 use Rattle.life.proofs.machine.Machine.signal_members.Given as goal

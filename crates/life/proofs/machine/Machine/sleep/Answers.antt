@@ -1,8 +1,5 @@
 use Rattle.std.proofs.Common.{◌≡◌, Some, false, refl, subst, sym}
-use Rattle.posix.specs.Processes.{Process}
-use Rattle.posix.specs.Settle.{can_act}
-use Rattle.posix.specs.States.{State, process}
-use Rattle.posix.specs.Terminals.{is_in_read}
+use Rattle.posix.specs.Common.{Process, can_act, State, process, is_in_read}
 use Rattle.posix.proofs.RegularLemmas.{regular_lose}
 use Rattle.life.proofs.ReaderLemmas.{listed_asleep}
 use Rattle.life.proofs.RoomLemmas.{machine_ordered}

@@ -1,9 +1,5 @@
 use Rattle.std.proofs.Common.{◌∙◌, ap, sym}
-use Rattle.posix.specs.Statuses.{stopped}
-use Rattle.posix.specs.Notices.{stopped_by, told_of_change}
-use Rattle.posix.specs.Delivery.{stop_process}
-use Rattle.posix.specs.States.{process, lose_place, is_in}
-use Rattle.posix.specs.Tables.{changed}
+use Rattle.posix.specs.Common.{stopped, stopped_by, told_of_change, stop_process, process, lose_place, is_in, changed}
 use Rattle.posix.proofs.TableLemmas.{pid_looked}
 use Rattle.life.proofs.FunnelLemmas.{told_lost}
 use Rattle.life.proofs.machine.Machine.stop_process.Goals as goal

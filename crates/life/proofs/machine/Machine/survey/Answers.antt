@@ -1,5 +1,5 @@
 use Rattle.std.proofs.Common.{rules, ap, sym, ◌∙◌, arith, inl, filter, length, ◌+◌, ◌*◌, ◌≤◌}
-use Rattle.posix.specs.Sends.{targets}
+use Rattle.posix.specs.Common.{targets}
 use Rattle.posix.proofs.TableLemmas.{length_removed}
 use Rattle.posix.proofs.WalkLemmas.{numbered}
 use Rattle.life.specs.Callers.{process_like}

@@ -1,8 +1,6 @@
 use Rattle.std.proofs.Common.{ap, ◌∙◌, arith, filter, length, subst}
 use Rattle.std.proofs.Math.Nat.{le_trans}
-use Rattle.posix.specs.Tables.{IsNext, above, first_pid}
-use Rattle.posix.specs.States.{State}
-use Rattle.posix.specs.Sends.{is_target, targets}
+use Rattle.posix.specs.Common.{IsNext, above, first_pid, State, is_target, targets}
 use Rattle.posix.proofs.WalkLemmas.{numbered, walk_begins, next_begins, one_here, one_less}
 use Rattle.posix.proofs.PassingLemmas.{left_at_most}
 use Rattle.life.specs.Callers.{process_like}

@@ -1,7 +1,6 @@
 use Rattle.std.proofs.Common.{◌≡◌, ◌+◌, ◌*◌, ◌≤◌, filter, length}
 use Rattle.std.specs.Option.{IfSome, IsSome}
-use Rattle.posix.specs.Tables.{first_pid, left_of, lookup}
-use Rattle.posix.specs.Sends.{targets}
+use Rattle.posix.specs.Common.{first_pid, left_of, lookup, targets}
 use Rattle.posix.proofs.WalkLemmas.{numbers_left}
 use Rattle.life.specs.Queues.{joined_surveys, survey_of}
 use Rattle.life.specs.Machines.{AreSame}

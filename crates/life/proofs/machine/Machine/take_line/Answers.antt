@@ -1,7 +1,6 @@
 use Rattle.std.proofs.Common.{◌≡◌, ap, sym, ◌∙◌, subst, refl, arith, length, Some, slice_get}
 use Rattle.std.proofs.lemmas.Option.{slice_get_within}
-use Rattle.posix.specs.Consoles.{Console, lines_left, line_taken}
-use Rattle.posix.specs.States.{State}
+use Rattle.posix.specs.Common.{Console, lines_left, line_taken, State}
 use Rattle.tty.specs.Lines.{Takes}
 use Rattle.life.proofs.ConsoleLemmas.{machine_put, put_unread, put_changed, none_changed, found_there}
 use Rattle.life.proofs.ForegroundLemmas.{fresh_alike}

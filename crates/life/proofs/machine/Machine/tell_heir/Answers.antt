@@ -1,6 +1,5 @@
 use Rattle.std.proofs.Common.{rules, ◌∙◌, ap, sym, arith, ℕ, Option}
-use Rattle.posix.specs.Tables.{left_of}
-use Rattle.posix.specs.Ends.{tell_of_all, zombies_of}
+use Rattle.posix.specs.Common.{left_of, tell_of_all, zombies_of}
 use Rattle.life.proofs.NoticeWalkLemmas.{begins, is_dead, not_first, tells}
 use Rattle.life.proofs.machine.Machine.tell_heir.Goals as goal
 

@@ -1,5 +1,5 @@
 use Rattle.std.proofs.Common.{◌+◌, ◌*◌, ◌≡◌, ◌≤◌, length}
-use Rattle.posix.specs.Ends.{zombies_of}
+use Rattle.posix.specs.Common.{zombies_of}
 use Rattle.life.proofs.NoticeWalkLemmas.{IsTelling, zombies_left}
 use Rattle.life.proofs.machine.Machine.tell_heir.Given as goal
 

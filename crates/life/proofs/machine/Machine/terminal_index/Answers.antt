@@ -1,5 +1,5 @@
 use Rattle.std.proofs.Common.{subst}
-use Rattle.posix.specs.States.{State}
+use Rattle.posix.specs.Common.{State}
 use Rattle.life.specs.Consoles.{IsTerminalIndex}
 use Rattle.life.proofs.ViewLemmas.{state_is}
 use Rattle.life.proofs.machine.Machine.terminal_index.Goals as goal

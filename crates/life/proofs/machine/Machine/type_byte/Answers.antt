@@ -1,8 +1,7 @@
 use Rattle.std.proofs.Common.{◌≡◌, ◌∙◌, ap, sym, subst, option_map, true, ◌==◌, ◌||◌, ⊎_elim, inl, inr, rules, slice_get}
 use Rattle.std.proofs.lemmas.Bool.{cases_Bool, or_parts}
 use Rattle.std.proofs.lemmas.Option.{same_Some}
-use Rattle.posix.specs.Consoles.{Console, keyed}
-use Rattle.posix.specs.States.{State, is_in}
+use Rattle.posix.specs.Common.{Console, keyed, State, is_in}
 use Rattle.pidset.specs.Indexes.{is_pair_in}
 use Rattle.pidset.specs.Numbers.{Rises}
 use Rattle.life.proofs.ReadingLemmas.{need_no_child, readers_wait}

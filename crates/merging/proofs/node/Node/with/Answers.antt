@@ -1,5 +1,5 @@
 use Rattle.std.proofs.Common.{arith, ap, ap₂, [], ◌∷◌, ◌++◌, ◌∙◌, map}
-use Rattle.posix.specs.States.{State}
+use Rattle.posix.specs.Common.{State}
 use Rattle.schedules.specs.Families.{Spots}
 use Rattle.merging.specs.Merging.{marks_after, state_after}
 use Rattle.merging.proofs.node.Node.with.Goals as goal

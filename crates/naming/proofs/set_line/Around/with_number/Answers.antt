@@ -8,6 +8,6 @@ use Rattle.naming.proofs.set_line.Around.with_number.Goals as goal
 
 pub returns : goal.returns
 returns c = λ before comment behind.
-    let is : c.as_bytes-bytes.result.now ≡ signed_decimal c.args.number = c.as_bytes-bytes.ensures.value ∙ c.as_str.ensures.value ∙ c.in_ok-digits.ensures ∙ ap signed_decimal (to_z-of_z {w = w64} {z = c.args.number} c.ranges.number) in
-    let number : IsOneLine c.as_bytes-bytes.result.now = subst IsOneLine (sym is) (signed_one_line c.args.number c.ranges.number.sfits) in
-    c.joined.ensures (four_one_line c.args.self.before c.as_bytes-bytes.result c.args.behind c.args.self.comment before number behind comment)
+    let is : c.as_bytes-digits.result.now ≡ signed_decimal c.args.number = c.as_bytes-digits.ensures.value ∙ c.format.ensures.text ∙ ap signed_decimal (to_z-of_z {w = w64} {z = c.args.number} c.ranges.number) in
+    let number : IsOneLine c.as_bytes-digits.result.now = subst IsOneLine (sym is) (signed_one_line c.args.number c.ranges.number.sfits) in
+    c.joined.ensures (four_one_line c.args.self.before c.as_bytes-digits.result c.args.behind c.args.self.comment before number behind comment)

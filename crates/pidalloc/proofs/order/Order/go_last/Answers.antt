@@ -1,7 +1,7 @@
 use Rattle.std.proofs.Common.{sym, ap, subst, ◌∙◌}
 use Rattle.std.proofs.lemmas.Bool.{eqb-true}
 use Rattle.posix.proofs.MemberLemmas.{out_of}
-use Rattle.posix.specs.States.{is_in}
+use Rattle.posix.specs.Common.{is_in}
 use Rattle.pidset.specs.Rows.{HasRoom}
 use Rattle.pidset.proofs.RowLemmas.{room_is}
 use Rattle.pidalloc.specs.Places.{Places}

@@ -1,5 +1,5 @@
 use Rattle.std.proofs.Common.{◌≡◌, ◌-◌, subst, sym, ◌∙◌, arith}
-use Rattle.posix.specs.NextPid.{first_free}
+use Rattle.posix.specs.Common.{first_free}
 use Rattle.pidalloc.specs.Rows.{is_free_in, rows_in, AreAllBorne}
 use Rattle.pidalloc.proofs.BoundLemmas.{first_from, borne_to_found, borne_to_end}
 use Rattle.pidalloc.proofs.table.PidTable.first_of_all.Goals as goal

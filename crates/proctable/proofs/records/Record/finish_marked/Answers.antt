@@ -1,4 +1,4 @@
-use Rattle.posix.specs.Subreapers.{marked_as}
+use Rattle.posix.specs.Common.{marked_as}
 use Rattle.proctable.specs.Records.{process_of}
 use Rattle.proctable.proofs.records.Record.finish_marked.Goals as goal
 

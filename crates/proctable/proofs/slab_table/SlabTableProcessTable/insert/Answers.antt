@@ -1,7 +1,7 @@
 use Rattle.std.proofs.Common.{ap, arith}
 use Rattle.pidset.specs.Pages.{entry}
 use Rattle.pidset.proofs.ItemLemmas.{rises_inserted}
-use Rattle.posix.specs.Processes.{Process}
+use Rattle.posix.specs.Common.{Process}
 use Rattle.proctable.proofs.SlabLemmas.{absent_in, processes_inserted, stand_inserted, length_put}
 use Rattle.proctable.proofs.slab_table.SlabTableProcessTable.insert.Goals as goal
 

@@ -1,5 +1,5 @@
 use Rattle.std.proofs.Common.{◌≡◌, ◌∙◌, ap, rules, get_or, pos, to_z, of_z, w64}
-use Rattle.posix.specs.Processes.{initial_action, no_flags}
+use Rattle.posix.specs.Common.{initial_action, no_flags}
 use Rattle.signal.specs.declared.action_fields.Disposition.TheVariants as disposition
 use Rattle.signal.specs.ActionFields.{actions_of, handler_from}
 use Rattle.signal.proofs.FieldLemmas.{action_read}

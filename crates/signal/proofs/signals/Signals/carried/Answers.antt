@@ -1,7 +1,5 @@
 use Rattle.std.proofs.Common.{◌∙◌, ap, sym}
-use Rattle.posix.specs.Processes.{Signals}
-use Rattle.posix.specs.Choice.{carried_by}
-use Rattle.posix.specs.Generation.{is_pending}
+use Rattle.posix.specs.Common.{Signals, carried_by, is_pending}
 use Rattle.signal.proofs.SetLemmas.{carried_standard}
 use Rattle.signal.proofs.signals.Signals.carried.Goals as goal
 

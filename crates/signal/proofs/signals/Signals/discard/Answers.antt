@@ -2,9 +2,7 @@ use Rattle.std.proofs.Common.{◌≡◌, ◌-◌, ◌<◌, ◌^◌, ◌==◌, �
 use Rattle.std.specs.Prelude.{if◌then◌else◌}
 use Rattle.std.proofs.lemmas.Nat.{and_le_l}
 use Rattle.posix.specs.declared.process.Carried.{Carried}
-use Rattle.posix.specs.Choice.{discarded}
-use Rattle.posix.specs.Generation.{with_queue, with_pending}
-use Rattle.posix.specs.Processes.{Signals}
+use Rattle.posix.specs.Common.{discarded, with_queue, with_pending, Signals}
 use Rattle.signal.specs.SignalTables.{TablesView, MarksQueued, signals_of}
 use Rattle.signal.proofs.SetLemmas.{less_other, less_same, same_standard}
 use Rattle.signal.proofs.QueueLemmas.{above_33, at_most_64, discarded_others, discarded_own, has_other, marks_change}

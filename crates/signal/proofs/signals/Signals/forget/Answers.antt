@@ -1,5 +1,5 @@
 use Rattle.std.proofs.Common.{◌∙◌, [], ap}
-use Rattle.posix.specs.Ends.{forgotten}
+use Rattle.posix.specs.Common.{forgotten}
 use Rattle.signal.specs.SignalTables.{signals_of}
 use Rattle.signal.proofs.SetLemmas.{without_pending}
 use Rattle.signal.proofs.signals.Signals.forget.Goals as goal

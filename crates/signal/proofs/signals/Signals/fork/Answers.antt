@@ -1,5 +1,5 @@
 use Rattle.std.proofs.Common.{◌∙◌, [], ap}
-use Rattle.posix.specs.Processes.{Signals, nothing_pending}
+use Rattle.posix.specs.Common.{Signals, nothing_pending}
 use Rattle.signal.specs.SignalTables.{nothing_carried, signals_of}
 use Rattle.signal.proofs.SetLemmas.{without_pending}
 use Rattle.signal.proofs.signals.Signals.fork.Goals as goal

@@ -2,7 +2,7 @@ use Rattle.std.proofs.Common.{◌≡◌, ◌-◌, ◌≤◌, ◌^◌, ◌∙◌,
 use Rattle.std.proofs.lemmas.List.{length-set}
 use Rattle.std.proofs.lemmas.Nat.{or_lt, pow_below}
 use Rattle.posix.specs.declared.process.Carried.{Carried}
-use Rattle.posix.specs.Generation.{with_pending}
+use Rattle.posix.specs.Common.{with_pending}
 use Rattle.signal.specs.SignalTables.{TablesView, MarksQueued, signals_of}
 use Rattle.signal.proofs.SetLemmas.{more_other, one_more}
 use Rattle.signal.proofs.QueueLemmas.{marks_stay}

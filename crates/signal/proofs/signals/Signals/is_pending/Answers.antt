@@ -1,6 +1,5 @@
 use Rattle.std.proofs.Common.{◌∙◌, ap, sym}
-use Rattle.posix.specs.Processes.{Signals}
-use Rattle.posix.specs.Generation.{is_pending as is_pending_of}
+use Rattle.posix.specs.Common.{Signals, is_pending as is_pending_of}
 use Rattle.signal.proofs.SetLemmas.{is_pending_by}
 use Rattle.signal.proofs.signals.Signals.is_pending.Goals as goal
 

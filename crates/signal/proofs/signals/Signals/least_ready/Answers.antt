@@ -1,12 +1,10 @@
 use Rattle.std.proofs.Common.{◌≡◌, ◌-◌, ◌+◌, ◌<◌, ◌^◌, ◌∙◌, ap, sym, bit_and, arith, Bool, false, Option, IsSome, IfSome, ℕ, true, find, refl}
 use Rattle.std.specs.Int.{trailing_zeros, w64}
 use Rattle.std.proofs.lemmas.Nat.{and_le_l}
-use Rattle.posix.specs.Choice.{all_signals, is_ready, least_ready as least_ready_of}
-use Rattle.posix.specs.SignalNumbers.{is_signal}
-use Rattle.posix.specs.SignalSets.{has}
+use Rattle.posix.specs.Common.{all_signals, is_ready, least_ready as least_ready_of, is_signal, except, has}
 use Rattle.posix.proofs.RangeLemmas.{is_that}
 use Rattle.signal.specs.SignalTables.{signals_of}
-use Rattle.signal.proofs.SetLemmas.{none_ready, least_is, ready_set, is_ready_by, is_unready}
+use Rattle.signal.proofs.SetLemmas.{none_ready, least_is, is_ready_by, is_unready}
 use Rattle.signal.proofs.signals.Signals.least_ready.Goals as goal
 
 -- the signal with that number is the least one
@@ -22,8 +20,8 @@ returns-then-ready-eq0 c =
     let s = c.self.inside in
     let marks = c.self.invariant.2 in
     let small : s.mask < 2 ^ 64 = omega (arith, c.bits-2.type_inv, c.bits-2.ensures) in
-    let e : bit_and c.bits.result (2 ^ 64 - 1 - c.bits-2.result) ≡ ready_set s.pending s.mask = ap (λ n. bit_and n (2 ^ 64 - 1 - c.bits-2.result)) c.bits.ensures ∙ ap (ready_set s.pending) c.bits-2.ensures in
-    sym (none_ready (is_ready (signals_of s.mask s.pending s.tables)) (ready_set s.pending s.mask) (is_ready_by s.mask s.pending s.tables marks small)
+    let e : bit_and c.bits.result (2 ^ 64 - 1 - c.bits-2.result) ≡ except s.pending s.mask = ap (λ n. bit_and n (2 ^ 64 - 1 - c.bits-2.result)) c.bits.ensures ∙ ap (except s.pending) c.bits-2.ensures in
+    sym (none_ready (is_ready (signals_of s.mask s.pending s.tables)) (except s.pending s.mask) (is_ready_by s.mask s.pending s.tables marks small)
     (is_unready s.mask s.pending s.tables marks 32 (omega arith) refl) (is_unready s.mask s.pending s.tables marks 33 (omega arith) refl) (sym e ∙ c.if-ready-eq0.true))
     ∙ ap least_ready_of c.self.view_is
 
@@ -34,7 +32,7 @@ returns c =
     let marks = c.self.invariant.2 in
     let small : s.mask < 2 ^ 64 = omega (arith, c.bits-2.type_inv, c.bits-2.ensures) in
     let r : ℕ = bit_and c.bits.result (2 ^ 64 - 1 - c.bits-2.result) in
-    let e : r ≡ ready_set s.pending s.mask = ap (λ n. bit_and n (2 ^ 64 - 1 - c.bits-2.result)) c.bits.ensures ∙ ap (ready_set s.pending) c.bits-2.ensures in
+    let e : r ≡ except s.pending s.mask = ap (λ n. bit_and n (2 ^ 64 - 1 - c.bits-2.result)) c.bits.ensures ∙ ap (except s.pending) c.bits-2.ensures in
     let fits : r < 2 ^ 64 = omega (arith, c.bits.type_inv, and_le_l c.bits.result (2 ^ 64 - 1 - c.bits-2.result)) in
     least_from (is_ready (signals_of s.mask s.pending s.tables)) r c.new.result (λ n l. is_ready_by s.mask s.pending s.tables marks small n l ∙ ap (λ b. has b n) (sym e))
     (is_unready s.mask s.pending s.tables marks 32 (omega arith) refl) (is_unready s.mask s.pending s.tables marks 33 (omega arith) refl) c.if-ready-eq0.false fits c.new.ensures.some.1 c.new.ensures.value

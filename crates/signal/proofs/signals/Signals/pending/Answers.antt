@@ -1,7 +1,5 @@
 use Rattle.std.proofs.Common.{◌∙◌, ap, sym}
-use Rattle.posix.specs.Generation.{is_pending}
-use Rattle.posix.specs.Processes.{Signals}
-use Rattle.posix.specs.SignalCalls.{pending_set}
+use Rattle.posix.specs.Common.{is_pending, Signals, pending_set}
 use Rattle.signal.specs.SignalTables.{signals_of}
 use Rattle.signal.proofs.SetLemmas.{is_pending_by, set_is}
 use Rattle.signal.proofs.signals.Signals.pending.Goals as goal

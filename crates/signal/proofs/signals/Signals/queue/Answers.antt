@@ -2,9 +2,7 @@ use Rattle.std.proofs.Common.{◌≡◌, ◌-◌, ◌<◌, ◌^◌, ◌==◌, �
 use Rattle.std.proofs.lemmas.Bool.{and_parts}
 use Rattle.std.proofs.lemmas.Nat.{or_lt, pow_below}
 use Rattle.posix.specs.declared.process.Carried.{Carried}
-use Rattle.posix.specs.SignalNumbers.{is_realtime}
-use Rattle.posix.specs.Generation.{gets_no_signals, keeps, with_queue}
-use Rattle.posix.specs.Processes.{Signals}
+use Rattle.posix.specs.Common.{is_realtime, gets_no_signals, keeps, with_queue, Signals}
 use Rattle.signal.specs.SignalTables.{TablesView, MarksQueued, signals_of}
 use Rattle.signal.proofs.SetLemmas.{more_other, more_same, same_standard}
 use Rattle.signal.proofs.QueueLemmas.{above_33, at_most_64, generated_queued, marks_change, queued_others, queued_own}

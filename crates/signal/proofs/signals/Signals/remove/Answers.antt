@@ -1,7 +1,7 @@
 use Rattle.std.proofs.Common.{◌≡◌, ◌-◌, ◌≤◌, ◌^◌, ◌∙◌, ap, sym, subst, arith, bit_and, rules, List, ℕ, Option, None}
 use Rattle.std.proofs.lemmas.Nat.{and_le_l}
 use Rattle.posix.specs.declared.process.Carried.{Carried}
-use Rattle.posix.specs.Generation.{with_pending}
+use Rattle.posix.specs.Common.{with_pending}
 use Rattle.signal.specs.SignalTables.{MarksQueued, signals_of}
 use Rattle.signal.proofs.SetLemmas.{less_other, one_less}
 use Rattle.signal.proofs.QueueLemmas.{marks_stay}

@@ -1,8 +1,7 @@
 use Rattle.std.proofs.Common.{◌≡◌, ◌-◌, ◌<◌, ◌^◌, ◌∙◌, ap, sym, subst, refl, arith, bit_and, ℕ, length}
 use Rattle.std.specs.List.{list_any}
 use Rattle.std.proofs.lemmas.Nat.{and_le_l}
-use Rattle.posix.specs.Choice.{taken}
-use Rattle.posix.specs.Generation.{has_sig}
+use Rattle.posix.specs.Common.{taken, has_sig}
 use Rattle.signal.specs.SignalTables.{TablesView, MarksQueued, signals_of}
 use Rattle.signal.proofs.SetLemmas.{less_other}
 use Rattle.signal.proofs.QueueLemmas.{above_33, at_most_64, marks_last_taken, marks_taken, taken_queued}

@@ -1,5 +1,5 @@
 use Rattle.std.proofs.Common.{◌≡◌, ◌-◌, ◌∙◌, ℕ, List, [], ◌∷◌, length, get_or, ap, sym, arith, rules}
-use Rattle.posix.specs.Processes.{initial_action, default_actions}
+use Rattle.posix.specs.Common.{initial_action, default_actions}
 use Rattle.signal.specs.declared.action_fields.Actions.{Actions}
 use Rattle.signal.specs.ActionFields.{actions_of, actions_or_blank}
 use Rattle.signal.specs.SignalTables.{TablesView}

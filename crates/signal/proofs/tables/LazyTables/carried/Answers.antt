@@ -1,5 +1,5 @@
 use Rattle.std.proofs.Common.{◌≡◌, ◌-◌, ◌∙◌, ℕ, List, [], ◌∷◌, length, get_or, ap, sym, arith, rules}
-use Rattle.posix.specs.Choice.{from_kernel}
+use Rattle.posix.specs.Common.{from_kernel}
 use Rattle.posix.specs.declared.process.Carried.{Carried}
 use Rattle.signal.specs.SignalTables.{TablesView, nothing_carried, carried_or_blank}
 use Rattle.signal.proofs.FieldLemmas.{same_read}

@@ -1,6 +1,6 @@
 use Rattle.std.proofs.Common.{◌≡◌, ◌∙◌, List, [], ◌∷◌, length, map, refl, ap, arith, rules}
 use Rattle.posix.specs.declared.process.Action.{Action}
-use Rattle.posix.specs.Programs.{action_on_exec}
+use Rattle.posix.specs.Common.{action_on_exec}
 use Rattle.signal.specs.declared.action_fields.Actions.{Actions}
 use Rattle.signal.specs.ActionFields.{actions_of, blank_actions, actions_or_blank}
 use Rattle.signal.specs.SignalTables.{TablesView, view_of, carried_or_blank, queue_in}

@@ -1,6 +1,6 @@
 use Rattle.std.proofs.Common.{arith, length-append}
 use Rattle.std.proofs.lemmas.Grind.{common_steps}
-use Rattle.posix.specs.Ranges.{is_program}
+use Rattle.posix.specs.Common.{is_program}
 use Rattle.text.specs.Outlines.{program_of}
 use Rattle.text.proofs.EachLemmas.{all_and_one, each-one_more, each_rules}
 use Rattle.text.proofs.draft.Draft.completed.Goals as goal

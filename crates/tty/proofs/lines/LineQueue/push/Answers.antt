@@ -1,6 +1,6 @@
 use Rattle.std.proofs.Common.{◌≡◌, ◌∙◌, ◌++◌, ◌∷◌, [], sym, true}
 use Rattle.std.proofs.lemmas.Bool.{cond-true}
-use Rattle.posix.specs.Consoles.{has_room}
+use Rattle.posix.specs.Common.{has_room}
 use Rattle.tty.specs.Lines.{AreLines, cut}
 use Rattle.tty.proofs.LineLemmas.{cut_few, room_of, pushed}
 use Rattle.tty.proofs.lines.LineQueue.push.Goals as goal

@@ -1,5 +1,5 @@
 use Rattle.std.proofs.Common.{◌≡◌, ◌∙◌, ap, length, Some}
-use Rattle.posix.specs.Consoles.{lines_left}
+use Rattle.posix.specs.Common.{lines_left}
 use Rattle.tty.specs.Lines.{AreLines, cut}
 use Rattle.tty.proofs.LineLemmas.{taken_all, takes_line, left_partly}
 use Rattle.tty.proofs.lines.LineQueue.take.Goals as goal

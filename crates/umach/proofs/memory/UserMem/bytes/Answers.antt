@@ -1,6 +1,6 @@
 use Rattle.std.proofs.Common.{◌≡◌, ◌+◌, ◌-◌, ◌∙◌, ◌++◌, min, ap, sym, refl, List, ℤ, length, take, drop}
 use Rattle.std.specs.Prelude.{map, replicate}
-use Rattle.posix.specs.Transfers.{bytes_in, low_byte}
+use Rattle.posix.specs.Common.{bytes_in, low_byte}
 use Rattle.umach.proofs.ByteLemmas.{kept_span, span_bytes}
 use Rattle.umach.proofs.memory.UserMem.bytes.Goals as goal
 

@@ -1,5 +1,5 @@
 use Rattle.std.proofs.Common.{◌≡◌, ◌+◌, ◌∙◌, ap, sym, drop, get_or, set, pos, rules, to_z, of_z, w64}
-use Rattle.posix.specs.Transfers.{stored}
+use Rattle.posix.specs.Common.{stored}
 use Rattle.umach.proofs.ByteLemmas.{put_one, put_all}
 use Rattle.umach.proofs.memory.UserMem.store.Goals as goal
 

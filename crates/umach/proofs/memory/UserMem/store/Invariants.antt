@@ -1,5 +1,5 @@
 use Rattle.std.proofs.Common.{◌≡◌, ◌+◌, drop}
-use Rattle.posix.specs.Transfers.{stored}
+use Rattle.posix.specs.Common.{stored}
 use Rattle.umach.proofs.memory.UserMem.store.Given as goal
 
 -- the bytes so far were put, and the rest is to be put

@@ -3,7 +3,7 @@ use Rattle.posix.specs.declared.instr.Instr.{Instr}
 use Rattle.warning.specs.declared.held.Held.{Held}
 use Rattle.warning.specs.declared.held.Held.TheVariants.{Constant}
 use Rattle.warning.specs.Holds.{Holds, IsBehind}
-use Rattle.posix.specs.Execute.{register}
+use Rattle.posix.specs.Common.{register}
 use Rattle.warning.proofs.HeldLemmas.{behind_put, behind_compute, behind_load}
 use Rattle.warning.proofs.known.Known.run.Goals as goal
 

@@ -1,7 +1,8 @@
 use Rattle.std.proofs.Common.{[], ◌∷◌, ◌++◌, codes}
-use Rattle.trace.proofs.SinkLemmas.{break_on, on_err}
+use Rattle.trace.proofs.SinkLemmas.{break_on}
+use Rattle.posix.proofs.ResultLemmas.{on_err}
 use Rattle.inputs.proofs.PutLemmas.{break_behind, take_behind}
-use Rattle.inputs.proofs.files.Unread.tell.Goals as goal
+use Rattle.inputs.proofs.files.ReadFault.tell.Goals as goal
 
 pub returns-in_err-put_all-in-CannotRead-clause-err : goal.returns-in_err-put_all-in-CannotRead-clause-err
 returns-in_err-put_all-in-CannotRead-clause-err g c =
