@@ -221,7 +221,7 @@ def on_linux(program, report):
         try:
             c_program.check()
         except c_program.NotHere as why:
-            print(f'tests/c: no program is run on Linux: {why}')
+            report.part('on Linux', 1, [f'no program runs on Linux here: {why}; --without-linux leaves this out'])
             return
         with concurrent.futures.ThreadPoolExecutor(WORKERS) as pool:
             runs = {path: [pool.submit(c_program.run, os.path.join(folder, name_of(path)), events_beside(path))

@@ -75,7 +75,7 @@ def judge_modules(judge, browser, folder, address, native):
     if os.path.exists(f'{folder}/jobk32.wasm'):
         judge_runs(judge, Page(browser, address, before=acts.NO_64), 'jobk32.wasm', all)
     else:
-        print('without wasm-opt, which makes jobk32.wasm, its runs are skipped')
+        judge.judge('the page has jobk32.wasm', ['tools/page found no wasm-opt: install the package binaryen'])
 
 
 def main():
