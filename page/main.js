@@ -62,7 +62,7 @@ function showLarge(session, redraw) {
 }
 
 function showBuild({ commit, toolchain, date, isProved }) {
-  const what = isProved ? 'All answers come from proved code, compiled for WebAssembly; this page around it isn’t proved.'
+  const what = isProved ? 'Answers come from proved code, which LLVM compiled for WebAssembly; the page that asks and shows is not proved.'
     : 'Nothing of this build is proved: it serves to try and to test.';
   $('build').textContent = `${what} jobk ${commit}, ${toolchain}, ${date}.`;
 }
