@@ -1,5 +1,5 @@
 -- What keeps the index of those right that keep their process groups from being orphaned, by what is seen of processes.
-use Rattle.std.proofs.Common.{◌≡◌, ℕ, ◌<◌, ◌≤◌, ◌==◌, ◌&&◌, ◌||◌, true, false, not, cond, refl, ap, sym, subst, ◌∙◌, arith, List, Option, Some, None, option_map}
+use Rattle.std.proofs.Common.{◌≡◌, ℕ, ◌≤◌, ◌==◌, ◌&&◌, ◌||◌, true, false, not, cond, refl, ap, sym, subst, ◌∙◌, arith, List, Option, Some, None, option_map}
 use Rattle.std.specs.Option.{IfSome, IsSome, option_map_or}
 use Rattle.std.specs.Prelude.{option_and_then}
 use Rattle.std.proofs.lemmas.Bool.{and_parts, cond_both, eqb-true, not-true}

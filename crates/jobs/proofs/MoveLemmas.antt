@@ -1,10 +1,10 @@
 -- Moves between process groups: which groups there are.
-use Rattle.std.proofs.Common.{◌≡◌, ℕ, ◌<◌, ◌≤◌, true, false, not, ◌&&◌, ◌||◌, ◌==◌, refl, sym, ◌∙◌, arith, subst, List, [], ◌∷◌, Some, None, is_some, filter}
+use Rattle.std.proofs.Common.{◌≡◌, ℕ, ◌<◌, true, false, not, ◌&&◌, ◌||◌, ◌==◌, refl, sym, ◌∙◌, arith, subst, List, [], ◌∷◌, Some, None, is_some, filter}
 use Rattle.std.specs.List.{list_any}
 use Rattle.std.specs.Option.{IfSome, option_map_or}
 use Rattle.std.proofs.lemmas.Bool.{eqb-true, and_parts, false_from_ne_true}
 use Rattle.std.proofs.lemmas.Bool.Decides.{nat_tests}
-use Rattle.posix.specs.Common.{Process, IsRising, lookup, is_member, members_in, first_pid, above, is_group_of, is_group_of_others, AreGrouped, greatest_pid}
+use Rattle.posix.specs.Common.{Process, IsRising, lookup, is_member, members_in, first_pid, above, is_group_of, is_group_of_others, AreGrouped}
 use Rattle.posix.proofs.ResultLemmas.{mapped_is}
 use Rattle.posix.proofs.TableLemmas.{pid_looked, rising_filter}
 use Rattle.posix.proofs.WalkLemmas.{Passes, any_filter, first_passes, any_looked, some_looked}

@@ -1,2 +1,3 @@
+pub mod GroupCounts
 pub mod IndexedTables
 pub mod Indexes

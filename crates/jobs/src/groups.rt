@@ -1,10 +1,11 @@
-//! Process groups: who their members are, one after another, whether one of them is stopped, and whether they
-//! are orphaned (XBD 3).
+//! Process groups: who their members are, one after another, how many of them are stopped, and how many keep the
+//! group from being orphaned (XBD 3).
 
 ghost use Rattle.std.specs.Prelude.{◌≡◌, false};
 ghost use Rattle.std.specs.Option.{option_map_or};
 ghost use Rattle.posix.specs.Common.{IsRising, lookup, first_pid, above, is_member as is_member_of, members_in, is_orphaned as is_orphaned_of, has_stopped as has_stopped_of};
 ghost use Rattle.pidset.specs.Indexes.{anchor_key, key_of};
+ghost use Rattle.jobs.specs.GroupCounts.{anchors_in, stopped_in as stopped_members};
 ghost use Rattle.jobs.specs.IndexedTables.{AreNumbers};
 
 use crate::indexed_table::IndexedTable;
@@ -66,5 +67,33 @@ impl<K: ProcessTable> IndexedTable<K> {
         ensures { result ≡ has_stopped_of group self.now.processes }
     {
         self.indexes.stopped.next(key(group), Pid::NONE).is_some()
+    }
+
+    /// Returns how many members keep a process group from being orphaned: those that live, and whose parent is in another
+    /// group of the same session (XBD 3 Orphaned Process Group). No slot is read.
+    pub fn anchors(&self, group: Pid) -> usize
+        ensures { result ≡ anchors_in group self.now.processes }
+    {
+        let mut count = 0;
+        let mut next = self.indexes.anchors.next(group, Pid::NONE);
+        while let Some(pid) = next {
+            count += 1;
+            next = self.indexes.anchors.next(group, pid);
+        }
+        count
+    }
+
+    /// Returns how many members of a process group are stopped (XSH 2.4.3). No slot is read.
+    pub fn stopped_in(&self, group: Pid) -> usize
+        ensures { result ≡ stopped_members group self.now.processes }
+    {
+        let under = key(group);
+        let mut count = 0;
+        let mut next = self.indexes.stopped.next(under, Pid::NONE);
+        while let Some(pid) = next {
+            count += 1;
+            next = self.indexes.stopped.next(under, pid);
+        }
+        count
     }
 }
