@@ -83,14 +83,13 @@ world_least w s is i =
 
 -- a trace keeps the laws
 accounts : (world_bytes event_bytes : List ℕ) (a b : Seen) (summary : Summary) (w : World) (es : List Event) → world_text world_bytes ≡ Ok w → event_text w.consoles event_bytes ≡ Ok es → 1 ≤ w.pidmax → IsWorld w → AllByRecursion IsEvent es
-    → length es ≤ most_events → Traces world_bytes event_bytes a b summary → Accounts a b summary
+    → length es ≤ most_events → Traces world_bytes event_bytes a b summary → Accounts world_bytes event_bytes a b summary
 accounts world_bytes event_bytes a b summary w es is events most ranges bytes few t =
     let same : w ≡ t.run.world = let both = sym is ∙ t.run.world_is in cc in
     let given : es ≡ t.events = let both = sym events ∙ ap (λ (w : World). event_text w.consoles event_bytes) same ∙ t.run.events_are in cc in
     let h = run_trace t.run.world t.events t.lines t.last (subst (λ (w : World). 1 ≤ w.pidmax) same most) (subst IsWorld same ranges) (subst (AllByRecursion IsEvent) given bytes) (subst (λ (es : List Event). length es ≤ most_events) given few) t.run.run in
     record {
-      lines = t.lines;
-      taken = t.taken;
+      trace = t;
       forms = h.forms;
       laws = h.agree.laws;
       counts = ap (λ (s : Summary). s.births) t.counted ∙ h.agree.counts ∙ sym (ap (λ (s : Summary). s.living + s.zombies + s.reported + s.dropped) t.counted);
@@ -98,6 +97,6 @@ accounts world_bytes event_bytes a b summary w es is events most ranges bytes fe
 
 -- so does the trace of a run that came to its end
 pub all_accounts : {S : Type 0} (old new : S) (world_bytes event_bytes : List ℕ) (a b : Seen) (r : Result Summary RunError) (w : World) (es : List Event) → world_text world_bytes ≡ Ok w → event_text w.consoles event_bytes ≡ Ok es → IfOk r (λ summary. 1 ≤ w.pidmax) → IsWorld w
-    → AllByRecursion IsEvent es → length es ≤ most_events → Headline world_bytes event_bytes old new a b r → IfOk r (λ summary. Accounts a b summary)
+    → AllByRecursion IsEvent es → length es ≤ most_events → Headline world_bytes event_bytes old new a b r → IfOk r (Accounts world_bytes event_bytes a b)
 all_accounts old new world_bytes event_bytes a b (Ok summary) w es is events most ranges bytes few h = accounts world_bytes event_bytes a b summary w es is events most ranges bytes few h
 all_accounts old new world_bytes event_bytes a b (Err why) w es is events most ranges bytes few h = tt

@@ -89,8 +89,8 @@ pub fn run_read<K: ProcessTable, S: Sink>(
 /// Both texts are read whole before the first byte is put, the world text first. Lines are put in
 /// pieces of 8 KiB or more, but for the last. After a put that failed nothing is put.
 ///
-/// The lines of a whole trace have each their form and keep the laws of a trace (`laws::traces_keep_laws`); and
-/// the births of the summary are its living, zombies, reported and dropped.
+/// At `Ok`, of the very run whose printed trace was put: each line has its form, the lines keep the laws of a trace
+/// (`laws::traces_keep_laws`), and the births of the summary are its living, zombies, reported and dropped.
 pub fn run_on<K: ProcessTable, S: Sink>(
     alloc: Global,
     world: &[u8],
@@ -98,7 +98,7 @@ pub fn run_on<K: ProcessTable, S: Sink>(
     out: &mut S,
 ) -> Result<Summary, RunError>
     ensures headline { Headline world.now events.now out.old out.new (S.seen out.old) (S.seen out.new) result }
-    ensures accounts { IfOk result (λ summary. Accounts (S.seen out.old) (S.seen out.new) summary) }
+    ensures accounts { IfOk result (Accounts world.now events.now (S.seen out.old) (S.seen out.new)) }
 {
     let world = read_world(alloc, world).map_err(world_error)?;
     let events = read_events(alloc, world.consoles(), events).map_err(events_error)?;
@@ -117,7 +117,7 @@ pub fn run<S: Sink>(
     out: &mut S,
 ) -> Result<Summary, RunError>
     ensures headline { Headline world.now events.now out.old out.new (S.seen out.old) (S.seen out.new) result }
-    ensures accounts { IfOk result (λ summary. Accounts (S.seen out.old) (S.seen out.new) summary) }
+    ensures accounts { IfOk result (Accounts world.now events.now (S.seen out.old) (S.seen out.new)) }
 {
     run_on::<SlabTable, S>(alloc, world, events, out)
 }
