@@ -1,5 +1,5 @@
 -- What a kernel stands for.
-use Rattle.std.specs.Prelude.{ℕ}
+use Rattle.std.specs.Prelude.{ℕ, ◌+◌, ◌≤◌}
 use Rattle.posix.specs.Common.{State}
 
 -- the state of the machine, how many events were given, and how many slots of its table were read
@@ -11,3 +11,7 @@ pub record KernelView : Type 0 where
 -- one more slot was read
 abbrev pub looked : (ℕ → ℕ) → KernelView → KernelView
 looked more k = record k { visits = more k.visits }
+
+-- at most one birth more than events, and at most as many ticks as events
+abbrev pub IsWithinEvents : KernelView → Type 0
+IsWithinEvents k = (k.state.births ≤ k.events + 1) × (k.state.ticks ≤ k.events)

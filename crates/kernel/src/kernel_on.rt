@@ -10,7 +10,7 @@ ghost use Rattle.text.specs.EventTexts.{most_events};
 ghost use Rattle.kernel.specs.Accounts.{LinesTell};
 ghost use Rattle.kernel.specs.Counts.{CountsOne, slots_of_event, slots_of_steps};
 ghost use Rattle.kernel.specs.Steps.{last_given, noted_lines};
-ghost use Rattle.kernel.specs.Views.{KernelView, looked};
+ghost use Rattle.kernel.specs.Views.{IsWithinEvents, KernelView, looked};
 ghost use Rattle.kernel.specs.contracts.kernel_on.KernelOn.{the_row as kernel_row};
 ghost use Rattle.life.specs.Censuses.{census_of};
 ghost use Rattle.proctable.specs.Records.{snapshot_of, own_of};
@@ -61,6 +61,7 @@ impl<K: ProcessTable> KernelOn<K> {
         ensures state { IfOk result (λ k. k.state ≡ boot_of world.now) }
         ensures events { IfOk result (λ k. k.events ≡ 0) }
         ensures visits { IfOk result (λ k. k.visits ≤ 1) }
+        ensures within_events { IfOk result IsWithinEvents }
         ensures regular { IfOk result (λ k. IsRegular k.state) }
         ensures settled { IfOk result (λ k. IsSettled k.state) }
         ensures orderly { IfOk result (λ k. IsOrderly k.state) }
@@ -172,6 +173,7 @@ impl<K: ProcessTable> KernelOn<K> {
     /// real-time signal, which show where it was refused; so there is no error. After a halt the state stays, nothing is
     /// shown, and the event is counted.
     ///
+    /// At most one process more than events was born, and at most as many ticks as events have passed, as at the boot.
     /// Nothing is left to settle after an event, as at the boot, so no wake-up is lost (`laws::no_wake_is_lost`), and
     /// the law of refused calls (`laws::refusals_change_little`) holds of the event that comes next.
     ///
@@ -186,6 +188,7 @@ impl<K: ProcessTable> KernelOn<K> {
         ensures step { IsStep self.old.state event result.items self.new.state }
         ensures events { self.new.events ≡ self.old.events + 1 }
         ensures halted { self.old.state.halted ≡ true → (result.items ≡ []) × (self.new.state ≡ self.old.state) }
+        ensures within_events { IsWithinEvents self.new }
         ensures regular { IsRegular self.new.state }
         ensures settled { IsSettled self.new.state }
         ensures tells { LinesTell self.old.events self.new.events self.old.state self.new.state (numbered self.new.events result.items) }
@@ -214,6 +217,7 @@ impl<K: ProcessTable> KernelOn<K> {
         ensures from { self.old.events < self.new.events }
         ensures within { self.new.events ≤ last }
         ensures runs { RunsFrom (self.old.events + 1) self.old.state (replicate (self.new.events - self.old.events) Event.Step) (noted_lines result notes.new.items ++ numbered self.new.events entries.new.items) self.new.state }
+        ensures within_events { IsWithinEvents self.new }
         ensures regular { IsRegular self.new.state }
         ensures settled { IsSettled self.new.state }
         ensures tells { LinesTell self.old.events self.new.events self.old.state self.new.state (noted_lines result notes.new.items ++ numbered self.new.events entries.new.items) }
@@ -265,6 +269,7 @@ impl<K: ProcessTable> KernelOn<K> {
         requires none { entries.old.items ≡ [] }
         ensures from { self.old.events < self.new.events }
         ensures within { self.new.events ≤ last }
+        ensures within_events { IsWithinEvents self.new }
         ensures runs { RunsFrom (self.old.events + 1) self.old.state (replicate (self.new.events - self.old.events) event) (noted_lines result notes.new.items ++ numbered self.new.events entries.new.items) self.new.state }
     {
         if self.is_idle(event) {
@@ -280,8 +285,10 @@ impl<K: ProcessTable> KernelOn<K> {
         }
     }
 
-    /// Nothing is done. That the state is regular, and nothing is left to settle, is then known, as ever of a kernel.
+    /// Does nothing. The caller then knows what holds of each kernel: its state is regular, with at most one birth more than
+    /// events and at most as many ticks as events, and nothing is left to settle.
     pub fn regular_holds(&self)
+        ensures within_events { IsWithinEvents self.now }
         ensures regular { IsRegular self.now.state }
         ensures settled { IsSettled self.now.state }
     {
@@ -296,6 +303,7 @@ impl<K: ProcessTable> KernelOn<K> {
         ensures step { IsStep self.old.state event entries.new.items self.new.state }
         ensures events { self.new.events ≡ self.old.events + 1 }
         ensures halted { self.old.state.halted ≡ true → (entries.new.items ≡ []) × (self.new.state ≡ self.old.state) }
+        ensures within_events { IsWithinEvents self.new }
         ensures regular { IsRegular self.new.state }
         ensures settled { IsSettled self.new.state }
         ensures tells { LinesTell self.old.events self.new.events self.old.state self.new.state (numbered self.new.events entries.new.items) }

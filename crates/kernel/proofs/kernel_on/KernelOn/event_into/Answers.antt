@@ -29,6 +29,9 @@ returns-clause-halted g c = λ e.
     let o = sym c.next.ensures.step.comes ∙ next_halted c.next.ensures.step.granted c.self.inside.machine.state c.args.event halted in
     (ap (λ (o : Outcome). o.entries) o, ap (λ (o : Outcome). o.state) o ∙ ap (λ (k : KernelView). k.state) c.self.view_is)
 
+pub returns-clause-within_events : goal.returns-clause-within_events
+returns-clause-within_events g c = counts_on c.self.inside.machine.state c.next.new.machine.state c.args.event _ c.self.inside.events c.next.ensures.step c.self.invariant.0 c.self.invariant.1
+
 pub returns-clause-settled : goal.returns-clause-settled
 returns-clause-settled g c = settled_stays c.self.inside.machine.state c.next.new.machine.state c.args.event _ c.next.ensures.step c.self.invariant.2
 

@@ -43,6 +43,20 @@ invariant_of-self g c =
 pub returns-then-not-is_followed_by_step-clause-settled : goal.returns-then-not-is_followed_by_step-clause-settled
 returns-then-not-is_followed_by_step-clause-settled g c = c.burst-end.ensures.runs.settled
 
+pub returns-clause-within_events : goal.returns-clause-within_events
+returns-clause-within_events g c =
+    let old = c.self.invariant in
+    let b = c.burst-end in
+    let k = burst_keeps b.ensures.runs b.ensures.from b.ensures.within c.requires.few old.0 old.1 old.3 old.6 in
+    counts_on b.new.machine.state c.step_behind.new.machine.state Step _ b.result.last c.step_behind.ensures.step k.0 k.1
+
+pub returns-then-not-is_followed_by_step-clause-within_events : goal.returns-then-not-is_followed_by_step-clause-within_events
+returns-then-not-is_followed_by_step-clause-within_events g c =
+    let old = c.self.invariant in
+    let b = c.burst-end.ensures in
+    let k = burst_keeps b.runs b.from b.within c.requires.few old.0 old.1 old.3 old.6 in
+    (k.0, k.1)
+
 pub returns-clause-settled : goal.returns-clause-settled
 returns-clause-settled g c = settled_stays c.burst-end.new.machine.state c.step_behind.new.machine.state Step _ c.step_behind.ensures.step c.burst-end.ensures.runs.settled
 
