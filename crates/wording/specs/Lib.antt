@@ -1,2 +1,3 @@
 pub mod Counted
 pub mod Proses
+pub mod ShortNames

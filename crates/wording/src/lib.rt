@@ -21,4 +21,4 @@ pub use names::{
 };
 pub use nearest::{distance, meant, nearest_name};
 pub use prose::Prose;
-pub use table::{Kind, SIGRTMIN, name_of, named};
+pub use table::{Kind, SIGRTMIN, name_of, named, number_named};

@@ -1,5 +1,10 @@
 //! The names of numbers.
 
+ghost use Rattle.std.specs.Prelude.{◌≡◌, map};
+ghost use Rattle.wording.specs.ShortNames.{first_called as first_called_of, is_called as is_called_of, number_named as number_named_of, realtime as realtime_of, without_sig as without_sig_of};
+
+use text::integer;
+
 /// What a name is one of.
 #[derive(Clone, Copy, PartialEq, Eq)]
 pub enum Kind {
@@ -106,4 +111,61 @@ pub fn name_of(kind: Kind, number: i64) -> Option<&'static str> {
         .iter()
         .find(|(of, _, known)| *of == kind && *known == number)?;
     Some(*name)
+}
+
+/// The name of a signal without its `SIG`.
+fn without_sig(word: &[u8]) -> &[u8]
+    ensures { result.now ≡ without_sig_of word.now }
+{
+    match word {
+        [b'S', b'I', b'G', name @ ..] => name,
+        _ => word,
+    }
+}
+
+/// Whether a word is the name of a signal or an error; that of a signal may lack its `SIG`.
+fn is_called(kind: Kind, name: &str, word: &[u8]) -> bool
+    ensures { result ≡ is_called_of word.now kind name.now }
+{
+    match kind {
+        Kind::Signal => without_sig(name.as_bytes()) == without_sig(word),
+        Kind::Errno => name.as_bytes() == word,
+        _ => false,
+    }
+}
+
+/// The number of a real-time signal behind the first one.
+fn realtime(word: &[u8]) -> Option<i64>
+    ensures { result ≡ realtime_of word.now }
+{
+    match without_sig(word) {
+        [b'R', b'T', b'M', b'I', b'N', b'+', digits @ ..] => match integer(digits) {
+            Ok(number @ 0..=30) => Some(i64::from(SIGRTMIN) + number),
+            _ => None,
+        },
+        _ => None,
+    }
+}
+
+/// The first number in some rows of the table that is called so.
+#[tactic(auto, unfolding(crate::specs::ShortNames::first_called))]
+fn first_called(rows: &[(Kind, &str, i64)], word: &[u8]) -> Option<(Kind, i64)>
+    ensures { result ≡ first_called_of (map (λ r. (r.0, r.1.now, r.2)) rows.now) word.now }
+{
+    let ((kind, name, number), rows) = rows.split_first()?;
+    if is_called(*kind, name, word) {
+        return Some((*kind, *number));
+    }
+    first_called(rows, word)
+}
+
+/// The number of a signal or an error, by its name; the name of a signal may lack its `SIG`.
+#[tactic(auto, unfolding(crate::specs::ShortNames::number_named))]
+pub fn number_named(word: &[u8]) -> Option<(Kind, i64)>
+    ensures { result ≡ number_named_of word.now }
+{
+    if let Some(found) = first_called(&NAMES, word) {
+        return Some(found);
+    }
+    Some((Kind::Signal, realtime(word)?))
 }
