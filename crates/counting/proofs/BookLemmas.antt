@@ -10,7 +10,8 @@ use Rattle.posix.specs.Common.{Line}
 use Rattle.schedules.specs.Families.{Spots}
 use Rattle.counting.specs.declared.ending.Ending.{Ending}
 use Rattle.counting.specs.declared.ending.Endings.{Endings}
-use Rattle.counting.specs.Texts.{FindView, has_text, shown, looked_at, saw, after_run}
+use Rattle.counting.specs.Patterns.{has_pattern}
+use Rattle.counting.specs.Texts.{FindView, looked_at, saw, after_run}
 use Rattle.counting.specs.Endings.{no_endings, with_ending}
 use Rattle.counting.specs.Books.{BookView, empty_book, unseen, with_run}
 
@@ -20,21 +21,21 @@ or_more false true c = refl
 or_more false false true = refl
 or_more false false false = refl
 
-saw_more : (lines : List Line) (l : Line) (f : FindView) → looked_at (shown l.entry) (saw lines f) ≡ saw (lines ++ l ∷ []) f
+saw_more : (lines : List Line) (l : Line) (f : FindView) → looked_at l.entry (saw lines f) ≡ saw (lines ++ l ∷ []) f
 saw_more lines l f =
-    let p : Line → Bool = λ x. has_text f.text (shown x.entry) in
+    let p : Line → Bool = λ x. has_pattern f.text x.entry in
     ap (λ b. record f { is_there = b })
     (or_more f.is_there (list_any p lines) (p l) ∙ ap (λ b. f.is_there || b) (sym (list_any-append p lines (l ∷ []))))
 
 -- over all texts
-each_saw_more : (lines : List Line) (l : Line) (finds : List FindView) → map (looked_at (shown l.entry)) (map (saw lines) finds) ≡ map (saw (lines ++ l ∷ [])) finds
+each_saw_more : (lines : List Line) (l : Line) (finds : List FindView) → map (looked_at l.entry) (map (saw lines) finds) ≡ map (saw (lines ++ l ∷ [])) finds
 each_saw_more lines l [] = refl
 each_saw_more lines l (f ∷ fs) = ap₂ (λ x xs. x ∷ xs) (saw_more lines l f) (each_saw_more lines l fs)
 
 pub all_saw_more : (lines : List Line) (i : ℕ) (l : Line) (finds now next : List FindView) → i < length lines → l ≡ get_or lines i l
-    → now ≡ map (saw (take i lines)) finds → next ≡ map (looked_at (shown l.entry)) now → next ≡ map (saw (take (i + 1) lines)) finds
+    → now ≡ map (saw (take i lines)) finds → next ≡ map (looked_at l.entry) now → next ≡ map (saw (take (i + 1) lines)) finds
 all_saw_more lines i l finds now next lt is before after =
-    after ∙ ap (map (looked_at (shown l.entry))) before ∙ each_saw_more (take i lines) l finds
+    after ∙ ap (map (looked_at l.entry)) before ∙ each_saw_more (take i lines) l finds
     ∙ ap (λ xs. map (saw xs) finds) (ap (λ x. take i lines ++ x ∷ []) is ∙ sym (take_more lines i l lt))
 
 pub none_seen : (finds : List FindView) → finds ≡ map (saw []) finds
@@ -50,7 +51,7 @@ saw_sorted : (lines sorted : List Line) (finds : List FindView) → IsPermutatio
 saw_sorted lines sorted [] p = refl
 saw_sorted lines sorted (f ∷ fs) p =
     ap₂ (λ x xs. x ∷ xs)
-    (ap (λ b. record f { is_there = f.is_there || b }) (sym (list_any-IsPermutation (λ (l : Line). has_text f.text (shown l.entry)) lines sorted p)))
+    (ap (λ b. record f { is_there = f.is_there || b }) (sym (list_any-IsPermutation (λ (l : Line). has_pattern f.text l.entry) lines sorted p)))
     (saw_sorted lines sorted fs p)
 
 -- ---- a book

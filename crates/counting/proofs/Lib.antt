@@ -1,7 +1,7 @@
 mod NumberLemmas
-mod TextLemmas
 mod LineLemmas
 mod MarkLemmas
+mod PatternLemmas
 mod PlacingLemmas
 pub mod CourseLemmas
 pub mod BookLemmas

@@ -6,7 +6,7 @@ use Rattle.std.proofs.lemmas.List.{length-take-le, drop-take, take-take, take_al
 use Rattle.posix.specs.declared.entry.Entry.{Entry}
 use Rattle.posix.specs.Common.{printed}
 use Rattle.posix.proofs.PrintingLemmas.{number_and_words}
-use Rattle.counting.specs.Texts.{shown}
+use Rattle.counting.specs.Patterns.{shown}
 
 printed_0 : (e : Entry) → printed 0 e ≡ 48 ∷ 32 ∷ (shown e ++ 10 ∷ [])
 printed_0 e = ap (λ (t : List ℕ). t ++ 10 ∷ []) (number_and_words (decimal 0) e ∙ ap (λ (d : List ℕ). d ++ 32 ∷ shown e) (decimal_digit 0 (omega arith)))

@@ -1,5 +1,7 @@
 pub mod Numbers
 pub mod Tallies
+pub mod Patterns
+pub mod Samples
 pub mod Texts
 pub mod Endings
 pub mod Courses

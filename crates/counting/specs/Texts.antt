@@ -1,28 +1,15 @@
 -- Texts that are looked for in the lines of a trace.
-use Rattle.std.specs.Prelude.{ℕ, ◌==◌, ◌||◌, ◌&&◌, Bool, true, false, List, [], ◌∷◌, map, if◌then◌else◌}
-use Rattle.std.specs.List.{join_with_byte, list_any}
+use Rattle.std.specs.Prelude.{ℕ, ◌||◌, Bool, true, false, List, [], ◌∷◌, map, if◌then◌else◌}
+use Rattle.std.specs.List.{list_any}
 use Rattle.posix.specs.declared.entry.Entry.{Entry}
-use Rattle.posix.specs.Common.{Line, words_of}
+use Rattle.posix.specs.Common.{Line}
 use Rattle.schedules.specs.Families.{Spots}
+use Rattle.counting.specs.Patterns.{has_pattern}
 use Rattle.counting.specs.Tallies.{TallyView, both, with_schedule_if}
 
--- what stands in a line behind the number of the event and the space
-abbrev pub shown : Entry → List ℕ
-shown entry = join_with_byte 32 (words_of entry)
-
-abbrev pub begins_with : List ℕ → List ℕ → Bool
-begins_with line [] = true
-begins_with [] (x ∷ text) = false
-begins_with (y ∷ line) (x ∷ text) = y == x && begins_with line text
-
--- the text stands somewhere in the line
-abbrev pub has_text : List ℕ → List ℕ → Bool
-has_text text [] = begins_with [] text
-has_text text (y ∷ line) = begins_with (y ∷ line) text || has_text text line
-
--- one of the lines has the text, behind the number of its event
+-- one of the lines has the words of the text, behind the number of its event
 abbrev pub have_text : List ℕ → List Line → Bool
-have_text text lines = list_any (λ l. has_text text (shown l.entry)) lines
+have_text text lines = list_any (λ l. has_pattern text l.entry) lines
 
 -- What is known of a text: whether the lines that were looked at since the last schedule have it, and how many schedules have it.
 pub record FindView : Type 0 where
@@ -31,8 +18,8 @@ pub record FindView : Type 0 where
   pub tally : TallyView
 
 -- after a line was looked at
-abbrev pub looked_at : List ℕ → FindView → FindView
-looked_at line f = record f { is_there = f.is_there || has_text f.text line }
+abbrev pub looked_at : Entry → FindView → FindView
+looked_at entry f = record f { is_there = f.is_there || has_pattern f.text entry }
 
 -- after the last line of the run of a schedule
 abbrev pub after_run : Spots → FindView → FindView

@@ -18,10 +18,8 @@ fn look_at(lines: &[Line], finds: &mut [Find<'_>], text: &mut Vec<u8>) -> Result
     ensures { OnOk result (finds.new ≡ map (saw lines.now) finds.old) }
 {
     for line in lines {
-        let mut room = [0; 128];
-        let printed = shown(line.entry(), &mut room);
-        look_all(finds, printed);
-        text.extend_from_slice(printed)?;
+        look_all(finds, line.entry());
+        text.extend_from_slice(shown(line.entry(), &mut [0; 128]))?;
         text.push(b'\n')?;
     }
     Ok(())

@@ -2,12 +2,13 @@
 
 ghost use Rattle.std.specs.Prelude.{◌≡◌, OnOk, Some, false, map};
 ghost use Rattle.counting.specs.Tallies.{no_schedules};
-ghost use Rattle.counting.specs.Texts.{FindView, has_text, have_text, looked_at, after_run, marked, with_many, with_marked};
+ghost use Rattle.counting.specs.Texts.{FindView, have_text, looked_at, after_run, marked, with_many, with_marked};
 
 use crate::count::Count;
-use crate::lines::{Line, shown};
+use crate::lines::Line;
+use crate::pattern::has_pattern;
 use crate::tally::Tally;
-use memchr::memmem;
+use posix::Entry;
 use std::alloc::{AllocError, Global};
 use std::marker::Model;
 
@@ -28,20 +29,11 @@ impl<'a> Model for Find<'a> {
     ghost view = { λ f. record { text = f.text.now; is_there = f.is_there; tally = f.tally } };
 }
 
-/// Whether a text stands in a line.
-pub fn stands_in(text: &str, line: &[u8]) -> bool
-    ensures { result ≡ has_text text.now line.now }
-{
-    memmem::find(line, text.as_bytes()).is_some()
-}
-
-/// Whether a text stands in one of the lines.
-fn stands_in_any(text: &str, lines: &[Line]) -> bool
+/// Whether one of the lines has a text.
+fn is_in_any(text: &str, lines: &[Line]) -> bool
     ensures { result ≡ have_text text.now lines.now }
 {
-    lines
-        .iter()
-        .any(|line| stands_in(text, shown(line.entry(), &mut [0; 128])))
+    lines.iter().any(|line| has_pattern(text, line.entry()))
 }
 
 /// Marks each text that one of the lines has.
@@ -54,7 +46,7 @@ pub fn mark(texts: &[&str], lines: &[Line], marks: &mut [bool])
     let Some((first, marks)) = marks.split_first_mut() else {
         return;
     };
-    *first = *first || stands_in_any(text, lines);
+    *first = *first || is_in_any(text, lines);
     mark(texts, lines, marks);
 }
 
@@ -85,11 +77,11 @@ impl<'a> Find<'a> {
     }
 
     /// Looks at a line.
-    fn look(&mut self, line: &[u8])
-        ensures { self.new ≡ looked_at line.now self.old }
+    fn look(&mut self, entry: &Entry)
+        ensures { self.new ≡ looked_at entry.now self.old }
     {
         if !self.is_there {
-            self.is_there = stands_in(self.text, line);
+            self.is_there = has_pattern(self.text, entry);
         }
     }
 
@@ -113,11 +105,11 @@ impl<'a> Find<'a> {
 }
 
 /// Looks for each text in a line.
-pub fn look_all(finds: &mut [Find<'_>], line: &[u8])
-    ensures { finds.new ≡ map (looked_at line.now) finds.old }
+pub fn look_all(finds: &mut [Find<'_>], entry: &Entry)
+    ensures { finds.new ≡ map (looked_at entry.now) finds.old }
 {
     for find in finds.iter_mut() {
-        find.look(line);
+        find.look(entry);
     }
 }
 

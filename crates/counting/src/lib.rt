@@ -1,4 +1,4 @@
-//! What is counted of the schedules of a family: how they end, and which texts their lines have. They are run one after
+//! What is counted of the schedules of a family: how they end, and which have lines with the words of a text. They are run one after
 //! another.
 #![tactic(auto)]
 
@@ -10,7 +10,9 @@ pub mod families;
 pub mod finds;
 pub mod lines;
 pub mod outcomes;
+pub mod pattern;
 pub mod placing;
+pub mod samples;
 pub mod tally;
 
 pub use book::Book;
@@ -22,4 +24,5 @@ pub use finds::{Find, mark};
 pub use lines::{Line, process_number, shown};
 pub use outcomes::Outcome;
 pub use placing::{event_at, events_between, events_from};
+pub use samples::can_be_shown;
 pub use tally::Tally;

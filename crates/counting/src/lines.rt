@@ -2,7 +2,7 @@
 
 ghost use Rattle.std.specs.Prelude.{◌≡◌};
 ghost use Rattle.posix.specs.Common.{line};
-ghost use Rattle.counting.specs.Texts.{shown as shown_of};
+ghost use Rattle.counting.specs.Patterns.{shown as shown_of};
 ghost use Rattle.counting.specs.Courses.{denies_memory as denies};
 
 use posix::{Entry, Pid};

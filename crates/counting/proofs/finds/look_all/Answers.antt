@@ -5,4 +5,4 @@ use Rattle.counting.proofs.finds.look_all.Goals as goal
 
 pub loop-find-preserved : goal.loop-find-preserved
 loop-find-preserved c =
-    rw (c.look.ensures, ← c.find-item.is) (map_over_more (looked_at c.args.line.now) c.args.finds.now c.loop-find.finds c.loop-find.find-index c.find-item.result (omega arith) c.loop-find.invariant c.find-item.is)
+    rw (c.look.ensures, ← c.find-item.is) (map_over_more (looked_at c.args.entry.now) c.args.finds.now c.loop-find.finds c.loop-find.find-index c.find-item.result (omega arith) c.loop-find.invariant c.find-item.is)
