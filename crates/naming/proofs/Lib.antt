@@ -1,3 +1,6 @@
 pub mod LineLemmas
 pub mod DigitLemmas
 pub mod TextLemmas
+pub mod NameLemmas
+pub mod BlankLemmas
+pub mod KeyLemmas

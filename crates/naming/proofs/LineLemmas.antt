@@ -1,14 +1,15 @@
 -- Lines without a line feed, and what stands for them.
 use Rattle.std.proofs.Common.{◌≡◌, ◌≢◌, ℕ, List, [], ◌∷◌, ◌++◌, ◌==◌, Bor, length, not, take, drop, refl, ap, subst, sym, true, ◌∙◌}
-use Rattle.std.specs.Prelude.{All, Err, IfOk, MatchOption, None, Ok, Option, Result, Some}
+use Rattle.std.specs.Prelude.{All}
 use Rattle.std.proofs.Math.Seq.{take-append_seam, drop-append_seam}
 use Rattle.std.proofs.lemmas.List.Elements.{All-append, All-cons, All-drop, All-nil, All-take}
 use Rattle.std.proofs.lemmas.Bool.{false≢true}
 use Rattle.std.proofs.lemmas.List.Folds.{list_all_at}
 use Rattle.std.specs.List.{position_or_len}
-use Rattle.text.specs.Words.{from_word, is_separator}
+use Rattle.text.specs.Words.{behind_word, from_word, is_separator}
 use Rattle.trace.specs.Lines.{is_one_line}
 use Rattle.naming.specs.Lines.{IsOneLine}
+use Rattle.naming.specs.Sets.{behind_second}
 
 -- said of all bytes, and of each
 pub each_of_one : (line : List ℕ) → is_one_line line ≡ true → IsOneLine line
@@ -43,15 +44,14 @@ two_one_line a b h k = All-cons (λ b. b ≢ 10) a (b ∷ []) h (All-cons (λ b.
 pub from_word_one_line : (text : List ℕ) → IsOneLine text → IsOneLine (from_word text)
 from_word_one_line text h = All-drop (λ b. b ≢ 10) (position_or_len (λ b. not (is_separator b)) text) text h
 
+behind_word_one_line : (text : List ℕ) → IsOneLine text → IsOneLine (behind_word text)
+behind_word_one_line text h = All-drop (λ b. b ≢ 10) (position_or_len is_separator (from_word text)) (from_word text) (from_word_one_line text h)
+
+pub behind_second_one_line : (text : List ℕ) → IsOneLine text → IsOneLine (behind_second text)
+behind_second_one_line text h = behind_word_one_line (behind_word text) (behind_word_one_line text h)
+
 -- four texts that are one line each
 pub four_one_line : (a b c d : Bor (List ℕ)) → IsOneLine a.now → IsOneLine b.now → IsOneLine c.now → IsOneLine d.now → All (λ (t : Bor (List ℕ)). IsOneLine t.now) (a ∷ b ∷ c ∷ d ∷ [])
 four_one_line a b c d ha hb hc hd =
     let P : Bor (List ℕ) → Type 0 = λ t. IsOneLine t.now in
     All-cons P a (b ∷ c ∷ d ∷ []) ha (All-cons P b (c ∷ d ∷ []) hb (All-cons P c (d ∷ []) hc (All-cons P d [] hd (All-nil P))))
-
--- what stands for a line, said in other words
-pub stands_weaker : {V E : Type 0} (r : Result (Option V) E) (A T : Type 0) (B C : V → Type 0) → ((v : V) → B v → C v)
-    → IfOk r (λ o. MatchOption o A (λ v. T × B v)) → IfOk r (λ o. MatchOption o A (λ v. T × C v))
-stands_weaker (Ok None) A T B C weaker h = h
-stands_weaker (Ok (Some v)) A T B C weaker h = (h.0, weaker v h.1)
-stands_weaker (Err e) A T B C weaker h = tt

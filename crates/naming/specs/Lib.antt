@@ -1,5 +1,7 @@
-pub mod Keys
+pub mod Names
 pub mod Lines
+pub mod Sets
+pub mod Keys
 pub mod Letters
 pub mod Texts
 pub mod Serving

@@ -1,9 +1,12 @@
 -- What becomes of a line.
-use Rattle.std.specs.Prelude.{◌≡◌, ◌≢◌, ◌⊎◌, ℕ, ◌==◌, ◌||◌, not, Bool, true, List, [], All, codes, length, if◌then◌else◌}
+use Rattle.std.specs.Prelude.{◌≡◌, ◌≢◌, ℕ, ◌==◌, ◌||◌, not, Bool, true, false, List, [], All, Option, None, Some, codes, length, if◌then◌else◌}
 use Rattle.std.specs.Char.{is_ascii_uppercase}
 use Rattle.std.specs.List.{list_any}
 use Rattle.std.specs.Str.{bytes_eq}
 use Rattle.text.specs.Words.{before_comment, behind_word, first_word}
+use Rattle.wording.specs.Proses.{Grows}
+use Rattle.naming.specs.declared.line.Outcome.{Outcome}
+use Rattle.naming.specs.declared.line.Outcome.TheVariants.{Same, Named, Refused}
 use Rattle.naming.specs.declared.line.Sort.{Sort}
 use Rattle.naming.specs.declared.line.Sort.TheVariants.{Set, Key, Typed, Other}
 
@@ -31,20 +34,36 @@ begins_name b = is_ascii_uppercase b || b == 123 || b == 94 || b == 34
 abbrev pub is_plain : List ℕ → Bool
 is_plain line = not (list_any begins_name (before_comment line))
 
--- ---- what stands for it
+-- ---- what stands for a line
 
--- a line, the one that stands for it, and what is told of it
-pub record NamedLine : Type 0 where
-  pub line : List ℕ
-  pub named : List ℕ
-  pub told : List ℕ
+-- the line that stands for a line, and whether something in that is refused
+pub record Renamed : Type 0 where
+  pub text : List ℕ
+  pub is_refused : Bool
 
--- One line stands for one line. A line without names is itself, and so is one that is refused, but a line of keys, of which each key that is
--- refused is itself; of a line without names nothing is told, unless it is to have a text.
-pub record IsNamedLine (l : NamedLine) : Type 0 where
-  pub given : IsOneLine l.line
-  pub one_line : IsOneLine l.named
-  pub other : sort_of l.line ≡ Other → (l.named ≡ l.line) × (l.told ≡ [])
-  pub plain : is_plain l.line ≡ true → l.named ≡ l.line
-  pub quiet : is_plain l.line ≡ true → sort_of l.line ≢ Typed → l.told ≡ []
-  pub refused : sort_of l.line ≢ Key → (l.told ≡ []) ⊎ (l.named ≡ l.line)
+-- a line that has no names, and one in which something is refused, stay
+abbrev pub kept : List ℕ → Renamed
+kept line = record { text = line; is_refused = false }
+
+abbrev pub refused : List ℕ → Renamed
+refused line = record { text = line; is_refused = true }
+
+abbrev pub renamed_as : List ℕ → Option (List ℕ) → Renamed
+renamed_as line None = refused line
+renamed_as line (Some text) = record { text = text; is_refused = false }
+
+abbrev pub said : List ℕ → Outcome → Renamed
+said line Same = kept line
+said line (Named text) = record { text = text.items; is_refused = false }
+said line Refused = refused line
+
+-- what is told of it, behind what was told before
+abbrev pub IsTold : Outcome → List ℕ → List ℕ → Type 0
+IsTold Same old new = new ≡ old
+IsTold (Named text) old new = new ≡ old
+IsTold Refused old new = Grows old new
+
+abbrev pub IsOneLineOutcome : Outcome → Type 0
+IsOneLineOutcome Same = Unit {0}
+IsOneLineOutcome (Named text) = IsOneLine text.items
+IsOneLineOutcome Refused = Unit {0}

@@ -1,6 +1,64 @@
 -- What becomes of a text.
-use Rattle.std.specs.Prelude.{◌≡◌, ℕ, List, [], ◌∷◌, ◌++◌, All, flat_map}
-use Rattle.naming.specs.Lines.{IsNamedLine, NamedLine}
+use Rattle.std.specs.Prelude.{◌≡◌, ℕ, ◌==◌, ◌||◌, Bool, false, List, [], ◌∷◌, ◌++◌, All, flat_map, if◌then◌else◌}
+use Rattle.naming.specs.Keys.{keys_named}
+use Rattle.naming.specs.Letters.{type_named}
+use Rattle.naming.specs.Lines.{IsOneLine, Renamed, is_plain, kept, refused, sort_of}
+use Rattle.naming.specs.Sets.{set_named}
+use Rattle.naming.specs.declared.line.Sort.{Sort}
+use Rattle.naming.specs.declared.line.Sort.TheVariants.{Set, Key, Typed, Other}
+
+-- ---- a line
+
+-- A line `type` has a text.
+abbrev pub plain_renamed : Sort → List ℕ → Renamed
+plain_renamed Set line = kept line
+plain_renamed Key line = kept line
+plain_renamed Typed line = refused line
+plain_renamed Other line = kept line
+
+abbrev pub renamed_by : Sort → List ℕ → Renamed
+renamed_by Set line = set_named line
+renamed_by Key line = keys_named line
+renamed_by Typed line = type_named line
+renamed_by Other line = kept line
+
+-- what stands for a line
+unfoldable pub renamed : List ℕ → Renamed
+renamed line = if is_plain line then plain_renamed (sort_of line) line else renamed_by (sort_of line) line
+
+-- ---- a text
+
+-- the rest of a text, of whose first line some bytes have come, with each line that stands for one
+abbrev pub named_from : List ℕ → List ℕ → List ℕ
+named_from begun [] = (renamed begun).text
+named_from begun (b ∷ bs) = if b == 10 then (renamed begun).text ++ b ∷ named_from [] bs else named_from (begun ++ b ∷ []) bs
+
+-- the text with a number in place of each name, and bytes in place of keys and typed texts
+unfoldable pub named_text : List ℕ → List ℕ
+named_text text = named_from [] text
+
+-- whether something in it is refused
+abbrev pub refused_from : List ℕ → List ℕ → Bool
+refused_from begun [] = (renamed begun).is_refused
+refused_from begun (b ∷ bs) = if b == 10 then (renamed begun).is_refused || refused_from [] bs else refused_from (begun ++ b ∷ []) bs
+
+unfoldable pub is_refused : List ℕ → Bool
+is_refused text = refused_from [] text
+
+-- ---- how it is found
+
+-- a line, the one that stands for it, and what is told of it
+pub record NamedLine : Type 0 where
+  pub line : List ℕ
+  pub named : List ℕ
+  pub told : List ℕ
+
+-- One line stands for one line. Nothing is told of it where nothing in it is refused.
+pub record IsNamedLine (l : NamedLine) : Type 0 where
+  pub given : IsOneLine l.line
+  pub one_line : IsOneLine l.named
+  pub is : l.named ≡ (renamed l.line).text
+  pub quiet : (renamed l.line).is_refused ≡ false → l.told ≡ []
 
 -- A line stands for a line, and what was told of that is told.
 abbrev pub StandsFor : List ℕ → List ℕ → List ℕ → List ℕ → Type 0
@@ -11,8 +69,10 @@ StandsFor line named told told_then =
 abbrev pub AddsLine : List ℕ → List ℕ → List ℕ → List ℕ → List ℕ → Type 0
 AddsLine line text text_then told told_then = (named : List ℕ) × (text_then ≡ text ++ named) × StandsFor line named told told_then
 
--- Lines that are ended, and the last one, which isn't: with what stands for each and what is told of each, one after the other.
+-- The named text, by its lines: those that are ended, and the last one, which isn't. Nothing is told where nothing is refused.
 pub record IsNamed (text named told : List ℕ) : Type 0 where
+  pub is : named ≡ named_text text
+  pub quiet : is_refused text ≡ false → told ≡ []
   pub lines : List NamedLine
   pub last : NamedLine
   pub each : All IsNamedLine lines

@@ -1,13 +1,14 @@
 //! Lines `key C ^Z ..`.
 
-ghost use Rattle.std.specs.Prelude.{◌≡◌, ◌<◌, ◌++◌, IfOk, OnOk, true};
+ghost use Rattle.std.specs.Prelude.{◌≡◌, ◌<◌, ◌++◌, IfOk, OnOk, false, true};
 ghost use Rattle.std.specs.Fmt.{digit_glyph};
 ghost use Rattle.text.specs.Numbers.{two_digits};
-ghost use Rattle.naming.specs.Keys.{control as control_of};
+ghost use Rattle.naming.specs.Keys.{control as control_of, is_no_key, key_named, keys_named};
 ghost use Rattle.naming.specs.Lines.{IsOneLine};
 ghost use Rattle.wording.specs.Proses.{Grows};
 
 use crate::fault::Fault;
+use crate::line::behind_second;
 use std::alloc::{AllocError, Global};
 use text::{next_word, split_comment};
 use wording::Prose;
@@ -47,24 +48,25 @@ pub fn push_byte(text: &mut Vec<u8>, byte: u8) -> Result<(), AllocError>
     Ok(())
 }
 
-/// Adds a word: the byte of a key behind the console.
+/// Adds a word: its byte if it is a key. A word that begins as a key, and is none, is told.
+#[tactic(auto, unfolding(crate::specs::Keys::is_no_key, crate::specs::Keys::key_named))]
 fn push_word(
     text: &mut Vec<u8>,
     number: u64,
-    place: u64,
     word: &[u8],
     told: &mut Prose,
 ) -> Result<(), AllocError>
-    ensures text { IsOneLine text.old.items → IsOneLine word.now → OnOk result (IsOneLine text.new.items) }
+    ensures items { OnOk result (text.new.items ≡ text.old.items ++ key_named word.now) }
+    ensures one_line { IsOneLine text.old.items → IsOneLine word.now → OnOk result (IsOneLine text.new.items) }
     ensures told { Grows told.old.text told.new.text }
+    ensures quiet { is_no_key word.now ≡ false → told.new.text ≡ told.old.text }
 {
-    if place < 2 || word.first() != Some(&b'^') {
-        return text.extend_from_slice(word);
-    }
     match control(word) {
         Some(byte) => push_byte(text, byte),
         None => {
-            Fault::NoKey(word).tell(number, told);
+            if let [b'^', ..] = word {
+                Fault::NoKey(word).tell(number, told);
+            }
             text.extend_from_slice(word)
         }
     }
@@ -77,17 +79,20 @@ pub fn key_line(
     line: &[u8],
     told: &mut Prose,
 ) -> Result<Vec<u8>, AllocError>
-    ensures text { IsOneLine line.now → IfOk result (λ v. IsOneLine v.items) }
+    ensures items { IfOk result (λ v. v.items ≡ (keys_named line.now).text) }
+    ensures one_line { IsOneLine line.now → IfOk result (λ v. IsOneLine v.items) }
     ensures told { OnOk result (Grows told.old.text told.new.text) }
+    ensures quiet { OnOk result ((keys_named line.now).is_refused ≡ false → told.new.text ≡ told.old.text) }
 {
     let (code, comment) = split_comment(line);
+    let keys = behind_second(code);
+    let (front, _) = code.split_at(code.len() - keys.len());
     let mut text = Vec::new(alloc);
-    let mut rest = code;
-    let mut place: u64 = 0;
+    text.extend_from_slice(front)?;
+    let mut rest = keys;
     while let Some((separators, word, more)) = next_word(rest) {
         text.extend_from_slice(separators)?;
-        push_word(&mut text, number, place, word, told)?;
-        place = place.saturating_add(1);
+        push_word(&mut text, number, word, told)?;
         rest = more;
     }
     text.extend_from_slice(rest)?;

@@ -1,8 +1,10 @@
 //! What a line is for.
 
-ghost use Rattle.std.specs.Prelude.{◌≡◌, All, IfOk};
+ghost use Rattle.std.specs.Prelude.{◌≡◌, All, IfOk, flat_map};
 ghost use Rattle.std.specs.List.{list_any};
-ghost use Rattle.naming.specs.Lines.{IsOneLine, begins_name as begins_name_of, is_plain as is_plain_of, sort_named as sort_named_of, sort_of as sort_of_line};
+ghost use Rattle.text.specs.Words.{behind_word};
+ghost use Rattle.naming.specs.Lines.{IsOneLine, begins_name as begins_name_of, is_plain as is_plain_of, said, sort_named as sort_named_of, sort_of as sort_of_line};
+ghost use Rattle.naming.specs.Sets.{behind_second as behind_second_word};
 
 use std::alloc::{AllocError, Global};
 use text::{next_word, split_comment};
@@ -15,6 +17,29 @@ pub enum Sort {
     Typed,
     /// A line that has no names.
     Other,
+}
+
+/// What stands for a line.
+#[derive(Drop)]
+pub enum Outcome {
+    /// The line itself: it has no names.
+    Same,
+    /// This line.
+    Named(Vec<u8>),
+    /// The line itself: something in it is refused, which is told.
+    Refused,
+}
+
+impl Outcome {
+    /// Returns the line that stands for a line.
+    pub fn text<'t>(&'t self, line: &'t [u8]) -> &'t [u8]
+        ensures { result.now ≡ (said line.entry.now self.entry.now).text }
+    {
+        match self {
+            Outcome::Named(text) => text.as_slice(),
+            Outcome::Same | Outcome::Refused => line,
+        }
+    }
 }
 
 /// What a line is for. A word alone, without a blank behind it, is for nothing.
@@ -61,9 +86,27 @@ pub fn is_plain(line: &[u8]) -> bool
     !has_beginning(code)
 }
 
+/// Returns what follows the second word of a line, nothing if it has no two words.
+pub fn behind_second(line: &[u8]) -> &[u8]
+    ensures { result.now ≡ behind_second_word line.now }
+{
+    behind_first(behind_first(line))
+}
+
+/// Returns what follows the first word of a line, nothing if it has none.
+fn behind_first(line: &[u8]) -> &[u8]
+    ensures { result.now ≡ behind_word line.now }
+{
+    match next_word(line) {
+        Some((_, _, behind)) => behind,
+        None => &[],
+    }
+}
+
 /// Texts, one behind the other.
 pub fn joined(alloc: Global, texts: &[&[u8]]) -> Result<Vec<u8>, AllocError>
-    ensures { All (λ t. IsOneLine t.now) texts.now → IfOk result (λ v. IsOneLine v.items) }
+    ensures items { IfOk result (λ v. v.items ≡ flat_map (λ t. t.now) texts.now) }
+    ensures one_line { All (λ t. IsOneLine t.now) texts.now → IfOk result (λ v. IsOneLine v.items) }
 {
     let mut all = Vec::new(alloc);
     for text in texts {

@@ -1,6 +1,8 @@
 //! What names stand for.
 
-ghost use Rattle.std.specs.Prelude.{◌<◌, IfSome, length};
+ghost use Rattle.std.specs.Prelude.{◌≡◌, ◌<◌, ◌≤◌, ◌∷◌, [], IfSome, MatchOption, MatchResult, None, OnErr, OnOk, Some, false, length, option_map, true};
+ghost use Rattle.std.specs.List.{position_or_len};
+ghost use Rattle.naming.specs.Names.{add, add_name as added, add_names as added_all, bits_of as bits_meant, can_join as can_be_joined, divides as divides_names, is_same, meaning_of, names_in, number_of as number_meant, realtime as realtime_number, sum_number, up_to_30 as small_number};
 
 use crate::fault::Fault;
 use posix::SigSet;
@@ -17,20 +19,35 @@ pub enum Form {
 }
 
 impl Form {
-    /// Whether a byte divides names.
-    fn divides(self, byte: u8) -> bool {
-        byte == b'|' || (self == Form::Set && is_separator(byte))
+    /// Returns true if a byte divides names.
+    fn divides(self, byte: u8) -> bool
+        ensures { result ≡ divides_names self byte }
+    {
+        match self {
+            Form::Joined => byte == b'|',
+            Form::Set => byte == b'|' || is_separator(byte),
+        }
     }
 }
 
-/// The number of a real-time signal behind the first one.
-fn realtime(name: &[u8]) -> Option<i64> {
-    let behind = match name.strip_prefix(b"SIGRTMIN+") {
-        Some([digit @ b'0'..=b'9']) => *digit - b'0',
-        Some([tens @ b'1'..=b'2', digit @ b'0'..=b'9']) => (*tens - b'0') * 10 + (*digit - b'0'),
-        Some(b"30") => 30,
-        _ => return None,
-    };
+/// Returns a number of at most 30, in digits without a zero at its front.
+fn up_to_30(digits: &[u8]) -> Option<u8>
+    ensures { result ≡ small_number digits.now }
+{
+    match digits {
+        [digit @ b'0'..=b'9'] => Some(*digit - b'0'),
+        [tens @ b'1'..=b'2', digit @ b'0'..=b'9'] => Some((*tens - b'0') * 10 + (*digit - b'0')),
+        [b'3', b'0'] => Some(30),
+        _ => None,
+    }
+}
+
+/// Returns the number of a real-time signal by its distance from the first one.
+#[tactic(auto, unfolding(crate::specs::Names::realtime))]
+fn realtime(name: &[u8]) -> Option<i64>
+    ensures { result ≡ realtime_number name.now }
+{
+    let behind = up_to_30(name.strip_prefix(b"SIGRTMIN+")?)?;
     Some(i64::from(SIGRTMIN) + i64::from(behind))
 }
 
@@ -41,8 +58,26 @@ pub struct Meaning {
     number: i64,
 }
 
-/// What a name stands for, of an error the negative number; none where no number has it.
-fn known_as(word: &[u8]) -> Option<Meaning> {
+impl Meaning {
+    /// Returns its bits: of a signal the set of this signal.
+    fn bits(self) -> u64
+        ensures { result ≡ bits_meant self.kind self.number }
+    {
+        match self.kind {
+            Kind::Signal => match signal_in(self.number) {
+                Some(sig) => SigSet::just(sig).bits(),
+                None => 0,
+            },
+            _ => self.number.cast_unsigned(),
+        }
+    }
+}
+
+/// Returns what a name stands for, of an error the negative number; `None` if no number has the name.
+#[tactic(auto, unfolding(crate::specs::Names::meaning_of))]
+fn known_as(word: &[u8]) -> Option<Meaning>
+    ensures { result ≡ meaning_of word.now }
+{
     let (kind, number) = match named(word) {
         Some((Kind::Errno, number)) => (Kind::Errno, number.wrapping_neg()),
         Some(known) => known,
@@ -51,13 +86,19 @@ fn known_as(word: &[u8]) -> Option<Meaning> {
     Some(Meaning { kind, number })
 }
 
+/// Returns true if numbers of a kind can be joined.
+fn can_join(kind: Kind) -> bool
+    ensures { result ≡ can_be_joined kind }
+{
+    matches!(kind, Kind::Signal | Kind::WaitOption | Kind::Flag)
+}
+
 /// What some names of one kind come to.
 #[derive(Clone, Copy)]
 struct Sum {
     first: Option<Meaning>,
     is_one: bool,
-    signals: SigSet,
-    bits: i64,
+    bits: u64,
 }
 
 impl Sum {
@@ -65,52 +106,56 @@ impl Sum {
     const NONE: Sum = Sum {
         first: None,
         is_one: false,
-        signals: SigSet::EMPTY,
         bits: 0,
     };
 
-    /// Adds a name, unless it is of another kind. Whether it is of the same.
-    fn add(&mut self, known: Meaning) -> bool {
-        let first = self.first;
-        match first {
-            Some(first) if first.kind != known.kind => return false,
-            Some(_) => self.is_one = false,
+    /// Adds a name, unless it is of another kind. Returns true if it is of the same.
+    fn add(&mut self, known: Meaning) -> bool
+        ensures added { result ≡ true → add self.old known ≡ Some self.new }
+        ensures refused { result ≡ false → add self.old known ≡ None }
+    {
+        match self.first {
+            Some(first) => {
+                if first.kind != known.kind {
+                    return false;
+                }
+                self.is_one = false;
+            }
             None => {
                 self.first = Some(known);
                 self.is_one = true;
             }
         }
-        let signal = signal_in(known.number).map_or(SigSet::EMPTY, SigSet::just);
-        self.signals = self.signals.union(signal);
-        self.bits |= known.number;
+        self.bits |= known.bits();
         true
     }
 
-    /// The number that the names stand for; none where one of them can only stand alone.
-    fn number(&self, form: Form) -> Option<i64> {
+    /// Returns the number that the names stand for; `None` if one of them can only stand alone.
+    fn number(&self, form: Form) -> Option<i64>
+        ensures { result ≡ sum_number form self.now }
+    {
         match self.first {
             Some(first) if form == Form::Joined && self.is_one => Some(first.number),
-            Some(first) => match first.kind {
-                Kind::Signal => Some(self.signals.word()),
-                Kind::WaitOption | Kind::Flag => Some(self.bits),
-                _ => None,
-            },
-            None => Some(self.signals.word()),
+            Some(first) if !can_join(first.kind) => None,
+            _ => Some(self.bits.cast_signed()),
         }
     }
 }
 
-/// Adds a name to others, of which this is the first.
-fn add_name<'a>(
-    sum: &mut Sum,
-    form: Form,
-    first: &'a [u8],
-    name: &'a [u8],
-) -> Result<(), Fault<'a>> {
+/// Adds a name to others, of which this is the first. In braces there may be none.
+fn add_name<'a>(sum: &mut Sum, form: Form, first: &'a [u8], name: &'a [u8]) -> Result<(), Fault<'a>>
+    ensures ok { OnOk result (added form sum.old name.now ≡ Some sum.new) }
+    ensures err { OnErr result (added form sum.old name.now ≡ None) }
+{
     if name.is_empty() {
-        return Err(Fault::Missing);
+        return match form {
+            Form::Joined => Err(Fault::Missing),
+            Form::Set => Ok(()),
+        };
     }
-    let known = known_as(name).ok_or(Fault::Unknown(name))?;
+    let Some(known) = known_as(name) else {
+        return Err(Fault::Unknown(name));
+    };
     if form == Form::Set && known.kind != Kind::Signal {
         return Err(Fault::NoSignal(name));
     }
@@ -121,26 +166,40 @@ fn add_name<'a>(
     }
 }
 
+/// Returns how many bytes are before the first divider.
+fn name_len(form: Form, names: &[u8]) -> usize
+    ensures len { result ≡ position_or_len (divides_names form) names.now }
+    ensures within { result ≤ length names.now }
+{
+    names
+        .iter()
+        .position(|b| form.divides(*b))
+        .unwrap_or(names.len())
+}
+
 /// The first of some names, and those behind it, if there are more.
 fn first_name(form: Form, names: &[u8]) -> (&[u8], Option<&[u8]>)
-    ensures { IfSome result.1 (λ more. length more.now < length names.now) }
+    ensures names { MatchOption result.1 (names_in form names.now ≡ result.0.now ∷ []) (λ more. names_in form names.now ≡ result.0.now ∷ names_in form more.now) }
+    ensures shorter { IfSome result.1 (λ more. length more.now < length names.now) }
 {
-    match names.iter().position(|b| form.divides(*b)) {
-        Some(end) => (&names[..end], Some(&names[end + 1..])),
-        None => (names, None),
+    let (name, behind) = names.split_at(name_len(form, names));
+    match behind {
+        [_, more @ ..] => (name, Some(more)),
+        [] => (name, None),
     }
 }
 
 /// The number that names stand for: one alone, a set of signals, or options or flags that are joined.
-pub fn number_of<'a>(form: Form, names: &'a [u8]) -> Result<i64, Fault<'a>> {
+#[tactic(auto, unfolding(crate::specs::Names::number_of))]
+pub fn number_of<'a>(form: Form, names: &'a [u8]) -> Result<i64, Fault<'a>>
+    ensures { MatchResult result (λ number. number_meant form names.entry.now ≡ Some number) (λ fault. number_meant form names.entry.now ≡ None) }
+{
     let (first, _) = first_name(form, names);
     let mut sum = Sum::NONE;
     let mut rest = names;
     loop {
         let (name, more) = first_name(form, rest);
-        if form == Form::Joined || !name.is_empty() {
-            add_name(&mut sum, form, first, name)?;
-        }
+        add_name(&mut sum, form, first, name)?;
         match more {
             Some(more) => rest = more,
             None => return sum.number(form).ok_or(Fault::Alone(first)),

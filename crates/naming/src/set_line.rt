@@ -1,56 +1,75 @@
 //! Lines `set rA, NAMES`.
 
-ghost use Rattle.std.specs.Prelude.{◌≡◌, ◌≢◌, ◌≤◌, IfOk, IfSome, MatchOption, OnOk, length};
-ghost use Rattle.naming.specs.Lines.{IsOneLine};
-ghost use Rattle.wording.specs.Proses.{Grows};
+ghost use Rattle.std.specs.Prelude.{◌≡◌, ◌≢◌, ◌-◌, ◌<◌, ◌≤◌, ◌==◌, ◌++◌, ℕ, IfOk, IfSome, List, MatchResult, None, OnOk, Some, get_or, length, not};
+ghost use Rattle.std.specs.Fmt.{signed_decimal};
+ghost use Rattle.std.specs.List.{position, position_or_len};
+ghost use Rattle.naming.specs.Lines.{IsOneLine, IsOneLineOutcome, IsTold, renamed_as, said};
+ghost use Rattle.naming.specs.Sets.{form_of as form_by, in_braces, is_blank as is_blank_byte, is_ended as are_ended, is_in_names as is_in_names_of, number_before as number_of_names, of_names, set_named, trimmed, with_byte, with_number as number_put, within, without_blanks as closed_up};
+ghost use Rattle.naming.specs.declared.number.Form.TheVariants.{Set};
 
 use crate::fault::Fault;
-use crate::line::joined;
+use crate::line::{Outcome, behind_second, joined};
 use crate::number::{Form, number_of};
 use itoa::Buffer;
 use std::alloc::{AllocError, Global};
-use text::{is_separator, next_word, skip_separators, split_comment, word_len};
+use text::{is_separator, skip_separators, split_comment, word_len};
 use wording::Prose;
 
-/// Where the operand of a `set` stands in a line without its comment; none where there is none.
-fn operand_at(code: &[u8]) -> Option<usize>
-    ensures { IfSome result (λ at. at ≤ length code.now) }
+/// Returns true if a byte is a space or a tab.
+fn is_blank(byte: u8) -> bool
+    ensures { result ≡ is_blank_byte byte }
 {
-    let (_, _, behind_set) = next_word(code)?;
-    let (_, _, behind_register) = next_word(behind_set)?;
-    if behind_register.is_empty() {
-        return None;
+    byte == b' ' || byte == b'\t'
+}
+
+/// Returns true if a blank is at the end.
+fn ends_blank(text: &[u8]) -> bool
+    ensures { result ≡ is_blank_byte (get_or text.now (length text.now - 1) 0) }
+{
+    match text {
+        [.., byte] => is_blank(*byte),
+        [] => false,
     }
-    let operand = skip_separators(behind_register);
-    Some(code.len() - operand.len())
+}
+
+/// Returns true if a `|` is at the end.
+fn ends_joined(text: &[u8]) -> bool
+    ensures { result ≡ (get_or text.now (length text.now - 1) 0 == 124) }
+{
+    match text {
+        [.., byte] => *byte == b'|',
+        [] => false,
+    }
 }
 
 /// Takes the blanks at the end away.
 fn trim_blanks(text: &mut Vec<u8>)
-    ensures { IsOneLine text.old.items → IsOneLine text.new.items }
+    ensures items { text.new.items ≡ trimmed text.old.items }
+    ensures one_line { IsOneLine text.old.items → IsOneLine text.new.items }
 {
-    while text.last().is_some_and(|b| *b == b' ' || *b == b'\t') {
+    while ends_blank(text.as_slice()) {
         text.pop();
     }
 }
 
 /// Adds a byte, unless it is a blank behind a `|`; a `|` takes the blanks before it away.
 fn push_joined(text: &mut Vec<u8>, byte: u8) -> Result<(), AllocError>
-    ensures { IsOneLine text.old.items → byte ≢ 10 → OnOk result (IsOneLine text.new.items) }
+    ensures items { OnOk result (text.new.items ≡ with_byte text.old.items byte) }
+    ensures one_line { IsOneLine text.old.items → byte ≢ 10 → OnOk result (IsOneLine text.new.items) }
 {
     if byte == b'|' {
         trim_blanks(text);
+    } else if is_blank(byte) && ends_joined(text.as_slice()) {
+        return Ok(());
     }
-    let is_blank = byte == b' ' || byte == b'\t';
-    if !is_blank || text.last().is_none_or(|b| *b != b'|') {
-        text.push(byte)?;
-    }
+    text.push(byte)?;
     Ok(())
 }
 
 /// A text without the blanks beside each `|`.
 fn without_blanks(alloc: Global, text: &[u8]) -> Result<Vec<u8>, AllocError>
-    ensures { IsOneLine text.now → IfOk result (λ v. IsOneLine v.items) }
+    ensures items { IfOk result (λ v. v.items ≡ closed_up text.now) }
+    ensures one_line { IsOneLine text.now → IfOk result (λ v. IsOneLine v.items) }
 {
     let mut all = Vec::new(alloc);
     for byte in text {
@@ -60,21 +79,61 @@ fn without_blanks(alloc: Global, text: &[u8]) -> Result<Vec<u8>, AllocError>
 }
 
 /// Whether a byte may stand in names that are joined.
-fn is_in_names(byte: u8) -> bool {
+fn is_in_names(byte: u8) -> bool
+    ensures { result ≡ is_in_names_of byte }
+{
     byte.is_ascii_uppercase() || byte.is_ascii_digit() || matches!(byte, b'_' | b'|' | b'+')
 }
 
-/// The number of names, where a blank or nothing is behind them.
-fn number_before<'a>(form: Form, names: &'a [u8], behind: &'a [u8]) -> Result<i64, Fault<'a>> {
-    match behind.first() {
-        Some(byte) if !is_separator(*byte) => {
-            let (more, _) = behind.split_at(word_len(behind));
-            Err(Fault::NoName(names, more))
-        }
-        _ => match (form, names) {
-            (Form::Set, [_, signals @ .., _]) => number_of(form, signals),
-            _ => number_of(form, names),
-        },
+/// Returns how many bytes are before the first that isn't in names.
+fn names_len(text: &[u8]) -> usize
+    ensures len { result ≡ position_or_len (λ b. not (is_in_names_of b)) text.now }
+    ensures within { result ≤ length text.now }
+{
+    text.iter()
+        .position(|b| !is_in_names(*b))
+        .unwrap_or(text.len())
+}
+
+/// Returns where a set in braces ends.
+fn end_of_set(text: &[u8]) -> Option<usize>
+    ensures end { result ≡ position (λ b. b == 125) text.now }
+    ensures within { IfSome result (λ end. end < length text.now) }
+{
+    text.iter().position(|b| *b == b'}')
+}
+
+/// Returns true if nothing follows names directly.
+fn is_ended(behind: &[u8]) -> bool
+    ensures { result ≡ are_ended behind.now }
+{
+    match behind {
+        [byte, ..] => is_separator(*byte),
+        [] => true,
+    }
+}
+
+/// Returns the number of names, if a blank or nothing is behind them.
+fn number_before<'a>(form: Form, names: &'a [u8], behind: &'a [u8]) -> Result<i64, Fault<'a>>
+    ensures { MatchResult result (λ number. number_of_names form names.entry.now behind.entry.now ≡ Some number) (λ fault. number_of_names form names.entry.now behind.entry.now ≡ None) }
+{
+    if !is_ended(behind) {
+        let (more, _) = behind.split_at(word_len(behind));
+        return Err(Fault::NoName(names, more));
+    }
+    match form {
+        Form::Joined => number_of(form, names),
+        Form::Set => number_of(form, inside(names)),
+    }
+}
+
+/// Returns what is within braces.
+fn inside(names: &[u8]) -> &[u8]
+    ensures { result.now ≡ within Set names.now }
+{
+    match names {
+        [_, signals @ .., _] => signals,
+        _ => &[],
     }
 }
 
@@ -88,14 +147,15 @@ struct Around<'a> {
 impl Around<'_> {
     /// The line with a number in place of the names.
     fn with_number(self, alloc: Global, number: i64, behind: &[u8]) -> Result<Vec<u8>, AllocError>
-        ensures { IsOneLine self.entry.before.now → IsOneLine self.entry.comment.now → IsOneLine behind.now → IfOk result (λ v. IsOneLine v.items) }
+        ensures items { IfOk result (λ v. v.items ≡ self.entry.before.now ++ (signed_decimal number ++ (behind.now ++ self.entry.comment.now))) }
+        ensures one_line { IsOneLine self.entry.before.now → IsOneLine self.entry.comment.now → IsOneLine behind.now → IfOk result (λ v. IsOneLine v.items) }
     {
         let mut buffer = Buffer::new();
         let digits = buffer.format(number).as_bytes();
         joined(alloc, &[self.before, digits, behind, self.comment])
     }
 
-    /// The line with the number of names; none where one is refused, and told.
+    /// What stands for the line: that with the number of names, unless one is refused.
     fn with_names(
         self,
         alloc: Global,
@@ -104,78 +164,92 @@ impl Around<'_> {
         operand: &[u8],
         len: usize,
         told: &mut Prose,
-    ) -> Result<Option<Vec<u8>>, AllocError>
+    ) -> Result<Outcome, AllocError>
         requires { len ≤ length operand.now }
-        ensures { IfOk result (λ o. MatchOption o (Grows told.old.text told.new.text) (λ v. (told.new.text ≡ told.old.text) × (IsOneLine self.entry.before.now → IsOneLine self.entry.comment.now → IsOneLine operand.now → IsOneLine v.items))) }
+        ensures is { IfOk result (λ o. (line : List ℕ) → said line o ≡ renamed_as line (number_put self.entry.before.now self.entry.comment.now form operand.now len)) }
+        ensures told { IfOk result (λ o. IsTold o told.old.text told.new.text) }
+        ensures one_line { IsOneLine self.entry.before.now → IsOneLine self.entry.comment.now → IsOneLine operand.now → IfOk result IsOneLineOutcome }
     {
         let (names, behind) = operand.split_at(len);
         match number_before(form, names, behind) {
-            Ok(number) => Ok(Some(self.with_number(alloc, number, behind)?)),
+            Ok(number) => Ok(Outcome::Named(self.with_number(alloc, number, behind)?)),
             Err(fault) => {
                 fault.tell(line, told);
-                Ok(None)
+                Ok(Outcome::Refused)
             }
         }
     }
 }
 
-/// A line `set`, the `number`-th of its text, with a number in place of the names; none where it stays as it is. What is
-/// wrong with a name is told.
+/// What stands for a line `set`, the `number`-th of its text: the line with a number in place of the names.
+#[tactic(auto, unfolding(crate::specs::Sets::set_named))]
 pub fn set_line(
     alloc: Global,
     number: u64,
     line: &[u8],
     told: &mut Prose,
-) -> Result<Option<Vec<u8>>, AllocError>
-    ensures { IfOk result (λ o. MatchOption o (Grows told.old.text told.new.text) (λ v. (told.new.text ≡ told.old.text) × (IsOneLine line.now → IsOneLine v.items))) }
+) -> Result<Outcome, AllocError>
+    ensures is { IfOk result (λ o. said line.now o ≡ set_named line.now) }
+    ensures told { IfOk result (λ o. IsTold o told.old.text told.new.text) }
+    ensures one_line { IsOneLine line.now → IfOk result IsOneLineOutcome }
 {
     let (code, comment) = split_comment(line);
-    let Some(at) = operand_at(code) else {
-        return Ok(None);
-    };
-    let (before, operand) = code.split_at(at);
+    let operand = skip_separators(behind_second(code));
+    let (before, _) = code.split_at(code.len() - operand.len());
     let around = Around { before, comment };
-    match operand {
-        [b'{', ..] => set_in_braces(alloc, number, around, operand, told),
-        [b'A'..=b'Z', ..] => set_of_names(alloc, number, around, operand, told),
-        _ => Ok(None),
+    match form_of(operand) {
+        Some(Form::Set) => set_in_braces(alloc, number, around, operand, told),
+        Some(Form::Joined) => set_of_names(alloc, number, around, operand, told),
+        None => Ok(Outcome::Same),
     }
 }
 
-/// The line of a set in braces.
+/// Returns how names stand together, by what they begin with; `None` if no names begin so.
+fn form_of(operand: &[u8]) -> Option<Form>
+    ensures { result ≡ form_by operand.now }
+{
+    match operand {
+        [b'{', ..] => Some(Form::Set),
+        [b'A'..=b'Z', ..] => Some(Form::Joined),
+        _ => None,
+    }
+}
+
+/// What stands for the line of a set in braces.
 fn set_in_braces(
     alloc: Global,
     number: u64,
     around: Around<'_>,
     operand: &[u8],
     told: &mut Prose,
-) -> Result<Option<Vec<u8>>, AllocError>
-    ensures { IfOk result (λ o. MatchOption o (Grows told.old.text told.new.text) (λ v. (told.new.text ≡ told.old.text) × (IsOneLine around.entry.before.now → IsOneLine around.entry.comment.now → IsOneLine operand.now → IsOneLine v.items))) }
+) -> Result<Outcome, AllocError>
+    ensures is { IfOk result (λ o. (line : List ℕ) → said line o ≡ renamed_as line (in_braces around.entry.before.now around.entry.comment.now operand.now)) }
+    ensures told { IfOk result (λ o. IsTold o told.old.text told.new.text) }
+    ensures one_line { IsOneLine around.entry.before.now → IsOneLine around.entry.comment.now → IsOneLine operand.now → IfOk result IsOneLineOutcome }
 {
-    match operand.iter().position(|b| *b == b'}') {
+    match end_of_set(operand) {
         Some(end) => around.with_names(alloc, number, Form::Set, operand, end + 1, told),
         None => {
             Fault::OpenSet.tell(number, told);
-            Ok(None)
+            Ok(Outcome::Refused)
         }
     }
 }
 
-/// The line of names that are joined, or of one.
+/// What stands for the line of names that are joined, or of one.
 fn set_of_names(
     alloc: Global,
     number: u64,
     around: Around<'_>,
     operand: &[u8],
     told: &mut Prose,
-) -> Result<Option<Vec<u8>>, AllocError>
-    ensures { IfOk result (λ o. MatchOption o (Grows told.old.text told.new.text) (λ v. (told.new.text ≡ told.old.text) × (IsOneLine around.entry.before.now → IsOneLine around.entry.comment.now → IsOneLine operand.now → IsOneLine v.items))) }
+) -> Result<Outcome, AllocError>
+    ensures is { IfOk result (λ o. (line : List ℕ) → said line o ≡ renamed_as line (of_names around.entry.before.now around.entry.comment.now operand.now)) }
+    ensures told { IfOk result (λ o. IsTold o told.old.text told.new.text) }
+    ensures one_line { IsOneLine around.entry.before.now → IsOneLine around.entry.comment.now → IsOneLine operand.now → IfOk result IsOneLineOutcome }
 {
     let close = without_blanks(alloc, operand)?;
     let names = close.as_slice();
-    let len = names
-        .iter()
-        .position(|b| !is_in_names(*b))
-        .unwrap_or(names.len());
+    let len = names_len(names);
     around.with_names(alloc, number, Form::Joined, names, len, told)
 }

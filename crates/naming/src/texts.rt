@@ -1,12 +1,13 @@
 //! A text with numbers for its names.
 
-ghost use Rattle.std.specs.Prelude.{◌≡◌, ◌≢◌, ◌++◌, ℕ, List, [], IfOk, MatchOption, OnOk};
-ghost use Rattle.naming.specs.Lines.{IsOneLine};
-ghost use Rattle.naming.specs.Texts.{AddsLine, IsNamed, StandsFor};
+ghost use Rattle.std.specs.Prelude.{◌≡◌, ℕ, List, IfOk, OnOk, false};
+ghost use Rattle.naming.specs.Lines.{IsOneLine, IsOneLineOutcome, IsTold, said};
+ghost use Rattle.naming.specs.Texts.{AddsLine, IsNamed, plain_renamed, renamed};
+ghost use Rattle.wording.specs.Proses.{Grows};
 
 use crate::fault::Fault;
 use crate::key_line::key_line;
-use crate::line::{Sort, is_plain, sort_of};
+use crate::line::{Outcome, Sort, is_plain, sort_of};
 use crate::set_line::set_line;
 use crate::type_line::type_line;
 use std::alloc::{AllocError, Global};
@@ -21,36 +22,43 @@ pub struct Named {
     pub told: Vec<u8>,
 }
 
-/// Tells what is wrong with a line without names: one that is to have a text has none.
-fn tell_plain(number: u64, sort: Sort, told: &mut Prose)
-    ensures { (more : List ℕ) × (told.new.text ≡ told.old.text ++ more) × (sort ≢ Sort.Typed → more ≡ []) }
+/// What stands for a line without names, the `number`-th of its text. One that is to have a text has none, which is told.
+fn plain_line(number: u64, sort: Sort, told: &mut Prose) -> Outcome
+    ensures is { (line : List ℕ) → said line result ≡ plain_renamed sort line }
+    ensures told { IsTold result told.old.text told.new.text }
+    ensures one_line { IsOneLineOutcome result }
 {
     match sort {
-        Sort::Typed => Fault::NoText.tell(number, told),
-        Sort::Set | Sort::Key | Sort::Other => {}
+        Sort::Typed => {
+            Fault::NoText.tell(number, told);
+            Outcome::Refused
+        }
+        Sort::Set | Sort::Key | Sort::Other => Outcome::Same,
     }
 }
 
-/// The line that stands for a line of a text, the `number`-th; none where it stays as it is.
+/// What stands for a line of a text, the `number`-th.
+#[tactic(auto, unfolding(crate::specs::Texts::renamed))]
 fn named_line(
     alloc: Global,
     number: u64,
     line: &[u8],
     told: &mut Prose,
-) -> Result<Option<Vec<u8>>, AllocError>
-    requires { IsOneLine line.now }
-    ensures { IfOk result (λ o. MatchOption o (StandsFor line.now line.now told.old.text told.new.text) (λ v. StandsFor line.now v.items told.old.text told.new.text)) }
+) -> Result<Outcome, AllocError>
+    ensures is { IfOk result (λ o. (said line.now o).text ≡ (renamed line.now).text) }
+    ensures told { OnOk result (Grows told.old.text told.new.text) }
+    ensures quiet { OnOk result ((renamed line.now).is_refused ≡ false → told.new.text ≡ told.old.text) }
+    ensures one_line { IsOneLine line.now → IfOk result IsOneLineOutcome }
 {
     let sort = sort_of(line);
     if is_plain(line) {
-        tell_plain(number, sort, told);
-        return Ok(None);
+        return Ok(plain_line(number, sort, told));
     }
     match sort {
         Sort::Set => set_line(alloc, number, line, told),
-        Sort::Key => Ok(Some(key_line(alloc, number, line, told)?)),
+        Sort::Key => Ok(Outcome::Named(key_line(alloc, number, line, told)?)),
         Sort::Typed => type_line(alloc, number, line, told),
-        Sort::Other => Ok(None),
+        Sort::Other => Ok(Outcome::Same),
     }
 }
 
@@ -65,10 +73,8 @@ fn push_line(
     requires { IsOneLine line.now }
     ensures { OnOk result (AddsLine line.now text.old.items text.new.items told.old.text told.new.text) }
 {
-    match named_line(alloc, number, line, told)? {
-        Some(named) => text.extend_from_slice(named.as_slice()),
-        None => text.extend_from_slice(line),
-    }
+    let outcome = named_line(alloc, number, line, told)?;
+    text.extend_from_slice(outcome.text(line))
 }
 
 /// A text with numbers for its names.

@@ -1,13 +1,15 @@
 //! Lines `type C "TEXT"`.
 
-ghost use Rattle.std.specs.Prelude.{◌≡◌, ◌<◌, IfOk, IfSome, MatchOption, OnOk};
-ghost use Rattle.naming.specs.Letters.{IsOneLineLetter, IsShorter};
-ghost use Rattle.naming.specs.Lines.{IsOneLine};
-ghost use Rattle.wording.specs.Proses.{Grows};
+ghost use Rattle.std.specs.Prelude.{◌≡◌, ◌++◌, ◌==◌, ◌||◌, ℕ, IfOk, IfSome, List, MatchResult, None, OnOk, Some};
+ghost use Rattle.std.specs.List.{list_any};
+ghost use Rattle.std.specs.Option.{is_none, option_and_then};
+ghost use Rattle.naming.specs.Letters.{IsOneLineLetter, IsShorter, is_whole, letters_behind, letters_from, type_named, typed, typed_from, unescaped as byte_unescaped, with_digits};
+ghost use Rattle.naming.specs.Letters.Begun.{Backslash, Nothing};
+ghost use Rattle.naming.specs.Lines.{IsOneLine, IsOneLineOutcome, IsTold, said};
 
 use crate::fault::Fault;
 use crate::key_line::push_byte;
-use crate::line::joined;
+use crate::line::{Outcome, joined};
 use std::alloc::{AllocError, Global};
 use text::{MAX_LINE_LEN, is_separator, next_word, skip_separators};
 use wording::Prose;
@@ -23,7 +25,9 @@ enum Letter<'a> {
 }
 
 /// The byte that a letter behind a `\` stands for.
-fn unescaped(letter: u8) -> Option<u8> {
+fn unescaped(letter: u8) -> Option<u8>
+    ensures { result ≡ byte_unescaped letter }
+{
     match letter {
         b'n' => Some(b'\n'),
         b't' => Some(b'\t'),
@@ -35,6 +39,7 @@ fn unescaped(letter: u8) -> Option<u8> {
 
 /// The letter of what stands behind a `\`.
 fn escaped(text: &[u8]) -> Result<Letter<'_>, Fault<'_>>
+    ensures letter { (bytes : List ℕ) → MatchResult result (λ l. letters_from bytes Backslash text.now ≡ letters_behind bytes l) (λ fault. letters_from bytes Backslash text.now ≡ None) }
     ensures shorter { IfOk result (λ l. IsShorter text.now l) }
     ensures one_line { IsOneLine text.now → IfOk result IsOneLineLetter }
 {
@@ -52,6 +57,7 @@ fn escaped(text: &[u8]) -> Result<Letter<'_>, Fault<'_>>
 
 /// The next letter of a text, or its end.
 fn next_letter(text: &[u8]) -> Result<Letter<'_>, Fault<'_>>
+    ensures letter { (bytes : List ℕ) → MatchResult result (λ l. letters_from bytes Nothing text.now ≡ letters_behind bytes l) (λ fault. letters_from bytes Nothing text.now ≡ None) }
     ensures shorter { IfOk result (λ l. IsShorter text.now l) }
     ensures one_line { IsOneLine text.now → IfOk result IsOneLineLetter }
 {
@@ -65,7 +71,8 @@ fn next_letter(text: &[u8]) -> Result<Letter<'_>, Fault<'_>>
 
 /// Adds a blank, unless there is nothing before it.
 fn push_blank(bytes: &mut Vec<u8>) -> Result<(), AllocError>
-    ensures { IsOneLine bytes.old.items → OnOk result (IsOneLine bytes.new.items) }
+    ensures items { OnOk result ((digits : List ℕ) → bytes.new.items ++ digits ≡ with_digits bytes.old.items digits) }
+    ensures one_line { IsOneLine bytes.old.items → OnOk result (IsOneLine bytes.new.items) }
 {
     if !bytes.is_empty() {
         bytes.push(b' ')?;
@@ -78,7 +85,8 @@ fn push_letters<'a>(
     bytes: &mut Vec<u8>,
     text: &'a [u8],
 ) -> Result<Result<&'a [u8], Fault<'a>>, AllocError>
-    ensures { IsOneLine text.entry.now → IsOneLine bytes.old.items → IfOk result (λ r. IsOneLine bytes.new.items × IfOk r (λ rest. IsOneLine rest.now)) }
+    ensures letters { IfOk result (λ r. MatchResult r (λ rest. letters_from bytes.old.items Nothing text.entry.now ≡ Some (bytes.new.items, rest.now)) (λ fault. letters_from bytes.old.items Nothing text.entry.now ≡ None)) }
+    ensures one_line { IsOneLine text.entry.now → IsOneLine bytes.old.items → IfOk result (λ r. IsOneLine bytes.new.items × IfOk r (λ rest. IsOneLine rest.now)) }
 {
     let mut rest = text;
     loop {
@@ -99,16 +107,16 @@ fn push_letters<'a>(
     }
 }
 
-/// What follows the bytes of a text, where nothing is wrong with it.
-fn behind_text<'a>(bytes: &[u8], behind: &'a [u8]) -> Result<&'a [u8], Fault<'a>>
-    ensures { IfOk result (λ rest. rest.now ≡ behind.entry.now) }
+/// Returns why a text with these bytes and this behind it is refused; `None` if it isn't.
+fn fault_of<'a>(bytes: &[u8], behind: &[u8]) -> Option<Fault<'a>>
+    ensures { is_none result ≡ is_whole bytes.now behind.now }
 {
     if bytes.is_empty() {
-        return Err(Fault::EmptyText);
+        return Some(Fault::EmptyText);
     }
-    match behind.first() {
-        Some(byte) if *byte != b'#' && !is_separator(*byte) => Err(Fault::GluedText),
-        _ => Ok(behind),
+    match behind {
+        [byte, ..] if *byte != b'#' && !is_separator(*byte) => Some(Fault::GluedText),
+        _ => None,
     }
 }
 
@@ -123,13 +131,21 @@ struct TypeLine<'a> {
     text: &'a [u8],
 }
 
+/// Returns true if a text or a comment begins within a word.
+fn has_text(word: &[u8]) -> bool
+    ensures { result ≡ list_any (λ b. (b == 34) || (b == 35)) word.now }
+{
+    word.iter().any(|b| *b == b'"' || *b == b'#')
+}
+
 /// The parts of a line `type C "TEXT"`; none of one that has another form.
 fn parts_of(line: &[u8]) -> Option<TypeLine<'_>>
-    ensures { IsOneLine line.now → IfSome result (λ p. IsOneLine p.indent.now × IsOneLine p.console.now × IsOneLine p.text.now) }
+    ensures parts { typed line.now ≡ option_and_then (λ p. typed_from p.indent.now p.console.now p.text.now) result }
+    ensures one_line { IsOneLine line.now → IfSome result (λ p. IsOneLine p.indent.now × IsOneLine p.console.now × IsOneLine p.text.now) }
 {
     let (indent, _, behind_type) = next_word(line)?;
     let (_, console, behind) = next_word(behind_type)?;
-    if behind.is_empty() || console.contains(&b'"') || console.contains(&b'#') {
+    if has_text(console) {
         return None;
     }
     match skip_separators(behind) {
@@ -146,52 +162,56 @@ fn parts_of(line: &[u8]) -> Option<TypeLine<'_>>
 }
 
 /// The line `key` of a line `type`, or what is wrong with it.
-fn typed<'a>(alloc: Global, line: &'a [u8]) -> Result<Result<Vec<u8>, Fault<'a>>, AllocError>
-    ensures { IsOneLine line.entry.now → IfOk result (λ r. IfOk r (λ v. IsOneLine v.items)) }
+fn key_line_of<'a>(alloc: Global, line: &'a [u8]) -> Result<Result<Vec<u8>, Fault<'a>>, AllocError>
+    ensures is { IfOk result (λ r. MatchResult r (λ v. typed line.entry.now ≡ Some v.items) (λ fault. typed line.entry.now ≡ None)) }
+    ensures one_line { IsOneLine line.entry.now → IfOk result (λ r. IfOk r (λ v. IsOneLine v.items)) }
 {
-    let Some(parts) = parts_of(line) else {
-        return Ok(Err(Fault::NoText));
-    };
-    let mut bytes = Vec::new(alloc);
-    let behind = match push_letters(&mut bytes, parts.text)? {
-        Ok(behind) => behind,
-        Err(fault) => return Ok(Err(fault)),
-    };
-    let behind = match behind_text(bytes.as_slice(), behind) {
-        Ok(behind) => behind,
-        Err(fault) => return Ok(Err(fault)),
-    };
-    let key_line = joined(
-        alloc,
-        &[
-            parts.indent,
-            b"key",
-            parts.console,
-            bytes.as_slice(),
-            behind,
-        ],
-    )?;
-    if key_line.len() > MAX_LINE_LEN {
-        return Ok(Err(Fault::LongText));
+    match parts_of(line) {
+        Some(parts) => parts.key_line(alloc),
+        None => Ok(Err(Fault::NoText)),
     }
-    Ok(Ok(key_line))
 }
 
-/// A line `type`, the `number`-th of its text, as a line `key` with a byte for each letter; none where it stays as it
-/// is, since something is wrong with it, which is told.
+impl<'a> TypeLine<'a> {
+    /// The line `key`, or what is wrong with the text.
+    fn key_line(self, alloc: Global) -> Result<Result<Vec<u8>, Fault<'a>>, AllocError>
+        ensures is { IfOk result (λ r. MatchResult r (λ v. typed_from self.entry.indent.now self.entry.console.now self.entry.text.now ≡ Some v.items) (λ fault. typed_from self.entry.indent.now self.entry.console.now self.entry.text.now ≡ None)) }
+        ensures one_line { IsOneLine self.entry.indent.now → IsOneLine self.entry.console.now → IsOneLine self.entry.text.now → IfOk result (λ r. IfOk r (λ v. IsOneLine v.items)) }
+    {
+        let mut bytes = Vec::new(alloc);
+        let behind = match push_letters(&mut bytes, self.text)? {
+            Ok(behind) => behind,
+            Err(fault) => return Ok(Err(fault)),
+        };
+        if let Some(fault) = fault_of(bytes.as_slice(), behind) {
+            return Ok(Err(fault));
+        }
+        let parts = [self.indent, b"key", self.console, bytes.as_slice(), behind];
+        let key_line = joined(alloc, &parts)?;
+        if key_line.len() > MAX_LINE_LEN {
+            return Ok(Err(Fault::LongText));
+        }
+        Ok(Ok(key_line))
+    }
+}
+
+/// What stands for a line `type`, the `number`-th of its text: a line `key` with a byte for each letter.
+#[tactic(auto, unfolding(crate::specs::Letters::type_named))]
 pub fn type_line(
     alloc: Global,
     number: u64,
     line: &[u8],
     told: &mut Prose,
-) -> Result<Option<Vec<u8>>, AllocError>
-    ensures { IfOk result (λ o. MatchOption o (Grows told.old.text told.new.text) (λ v. (told.new.text ≡ told.old.text) × (IsOneLine line.now → IsOneLine v.items))) }
+) -> Result<Outcome, AllocError>
+    ensures is { IfOk result (λ o. said line.now o ≡ type_named line.now) }
+    ensures told { IfOk result (λ o. IsTold o told.old.text told.new.text) }
+    ensures one_line { IsOneLine line.now → IfOk result IsOneLineOutcome }
 {
-    match typed(alloc, line)? {
-        Ok(key_line) => Ok(Some(key_line)),
+    match key_line_of(alloc, line)? {
+        Ok(key_line) => Ok(Outcome::Named(key_line)),
         Err(fault) => {
             fault.tell(number, told);
-            Ok(None)
+            Ok(Outcome::Refused)
         }
     }
 }

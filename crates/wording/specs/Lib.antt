@@ -1,3 +1,4 @@
 pub mod Counted
+pub mod Names
 pub mod Proses
 pub mod ShortNames

@@ -1,6 +1,7 @@
 //! The names of signals, sets, errors, statuses and options.
 
 ghost use Rattle.std.specs.Prelude.{◌≡◌, ◌⊎◌, ◌<◌, ◌<ℤ◌, ◌≤ℤ◌, IfSome, None, pos};
+ghost use Rattle.posix.specs.Common.{signal_in as signal_number_in};
 ghost use Rattle.wording.specs.Proses.{Grows};
 
 use crate::prose::Prose;
@@ -33,7 +34,8 @@ pub fn put_signal(text: &mut Prose, sig: Sig)
 
 /// The signal of a word; none where the word is none.
 pub fn signal_in(word: i64) -> Option<Sig>
-    ensures { IfSome result (λ sig. word ≡ pos sig) }
+    ensures signal { result ≡ signal_number_in word }
+    ensures word { IfSome result (λ sig. word ≡ pos sig) }
 {
     Sig::new(u8::try_from(word).ok()?)
 }

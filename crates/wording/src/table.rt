@@ -1,6 +1,7 @@
 //! The names of numbers.
 
 ghost use Rattle.std.specs.Prelude.{◌≡◌, map};
+ghost use Rattle.wording.specs.Names.{named_among as first_named, named_as, said};
 ghost use Rattle.wording.specs.ShortNames.{first_called as first_called_of, is_called as is_called_of, number_named as number_named_of, realtime as realtime_of, without_sig as without_sig_of};
 
 use text::integer;
@@ -100,9 +101,22 @@ pub static NAMES: [(Kind, &str, i64); 66] = [
 pub const SIGRTMIN: u8 = 34;
 
 /// The kind and the number that a name is of; none where a word is no name in the table.
-pub fn named(word: &[u8]) -> Option<(Kind, i64)> {
-    let (kind, _, number) = NAMES.iter().find(|(_, name, _)| name.as_bytes() == word)?;
-    Some((*kind, *number))
+pub fn named(word: &[u8]) -> Option<(Kind, i64)>
+    ensures { result ≡ named_as word.now }
+{
+    named_among(&NAMES, word)
+}
+
+/// The kind and the number of the first entry of a table with this name.
+fn named_among(entries: &[(Kind, &str, i64)], word: &[u8]) -> Option<(Kind, i64)>
+    ensures { result ≡ first_named (map said entries.now) word.now }
+{
+    for (kind, name, number) in entries {
+        if name.as_bytes() == word {
+            return Some((*kind, *number));
+        }
+    }
+    None
 }
 
 /// The name that is shown for a number of a kind; none where it has none.

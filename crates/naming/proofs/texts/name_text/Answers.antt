@@ -13,7 +13,7 @@ push_line-requires c = each_of_one c.in-Some.line.now c.in-Some.ensures.cut.one
 pub loop-line-preserved : goal.loop-line-preserved
 loop-line-preserved c =
     has_named_more c.args.text.now c.loop-line.rest.now c.in-Some.line.now c.in-Some.more.now c.loop-line.named.items c.push_line.new.text.items c.push.new.self.items
-    c.loop-line.told.text c.push_line.new.told.text c.loop-line.invariant c.in-Some.ensures.cut.is c.in_ok-push_line.ensures c.in_ok-push.ensures.items
+    c.loop-line.told.text c.push_line.new.told.text c.loop-line.invariant c.in-Some.ensures.cut.is c.in-Some.ensures.cut.one c.in_ok-push_line.ensures c.in_ok-push.ensures.items
 
 pub push_line-requires-2 : goal.push_line-requires-2
 push_line-requires-2 c = each_of_one c.loop-line.rest.now c.in_default.ensures.cut
@@ -22,4 +22,4 @@ pub returns : goal.returns
 returns c =
     rw c.in_ok-told.ensures.text
     (has_named_all c.args.text.now c.loop-line.rest.now c.loop-line.named.items c.push_line-2.new.text.items c.loop-line.told.text c.push_line-2.new.told.text
-    c.loop-line.invariant c.in_ok-push_line-2.ensures)
+    c.loop-line.invariant c.in_default.ensures.cut c.in_ok-push_line-2.ensures)

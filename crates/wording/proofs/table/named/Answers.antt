@@ -1,0 +1,7 @@
+use Rattle.std.proofs.Common.{◌∙◌, ap, refl}
+use Rattle.wording.specs.Names.{named_among, named_as, names}
+use Rattle.wording.proofs.table.named.Goals as goal
+
+pub returns : goal.returns
+unfolding named_as names
+returns c = c.named_among.ensures
