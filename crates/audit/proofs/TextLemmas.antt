@@ -5,14 +5,15 @@ use Rattle.std.proofs.lemmas.List.Folds.{list_all-append}
 use Rattle.std.proofs.lemmas.Grind.{flat_map-append}
 use Rattle.std.proofs.lemmas.Bool.{and_parts, eqb-true}
 use Rattle.posix.specs.Common.{Line, print, print_line}
-use Rattle.laws.specs.TraceLines.{is_line}
+use Rattle.laws.specs.TraceLines.{Says, is_line}
+use Rattle.laws.specs.Keeping.{kept_of}
 use Rattle.laws.specs.Lives.{Laws}
 use Rattle.laws.proofs.LawfulLemmas.{laws_first}
 use Rattle.audit.specs.declared.fault.AuditFault.{AuditFault}
 use Rattle.audit.specs.declared.fault.AuditFault.TheVariants.{NoLine}
-use Rattle.audit.specs.Knowing.{AuditView, AllSay, AreLawful, Knows, IsAnswer}
+use Rattle.audit.specs.Knowing.{AuditView, AllSay, AreLawful, IsAnswer, IsNewBirth, Knows}
 use Rattle.trace.specs.Lines.{is_one_line, IsCut}
-use Rattle.audit.specs.Texts.{IsLawful, IsLawfulBefore, IsFirstFault}
+use Rattle.audit.specs.Texts.{IsFirstFault, IsLawful, IsLawfulBefore, IsNewBirthAt}
 use Rattle.audit.proofs.PrintedLemmas.{text_of, text_one}
 
 -- lines with their line feeds
@@ -121,6 +122,14 @@ unfoldable pub heard_before : (text : List ℕ) (number : ℕ) (rest : List ℕ)
 heard_before text number rest a h =
     let s = said h.texts h.knows.lines h.knows.say in
     record { lines = h.knows.lines; rest = rest; is = h.is ∙ ap (λ (x : List ℕ). x ++ rest) s.0; forms = s.1; laws = h.knows.laws; counted = omega (arith, h.counted, s.2) }
+
+-- the next line is the birth of a number that was never born before
+pub new_birth : (text : List ℕ) (number : ℕ) (rest line later : List ℕ) (a : AuditView) → HasHeard text number rest a → IsCut rest line later
+    → ((texts : List (List ℕ)) (k : Knows texts a) → (l : Line) × Says line l × IsNewBirth (kept_of k.lines) l) → IsNewBirthAt text number
+unfolding heard_before
+new_birth text number rest line later a h cut born =
+    let b = born h.texts h.knows in
+    record { before = heard_before text number rest a h; line = line; rest = later; cut = cut; said = b.0; says = b.1; born = b.2 }
 
 -- ---- a text that is refused
 

@@ -2,13 +2,14 @@
 use Rattle.std.specs.Prelude.{ℕ, ◌≡◌, ◌≢◌, ◌+◌, ◌⊎◌, true, List, [], ◌∷◌, ◌++◌, length, Err}
 use Rattle.std.specs.List.{list_all}
 use Rattle.posix.specs.Common.{Line, print}
-use Rattle.laws.specs.TraceLines.{is_line}
+use Rattle.laws.specs.TraceLines.{Says, is_line}
+use Rattle.laws.specs.Keeping.{kept_of}
 use Rattle.laws.specs.Lives.{Laws}
 use Rattle.audit.specs.declared.fault.AuditFault.{AuditFault}
 use Rattle.audit.specs.declared.fault.AuditFault.TheVariants.{NoLine}
 use Rattle.audit.specs.declared.texts.TraceFault.{TraceFault}
 use Rattle.trace.specs.Lines.{IsCut, is_one_line}
-use Rattle.audit.specs.Knowing.{IsAnswer}
+use Rattle.audit.specs.Knowing.{IsAnswer, IsNewBirth}
 
 -- A text is the print of lines, each of one of the forms, of which the laws of a trace hold.
 pub record IsLawful (text : List ℕ) : Type 0 where
@@ -25,6 +26,16 @@ pub record IsLawfulBefore (text : List ℕ) (number : ℕ) : Type 0 where
   pub forms : list_all is_line lines ≡ true
   pub laws : Laws lines
   pub counted : number ≡ length lines + 1
+
+-- The line with this number is the birth of a number that was never born before.
+pub record IsNewBirthAt (text : List ℕ) (number : ℕ) : Type 0 where
+  pub before : IsLawfulBefore text number
+  pub line : List ℕ
+  pub rest : List ℕ
+  pub cut : IsCut before.rest line rest
+  pub said : Line
+  pub says : Says line said
+  pub born : IsNewBirth (kept_of before.lines) said
 
 -- ---- the first fault
 

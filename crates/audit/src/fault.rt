@@ -1,37 +1,30 @@
 //! Faults of a trace.
 
-ghost use Rattle.std.specs.Prelude.{◌≡◌};
-ghost use Rattle.audit.specs.Faults.{number_of};
+ghost use Rattle.std.specs.Prelude.{◌≡◌, ◌≤◌, length};
+ghost use Rattle.audit.specs.Faults.{law_of, number_of};
 
-use thiserror::Error;
+use std::error::Error;
+use std::fmt;
 
 /// Which test of the auditor a line fails, or that there was no memory.
-#[derive(Clone, Copy, Debug, PartialEq, Eq, Error)]
+#[derive(Clone, Copy, Debug, PartialEq, Eq)]
 pub enum AuditFault {
     /// Fault 1: the text has none of the forms of a line, or the number of its event is below that of the line before.
-    #[error("no line of a trace, or a falling event")]
     NoLine,
     /// Fault 2: a number is born that is living.
-    #[error("a living number is born")]
     BornWhileLiving,
     /// Fault 3: a report of what didn't happen to the child: it was never born, hasn't ended, has, or never stopped.
-    #[error("a report of what did not happen")]
     NotHappened,
     /// Fault 4: a report of what was reported before.
-    #[error("a second report")]
     ReportedBefore,
     /// Fault 5: a report by a process that isn't the parent.
-    #[error("a report by another than the parent")]
     NotTheParent,
     /// Fault 6: a report with another status than the end or the stop had, or with one that no report has.
-    #[error("a report with another status")]
     OtherStatus,
     /// Fault 7: a line of a process that isn't living, `halt` at another place than right after the end of process 1,
     /// another line there, or a line after `halt`.
-    #[error("a line out of its place")]
     OutOfPlace,
     /// Fault 8: no memory for a new number. The line passes all tests.
-    #[error("out of memory")]
     Memory,
 }
 
@@ -51,4 +44,29 @@ impl AuditFault {
             AuditFault::Memory => 8,
         }
     }
+
+    /// Returns the law that the line breaks, in words.
+    pub fn law(self) -> &'static str
+        ensures words { result.now ≡ law_of self }
+        ensures short { length result.now ≤ 50 }
+    {
+        match self {
+            AuditFault::NoLine => "no line of a trace, or a falling event",
+            AuditFault::BornWhileLiving => "a living number is born",
+            AuditFault::NotHappened => "a report of what did not happen",
+            AuditFault::ReportedBefore => "a second report",
+            AuditFault::NotTheParent => "a report by another than the parent",
+            AuditFault::OtherStatus => "a report with another status",
+            AuditFault::OutOfPlace => "a line out of its place",
+            AuditFault::Memory => "out of memory",
+        }
+    }
 }
+
+impl fmt::Display for AuditFault {
+    fn fmt<W: fmt::Write>(&self, f: &mut fmt::Formatter<W>) -> fmt::Result {
+        f.write_str(self.law())
+    }
+}
+
+impl Error for AuditFault {}

@@ -5,7 +5,7 @@ ghost use Rattle.std.specs.List.{AllByRecursion};
 ghost use Rattle.posix.specs.declared.event.Event.{Event};
 ghost use Rattle.posix.specs.Common.{Line, print, Runs, State, World, IsEvent, IsWorld};
 ghost use Rattle.audit.specs.declared.fault.AuditFault.TheVariants.{Memory};
-ghost use Rattle.audit.specs.Texts.{IsLawful, IsLawfulBefore, IsFirstFault};
+ghost use Rattle.audit.specs.Texts.{IsFirstFault, IsLawful, IsLawfulBefore, IsNewBirthAt};
 
 use crate::audit::Audit;
 use crate::fault::AuditFault;
@@ -29,10 +29,12 @@ pub struct TraceFault {
 /// first line that an [`Audit`] refuses, and why: the lines before it are lawful, and no lawful text begins with these
 /// lines and that one. What follows the last line feed, if anything, is a line that none
 /// of the forms has, so its fault is [`AuditFault::NoLine`]. Where memory is refused, the fault is
-/// [`AuditFault::Memory`], and the lines before are lawful; at line 1 it may be refused before that is read.
+/// [`AuditFault::Memory`], and the lines before are lawful. That line is the birth of a number that was never born
+/// before; at line 1 memory may be refused before that is read.
 pub fn audit_text(alloc: Global, keys: RandomState, text: &[u8]) -> Result<(), TraceFault>
     ensures ok { OnOk result (IsLawful text.now) }
     ensures memory { (fault : TraceFault) → result ≡ Err fault → fault.fault ≡ Memory → IsLawfulBefore text.now fault.line }
+    ensures new_number { (fault : TraceFault) → result ≡ Err fault → fault.fault ≡ Memory → fault.line ≢ 1 → IsNewBirthAt text.now fault.line }
     ensures refused { (fault : TraceFault) → result ≡ Err fault → fault.fault ≢ Memory → IsLawful text.now → ⊥ }
     ensures first { (fault : TraceFault) → result ≡ Err fault → fault.fault ≢ Memory → IsFirstFault text.now fault }
 {

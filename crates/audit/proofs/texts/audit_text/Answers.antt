@@ -1,7 +1,7 @@
-use Rattle.std.proofs.Common.{◌≡◌, ◌∙◌, sym, subst, arith}
-use Rattle.audit.specs.Texts.{IsLawfulBefore, IsFirstFault}
-use Rattle.audit.specs.declared.fault.AuditFault.TheVariants.{NoLine}
-use Rattle.audit.proofs.TextLemmas.{HasHeard, heard_more, heard_all, heard_before, refused_line, first_line, refused_rest, first_rest, some_left, none_left}
+use Rattle.std.proofs.Common.{◌≡◌, ◌∙◌, Err, ap, sym, subst, arith}
+use Rattle.audit.specs.Texts.{IsFirstFault, IsLawfulBefore, IsNewBirthAt}
+use Rattle.audit.specs.declared.fault.AuditFault.TheVariants.{Memory, NoLine}
+use Rattle.audit.proofs.TextLemmas.{HasHeard, heard_more, heard_all, heard_before, new_birth, refused_line, first_line, refused_rest, first_rest, some_left, none_left}
 use Rattle.audit.proofs.texts.audit_text.Goals as goal
 
 pub loop-line-preserved : goal.loop-line-preserved
@@ -15,6 +15,14 @@ pub returns-in-Err-clause-memory : goal.returns-in-Err-clause-memory
 returns-in-Err-clause-memory c = λ fault is memory.
     let same : c.loop-line.number ≡ fault.line = cc in
     subst (λ n. IsLawfulBefore c.args.text.now n) same (heard_before c.args.text.now c.loop-line.number c.loop-line.rest.now c.loop-line.audit c.loop-line.invariant.heard)
+
+pub returns-in-Err-clause-new_number : goal.returns-in-Err-clause-new_number
+returns-in-Err-clause-new_number c = λ fault is memory other.
+    let same : c.loop-line.number ≡ fault.line = cc in
+    let code : c.in-Err.fault ≡ Memory = cc in
+    subst (λ n. IsNewBirthAt c.args.text.now n) same
+    (new_birth c.args.text.now c.loop-line.number c.loop-line.rest.now c.in-Some.line.now c.in-Some.more.now c.loop-line.audit c.loop-line.invariant.heard c.in-Some.ensures.cut
+    (c.line.ensures.new_number (c.in-Err.is ∙ ap Err code)))
 
 pub returns-in-Err-clause-refused : goal.returns-in-Err-clause-refused
 returns-in-Err-clause-refused c = λ fault is other.
