@@ -2,9 +2,10 @@
 from pycparser import c_ast
 
 from assembly import Word
+from constants import bytes_of, is_flags, is_null, is_string, is_void
 from expressions import INSTRUCTIONS, SCRATCH, r
+from kinds import MEMBER_KINDS, MEMBERS, NUMBERS, WORDS, Kind, Variable, common, promoted, wrapped
 from refusal import refuse
-from symbols import MEMBERS, WORDS, Kind, Variable, bytes_of, is_string, is_void
 
 MEMBER_ORDER = {Kind.ACTION: ('sa_handler', 'sa_mask', 'sa_flags'), Kind.VALUE: ('sival_int',)}
 
@@ -31,6 +32,8 @@ class Assignments:
         elif isinstance(node, c_ast.TernaryOp):
             self.effect_of_choice(node, depth)
         elif self.constant(node) is None:
+            if self.kind_of(node) is not Kind.HANDLER:
+                self.number_kind(node)
             self.value(node, depth)
 
     def effect_of_two(self, node, depth):
@@ -49,6 +52,8 @@ class Assignments:
         self.put(end)
 
     def value_assignment(self, node, depth):
+        if self.stored_kind(node.lvalue) not in (*NUMBERS, Kind.HANDLER) or is_flags(node.lvalue):
+            refuse(node, 'the value of this assignment is not kept: write it as a statement of its own')
         self.assign(node, depth, is_wanted=True)
 
     def assign(self, node, depth, is_wanted):
@@ -60,6 +65,8 @@ class Assignments:
         self.refuse_constant(target)
         if self.assign_whole(node):
             return
+        if node.op != '=' and self.stored_kind(target) is Kind.HANDLER:
+            self.refuse_found(node, '= behind a handler', node.op)
         place = self.fixed_place(target)
         if place is None:
             self.assign_element(node, depth, is_wanted)
@@ -73,11 +80,12 @@ class Assignments:
 
     def assign_whole(self, node):
         """Copies a set of signals, or another variable that is no number; says whether the target is one."""
-        kind = self.kind_of(node.lvalue)
-        if kind in (Kind.INT, Kind.CHAR):
+        kind = self.stored_kind(node.lvalue)
+        if kind in NUMBERS or kind is Kind.HANDLER:
             return False
         source = node.rvalue
-        if node.op != '=' or not isinstance(source, (c_ast.ID, c_ast.StructRef)) or self.kind_of(source) is not kind:
+        if node.op != '=' or not isinstance(source, (c_ast.ID, c_ast.StructRef)) \
+                or self.stored_kind(source) is not kind:
             refuse(node, f'a {kind.value} is copied from another one alone: a = b')
         place, other = self.fixed_place(node.lvalue), self.fixed_place(source)
         for number in range(WORDS.get(kind, 1)):
@@ -85,10 +93,10 @@ class Assignments:
             self.store(0, place + number)
         return True
 
-    def kind_of(self, node):
-        """The kind of what stands at the left of an assignment."""
+    def stored_kind(self, node):
+        """The kind of what stands at the left of an assignment, as it is kept."""
         if isinstance(node, c_ast.StructRef):
-            return Kind.SET if node.field.name == 'sa_mask' else Kind.INT
+            return MEMBER_KINDS.get(self.member(node)[1], Kind.INT) if node.field.name != 'sival_int' else Kind.INT
         variable = self.element(node) if isinstance(node, c_ast.ArrayRef) else self.meaning(node)
         if not isinstance(variable, Variable):
             refuse(node, 'a variable, an element or a member has to stand here')
@@ -98,64 +106,77 @@ class Assignments:
 
     def assign_fixed(self, node, place, depth, is_wanted):
         """To a variable in a register, or to a word whose address is known."""
-        register = depth
+        kind, register = self.stored_kind(node.lvalue), depth
         if node.op == '=':
-            register = self.assign_new(node, place, depth)
-        elif not isinstance(place, Word) and node.op[:-1] in INSTRUCTIONS:
+            register = self.assign_new(node, place, kind, depth)
+        elif not isinstance(place, Word) and self.is_in_place(node, kind):
             self.emit(INSTRUCTIONS[node.op[:-1]], r(place), r(self.operand(node.rvalue, depth)))
             register = place
         else:
-            self.value(node.lvalue, depth)
-            self.change_by(node, depth)
-            self.keep_char(node.lvalue, depth)
+            self.load(depth, place)
+            if kind is Kind.CHAR:
+                self.sign(depth)
+            self.change_by(node, kind, depth)
+            self.keep_char(kind, depth)
             self.store(depth, place)
         if is_wanted:
             self.move(depth, register)
-            if self.is_char(node.lvalue):
+            if kind is Kind.CHAR:
                 self.sign(depth)
 
-    def assign_new(self, node, place, depth):
+    def is_in_place(self, node, kind):
+        """Whether an operation on the register of a variable needs no more."""
+        other = self.number_kind(node.rvalue)
+        return (node.op[:-1] in INSTRUCTIONS and kind in (Kind.INT, Kind.LONG) and common(kind, other) is kind)
+
+    def assign_new(self, node, place, kind, depth):
         """Gives the register that has the value afterwards."""
-        if self.is_char(node.lvalue):
-            self.value(node.rvalue, depth)
-            self.keep_char(node.lvalue, depth, self.constant(node.rvalue))
+        if kind is Kind.CHAR:
+            self.value_as(node.rvalue, depth, kind)
+            self.keep_char(kind, depth, self.constant(node.rvalue))
             register = depth
         elif isinstance(place, Word):
-            register = self.operand(node.rvalue, depth)
+            register = self.operand_as(node.rvalue, depth, kind)
         else:
-            self.value_into(node.rvalue, place, depth)
+            self.value_into(node.rvalue, place, kind, depth)
             return place
         self.store(register, place)
         return register
 
-    def value_into(self, node, register, depth):
+    def value_into(self, node, register, kind, depth):
         """The value of an expression, into the register of a variable."""
-        number = self.constant(node)
+        own, number = self.number_kind(node), self.constant(node)
         if number is not None:
-            self.set(register, number)
-        else:
+            self.set(register, wrapped(number, kind))
+        elif own is kind or self.is_kept(node, kind):
             self.move(register, self.operand(node, depth))
+        else:
+            self.value_as(node, depth, kind)
+            self.move(register, depth)
 
-    def keep_char(self, target, register, number=None):
+    def keep_char(self, kind, register, number=None):
         """A char takes the low byte."""
-        if self.is_char(target) and not (number is not None and 0 <= number < 128):
+        if kind is Kind.CHAR and not (number is not None and 0 <= number < 128):
             self.with_number('and', register, 255)
 
-    def change_by(self, node, depth):
-        """An operation such as that of += on the value that stands at a depth."""
-        operation = node.op[:-1]
-        if operation in INSTRUCTIONS:
-            with self.waiting(depth):
-                right = self.operand(node.rvalue, depth + 1)
-            self.emit(INSTRUCTIONS[operation], r(depth), r(right))
+    def change_by(self, node, kind, depth):
+        """An operation such as that of += on the value of a kind that stands at a depth, which is of that kind again."""
+        operation, other = node.op[:-1], self.number_kind(node.rvalue)
+        if operation in ('<<', '>>'):
+            count = self.shift_count(node, node.rvalue, promoted(kind))
+            if count is None:
+                with self.waiting(depth):
+                    self.value(node.rvalue, depth + 1)
+            self.shift_by(node, operation, promoted(kind), depth, count)
             return
-        count = self.constant(node.rvalue)
-        if count is not None and not 0 <= count < 32:
-            refuse(node, 'a number is shifted by 0 to 31')
-        if count is None:
-            with self.waiting(depth):
-                self.value(node.rvalue, depth + 1)
-        (self.double if operation == '<<' else self.halve)(depth, count)
+        both = common(kind, other)
+        if both is Kind.UNSIGNED and promoted(kind) is Kind.INT:
+            self.convert(depth, both)
+        with self.waiting(depth):
+            right = self.operand_as(node.rvalue, depth + 1, both)
+        self.operate(node, operation, both, depth, right)
+        if kind is not Kind.CHAR and both is not kind and both is not Kind.INT and kind in (Kind.INT, Kind.UNSIGNED):
+            self.convert(depth, kind)
 
     def assign_element(self, node, depth, is_wanted):
         """The address comes first, and then the value, beside it."""
@@ -163,77 +184,85 @@ class Assignments:
             with self.put_away(depth):
                 self.assign_element(node, 0, is_wanted)
             return
+        kind = self.stored_kind(node.lvalue)
         self.address(node.lvalue, depth)
         with self.waiting(depth):
             if node.op == '=':
-                self.value(node.rvalue, depth + 1)
+                self.value_as(node.rvalue, depth + 1, kind)
             else:
                 self.emit('ld', r(depth + 1), r(depth))
-                if self.is_char(node.lvalue):
+                if kind is Kind.CHAR:
                     self.sign(depth + 1)
-                self.change_by(node, depth + 1)
-        self.keep_char(node.lvalue, depth + 1, self.constant(node.rvalue) if node.op == '=' else None)
+                self.change_by(node, kind, depth + 1)
+        self.keep_char(kind, depth + 1, self.constant(node.rvalue) if node.op == '=' else None)
         self.emit('st', r(depth + 1), r(depth))
         if is_wanted:
             self.move(depth, depth + 1)
-            if self.is_char(node.lvalue):
+            if kind is Kind.CHAR:
                 self.sign(depth)
+
+    # steps by one
 
     def step(self, node, depth, wanted):
         """++ and --, with the old value, the new one, or none."""
         operation = 'add' if '+' in node.op else 'sub'
         if not isinstance(node.expr, (c_ast.ID, c_ast.ArrayRef, c_ast.StructRef)):
             refuse(node, 'a variable, an element or a member is counted')
-        if self.kind_of(node.expr) not in (Kind.INT, Kind.CHAR):
+        kind = self.stored_kind(node.expr)
+        if kind not in NUMBERS or is_flags(node.expr):
             refuse(node, f'{node.op.strip("p")} counts a number: write an int')
         self.refuse_constant(node.expr)
         place = self.fixed_place(node.expr)
         if place is None:
-            self.step_element(node, depth, operation, wanted)
+            self.step_element(node, kind, depth, operation, wanted)
         elif isinstance(place, Word):
-            self.step_word(node, place, depth, operation, wanted)
+            self.step_word(node, place, kind, depth, operation, wanted)
         else:
             if wanted == 'old':
                 self.move(depth, place)
             self.with_number(operation, place, 1)
+            self.keep_bits(place, kind)
             if wanted == 'new':
                 self.move(depth, place)
 
-    def step_word(self, node, place, depth, operation, wanted):
-        if not self.is_char(node.expr):
-            self.step_int(place, depth, operation, wanted)
+    def step_word(self, node, place, kind, depth, operation, wanted):
+        if kind is not Kind.CHAR:
+            self.step_int(place, kind, depth, operation, wanted)
             return
         self.value(node.expr, depth)
         if wanted == 'old':
             self.move(depth + 1, depth)
         changed = depth + 1 if wanted == 'old' else depth
         self.with_number(operation, changed, 1)
-        self.keep_char(node.expr, changed)
+        self.keep_char(kind, changed)
         self.store(changed, place)
         if wanted == 'new':
             self.sign(depth)
 
-    def step_int(self, place, depth, operation, wanted):
+    def step_int(self, place, kind, depth, operation, wanted):
         changed = depth + 1 if wanted == 'old' else depth
         self.set(SCRATCH, place)
         self.emit('ld', r(depth), r(SCRATCH))
         self.move(changed, depth)
         self.set(changed + 1, 1)
         self.emit(operation, r(changed), r(changed + 1))
+        if kind is Kind.UNSIGNED:
+            self.keep_bits(changed, kind)
+            self.set(SCRATCH, place)
         self.emit('st', r(changed), r(SCRATCH))
 
-    def step_element(self, node, depth, operation, wanted):
-        is_char = self.is_char(node.expr)
+    def step_element(self, node, kind, depth, operation, wanted):
         self.address(node.expr, depth + 1)
         self.emit('ld', r(depth), r(depth + 1))
-        if is_char:
+        if kind is Kind.CHAR:
             self.sign(depth)
         changed = depth + 2 if wanted == 'old' else depth
         self.move(changed, depth)
         self.with_number(operation, changed, 1)
-        self.keep_char(node.expr, changed)
+        self.keep_bits(changed, kind)
+        self.keep_char(kind, changed)
         self.emit('st', r(changed), r(depth + 1))
-        if wanted == 'new' and is_char:
+        if wanted == 'new' and kind is Kind.CHAR:
             self.sign(depth)
 
     # initial values
@@ -243,7 +272,7 @@ class Assignments:
         place = self.place(variable)
         if variable.length is not None:
             self.begin_array(variable, init, place)
-        elif variable.kind in (Kind.INT, Kind.CHAR):
+        elif variable.kind in NUMBERS:
             if isinstance(init, c_ast.InitList):
                 refuse(init, 'a number has no braces')
             self.begin_number(variable, init, place)
@@ -251,7 +280,7 @@ class Assignments:
             self.begin_members(variable, init, place)
         elif isinstance(init, c_ast.InitList) and len(init.exprs) == 1 and self.constant(init.exprs[0]) == 0:
             self.fill(place, [None] * variable.words)
-        elif isinstance(init, c_ast.ID) and self.kind_of(init) is variable.kind:
+        elif isinstance(init, c_ast.ID) and self.stored_kind(init) is variable.kind:
             for number in range(variable.words):
                 self.load(0, self.fixed_place(init) + number)
                 self.store(0, place + number)
@@ -260,12 +289,10 @@ class Assignments:
 
     def begin_number(self, variable, init, place):
         if not isinstance(place, Word):
-            self.value_into(init, place, 0)
+            self.value_into(init, place, variable.kind, 0)
             return
-        self.value(init, 0)
-        number = self.constant(init)
-        if variable.kind is Kind.CHAR and not (number is not None and 0 <= number < 128):
-            self.with_number('and', 0, 255)
+        self.value_as(init, 0, variable.kind)
+        self.keep_char(variable.kind, 0, self.constant(init))
         self.store(0, place)
 
     def begin_array(self, variable, init, place):
@@ -279,16 +306,16 @@ class Assignments:
             refuse(init, 'the values of an array stand one behind another')
         if len(values) > variable.length:
             refuse(init, f'{variable.name} has {variable.length} elements')
-        self.fill(place, values + [None] * (variable.length - len(values)), variable.kind is Kind.CHAR)
+        self.fill(place, values + [None] * (variable.length - len(values)), [variable.kind] * variable.length)
 
-    def fill(self, place, values, is_char=False):
-        """Neighbouring words get values, or 0."""
+    def fill(self, place, values, kinds=()):
+        """Neighbouring words get values of kinds, or 0."""
         for number, value in enumerate(values):
             if value is None:
                 self.set(0, 0)
             else:
-                self.value(value, 0)
-                if is_char:
+                self.value_as(value, 0, kinds[number])
+                if kinds[number] is Kind.CHAR:
                     self.with_number('and', 0, 255)
             self.store(0, place + number)
 
@@ -301,8 +328,11 @@ class Assignments:
                 if len(value.name) != 1 or name not in MEMBERS[variable.kind]:
                     refuse(value, f'the members are {", ".join(MEMBERS[variable.kind])}')
                 values[MEMBERS[variable.kind][name]] = value.expr
-            elif number == 0 and self.constant(value) == 0:
+            elif number == 0 and is_null(value, self.unit.meaning):
                 values[0] = value
             else:
                 refuse(value, f'members are named: .{order[0]} = ..')
-        self.fill(place, list(values.values()))
+        kinds = [MEMBER_KINDS.get(name, Kind.INT) for name in order]
+        if Kind.SET in kinds and values[1] is not None:
+            refuse(init, 'a mask is not given in braces: write sigemptyset(&action.sa_mask)')
+        self.fill(place, list(values.values()), kinds)

@@ -1,50 +1,20 @@
 """Code for calls: of functions of the file, and of the system, with C's names and arguments."""
 import re
 
-from pycparser import c_ast, c_parser
+from pycparser import c_ast
 
+from constants import bytes_of, is_null, is_string
 from expressions import SCRATCH, r
-from facts import ARGUMENTS, NEVER_FAIL, OTHER_CALLS, PLAIN, SET_CALLS, STATUS_TESTS
+from facts import ARGUMENTS, NEVER_FAIL, PLAIN, SET_CALLS, UNSIGNED_ARGUMENTS
+from kinds import WORDS, Function, Kind, Variable, wrapped
 from refusal import refuse
-from symbols import WORDS, Function, Kind, Variable, bytes_of, is_string
 
-WNOHANG, SA_RESTART, MOST_BYTES, MOST_PARAMETERS = 1, 268435456, 16, 5
-LEAST = -2 ** 63                   # the set of signal 64 alone
+WNOHANG, SA_RESTART, SUBREAPER, EINVAL, MOST_BYTES, MOST_PARAMETERS = 1, 0x10000000, 36, 22, 16, 5
+LONGEST_ALARM = 1000000000
+
 
 class Calls:
     """Writes calls of one function; a part of Writer."""
-
-    def is_call(self, node):
-        """Whether an expression is a call of which an error is a negative number."""
-        return isinstance(node, c_ast.FuncCall) and not self.is_expanded(node)
-
-    @staticmethod
-    def is_expanded(node):
-        return isinstance(node, c_ast.FuncCall) and node.name.name in {**STATUS_TESTS, **OTHER_CALLS}
-
-    def expanded(self, node):
-        """What a macro, or a call of the library, stands for."""
-        name, arguments = node.name.name, node.args.exprs if node.args else []
-        count, template = (1, STATUS_TESTS[name]) if name in STATUS_TESTS else OTHER_CALLS[name]
-        if len(arguments) != count:
-            refuse(node, f'{name} has {count} argument{"s" * (count != 1)}')
-        tree = c_parser.CParser().parse(f'int _ = {template};').ext[0].init
-        return self.filled(tree, dict(zip(('s',) if name in STATUS_TESTS else ('a', 'b'), arguments)), node)
-
-    def filled(self, tree, arguments, node):
-        """A template with arguments in the place of their names."""
-        if isinstance(tree, c_ast.ID) and tree.name in arguments:
-            return arguments[tree.name]
-        tree.coord = node.coord
-        self.kept.append(tree)
-        for name, child in tree.children():
-            number = re.fullmatch(r'(\w+)\[(\d+)\]', name)
-            other = self.filled(child, arguments, node)
-            if number:
-                getattr(tree, number[1])[int(number[2])] = other
-            else:
-                setattr(tree, name, other)
-        return tree
 
     def value_funccall(self, node, depth):
         register = self.call(node, depth, wanted='value')
@@ -52,12 +22,6 @@ class Calls:
 
     def call(self, node, depth, wanted):
         """Calls, and gives the register with the result, of which `wanted` is used: its value, its sign or nothing."""
-        if self.is_expanded(node):
-            if wanted is None:
-                self.effect(self.expanded(node), depth)
-                return 0
-            self.value(self.expanded(node), depth)
-            return depth
         if self.waits:
             with self.put_away(depth):
                 self.call_now(node, 'value' if wanted else None)
@@ -79,8 +43,10 @@ class Calls:
         if wanted and name in ('note', 'exit', '_exit', 'signal'):
             refuse(node, f'the result of {name} is not kept' + (': write sigaction' if name == 'signal' else ''))
         if name in PLAIN:
-            self.numbers(arguments)
+            self.numbers(arguments, kind=Kind.UNSIGNED if name in UNSIGNED_ARGUMENTS else Kind.INT)
             self.finish(name, wanted)
+            if name == 'alarm':
+                self.check_alarm(arguments[0])
         elif name in SET_CALLS:
             self.call_set(name, arguments, wanted)
         else:
@@ -99,7 +65,7 @@ class Calls:
             refuse(node, f'{function.name} gives nothing: write int in front of it')
         instance = self.instance.context.instances[function]
         if any(self.calls_functions(argument) for argument in arguments):
-            self.numbers(arguments, first=0)
+            self.numbers(arguments, 0, [variable.kind for variable in function.parameters])
             for register, variable in enumerate(function.parameters):
                 self.store_argument(register, variable, instance)
         else:
@@ -116,9 +82,9 @@ class Calls:
     def pass_argument(self, argument, variable, instance):
         place = instance.places.get(variable)
         if isinstance(place, int):
-            self.value_into(argument, place, 0)
+            self.value_into(argument, place, variable.kind, 0)
         else:
-            self.store_argument(self.operand(argument, 0), variable, instance)
+            self.store_argument(self.operand_as(argument, 0, variable.kind), variable, instance)
 
     def store_argument(self, register, variable, instance):
         if variable.weight:
@@ -130,25 +96,27 @@ class Calls:
 
     # arguments
 
-    def numbers(self, arguments, first=1):
-        """The values of arguments, from left to right, into neighbouring registers; constants come last."""
+    def numbers(self, arguments, first=1, kind=Kind.INT):
+        """The values of arguments in a type, or each in its own, from left to right, into neighbouring registers; constants
+        come last."""
+        kinds = kind if isinstance(kind, list) else [kind] * len(arguments)
         waiting = []
-        for register, argument in enumerate(arguments, first):
+        for register, (argument, kind) in enumerate(zip(arguments, kinds), first):
             if self.constant(argument) is None:
                 with self.waiting(*waiting):
-                    self.value_of_argument(argument, register)
+                    self.value_of_argument(argument, register, kind)
                 waiting.append(register)
-        for register, argument in enumerate(arguments, first):
+        for register, (argument, kind) in enumerate(zip(arguments, kinds), first):
             if self.constant(argument) is not None:
-                self.set(register, self.constant(argument))
+                self.value_as(argument, register, kind)
 
-    def value_of_argument(self, argument, register):
+    def value_of_argument(self, argument, register, kind):
         """A value at a place that is too deep for what it needs comes there from r0."""
         if register > 2 and not isinstance(argument, c_ast.ID):
             with self.put_away(register):
-                self.value(argument, 0)
+                self.value_as(argument, 0, kind)
         else:
-            self.value(argument, register)
+            self.value_as(argument, register, kind)
 
     def descriptor(self, node):
         if self.constant(node) not in (0, 1, 2):
@@ -156,10 +124,11 @@ class Calls:
 
     def variable_at(self, node, kind, what):
         """The place of a variable whose address is an argument, or None for NULL."""
-        if self.constant(node) == 0:
+        if is_null(node, self.unit.meaning):
             return None
         inner = node.expr if isinstance(node, c_ast.UnaryOp) and node.op == '&' else None
-        if not isinstance(inner, (c_ast.ID, c_ast.ArrayRef, c_ast.StructRef)) or self.kind_of(inner) is not kind:
+        is_place = isinstance(inner, (c_ast.ID, c_ast.ArrayRef)) or isinstance(inner, c_ast.StructRef) and kind is Kind.SET
+        if not is_place or self.stored_kind(inner) is not kind:
             refuse(node, f'the address of a variable stands here: {what}')
         place = self.fixed_place(inner)
         return refuse(node, f'the index is a constant here, or write a variable: {what}') if place is None else place
@@ -198,6 +167,34 @@ class Calls:
             self.set(0, -1)
         self.emit('jmp', back)
 
+    def invalid(self, back, wanted):
+        """A label at which a call fails with EINVAL that isn't made."""
+        label = self.new_label('invalid')
+
+        def write():
+            self.put(label)
+            self.set(0, -EINVAL)
+            self.fail(self.new_label('failed'), back, wanted)
+        self.write_later(write)
+        return label
+
+    def check_alarm(self, node):
+        """A time that the machine doesn't take, where C has one, is an access outside of memory."""
+        seconds = self.constant(node)
+        if seconds is not None:
+            if wrapped(seconds, Kind.UNSIGNED) > LONGEST_ALARM:
+                refuse(node, f'an alarm comes after at most {LONGEST_ALARM} seconds')
+            return
+        fault, back = self.new_label('too_long'), self.new_label('back')
+
+        def write():
+            self.put(fault)
+            self.emit('ld', r(0), r(0))
+            self.emit('jmp', back)
+        self.emit('jlt', r(0), fault)
+        self.put(back)
+        self.write_later(write)
+
     def call_waitpid(self, node, arguments, wanted):
         status = self.variable_at(arguments[1], Kind.INT, '&status')
         self.numbers([arguments[0], arguments[2]])
@@ -205,14 +202,37 @@ class Calls:
         self.finish('waitpid', wanted, status is not None and (lambda: self.store(1, status)),
                     options is None or bool(options & WNOHANG))
 
+    def call_wait(self, node, arguments, wanted):
+        status = self.variable_at(arguments[0], Kind.INT, '&status')
+        self.set(1, -1)
+        self.set(2, 0)
+        self.finish('waitpid', wanted, status is not None and (lambda: self.store(1, status)))
+
+    def call_getpgrp(self, node, arguments, wanted):
+        self.set(1, 0)
+        self.finish('getpgid', wanted)
+
+    def call_killpg(self, node, arguments, wanted):
+        """As kill of the negative number, but no group has a negative one."""
+        self.numbers(arguments)
+        done = self.new_label('done')
+        self.emit('jlt', r(1), self.invalid(done, wanted))
+        self.set(SCRATCH, 0)
+        self.emit('sub', r(SCRATCH), r(1))
+        self.move(1, SCRATCH)
+        self.finish('kill', wanted)
+        self.put(done)
+
     def call_waitid(self, node, arguments, wanted):
         info = self.variable_at(arguments[2], Kind.INFO, '&info')
         self.numbers([arguments[0], arguments[1], arguments[3]])
 
         def store():
             self.store(1, info)
-            self.store(2, info + 1)
+            self.store_change(2, 1, 3, info)
         self.finish('waitid', wanted, info is not None and store)
+
+    # signals
 
     def call_sigaction(self, node, arguments, wanted):
         action = self.variable_at(arguments[1], Kind.ACTION, '&action')
@@ -232,15 +252,23 @@ class Calls:
         self.finish('sigaction', wanted, old is not None and store)
 
     def call_signal(self, node, arguments, wanted):
-        self.numbers(arguments)
-        self.set(3, 0)
+        """The signal itself is in the mask of its handler, as the C library has it."""
+        self.numbers(arguments, kind=[Kind.INT, Kind.HANDLER])
+        signal, done = self.constant(arguments[0]), self.new_label('done')
+        if signal is not None:
+            self.set(3, self.bit(arguments[0], signal))
+        else:
+            self.move(4, 1)
+            self.bit_of(4, 3, self.invalid(done, wanted))
         self.set(4, SA_RESTART)
         self.finish('sigaction', wanted)
+        self.put(done)
 
     def call_sigprocmask(self, node, arguments, wanted):
         signals = self.variable_at(arguments[1], Kind.SET, '&set')
         old = self.variable_at(arguments[2], Kind.SET, '&old')
         if signals is None:
+            self.effect(arguments[0])
             self.set(1, 0)
             self.set(2, 0)
         else:
@@ -269,7 +297,7 @@ class Calls:
                     or items[0].name[0].name != 'sival_int':
                 refuse(value, 'a value is written (union sigval){ .sival_int = 5 }')
             self.numbers([*arguments[:2], items[0].expr])
-        elif isinstance(value, c_ast.ID) and self.kind_of(value) is Kind.VALUE:
+        elif isinstance(value, c_ast.ID) and self.stored_kind(value) is Kind.VALUE:
             self.numbers(arguments[:2])
             self.load(3, self.fixed_place(value))
         else:
@@ -297,40 +325,47 @@ class Calls:
         if count is not None and not 0 <= count <= MOST_BYTES:
             refuse(arguments[2], f'a {name} moves at most {MOST_BYTES} bytes')
         if name == 'write' and is_string(arguments[1]):
-            place = self.text(arguments[1])
+            place, size = self.text(arguments[1], count)
         else:
-            place = self.buffer(arguments[1])
-        self.numbers(arguments[2:], first=2)
+            place, size = self.buffer(arguments[1])
+        if count is not None and count > size:
+            refuse(arguments[2], f'expected at most {size} bytes, as many as there are, found `{count}`')
+        self.numbers(arguments[2:], 2, Kind.UNSIGNED_LONG)
         self.set(1, place)
         self.finish(name, wanted)
 
     def buffer(self, node):
-        """The place of an array of char, or of an element of it."""
-        inner, offset = node, 0
-        if isinstance(node, c_ast.UnaryOp) and node.op == '&' and isinstance(node.expr, c_ast.ArrayRef):
-            inner, offset = node.expr.name, self.constant(node.expr.subscript)
-        elif isinstance(node, c_ast.UnaryOp) and node.op == '&':
-            inner = node.expr
+        """The place of an array of char, or of an element of it, and how many there are from there on."""
+        is_address = isinstance(node, c_ast.UnaryOp) and node.op == '&'
+        inner, offset = node.expr if is_address else node, 0
+        if is_address and isinstance(inner, c_ast.ArrayRef):
+            offset, inner = self.constant(inner.subscript), self.element(inner) and inner.name
         variable = self.meaning(inner)
-        if not isinstance(variable, Variable) or variable.kind is not Kind.CHAR or offset is None:
+        if not isinstance(variable, Variable) or variable.kind is not Kind.CHAR or offset is None \
+                or variable.length is None and not is_address:
             refuse(node, 'an array of char stands here, or &letter of a char, or &line[4]')
-        return self.place(variable) + offset
+        if not 0 <= offset <= (variable.length or 0):
+            refuse(node, f'{variable.name} has the elements 0 to {variable.length - 1}')
+        return self.place(variable) + offset, (variable.length or 1) - offset
 
-    def text(self, node):
-        """Puts a string into words of the frame."""
-        values = bytes_of(node)
-        if len(values) > MOST_BYTES:
+    def text(self, node, count):
+        """Puts a string into words of the frame, as much of it as is written."""
+        values = [*bytes_of(node), 0]
+        size = len(values)
+        values = values[:size if count is None else count]
+        if len(values) > MOST_BYTES + 1:
             refuse(node, f'a write moves at most {MOST_BYTES} bytes')
-        place = self.texts.get(node.value)
+        place = self.texts.get((node.value, count))
         if place is None:
-            place = self.texts[node.value] = self.instance.frame.take(len(values))
+            place = self.texts[node.value, count] = self.instance.frame.take(len(values))
         for number, value in enumerate(values):
             self.set(0, value)
             self.store(0, place + number)
-        return place
+        return place, size
 
     def call_execl(self, node, arguments, wanted):
-        if len(arguments) < 3 or not is_string(arguments[0]) or not self.is_null(arguments[-1]):
+        if len(arguments) < 3 or not is_string(arguments[0]) or not is_string(arguments[1]) \
+                or not is_null(arguments[-1], self.unit.meaning):
             refuse(node, 'a program is named: execl("tool", "tool", (char *)NULL)')
         name = arguments[0].value[1:-1].rpartition('/')[2]
         if name not in self.programs:
@@ -343,17 +378,12 @@ class Calls:
             self.set(2 + number, int(words[number].value[1:-1]) if number < len(words) else 0)
         self.finish('exec', wanted)
 
-    def is_null(self, node):
-        if isinstance(node, c_ast.Cast):
-            node = node.expr
-        return self.constant(node) == 0
-
     def call_exit(self, node, arguments, wanted):
         self.numbers(arguments)
         self.emit('sys', 'exit')
 
     def call_note(self, node, arguments, wanted):
-        self.emit('note', r(self.operand(arguments[0], 0)))
+        self.emit('note', r(self.operand_as(arguments[0], 0, Kind.INT)))
 
     def call_atoi(self, node, arguments, wanted):
         argument = arguments[0]
@@ -364,62 +394,20 @@ class Calls:
         self.load(0, self.place(variable) + (self.constant(argument.subscript) - 1))
 
     def call_prctl(self, node, arguments, wanted):
-        if not isinstance(arguments[0], c_ast.ID) or arguments[0].name != 'PR_SET_CHILD_SUBREAPER':
+        if self.constant(arguments[0]) != SUBREAPER:
             refuse(node, 'prctl has PR_SET_CHILD_SUBREAPER alone here')
         self.numbers(arguments[1:])
         self.finish('subreaper', wanted)
 
     def call_memset(self, node, arguments, wanted):
         action = self.variable_at(arguments[0], Kind.ACTION, '&action')
-        size = arguments[2]
-        if action is None or wanted or self.constant(arguments[1]) != 0 \
-                or not (isinstance(size, c_ast.UnaryOp) and size.op == 'sizeof'):
+        if action is None or wanted or self.constant(arguments[1]) != 0 or not self.is_size_of_action(arguments[2]):
             refuse(node, 'memset clears a struct sigaction alone: memset(&action, 0, sizeof action)')
         self.fill(action, [None] * WORDS[Kind.ACTION])
 
-    # sets of signals
-
-    def call_set(self, name, arguments, wanted):
-        place = self.variable_at(arguments[0], Kind.SET, '&set')
-        if place is None:
-            refuse(arguments[0], 'the address of a set stands here: &set')
-        if name in ('sigemptyset', 'sigfillset'):
-            self.set(0, 0 if name == 'sigemptyset' else -1)
-            self.store(0, place)
-        else:
-            self.bit(arguments[1])
-            self.set(SCRATCH, place)
-            self.emit('ld', r(1), r(SCRATCH))
-            self.change_set(name)
-        if wanted and name != 'sigismember':
-            self.set(0, 0)
-
-    def bit(self, node):
-        """The set of one signal, into r0."""
-        number = self.constant(node)
-        if number is not None:
-            if not 1 <= number <= 64:
-                refuse(node, 'a signal is 1 to 64')
-            self.set(0, 1 << (number - 1) if number < 64 else LEAST)
-            return
-        self.value(node, 1)
-        self.with_number('sub', 1, 1)
-        self.set(0, 1)
-        self.double(0, None)
-
-    def change_set(self, name):
-        """The set is in r1, its address in r5, and that of one signal in r0."""
-        if name == 'sigaddset':
-            self.emit('or', r(1), r(0))
-        elif name == 'sigdelset':
-            self.emit('or', r(1), r(0))
-            self.emit('xor', r(1), r(0))
-        else:
-            end = self.new_label('member')
-            self.emit('and', r(1), r(0))
-            self.set(0, 0)
-            self.emit('jz', r(1), end)
-            self.set(0, 1)
-            self.put(end)
-            return
-        self.emit('st', r(1), r(SCRATCH))
+    def is_size_of_action(self, node):
+        inner = node.expr if isinstance(node, c_ast.UnaryOp) and node.op == 'sizeof' else None
+        if isinstance(inner, c_ast.Typename):
+            inner = getattr(inner.type, 'type', None)
+            return isinstance(inner, c_ast.Struct) and inner.name == 'sigaction'
+        return isinstance(inner, c_ast.ID) and self.stored_kind(inner) is Kind.ACTION

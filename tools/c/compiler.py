@@ -2,14 +2,18 @@
 from assembly import LONGEST_NAME, MOST_INSTRUCTIONS, Assembly, Frame
 from assignments import Assignments
 from calls import Calls
+from conditions import Conditions
 from expressions import SCRATCH, Expressions, r
-from plan import lay_out, make_context, refuse_entered_again, refuse_recursion, refuse_too_much_memory
+from handlers import installed, refuse_entered_again, refuse_unknown_members, tells_of_children
+from kinds import MEMBERS, Kind
+from plan import lay_out, make_context, refuse_recursion, refuse_too_much_memory
 from refusal import Refused, refuse
+from signals import Signals
 from statements import Statements
-from symbols import Kind, Resolver
+from symbols import Resolver
 
 
-class Writer(Statements, Assignments, Calls, Expressions):
+class Writer(Statements, Assignments, Calls, Signals, Conditions, Expressions):
     """Writes one function at one place."""
 
     def __init__(self, program, instance):
@@ -24,7 +28,6 @@ class Writer(Statements, Assignments, Calls, Expressions):
         self.free_slots = []
         self.jumps = []                 # of each loop and switch, where continue and break go
         self.texts = {}
-        self.kept = program.kept
         self.end = None
 
     def emit(self, operation, *operands):
@@ -90,12 +93,14 @@ class Writer(Statements, Assignments, Calls, Expressions):
         self.at(function.node)
         if function.name == 'main':
             return
-        registers = (1, 3, 0)
-        for register, variable in zip(registers, function.parameters):
+        for register, variable in zip((1, 3, 0), function.parameters):
             if variable.weight:
-                self.store(register, self.instance.places[variable])
-                if variable.kind is Kind.INFO:
-                    self.store(2, self.instance.places[variable] + 1)
+                place = self.instance.places[variable]
+                self.store(register, place)
+                if variable.kind is Kind.INFO and tells_of_children(self.unit, function):
+                    self.store_change(2, 3, 0, place)
+                elif variable.kind is Kind.INFO:
+                    self.store(2, place + MEMBERS[Kind.INFO]['si_value'])
 
     def end_root(self, function):
         if function.name == 'main':
@@ -123,12 +128,12 @@ class Program:
 
     def __init__(self, source, programs, planted=None):
         self.unit = Resolver(source).run()
+        self.unit.installed = installed(self.unit)
         self.programs = programs
         self.planted = planted
         self.assembly = Assembly(program_name(source.name))
         self.globals = {}
         self.frame = Frame()
-        self.kept = []                  # nodes that were made here: their ids stay theirs
         self.later = []
         self.line = 0
         self.commented = None
@@ -148,8 +153,7 @@ class Program:
         self.write_context(self.main)
         for context in self.handlers.values():
             self.write_context(context)
-        for context in self.handlers.values():
-            refuse_entered_again(self.unit, context)
+        refuse_entered_again(self.unit, list(self.handlers.values()))
         self.check_unused()
         refuse_too_much_memory(self.unit, lay_out(self.frame, [self.main, *self.handlers.values()]))
         self.assembly.finish()
@@ -255,5 +259,8 @@ def world(sources, pidmax=40, consoles=1, planted=None):
         if name in names:
             raise Refused(f'{source.name}.c', 1, 1, f'two programs are called {name}: rename a file')
         names.add(name)
-    programs = [Program(source, names, planted).text() for source in sources]
-    return f'pidmax {pidmax}\nconsoles {consoles}\n' + ''.join(programs)
+    programs = [Program(source, names, planted) for source in sources]
+    texts = [program.text() for program in programs]
+    for program in programs:
+        refuse_unknown_members(program.unit, [other.unit for other in programs])
+    return f'pidmax {pidmax}\nconsoles {consoles}\n' + ''.join(texts)

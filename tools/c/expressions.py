@@ -4,24 +4,34 @@ A value comes into one of the registers r0 to r4, by the depth at which it stand
 less depth waits in the registers before. r5 is for addresses, r6 and r7 hold variables. Where a call comes while
 values wait they are put into words of the frame, as a call changes registers.
 
-C leaves the order of most operands open: here the left one comes first, and arguments from left to right.
+A register holds a number as C has it: of 32 bits with its sign, or without one. C leaves the order of most operands
+open: here the left one comes first, and arguments from left to right.
 """
 from contextlib import contextmanager
 
 from pycparser import c_ast
 
 from assembly import Address, Word
+from constants import COMPARISONS, constant, is_flags, is_null, kind_of, kind_of_typename
+from facts import NEVER_NEGATIVE, OWN_RESULTS
+from kinds import BITS, MEMBERS, NUMBERS, UNSIGNED, Function, Kind, Variable, common, promoted, wrapped
 from refusal import refuse
-from symbols import MEMBERS, Function, Kind, Variable, constant
 
 SCRATCH, DEEPEST = 5, 2
+BELOW_32, SIGN_OF_32, SIGN = 0xffffffff, 0x80000000, -2 ** 63
+SA_RESTORER = 0x04000000            # Linux sets it in the flags that it keeps
 INSTRUCTIONS = {'+': 'add', '-': 'sub', '*': 'mul', '/': 'div', '%': 'rem', '&': 'and', '|': 'or', '^': 'xor'}
-COMPARISONS = {'==', '!=', '<', '<=', '>', '>='}
-# The comparison that holds where another doesn't, and the one of exchanged sides.
-OPPOSITE = {'==': '!=', '!=': '==', '<': '>=', '>=': '<', '>': '<=', '<=': '>'}
-MIRRORED = {'==': '==', '!=': '!=', '<': '>', '>=': '<=', '>': '<', '<=': '>='}
 USED = {Kind.SET: 'write sigismember(&set, SIGCHLD)', Kind.ARGUMENTS: 'write atoi(argv[1])',
         Kind.CONTEXT: 'leave it out'}
+NO_VALUES = {
+    'Constant': 'a string stands in write and in execl alone: write letters',
+    'CompoundLiteral': 'a literal of a struct stands as the value of sigqueue alone: write a variable',
+    'InitList': 'values in braces stand behind an array or a struct alone',
+    'StructRef': 'the members that are known are those of struct sigaction, siginfo_t and union sigval',
+    'Cast': 'a cast is to a number, or to void: write the value alone',
+}
+NO_OPERATORS = {'*': 'there are no pointers: write an array and an index',
+                '&': 'an address is given to calls of the system alone, as &status'}
 
 
 def r(number):
@@ -34,7 +44,7 @@ class Expressions:
     # small instructions
 
     def set(self, register, value):
-        self.emit('set', r(register), value)
+        self.emit('set', r(register), wrapped(value, Kind.LONG) if isinstance(value, int) else value)
 
     def move(self, to, register):
         if to != register:
@@ -85,7 +95,7 @@ class Expressions:
     def slot(self):
         return self.free_slots.pop() if self.free_slots else self.instance.frame.take()
 
-    # values
+    # types
 
     def constant(self, node):
         return constant(node, self.unit.meaning)
@@ -93,20 +103,108 @@ class Expressions:
     def meaning(self, node):
         return self.unit.meaning.get(id(node))
 
+    def kind_of(self, node):
+        return kind_of(node, self.unit.meaning)
+
+    def number_kind(self, node):
+        """The type that an operand has, which is a number."""
+        kind = self.kind_of(node)
+        if kind in NUMBERS:
+            return promoted(kind)
+        if isinstance(node, (c_ast.BinaryOp, c_ast.TernaryOp, c_ast.ExprList)):
+            for name, child in node.children():
+                if name != 'cond':
+                    self.number_kind(child)
+        if isinstance(node, c_ast.UnaryOp):
+            return refuse(node, NO_OPERATORS[node.op]) if node.op in NO_OPERATORS else self.number_kind(node.expr)
+        if isinstance(node, c_ast.ID) and isinstance(self.meaning(node), Variable):
+            self.require_number(node, self.meaning(node))
+        if isinstance(node, c_ast.ArrayRef):
+            self.element(node)
+        if kind is Kind.VOID and isinstance(node, c_ast.FuncCall):
+            refuse(node, f'{node.name.name} gives nothing: write int in front of it'
+                   if isinstance(self.meaning(node.name), Function) else f'the result of {node.name.name} is not kept')
+        if kind is Kind.HANDLER:
+            refuse(node, 'expected a number, found a handler; it is compared by == and !=')
+        name = type(node).__name__
+        return refuse(node, NO_VALUES.get(name, f'{name} is not in the subset'))
+
+    @staticmethod
+    def require_number(node, variable):
+        if variable.length is not None:
+            refuse(node, f'{variable.name} is an array: write an index behind it')
+        if variable.kind not in NUMBERS:
+            instead = USED.get(variable.kind, 'name a member')
+            refuse(node, f'{variable.name} is no number but a {variable.kind.value}: {instead}')
+
+    @staticmethod
+    def refuse_found(node, expected, found):
+        refuse(node, f'expected {expected}, found `{found}`')
+
+    def common_kind(self, left, right):
+        return common(self.number_kind(left), self.number_kind(right))
+
+    def is_kept(self, node, kind):
+        """Whether a value is the same in another type: 64 bits are those of the register, and some are small."""
+        own = promoted(self.kind_of(node))
+        if own is kind or BITS[kind] == 64:
+            return True
+        if isinstance(node, c_ast.FuncCall) and not isinstance(self.meaning(node.name), Function):
+            return node.name.name in NEVER_NEGATIVE or kind is Kind.INT
+        if isinstance(node, c_ast.BinaryOp) and node.op == '&':
+            masks = [self.constant(node.left), self.constant(node.right)]
+            return any(mask is not None and 0 <= mask < SIGN_OF_32 for mask in masks)
+        return False
+
+    def convert(self, register, kind):
+        """A value of another type in one of 32 bits."""
+        self.with_number('and', register, BELOW_32)
+        if kind is Kind.INT:
+            self.with_number('xor', register, SIGN_OF_32)
+            self.emit('sub', r(register), r(SCRATCH))
+
+    def keep_bits(self, register, kind):
+        """What is left of a result that has more bits than its type, where C says which: without a sign."""
+        if kind is Kind.UNSIGNED:
+            self.with_number('and', register, BELOW_32)
+
+    # values
+
     def value(self, node, depth):
-        """The value of an expression, into a register."""
+        """The value of an expression in its own type, into a register."""
         number = self.constant(node)
         if number is not None:
             self.set(depth, number)
             return
         method = getattr(self, f'value_{type(node).__name__.lower()}', None)
         if method is None:
-            refuse(node, self.no_expression(node))
+            self.number_kind(node)
         if depth > DEEPEST and not isinstance(node, c_ast.ID):
             with self.put_away(depth):
                 method(node, 0)
         else:
             method(node, depth)
+
+    def value_as(self, node, depth, kind):
+        """The value in a type. A char is an int that is kept as a byte: see keep_char."""
+        if kind is Kind.HANDLER:
+            self.value_of_handler(node, depth)
+            return
+        own, number = self.number_kind(node), self.constant(node)
+        if number is not None:
+            self.set(depth, wrapped(number, kind) if kind is not Kind.CHAR else number)
+            return
+        self.value(node, depth)
+        if kind is not Kind.CHAR and own is not kind and not self.is_kept(node, kind):
+            self.convert(depth, kind)
+
+    def value_of_handler(self, node, depth):
+        if is_null(node, self.unit.meaning):
+            self.set(depth, 0)
+        elif self.kind_of(node) is Kind.HANDLER:
+            self.value(node, depth)
+        else:
+            refuse(node, 'a handler stands here: SIG_DFL, SIG_IGN, or the name of a function')
 
     def operand(self, node, depth):
         """The register that has the value of an expression: its own, where it is a variable in a register."""
@@ -118,15 +216,11 @@ class Expressions:
         self.value(node, depth)
         return depth
 
-    @staticmethod
-    def no_expression(node):
-        kind = type(node).__name__
-        return {
-            'Constant': 'a string stands in write and in execl alone: write letters',
-            'CompoundLiteral': 'a literal of a struct stands as the value of sigqueue alone: write a variable',
-            'InitList': 'values in braces stand behind an array or a struct alone',
-            'StructRef': 'the members that are known are those of struct sigaction, siginfo_t and union sigval',
-        }.get(kind, f'{kind} is not in the subset')
+    def operand_as(self, node, depth, kind):
+        if kind in BITS and kind is not Kind.CHAR and self.constant(node) is None and self.number_kind(node) is kind:
+            return self.operand(node, depth)
+        self.value_as(node, depth, kind)
+        return depth
 
     def value_id(self, node, depth):
         meaning = self.meaning(node)
@@ -137,14 +231,6 @@ class Expressions:
         self.load(depth, self.place(meaning))
         if meaning.kind is Kind.CHAR:
             self.sign(depth)
-
-    @staticmethod
-    def require_number(node, variable):
-        if variable.length is not None:
-            refuse(node, f'{variable.name} is an array: write an index behind it')
-        if variable.kind not in (Kind.INT, Kind.CHAR):
-            instead = USED.get(variable.kind, 'name a member')
-            refuse(node, f'{variable.name} is no number but a {variable.kind.value}: {instead}')
 
     def sign(self, register):
         """A byte of 0 to 255 as a char, which has a sign."""
@@ -165,56 +251,24 @@ class Expressions:
         self.emit('ld', r(depth), r(depth))
 
     def value_structref(self, node, depth):
-        variable, member = self.member(node)
-        self.load(depth, self.place(variable) + MEMBERS[variable.kind][member])
-        if member == 'si_status':
-            self.status_of_word(depth)
-        elif member == 'si_code':
-            self.code_of_word(depth)
-
-    def status_of_word(self, depth):
-        """What si_status is of a status word: the exit code, or the signal."""
-        self.choose_by_word(depth, lambda: self.set(depth, 18), lambda: self.with_number('div', depth, 256),
-                            lambda: None)
-
-    def code_of_word(self, depth):
-        exit_or_stop = self.new_label('stopped'), self.new_label('code')
-
-        def of_low_byte():
-            self.with_number('and', depth, 127)
-            self.emit('jnz', r(depth), exit_or_stop[0])
-            self.set(depth, 1)
-            self.emit('jmp', exit_or_stop[1])
-            self.put(exit_or_stop[0])
-            self.set(depth, 5)
-            self.put(exit_or_stop[1])
-        self.choose_by_word(depth, lambda: self.set(depth, 6), of_low_byte, lambda: self.set(depth, 2))
-
-    def choose_by_word(self, depth, continued, exited_or_stopped, killed):
-        other, by_signal, end = (self.new_label(name) for name in ('not_continued', 'killed', 'word_known'))
-        self.move(depth + 1, depth)
-        self.with_number('sub', depth + 1, 65535)
-        self.emit('jnz', r(depth + 1), other)
-        continued()
-        self.emit('jmp', end)
-        self.put(other)
-        self.move(depth + 1, depth)
-        self.with_number('and', depth + 1, 127)
-        self.with_number('add', depth + 1, 1)
-        self.with_number('rem', depth + 1, 128)
-        self.with_number('div', depth + 1, 2)
-        self.emit('jnz', r(depth + 1), by_signal)
-        exited_or_stopped()
-        self.emit('jmp', end)
-        self.put(by_signal)
-        killed()
-        self.put(end)
+        place = self.fixed_place(node)
+        if is_flags(node):
+            refuse(node, 'flags are read bit by bit, as the system adds one: write sa_flags & SA_RESTART')
+        if self.kind_of(node) not in (*NUMBERS, Kind.HANDLER):
+            refuse(node, f'{node.field.name} is no number but a {self.kind_of(node).value}')
+        self.load(depth, place)
 
     def value_cast(self, node, depth):
-        names = getattr(getattr(node.to_type.type, 'type', None), 'names', None)
-        if names is None or ' '.join(names) not in ('int', 'pid_t', 'sig_atomic_t', 'uid_t', 'gid_t', 'ssize_t'):
-            refuse(node, 'a cast is to int, or to void: write the value alone')
-        self.value(node.expr, depth)
+        kind = kind_of_typename(node.to_type)
+        if kind is Kind.HANDLER and self.constant(node.expr) is not None:
+            self.set(depth, self.constant(node.expr))
+        elif kind in NUMBERS:
+            self.value_as(node.expr, depth, kind)
+            if kind is Kind.CHAR:
+                self.with_number('and', depth, 255)
+                self.sign(depth)
+        else:
+            refuse(node, NO_VALUES['Cast'])
 
     def value_exprlist(self, node, depth):
         for part in node.exprs[:-1]:
@@ -223,11 +277,12 @@ class Expressions:
 
     def value_ternaryop(self, node, depth):
         otherwise, end = self.new_label('else'), self.new_label('end')
+        kind = self.kind_of(node) if self.kind_of(node) is Kind.HANDLER else self.number_kind(node)
         self.branch(node.cond, otherwise, False, depth)
-        self.value(node.iftrue, depth)
+        self.value_as(node.iftrue, depth, kind)
         self.emit('jmp', end)
         self.put(otherwise)
-        self.value(node.iffalse, depth)
+        self.value_as(node.iffalse, depth, kind)
         self.put(end)
 
     def value_unaryop(self, node, depth):
@@ -235,70 +290,97 @@ class Expressions:
             self.step(node, depth, 'old' if node.op.startswith('p') else 'new')
         elif node.op == '!':
             self.truth(node, depth)
-        elif node.op == '~':
-            self.value(node.expr, depth)
-            self.with_number('xor', depth, -1)
-        elif node.op == '-':
-            self.negate(node, depth)
-        elif node.op == '+':
-            self.value(node.expr, depth)
+        elif node.op in ('~', '-', '+'):
+            kind = self.number_kind(node.expr)
+            if node.op == '-':
+                self.negate(node, depth)
+            else:
+                self.value(node.expr, depth)
+            if node.op == '~':
+                self.with_number('xor', depth, -1)
+            if node.op != '+':
+                self.keep_bits(depth, kind)
         else:
-            refuse(node, {'*': 'there are no pointers: write an array and an index',
-                          '&': 'an address is given to calls of the system alone, as &status'}.get(
-                              node.op, f'{node.op} is not in the subset'))
+            refuse(node, NO_OPERATORS.get(node.op, f'{node.op} is not in the subset'))
 
     def negate(self, node, depth):
         register = self.operand(node.expr, depth + 1) if depth <= DEEPEST else None
         self.set(depth, 0)
         self.emit('sub', r(depth), r(register))
 
-    def truth(self, node, depth):
-        """1 where a condition holds, else 0."""
-        otherwise, end = self.new_label('not'), self.new_label('end')
-        self.branch(node, otherwise, False, depth)
-        self.set(depth, 1)
-        self.emit('jmp', end)
-        self.put(otherwise)
-        self.set(depth, 0)
-        self.put(end)
-
     def value_binaryop(self, node, depth):
         if node.op in COMPARISONS or node.op in ('&&', '||'):
             self.truth(node, depth)
         elif node.op in ('<<', '>>'):
             self.shift(node, depth)
+        elif node.op == '&' and self.flags_in(node):
+            flags, mask = self.flags_in(node)
+            self.load(depth, self.fixed_place(flags))
+            self.with_number('and', depth, mask)
         else:
-            self.both(node.left, node.right, depth,
-                      lambda right: self.emit(INSTRUCTIONS[node.op], r(depth), r(right)))
+            kind = self.common_kind(node.left, node.right)
+            self.both(node.left, node.right, depth, kind,
+                      lambda right: self.operate(node, node.op, kind, depth, right))
 
-    def both(self, left, right, depth, operate):
-        """The left value in a register, and then the right one, as operands of what is done."""
+    def flags_in(self, node):
+        """The flags and the mask, where bits of sa_flags are read that mean here what they mean in Linux."""
+        for flags, mask in ((node.left, node.right), (node.right, node.left)):
+            bits = self.constant(mask)
+            if is_flags(flags) and bits is not None:
+                return (flags, bits) if bits >= 0 and not bits & SA_RESTORER else None
+        return None
+
+    def operate(self, node, operation, kind, register, right):
+        """An operation of two registers in a type."""
+        if kind is Kind.UNSIGNED_LONG and operation in '/%':
+            refuse(node, f'{operation} of unsigned long is not in the subset: cast both sides to int')
+        self.emit(INSTRUCTIONS[operation], r(register), r(right))
+        if operation in '+-*':
+            self.keep_bits(register, kind)
+
+    def both(self, left, right, depth, kind, operate):
+        """The left value in a register, and then the right one, as operands of what is done, in a type."""
         if self.planted == 'order':
-            self.value(right, depth)
+            self.value_as(right, depth, kind)
             slot = self.slot()
             self.store(depth, slot)
-            self.value(left, depth)
+            self.value_as(left, depth, kind)
             self.load(depth + 1, slot)
             operate(depth + 1)
             return
-        self.value(left, depth)
+        self.value_as(left, depth, kind)
         with self.waiting(depth):
-            register = self.operand(right, depth + 1)
+            register = self.operand_as(right, depth + 1, kind)
         operate(register)
 
-    def shift(self, node, depth):
-        count = self.constant(node.right)
-        if count is not None and not 0 <= count < 32:
-            refuse(node, 'a number is shifted by 0 to 31')
-        self.shift_by(node, depth, count)
+    # shifts
 
-    def shift_by(self, node, depth, count):
+    def shift(self, node, depth):
+        kind = self.number_kind(node.left)
+        self.number_kind(node.right)
+        count = self.shift_count(node, node.right, kind)
         self.value(node.left, depth)
         if count is None:
             with self.waiting(depth):
                 self.value(node.right, depth + 1)
-        if node.op == '<<':
+        self.shift_by(node, node.op, kind, depth, count)
+
+    def shift_count(self, node, right, kind):
+        count = self.constant(right)
+        if count is not None and not 0 <= count < BITS[kind]:
+            refuse(node, f'a number is shifted by 0 to {BITS[kind] - 1}')
+        return count
+
+    def shift_by(self, node, operation, kind, depth, count):
+        """Shifts by a constant, or by what is in the next register."""
+        if operation == '<<':
             self.double(depth, count)
+            if BITS[kind] == 32:
+                self.convert(depth, kind)
+        elif kind is Kind.UNSIGNED_LONG:
+            refuse(node, '>> of unsigned long is not in the subset: cast it to int')
+        elif kind is Kind.UNSIGNED:
+            self.halve_positive(depth, count)
         else:
             self.halve(depth, count)
 
@@ -337,119 +419,6 @@ class Expressions:
         self.with_number('sub', depth + 1, 1)
         self.emit('jmp', again)
         self.put(end)
-
-    # conditions
-
-    def branch(self, node, label, when, depth=0):
-        """Goes to a label where the truth of a condition is `when`, else on."""
-        number = self.constant(node)
-        if number is not None:
-            if bool(number) == when:
-                self.emit('jmp', label)
-        elif isinstance(node, c_ast.UnaryOp) and node.op == '!':
-            self.branch(node.expr, label, not when, depth)
-        elif isinstance(node, c_ast.BinaryOp) and node.op in ('&&', '||'):
-            self.branch_of_two(node, label, when, depth)
-        elif isinstance(node, c_ast.BinaryOp) and node.op in COMPARISONS:
-            self.compare(node, label, when, depth)
-        elif self.is_expanded(node):
-            self.branch(self.expanded(node), label, when, depth)
-        else:
-            self.emit('jnz' if when else 'jz', r(self.sign_of(node, depth)), label)
-
-    def branch_of_two(self, node, label, when, depth):
-        if self.planted == 'both':
-            operation = 'and' if node.op == '&&' else 'or'
-            self.both(node.left, node.right, depth, lambda right: self.emit(operation, r(depth), r(right)))
-            self.emit('jnz' if when else 'jz', r(depth), label)
-        elif when == (node.op == '||'):
-            self.branch(node.left, label, when, depth)
-            self.branch(node.right, label, when, depth)
-        else:
-            behind = self.new_label('and' if node.op == '&&' else 'or')
-            self.branch(node.left, behind, not when, depth)
-            self.branch(node.right, label, when, depth)
-            self.put(behind)
-
-    def compare(self, node, label, when, depth):
-        if depth > DEEPEST:
-            self.compare_deep(node, label, when, depth)
-            return
-        left, right, operation = node.left, node.right, node.op if when else OPPOSITE[node.op]
-        number = self.constant(right)
-        if number is None and self.constant(left) is not None:
-            left, right, operation, number = right, left, MIRRORED[operation], self.constant(left)
-        if number == -1 and self.is_call(left) and operation in ('==', '!='):
-            operation, number = ('<' if operation == '==' else '>='), 0
-        if number == 0:
-            self.compare_with_0(self.sign_of(left, depth), operation, label)
-        elif operation in ('==', '!='):
-            self.compare_equal(left, right, operation, label, depth)
-        elif number is not None:
-            self.compare_with_number(left, number, operation, label, depth)
-        elif operation in ('<', '>='):
-            self.both(left, right, depth, lambda register: self.emit('sub', r(depth), r(register)))
-            self.compare_with_0(depth, operation, label)
-        else:
-            self.compare_greater(left, right, operation, label, depth)
-
-    def compare_deep(self, node, label, when, depth):
-        with self.put_away(depth):
-            self.truth(node, 0)
-        self.emit('jnz' if when else 'jz', r(depth), label)
-
-    def compare_equal(self, left, right, operation, label, depth):
-        number = self.constant(right)
-        if number is not None and 0 < number < 128 and isinstance(left, c_ast.ArrayRef):
-            self.raw_element(left, depth)
-            self.with_number('sub', depth, number)
-        else:
-            self.both(left, right, depth, lambda register: self.emit('sub', r(depth), r(register)))
-        self.emit('jz' if operation == '==' else 'jnz', r(depth), label)
-
-    def compare_with_number(self, left, number, operation, label, depth):
-        """A difference is below 0: left - number, or the other way round."""
-        if operation in ('<', '<='):
-            self.value(left, depth)
-            self.with_number('sub', depth, number + (operation == '<='))
-            self.emit('jlt', r(depth), label)
-        else:
-            register = self.operand(left, depth)
-            self.set(depth + 1, number - (operation == '>='))
-            self.emit('sub', r(depth + 1), r(register))
-            self.emit('jlt', r(depth + 1), label)
-
-    def compare_greater(self, left, right, operation, label, depth):
-        """Left is greater where right - left is below 0."""
-        register = self.operand(left, depth)
-        with self.waiting(*([register] if register == depth else [])):
-            self.value(right, depth + 1)
-        self.emit('sub', r(depth + 1), r(register))
-        self.compare_with_0(depth + 1, '<' if operation == '>' else '>=', label)
-
-    def compare_with_0(self, register, operation, label):
-        if operation in ('==', '!='):
-            self.emit('jz' if operation == '==' else 'jnz', r(register), label)
-        elif operation in ('<', '<='):
-            self.emit('jlt', r(register), label)
-            if operation == '<=':
-                self.emit('jz', r(register), label)
-        else:
-            behind = self.new_label('not')
-            self.emit('jlt', r(register), behind)
-            if operation == '>':
-                self.emit('jz', r(register), behind)
-            self.emit('jmp', label)
-            self.put(behind)
-
-    def sign_of(self, node, depth):
-        """The register with a value of which only the sign counts, and whether it is 0."""
-        if self.is_call(node):
-            return self.call(node, depth, wanted='sign')
-        if isinstance(node, c_ast.ArrayRef) and self.element(node).kind is Kind.CHAR and depth <= DEEPEST:
-            self.value(node, depth)
-            return depth
-        return self.operand(node, depth)
 
     # places
 
@@ -502,6 +471,7 @@ class Expressions:
     def address(self, node, depth):
         """The address of an element, into a register."""
         variable = self.element(node)
+        self.number_kind(node.subscript)
         index = self.operand(node.subscript, depth)
         if index == depth:
             self.with_number('add', depth, self.place(variable))
@@ -510,5 +480,8 @@ class Expressions:
             self.emit('add', r(depth), r(index))
 
     def is_char(self, node):
-        variable = self.element(node) if isinstance(node, c_ast.ArrayRef) else self.meaning(node)
-        return isinstance(variable, Variable) and variable.kind is Kind.CHAR
+        return self.kind_of(node) is Kind.CHAR
+
+    def is_error_negative(self, node):
+        """Whether a call of the system gives -1, and nothing else below 0."""
+        return node.name.name not in OWN_RESULTS

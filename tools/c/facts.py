@@ -1,31 +1,5 @@
-"""What C's names of the system mean: numbers, tests of a status word, and calls that others stand for."""
-import os
-import re
-
-TABLE = os.path.join(os.path.dirname(os.path.realpath(__file__)), '../../crates/wording/src/table.rt')
-ROW = re.compile(r'\(Kind::\w+, "(\w+)", (\w+)\)')
-MORE_NUMBERS = {
-    'NULL': 0, 'EXIT_SUCCESS': 0, 'EXIT_FAILURE': 1, 'STDIN_FILENO': 0, 'STDOUT_FILENO': 1, 'STDERR_FILENO': 2,
-    'PR_SET_CHILD_SUBREAPER': 36, 'CLD_EXITED': 1, 'CLD_KILLED': 2, 'CLD_STOPPED': 5, 'CLD_CONTINUED': 6,
-}
-
-# What stands for a macro of wait.h; `s` is its argument, a status word, which isn't negative.
-STATUS_TESTS = {
-    'WIFEXITED': '(s & 127) == 0',
-    'WEXITSTATUS': 's / 256 & 255',
-    'WIFSIGNALED': '((s & 127) + 1) % 128 > 1',
-    'WTERMSIG': 's & 127',
-    'WIFSTOPPED': '(s & 255) == 127',
-    'WSTOPSIG': 's / 256 & 255',
-    'WIFCONTINUED': 's == 65535',
-}
-
-# What stands for a call of the C library; `a` and `b` are its arguments.
-OTHER_CALLS = {
-    'getpgrp': (0, 'getpgid(0)'),
-    'killpg': (2, 'kill(-a, b)'),
-    'wait': (1, 'waitpid(-1, a, 0)'),
-}
+"""What C's names of the system mean: calls, how many arguments they have, and what to write in place of others."""
+from kinds import Kind
 
 # Calls of which all arguments are numbers, in r1 and so on, and how many there are.
 PLAIN = {
@@ -38,11 +12,20 @@ SET_CALLS = {'sigemptyset': 1, 'sigfillset': 1, 'sigaddset': 2, 'sigdelset': 2, 
 OF_TERMINAL = {'tcgetpgrp': 1, 'tcsetpgrp': 2, 'read': 3, 'write': 3}
 SPECIAL = {
     'waitpid': 3, 'waitid': 4, 'sigaction': 3, 'signal': 2, 'sigprocmask': 3, 'sigpending': 1, 'sigsuspend': 1,
-    'sigqueue': 3, 'execl': None, '_exit': 1, 'exit': 1, 'note': 1, 'atoi': 1, 'prctl': 2, 'memset': 3,
+    'sigqueue': 3, 'execl': None, '_exit': 1, 'exit': 1, 'note': 1, 'atoi': 1, 'prctl': 2, 'memset': 3, 'getpgrp': 0,
+    'killpg': 2, 'wait': 1,
 }
 ARGUMENTS = {**PLAIN, **SET_CALLS, **OF_TERMINAL, **SPECIAL}
-# All names of functions and macros that are no function of the file.
-PROVIDED = set(STATUS_TESTS) | set(OTHER_CALLS) | set(ARGUMENTS)
+# All names of functions that are no function of the file.
+PROVIDED = set(ARGUMENTS)
+
+# Calls whose arguments have no sign, and the types of results that are no int.
+UNSIGNED_ARGUMENTS = {'setuid', 'seteuid', 'setgid', 'setegid', 'alarm'}
+NEVER_NEGATIVE = {'getuid', 'geteuid', 'getgid', 'getegid', 'alarm'}
+RESULTS = {**dict.fromkeys(NEVER_NEGATIVE, Kind.UNSIGNED), 'read': Kind.LONG, 'write': Kind.LONG, 'signal': Kind.HANDLER,
+           **dict.fromkeys(('note', 'exit', '_exit'), Kind.VOID)}
+# Results that are no errors, also where they are below 0.
+OWN_RESULTS = NEVER_NEGATIVE | {'atoi', 'note', 'exit', '_exit', 'memset'}
 
 # What to write in place of names that are often written.
 INSTEAD = {
@@ -87,10 +70,3 @@ INSTEAD = {
     'setpgrp': 'write setpgid(0, 0)',
     'raise': 'write kill(getpid(), signal)',
 }
-
-
-def read_numbers():
-    """The constants that jobk has names for, and those that C alone has."""
-    with open(TABLE, encoding='ascii') as table:
-        rows = ROW.findall(table.read())
-    return MORE_NUMBERS | {name: int(number, 0) for name, number in rows}

@@ -8,8 +8,8 @@ the other, directly or through others.
 from dataclasses import dataclass, field
 
 from assembly import MEMORY, Frame
+from kinds import Function
 from refusal import Refused, place_of, refuse
-from symbols import Function
 
 REGISTERS = (7, 6)
 
@@ -119,24 +119,3 @@ def refuse_too_much_memory(unit, words):
         place = place_of(unit.functions['main'].node)
         raise Refused(place.file, 1, 1, f'{unit.source.name} needs {words} words of memory, {words - MEMORY} more than '
                       f'the {MEMORY} of a process: make arrays smaller, or give variables to several functions')
-
-
-def refuse_entered_again(unit, context):
-    """Refuses a handler that can be entered while it runs, where it has words of memory: it has them once."""
-    if not any(instance.frame.size for instance in context.instances.values()):
-        return
-    name = context.root.name
-    installed = [it for it in unit.installed if it.function is context.root]
-    signals = {it.signal for it in installed}
-    again = None
-    if len(signals) > 1 or None in signals:
-        again = 'handles several signals'
-    elif 'SA_NODEFER' in unit.mentioned:
-        again = 'may be set with SA_NODEFER'
-    elif any(call.name.name in ('sigsuspend', 'sigprocmask')
-             for function in context.instances for call in function.system_calls):
-        again = 'changes the mask'
-    if again:
-        node = installed[-1].node if installed else context.root.node
-        refuse(node, f'{name} {again}, so it can be entered while it runs, and its variables have one place: write a '
-               'handler for each signal, or keep what it has to at most two variables')

@@ -2,6 +2,14 @@
 from dataclasses import dataclass
 
 
+@dataclass(frozen=True)
+class Place:
+    """A place in a C file."""
+    file: str
+    line: int
+    column: int
+
+
 @dataclass
 class Refused(Exception):
     """A text that the compiler doesn't take."""
@@ -19,7 +27,7 @@ def refuse(node, what):
     place = place_of(node)
     if place is None:
         raise Refused('?', 1, 1, what)
-    raise Refused(place.file, place.line, place.column or 1, what)
+    raise Refused(place.file, place.line, place.column, what)
 
 
 def place_of(node):

@@ -1,143 +1,252 @@
-"""From a C file to its syntax tree: comments and directives go, and every place stays where it was."""
+"""From a C file to its syntax tree: gcc preprocesses it, and pycparser parses what gcc leaves.
+
+With -fdebug-cpp gcc says of each token where it stands. The parser gets each token on a line of its own, so that the
+number of a line is that of a token, and each node of the tree gets the token's place in the file.
+"""
 import os
 import re
-from dataclasses import dataclass, field
+import subprocess
+from dataclasses import dataclass
 
 from pycparser import c_ast, c_parser
 
-from refusal import Refused
+from refusal import Place, Refused
 
-HEADER = 'jobk.h'
-# The parser has to know which names are types.
-TYPES = {
-    'pid_t': 'int', 'uid_t': 'int', 'gid_t': 'int', 'ssize_t': 'int', 'sig_atomic_t': 'int', 'size_t': 'int',
-    'sigset_t': 'int', 'siginfo_t': 'int',
-}
-PRELUDE = ''.join(f'typedef {type_name} {name}; ' for name, type_name in TYPES.items())
+# In the place of the system's headers and of jobk.h.
+HEADERS = os.path.join(os.path.dirname(os.path.realpath(__file__)), 'include')
+GCC = ['gcc', '-E', '-dU', '-fdebug-cpp', '-Werror=undef', '-fdiagnostics-color=never', '-nostdinc', '-I', '.']
+TOKEN = re.compile(r'\{P:([^;{}]*);F:[^;{}]*;L:(\d+);C:(\d+);S:\d+;M:[^;{}]*;E:\d+,LOC:\d+,R:\d+\}')
+LINE = re.compile(r'# (\d+) "([^"]*)"')
+USER = '<stdin>'
+INCLUDES = re.compile(r'^[ \t]*#[ \t]*include[ \t]*"jobk\.h"', re.M)
+DIRECTIVE = re.compile(r'^[ \t]*#(?:.*\\\n)*.*', re.M)
+ESCAPE = re.compile(r'\\(x[0-9a-fA-F]+|[0-7]{1,3}|.)|(.)', re.S)
+LETTERS = {'n': 10, 't': 9, 'r': 13, '\\': 92, "'": 39, '"': 34, '?': 63, 'a': 7, 'b': 8, 'f': 12, 'v': 11, 'e': 27}
 SYNTAX = {
     'invalid expression': 'no expression stands here: write a value, or leave out what comes before',
     'at end of input': 'the file ends within a function or a statement: write } or ;',
 }
-COMMENT_OR_QUOTED = re.compile(r'/\*.*?\*/|//[^\n]*|"(?:\\.|[^"\\\n])*"|\'(?:\\.|[^\'\\\n])*\'|/\*', re.S)
-DIRECTIVE = re.compile(r'[ \t]*#[ \t]*(\w*)[ \t]*(.*)')
-CONSTANT = re.compile(r'-?[ \t]*(\d\w*|\'(?:\\.|[^\'\\])*\'|[A-Za-z_]\w*)$|\(.*\)$')
+
+
+class NoGcc(Exception):
+    """The gcc that is found doesn't do what is needed."""
 
 
 @dataclass
 class Source:
-    """A C file: its tree, its lines as they were written, and the constants of its `#define` lines."""
+    """A C file: its lines as they were written, and its tree."""
     path: str
     lines: list
     tree: c_ast.FileAST = None
-    constants: dict = field(default_factory=dict)
+
+    @property
+    def shown(self):
+        return os.path.basename(self.path)
 
     @property
     def name(self):
-        return os.path.splitext(os.path.basename(self.path))[0]
+        return os.path.splitext(self.shown)[0]
 
 
 def read_source(path):
-    with open(path, encoding='utf-8-sig', errors='replace') as file:
-        return parse_source(path, file.read())
+    with open(path, 'rb') as file:
+        return parse_source(path, file.read().decode('latin-1'))
 
 
-def parse_source(path, text):
-    shown = os.path.basename(path)
-    source = Source(path, text.expandtabs(8).split('\n'))
-    code = without_comments(shown, text.expandtabs(8)).split('\n')
-    for number, line in enumerate(code, 1):
-        if line.lstrip().startswith('#'):
-            take_directive(source, shown, number, line)
-            code[number - 1] = ''
-    source.tree = parse(shown, '\n'.join(code))
+def parse_source(path, raw):
+    """The tree of a text, of which each letter is a byte."""
+    source = Source(path, [shown_line(line) for line in raw.split('\n')])
+    if re.search(r'^[ \t]*#[ \t]*(line\b|\d)', raw, re.M):
+        refuse_directive(source, raw, r'(line\b|\d)', '#line changes where a message points: leave it out')
+    preprocessed = preprocess(source, raw)
+    tokens, places = Tokens(source, raw).read(preprocessed)
+    source.tree = parse(source, tokens, places)
     return source
 
 
-def without_comments(shown, text):
-    """The text with blanks in the place of its comments."""
-    def blanks(match):
-        part = match.group()
-        if part[0] in '"\'':
-            return part
-        if part == '/*':
-            raise Refused(shown, text.count('\n', 0, match.start()) + 1,
-                          match.start() - text.rfind('\n', 0, match.start()), 'this comment has no end: write */')
-        return re.sub(r'[^\n]', ' ', part)
-    return COMMENT_OR_QUOTED.sub(blanks, text)
+def shown_line(line):
+    return line.encode('latin-1').decode('utf-8', 'replace').expandtabs(8)
 
 
-def take_directive(source, shown, number, line):
-    word, rest = DIRECTIVE.match(line).groups()
-    column = line.index('#') + 1
-
-    def refused(what):
-        return Refused(shown, number, column, what)
-    if word == 'include':
-        if not (rest.startswith('<') or rest.strip() == f'"{HEADER}"'):
-            raise refused(f'only {HEADER} and headers of the system are included: write the code into this file, or '
-                          'into a program of its own for execl')
-    elif word == 'define':
-        take_constant(source, shown, number, line, rest, refused)
-    else:
-        raise refused(f'#{word} is not in the subset: #include and #define are')
+def column(line, count):
+    """The column behind so many bytes of a line, where a tab goes to the next column of 8."""
+    return len(shown_line(line[:count])) + 1
 
 
-def take_constant(source, shown, number, line, rest, refused):
-    name = re.match(r'[A-Za-z_]\w*', rest)
-    if not name:
-        raise refused('a constant is written: #define NAME 8')
-    body = rest[name.end():]
-    if body.startswith('('):
-        raise refused(f'{name.group()} is a macro with arguments: write a function')
-    if not body.strip():
-        raise refused(f'{name.group()} has no value: #define {name.group()} 1')
-    if not CONSTANT.match(body.strip()):
-        raise refused('a value that is more than a number stands in parentheses: '
-                      f'#define {name.group()} ({body.strip()})')
-    first = line.index(body.strip(), line.index(name.group()) + len(name.group()))
-    text = ' ' * max(0, first - len('int _=')) + 'int _=' + body + ';'
-    tree = parse(shown, '\n' * (number - 1) + text)
-    source.constants[name.group()] = tree.ext[-1].init
+# the preprocessor
+
+def preprocess(source, raw):
+    """What gcc leaves of a file."""
+    command = GCC if INCLUDES.search(raw) else [*GCC, '-include', 'jobk.h']
+    environment = {name: value for name, value in os.environ.items() if name not in ('CPATH', 'C_INCLUDE_PATH')}
+    done = subprocess.run([*command, '-'], input=raw.encode('latin-1'), cwd=HEADERS, capture_output=True,
+                          env={**environment, 'LC_ALL': 'C'})
+    if done.returncode != 0:
+        raise preprocessor_error(source, raw, done.stderr.decode('utf-8', 'replace'))
+    return done.stdout.decode('latin-1')
 
 
-def parse(shown, text):
-    """The tree of a text, which the types that are known stand before on a line of their own."""
+def preprocessor_error(source, raw, said):
+    found = re.search(rf'^{USER}:(\d+):(\d+): (?:fatal )?error: (.*)', said, re.M)
+    if not found:
+        raise NoGcc(said.strip().split('\n')[0])
+    line, what = int(found[1]), found[3]
+    if what.endswith('No such file or directory'):
+        what = (f'expected jobk.h or a header that it includes, found `{what.partition(":")[0]}`; write the code into '
+                'this file, or into a program of its own for execl')
+    what = what.replace(' [-Werror=undef]', '')
+    return Refused(source.shown, line, column(raw.split('\n')[line - 1], int(found[2]) - 1), what)
+
+
+def refuse_directive(source, raw, words, what):
+    """Refuses the first directive that begins with words, or the first line where none does."""
+    found = re.search(rf'^[ \t]*(#[ \t]*{words}|_Pragma)', raw, re.M)
+    line = raw.count('\n', 0, found.start()) + 1 if found else 1
+    at = column(raw.split('\n')[line - 1], found.start(1) - found.start()) if found else 1
+    raise Refused(source.shown, line, at, what)
+
+
+class Tokens:
+    """Reads the tokens that gcc leaves of a file, and where they stand."""
+
+    def __init__(self, source, raw):
+        self.source = source
+        self.raw = raw
+        self.lines = raw.split('\n')
+        # Of a macro gcc says where it is defined: then the place is that of its name, behind the token before.
+        self.defined_at = {number for found in DIRECTIVE.finditer(raw)
+                           for number in range(raw.count('\n', 0, found.start()) + 1,
+                                               raw.count('\n', 0, found.end()) + 2)}
+        self.file, self.line = USER, 1          # of what gcc prints
+        self.behind = (0, 0)                    # a line, and where its last token ends
+        self.macro = None                       # where the last macro stands
+        self.tokens, self.places = [], []
+
+    def read(self, text):
+        parts = TOKEN.split(text)
+        if len(parts) == 1:
+            raise NoGcc('it does not know -fdebug-cpp')
+        for place in range(1, len(parts), 4):
+            self.part(parts[place], int(parts[place + 1]), int(parts[place + 2]), parts[place + 3])
+        return self.tokens, self.places
+
+    def part(self, file, line, first, text):
+        """A token and the lines behind it, of which some are directives that are left."""
+        for number, piece in enumerate(text.split('\n')):
+            self.line += number > 0
+            marker = LINE.match(piece)
+            if marker:
+                self.file, self.line = marker[2], int(marker[1]) - 1
+                if self.file != USER and ('..' in self.file or self.file.startswith('/')):
+                    refuse_directive(self.source, self.raw, 'include', 'expected jobk.h or a header that it includes, '
+                                     f'found `{self.file}`; write the code into this file')
+            elif piece.startswith('#pragma'):
+                refuse_directive(self.source, self.raw, 'pragma', '#pragma is not in the subset: leave it out')
+            elif piece.startswith('#undef'):
+                self.refuse_undefined(piece.split()[1])
+            elif piece.strip() and not piece.startswith('#define'):
+                self.token(file, line, first, piece.strip())
+
+    def refuse_undefined(self, name):
+        """What the system's headers define beyond those here isn't known, so no name may be missing."""
+        if name != 'JOBK_H':
+            words = rf'(ifdef|ifndef|if|elif)\b.*\b{name}\b'
+            refuse_directive(self.source, self.raw, words, f'expected a name that is defined, found `{name}`; write '
+                             f'#define {name} 0, and #if {name}')
+
+    def token(self, file, line, first, text):
+        if self.file != USER:
+            place = Place(self.file, line, first)
+        elif file == USER and line not in self.defined_at:
+            place = Place(self.source.shown, line, column(self.lines[line - 1], first - 1))
+            self.behind = line, first - 1 + len(text)
+        else:
+            place = self.place_of_macro()
+        self.tokens.append(without_escapes(text, place))
+        self.places.append(place)
+
+    def place_of_macro(self):
+        line, end = self.behind
+        if line > self.line and self.macro is not None:         # its arguments go on on that line
+            return self.macro
+        text, end = self.lines[self.line - 1], end if line == self.line else 0
+        end += len(text[end:]) - len(text[end:].lstrip())
+        self.macro = Place(self.source.shown, self.line, column(text, end))
+        return self.macro
+
+
+def without_escapes(token, place):
+    """A string or a letter with three octal digits for each byte that isn't a plain character: the parser puts strings
+    together as they are written."""
+    quote = token[0] if token[0] in '"\'' else None
+    if quote is None:
+        if re.match(r'\w+["\']', token):
+            raise Refused(place.file, place.line, place.column, f'expected a string of char, found `{token}`')
+        return token
+    values = []
+    for escape, letter in ESCAPE.findall(token[1:-1]):
+        if letter:
+            values.append(ord(letter))
+        elif escape[0] == 'x' and len(escape) > 1:
+            values.append(int(escape[1:], 16) & 255)
+        elif escape[0] in '01234567':
+            values.append(int(escape, 8) & 255)
+        elif escape in LETTERS:
+            values.append(LETTERS[escape])
+        else:
+            raise Refused(place.file, place.line, place.column, f'no letter is \\{escape}')
+    letters = (chr(it) if 32 <= it < 127 and chr(it) not in '"\'\\' else f'\\{it:03o}' for it in values)
+    return quote + ''.join(letters) + quote
+
+
+# the parser
+
+def parse(source, tokens, places):
     parser = c_parser.CParser()
     try:
-        return without_types(parser.parse(f'{PRELUDE}\n#line 1 "{shown}"\n{text}', shown))
+        tree = parser.parse('\n'.join(tokens), source.shown)
     except (c_parser.ParseError, AssertionError) as error:          # the latter where a } is too much
-        raise syntax_error(shown, text, parser, str(error)) from None
-
-
-def without_types(tree):
-    tree.ext = tree.ext[len(TYPES):]
+        raise syntax_error(source, places, parser, str(error)) from None
+    locate(tree, places)
     return tree
 
 
-def syntax_error(shown, text, parser, message):
-    found = re.match(r'.*?:(\d+):(\d+): (.*)', message)
+def locate(node, places):
+    """Puts places in the file in the place of numbers of tokens. Declarations of one line share nodes."""
+    if node.coord is not None and not isinstance(node.coord, Place):
+        node.coord = places[node.coord.line - 1]
+    for _, child in node.children():
+        locate(child, places)
+
+
+def syntax_error(source, places, parser, message):
+    found = re.match(r'.*?:(\d+):\d+: (.*)', message)
     if found:
-        line, column, what = int(found[1]), int(found[2]), found[3]
+        line, what = int(found[1]), found[2]
     else:
-        line, column = place_of_next(parser, text)
-        what = message.rpartition(': ')[2]
+        line, what = number_of_next(parser, places), message.rpartition(': ')[2]
     if what.startswith('before: '):
         what = f'this is no C from here on: {what[len("before: "):]}'
     what = SYNTAX.get(what.lower(), what) or 'a } is too much: leave it out'
     if what.startswith('Illegal character'):
         what += ': leave it out'
-    return Refused(shown, line, column, what[:1].lower() + what[1:])
+    place = places[line - 1] if 0 < line <= len(places) else Place(source.shown, *end_of(source))
+    return Refused(source.shown, place.line, place.column, what[:1].lower() + what[1:])
 
 
-def place_of_next(parser, text):
+def number_of_next(parser, places):
     """Where the parser stood, which doesn't always say so."""
     tokens = getattr(parser, '_tokens', None)
     token = tokens.peek() if tokens is not None else None
-    if token is not None:
-        return token.lineno, token.column
-    lines = text.rstrip().split('\n')
-    return len(lines), len(lines[-1]) + 1
+    return token.lineno if token is not None else len(places) + 1
 
+
+def end_of(source):
+    last = max((number for number, line in enumerate(source.lines, 1) if line.strip()), default=1)
+    return last, len(source.lines[last - 1].rstrip()) + 1
+
+
+# several files
 
 def named_programs(node):
     """The names of the programs that a tree runs by execl."""

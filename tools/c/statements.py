@@ -2,8 +2,8 @@
 from pycparser import c_ast
 
 from expressions import r
+from kinds import Kind, wrapped
 from refusal import refuse
-from symbols import Kind
 
 INSTEAD = {
     'Goto': 'goto is not in the subset: write a loop and break',
@@ -125,11 +125,12 @@ class Statements:
         if not isinstance(node.stmt, c_ast.Compound):
             refuse(node, 'a switch has braces')
         done = self.new_label(f'done_{node.coord.line}')
-        register = self.operand(node.cond, 0)
+        kind = self.number_kind(node.cond)
+        register = self.operand_as(node.cond, 0, kind)
         labels, default, numbers = [], done, set()
         for item in node.stmt.block_items or []:
             if isinstance(item, c_ast.Case):
-                labels.append(self.test_case(item, register, numbers))
+                labels.append(self.test_case(item, register, numbers, kind))
             elif isinstance(item, c_ast.Default):
                 default = self.new_label(f'default_{item.coord.line}')
                 labels.append(default)
@@ -142,10 +143,11 @@ class Statements:
         self.jumps.pop()
         self.put(done)
 
-    def test_case(self, item, register, numbers):
+    def test_case(self, item, register, numbers, kind):
         number = self.constant(item.expr)
         if number is None:
             refuse(item.expr, 'a constant has to stand behind case: a number, or a name of #define or enum')
+        number = wrapped(number, kind)
         if number in numbers:
             refuse(item.expr, f'there is a case {number} above: join them')
         numbers.add(number)
@@ -175,9 +177,9 @@ class Statements:
         if node.expr is not None and gives is Kind.VOID:
             refuse(node, f'{self.instance.function.name} gives nothing: write return alone')
         if self.instance.function.name == 'main':
-            self.value(node.expr, 1)
+            self.value_as(node.expr, 1, Kind.INT)
             self.emit('sys', 'exit')
         else:
             if node.expr is not None:
-                self.value(node.expr, 0)
+                self.value_as(node.expr, 0, gives)
             self.emit('jmp', self.end)

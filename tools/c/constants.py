@@ -1,0 +1,227 @@
+"""What expressions are before anything runs: their types, and the values of those that are constant."""
+import re
+
+from pycparser import c_ast
+
+from facts import RESULTS
+from kinds import BITS, MEMBER_KINDS, NUMBERS, RANKS, UNSIGNED, Function, Kind, Variable, common, holds, kind_of_words, \
+    promoted, wrapped
+from refusal import refuse
+
+COMPARISONS = {'==', '!=', '<', '<=', '>', '>='}
+NUMBER = re.compile(r'(0[xX][0-9a-fA-F]+|0[bB][01]+|\d+)([uU]?[lL]?|[lL][uU])$')
+
+
+def is_void(typename):
+    return kind_of_typename(typename) is Kind.VOID
+
+
+def is_string(node):
+    return isinstance(node, c_ast.Constant) and node.type == 'string'
+
+
+def is_flags(node):
+    return isinstance(node, c_ast.StructRef) and node.field.name == 'sa_flags'
+
+
+def bytes_of(node):
+    """The bytes of a string or a letter between its quotes, of which source.py has made what escapes mean."""
+    return [int(octal, 8) if octal else ord(letter)
+            for octal, letter in re.findall(r'\\([0-7]{3})|(.)', node.value[1:-1], re.S)]
+
+
+# numbers
+
+def number_of(node):
+    """The value of a number or a letter."""
+    if node.value.startswith("'"):
+        values = bytes_of(node)
+        if len(values) != 1:
+            refuse(node, 'one letter stands between the quotes')
+        return wrapped(values[0], Kind.CHAR)
+    return digits_of(node)[0]
+
+
+def digits_of(node):
+    """The value of a number, its base and its letters."""
+    found = NUMBER.match(node.value)
+    if not found:
+        refuse(node, f'{node.value} is no int: write it without a point')
+    text = found[1]
+    value = int(text, 8) if re.fullmatch('0[0-7]+', text) else int(text, 0)
+    if not holds(Kind.UNSIGNED_LONG, value):
+        refuse(node, f'expected a number of at most 64 bits, found `{node.value}`')
+    return value, 10 if text[0] != '0' else 16, found[2].lower()
+
+
+def kind_of_number(node):
+    """The first type that holds a number: one without a sign only by the letter u, or where the base isn't 10."""
+    if node.value.startswith("'"):
+        return Kind.INT
+    value, base, letters = digits_of(node)
+    for kind in RANKS:
+        if holds(kind, value) and not ('l' in letters and BITS[kind] < 64) \
+                and (kind in UNSIGNED if 'u' in letters else kind not in UNSIGNED or base != 10):
+            return kind
+    return refuse(node, f'expected a number that long holds, found `{node.value}`; write u behind it')
+
+
+# types
+
+def kind_of_typename(node):
+    """The kind of a type in parentheses, or None."""
+    inner = node.type
+    if isinstance(inner, c_ast.TypeDecl) and isinstance(inner.type, c_ast.IdentifierType):
+        return kind_of_words(inner.type.names)
+    return None
+
+
+def kind_of(node, meaning):
+    """The type of an expression, or None where it has none that is known here."""
+    method = KINDS_OF.get(type(node))
+    return method(node, meaning) if method else None
+
+
+def kind_of_name(node, meaning):
+    known = meaning.get(id(node))
+    if isinstance(known, Variable):
+        return known.kind if known.length is None else None
+    return Kind.HANDLER if isinstance(known, Function) else Kind.INT
+
+
+def kind_of_element(node, meaning):
+    variable = meaning.get(id(node.name))
+    return variable.kind if isinstance(variable, Variable) and variable.length is not None else None
+
+
+def kind_of_unary(node, meaning):
+    if node.op == 'sizeof':
+        return Kind.UNSIGNED_LONG
+    inner = kind_of(node.expr, meaning)
+    return {'!': Kind.INT, '&': None, '*': None}.get(node.op, inner if node.op[-2:] in ('++', '--') else promoted(inner))
+
+
+def kind_of_binary(node, meaning):
+    if node.op in COMPARISONS or node.op in ('&&', '||'):
+        return Kind.INT
+    left, right = kind_of(node.left, meaning), kind_of(node.right, meaning)
+    if left not in NUMBERS or right not in NUMBERS:
+        return None
+    return promoted(left) if node.op in ('<<', '>>') else common(left, right)
+
+
+def kind_of_choice(node, meaning):
+    left, right = kind_of(node.iftrue, meaning), kind_of(node.iffalse, meaning)
+    if left in NUMBERS and right in NUMBERS:
+        return common(left, right)
+    return Kind.HANDLER if Kind.HANDLER in (left, right) else left if left is right else None
+
+
+def kind_of_call(node, meaning):
+    function = meaning.get(id(node.name))
+    return function.gives if isinstance(function, Function) else RESULTS.get(node.name.name, Kind.INT)
+
+
+KINDS_OF = {
+    c_ast.Constant: lambda node, meaning: None if node.type == 'string' else kind_of_number(node),
+    c_ast.ID: kind_of_name,
+    c_ast.ArrayRef: kind_of_element,
+    c_ast.StructRef: lambda node, meaning: MEMBER_KINDS.get(node.field.name, Kind.INT),
+    c_ast.UnaryOp: kind_of_unary,
+    c_ast.BinaryOp: kind_of_binary,
+    c_ast.TernaryOp: kind_of_choice,
+    c_ast.Assignment: lambda node, meaning: kind_of(node.lvalue, meaning),
+    c_ast.ExprList: lambda node, meaning: kind_of(node.exprs[-1], meaning),
+    c_ast.Cast: lambda node, meaning: kind_of_typename(node.to_type),
+    c_ast.FuncCall: kind_of_call,
+}
+
+
+# constants
+
+def divide(left, right):
+    """The quotient cut towards 0, as C has it."""
+    quotient = abs(left) // abs(right)
+    return quotient if (left < 0) == (right < 0) else -quotient
+
+
+OPERATIONS = {
+    '+': lambda a, b: a + b, '-': lambda a, b: a - b, '*': lambda a, b: a * b, '/': divide,
+    '%': lambda a, b: a - b * divide(a, b), '&': lambda a, b: a & b, '|': lambda a, b: a | b, '^': lambda a, b: a ^ b,
+    '<<': lambda a, b: a << b, '>>': lambda a, b: a >> b, '==': lambda a, b: int(a == b),
+    '!=': lambda a, b: int(a != b), '<': lambda a, b: int(a < b), '<=': lambda a, b: int(a <= b),
+    '>': lambda a, b: int(a > b), '>=': lambda a, b: int(a >= b),
+    '&&': lambda a, b: int(bool(a and b)), '||': lambda a, b: int(bool(a or b)),
+}
+UNARY = {'-': lambda a: -a, '+': lambda a: a, '~': lambda a: ~a, '!': lambda a: int(not a)}
+
+
+def constant(node, meaning):
+    """The value of a constant expression in its type, or None."""
+    if isinstance(node, c_ast.Constant):
+        return None if node.type == 'string' else number_of(node)
+    if isinstance(node, c_ast.ID):
+        value = meaning.get(id(node))
+        return value if isinstance(value, int) else None
+    if isinstance(node, c_ast.UnaryOp):
+        return unary_constant(node, meaning)
+    if isinstance(node, c_ast.TernaryOp):
+        parts = [constant(part, meaning) for part in (node.cond, node.iftrue, node.iffalse)]
+        return None if None in parts else wrapped(parts[1] if parts[0] else parts[2], kind_of(node, meaning))
+    if isinstance(node, c_ast.Cast):
+        value, kind = constant(node.expr, meaning), kind_of_typename(node.to_type)
+        return None if value is None or kind not in NUMBERS else wrapped(value, kind)
+    return binary_constant(node, meaning) if isinstance(node, c_ast.BinaryOp) else None
+
+
+def unary_constant(node, meaning):
+    if node.op == 'sizeof':
+        return size_of(node.expr, meaning)
+    value = constant(node.expr, meaning) if node.op in UNARY else None
+    return None if value is None else fitted(node, UNARY[node.op](value), kind_of(node, meaning))
+
+
+def binary_constant(node, meaning):
+    left, right = constant(node.left, meaning), constant(node.right, meaning)
+    if left is None or right is None or node.op in '/%' and right == 0:
+        return None
+    kind = kind_of(node, meaning)
+    if node.op in ('<<', '>>'):
+        if not 0 <= right < BITS[kind]:
+            refuse(node, f'a number is shifted by 0 to {BITS[kind] - 1}')
+        return wrapped(OPERATIONS[node.op](left, right), kind)
+    if node.op not in ('&&', '||'):
+        both = common(kind_of(node.left, meaning), kind_of(node.right, meaning))
+        left, right = wrapped(left, both), wrapped(right, both)
+    return fitted(node, OPERATIONS[node.op](left, right), kind)
+
+
+def fitted(node, value, kind):
+    """A value that C leaves undefined beyond the bits of its type, but in a type without a sign."""
+    if kind not in UNSIGNED and not holds(kind, value):
+        refuse(node, f'expected a value that {kind.value} holds, found `{value}`')
+    return wrapped(value, kind)
+
+
+def is_null(node, meaning):
+    """Whether a node is NULL, or 0."""
+    while isinstance(node, c_ast.Cast) and isinstance(node.to_type.type, c_ast.PtrDecl):
+        node = node.expr
+    return constant(node, meaning) == 0 and kind_of(node, meaning) in NUMBERS
+
+
+def size_of(node, meaning):
+    """The bytes that C says of a variable, an element, a string or a type."""
+    if is_string(node):
+        return len(bytes_of(node)) + 1
+    if isinstance(node, c_ast.Typename):
+        kind, count = kind_of_typename(node), 1
+    elif isinstance(node, c_ast.ID):
+        variable = meaning.get(id(node))
+        kind = variable.kind if isinstance(variable, Variable) else None
+        count = 1 if kind is None or variable.length is None else variable.length
+    else:
+        kind, count = kind_of(node, meaning) if isinstance(node, c_ast.ArrayRef) else None, 1
+    if kind not in NUMBERS:
+        refuse(node, 'sizeof is of a number, of an array or of a string')
+    return count * BITS[kind] // 8

@@ -1,0 +1,257 @@
+"""Which handlers handle which signals, and what follows: a handler has its variables once, so it must not be entered while
+it runs, and what siginfo_t says has to be known.
+"""
+from dataclasses import dataclass
+
+from pycparser import c_ast
+
+from constants import constant, is_flags
+from kinds import Function, Kind, Variable
+from refusal import refuse
+
+CHLD, SIG_BLOCK, SA_NODEFER = 17, 0, 0x40000000
+BRANCHES = (c_ast.If, c_ast.TernaryOp)
+LOOPS = (c_ast.While, c_ast.DoWhile, c_ast.For, c_ast.Switch)
+
+
+@dataclass(frozen=True)
+class Installed:
+    """A handler that is set, or that may be, for a signal where that is a constant."""
+    function: Function
+    signal: int
+    node: c_ast.Node
+
+
+@dataclass(frozen=True)
+class Old:
+    """The handlers that a signal had: what sigaction stores at &old."""
+    signal: int
+
+
+def installed(unit):
+    """All handlers that a file may set."""
+    flow = Flow(unit)
+    for function in unit.functions.values():
+        flow.state = {}
+        flow.walk(function.node.body)
+    found, before = set(flow.installed), None
+    while found != before:                      # what was old is set again
+        before = set(found)
+        for it in before:
+            if isinstance(it.function, Old):
+                found |= {Installed(other.function, it.signal, it.node) for other in before
+                          if None in (other.signal, it.function.signal) or other.signal == it.function.signal}
+    return [it for it in found if isinstance(it.function, Function)]
+
+
+class Flow:
+    """Follows a function from statement to statement, and keeps what the handlers of its variables can be. What is global
+    can have all that it is ever given."""
+
+    def __init__(self, unit):
+        self.meaning = unit.meaning
+        self.state = {}                         # by a local variable
+        self.at_cases = {}                      # what that is at each case of a switch
+        self.given = {}                         # by a variable all that it is ever given, other variables too
+        self.installed = []
+        for node in unit.source.tree.ext:
+            for variable, value in self.assignments(node):
+                self.given.setdefault(variable, set()).update(self.named(value))
+
+    def action_of(self, node):
+        """The struct sigaction that a node is, or of which it is the handler."""
+        if isinstance(node, c_ast.UnaryOp) and node.op == '&':
+            node = node.expr
+        if isinstance(node, c_ast.StructRef) and node.field.name in ('sa_handler', 'sa_sigaction'):
+            node = node.name
+        variable = self.meaning.get(id(node))
+        return variable if isinstance(variable, Variable) and variable.kind is Kind.ACTION else None
+
+    def assignment(self, node):
+        """The variable whose handler a node changes, and its value."""
+        if isinstance(node, c_ast.Assignment) and self.action_of(node.lvalue):
+            return self.action_of(node.lvalue), node.rvalue
+        if isinstance(node, c_ast.Decl) and node.init is not None and self.action_of(node):
+            return self.action_of(node), node.init
+        if is_call(node, 'sigaction') and self.action_of(node.args.exprs[-1]):
+            return self.action_of(node.args.exprs[-1]), node
+        return None
+
+    def assignments(self, node):
+        found = self.assignment(node)
+        return ([found] if found else []) + [it for _, child in node.children() for it in self.assignments(child)]
+
+    def named(self, value):
+        """The functions and variables that a value names."""
+        if is_call(value, 'sigaction'):
+            return {Old(constant(value.args.exprs[0], self.meaning))}
+        action = self.action_of(value)
+        if action:
+            return {action}
+        known = self.meaning.get(id(value)) if isinstance(value, c_ast.ID) else None
+        return ({known} if isinstance(known, Function) else set()).union(
+            *(self.named(child) for _, child in value.children()))
+
+    def values(self, names):
+        """What variables among names can have here."""
+        found = set()
+        for it in names:
+            is_local = isinstance(it, Variable) and not (it.is_global or it.is_static)
+            found |= self.state.get(it, set()) if is_local else self.ever(it)
+        return found
+
+    def ever(self, name, seen=()):
+        """All that a variable is ever given."""
+        if not isinstance(name, Variable):
+            return {name}
+        return set().union(*(self.ever(it, (*seen, name)) for it in self.given.get(name, ()) if it not in seen))
+
+    def walk(self, node):
+        if isinstance(node, LOOPS):
+            self.walk_loop(node)
+        elif isinstance(node, BRANCHES):
+            self.walk(node.cond)
+            self.join(node.iftrue, node.iffalse)
+        elif isinstance(node, c_ast.BinaryOp) and node.op in ('&&', '||'):
+            self.walk(node.left)
+            self.join(node.right, None)
+        else:
+            if isinstance(node, (c_ast.Case, c_ast.Default)):
+                self.add(self.at_cases)
+            for _, child in node.children():
+                self.walk(child)
+            self.take(node)
+
+    def take(self, node):
+        if is_call(node, 'sigaction') or is_call(node, 'signal'):
+            signal, action = node.args.exprs[:2]
+            self.installed += [Installed(it, constant(signal, self.meaning), node)
+                               for it in self.values(self.named(action))]
+        found = self.assignment(node)
+        if found:
+            self.state[found[0]] = self.values(self.named(found[1]))
+
+    def add(self, state):
+        self.state = {variable: self.state.get(variable, set()) | state.get(variable, set())
+                      for variable in {*self.state, *state}}
+
+    def join(self, *branches):
+        """After one of two branches, of which one may be empty."""
+        before, after = self.state, []
+        for branch in branches:
+            self.state = dict(before)
+            if branch is not None:
+                self.walk(branch)
+            after.append(self.state)
+        self.add(after[0])
+
+    def walk_loop(self, node):
+        """In a loop or a switch a variable can have all that it is ever given, if it is given something there."""
+        self.add({variable: self.ever(variable) for variable, _ in self.assignments(node)})
+        around, before = self.at_cases, self.state
+        self.at_cases = before
+        for _, child in node.children():
+            self.walk(child)
+        self.at_cases = around
+        self.add(before)
+
+
+def is_call(node, name):
+    return (isinstance(node, c_ast.FuncCall) and node.name.name == name and node.args is not None
+            and len(node.args.exprs) >= 2)
+
+
+# a handler that is entered while it runs
+
+def refuse_entered_again(unit, contexts):
+    """Refuses a handler that can be entered while it runs, where it has words of memory: it has them once."""
+    changer = next((context.root for context in contexts if changes_mask(unit, context)), None)
+    for context in contexts:
+        if any(instance.frame.size for instance in context.instances.values()):
+            refuse_again(unit, context.root, changer)
+
+
+def refuse_again(unit, handler, changer):
+    its = [it for it in unit.installed if it.function is handler]
+    signals, again = {it.signal for it in its}, None
+    if len(signals) > 1 or None in signals:
+        again = 'handles several signals'
+    elif may_be_entered_at_once(unit):
+        again = 'may be set with SA_NODEFER'
+    elif changer is handler:
+        again = 'changes the mask'
+    elif changer is not None:
+        again = f'can be interrupted by {changer.name}, which changes the mask'
+    if again:
+        last = max(its, key=lambda it: (it.node.coord.line, it.node.coord.column), default=None)
+        refuse(last.node if last else handler.node, f'{handler.name} {again}, so it can be entered while it runs, and its '
+               'variables have one place: write a handler for each signal, or keep what it has to at most two variables')
+
+
+def changes_mask(unit, context):
+    """Whether a handler can unblock a signal."""
+    for call in (call for function in context.instances for call in function.system_calls):
+        if call.name.name == 'sigsuspend':
+            return True
+        if call.name.name == 'sigprocmask' and constant(call.args.exprs[0], unit.meaning) != SIG_BLOCK:
+            return True
+    return False
+
+
+def may_be_entered_at_once(unit):
+    """Whether a flag that is set may be SA_NODEFER."""
+    return any(bits is None or bits & SA_NODEFER for node in unit.source.tree.ext for bits in flags_set(node, unit))
+
+
+def flags_set(node, unit):
+    """The values that become flags, None where they aren't known."""
+    if isinstance(node, c_ast.Assignment) and is_flags(node.lvalue) and node.op != '&=':
+        yield from values_of(node.rvalue, unit) if node.op in ('=', '|=') else [None]
+    elif isinstance(node, c_ast.UnaryOp) and is_flags(node.expr) and node.op != '&':
+        yield None
+    elif isinstance(node, c_ast.NamedInitializer) and getattr(node.name[0], 'name', None) == 'sa_flags':
+        yield from values_of(node.expr, unit)
+    for _, child in node.children():
+        yield from flags_set(child, unit)
+
+
+def values_of(node, unit):
+    if isinstance(node, c_ast.TernaryOp):
+        return [*values_of(node.iftrue, unit), *values_of(node.iffalse, unit)]
+    if isinstance(node, c_ast.BinaryOp) and node.op == '|':
+        return [*values_of(node.left, unit), *values_of(node.right, unit)]
+    return [constant(node, unit.meaning)]
+
+
+# what a handler is told
+
+def tells_of_children(unit, handler):
+    """Whether a handler handles SIGCHLD alone: then its siginfo_t is of a child."""
+    return {it.signal for it in unit.installed if it.function is handler} == {CHLD}
+
+
+def refuse_unknown_members(unit, units):
+    """Refuses what isn't known in the siginfo_t of a handler: where a child tells of itself its status word is known, and
+    else a value. Who sends SIGCHLD otherwise tells neither."""
+    for node in unit.members:
+        variable, member = unit.meaning.get(id(node.name)), node.field.name
+        if not isinstance(variable, Variable) or not variable.is_pointer or member == 'si_pid':
+            continue
+        handler = next(it for it in unit.functions.values() if variable in it.parameters)
+        signals = {it.signal for it in unit.installed if it.function is handler}
+        if not signals:
+            continue
+        if signals == {CHLD}:
+            if any(sends_chld(other) for other in units):
+                refuse(node, f'{member} is that of a child where no program sends SIGCHLD, or a signal that is no '
+                       'constant, by kill: send another signal')
+        elif member in ('si_code', 'si_status'):
+            refuse(node, f'{member} is known in a handler of SIGCHLD alone: write a handler of its own for SIGCHLD')
+        elif CHLD in signals or None in signals:
+            refuse(node, f'{member} is known in a handler of other signals than SIGCHLD: write a handler for each signal')
+
+
+def sends_chld(unit):
+    return any(call.name.name in ('kill', 'killpg', 'sigqueue') and len(call.args.exprs) > 1
+               and constant(call.args.exprs[1], unit.meaning) in (None, CHLD)
+               for function in unit.functions.values() for call in function.system_calls if call.args)

@@ -1,0 +1,1 @@
+#include "jobk.h"
