@@ -46,7 +46,7 @@ def digits_of(node):
     """The value of a number, its base and its letters."""
     found = NUMBER.match(node.value)
     if not found:
-        refuse(node, f'{node.value} is no int: write it without a point')
+        refuse(node, f'expected a number of int or long, found `{node.value}`; write no point, and no letters but u and l')
     text = found[1]
     value = int(text, 8) if re.fullmatch('0[0-7]+', text) else int(text, 0)
     if not holds(Kind.UNSIGNED_LONG, value):

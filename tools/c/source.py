@@ -87,15 +87,22 @@ def preprocess(source, raw):
 
 
 def preprocessor_error(source, raw, said):
-    found = re.search(rf'^{USER}:(\d+):(\d+): (?:fatal )?error: (.*)', said, re.M)
-    if not found:
+    """What gcc says first, at the place in the file, which it tells after the place in a macro of a header."""
+    found = re.search(r'^\S*: (?:fatal )?error: (.*)', said, re.M)
+    place = found and re.compile(rf'^{USER}:(\d+):(\d+):', re.M).search(said, found.start())
+    if not place:
         raise NoGcc(said.strip().split('\n')[0])
-    line, what = int(found[1]), found[3]
+    line, what = int(place[1]), found[1]
     if what.endswith('No such file or directory'):
         what = (f'expected jobk.h or a header that it includes, found `{what.partition(":")[0]}`; write the code into '
                 'this file, or into a program of its own for execl')
-    what = what.replace(' [-Werror=undef]', '')
-    return Refused(source.shown, line, column(raw.split('\n')[line - 1], int(found[2]) - 1), what)
+    what = re.sub(r'"(\w+)" is not defined, .*', lambda match: not_defined(match[1]), what)
+    what = what.replace('unterminated comment', 'this comment has no end: write */')
+    return Refused(source.shown, line, column(raw.split('\n')[line - 1], int(place[2]) - 1), what)
+
+
+def not_defined(name):
+    return f'expected a name that is defined as a number, found `{name}`; write #define {name} 0, and #if {name}'
 
 
 def refuse_directive(source, raw, words, what):
@@ -151,8 +158,7 @@ class Tokens:
         """What the system's headers define beyond those here isn't known, so no name may be missing."""
         if name != 'JOBK_H':
             words = rf'(ifdef|ifndef|if|elif)\b.*\b{name}\b'
-            refuse_directive(self.source, self.raw, words, f'expected a name that is defined, found `{name}`; write '
-                             f'#define {name} 0, and #if {name}')
+            refuse_directive(self.source, self.raw, words, not_defined(name))
 
     def token(self, file, line, first, text):
         if self.file != USER:

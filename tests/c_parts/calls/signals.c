@@ -33,7 +33,7 @@ static void catch_signals(void)
     sigfillset(&action.sa_mask);
     sigaction(SIGRTMIN, &action, NULL);
     sigaction(SIGRTMIN, NULL, &old);
-    note(old.sa_flags == SA_SIGINFO || old.sa_flags == (SA_SIGINFO | 0x04000000));
+    note((old.sa_flags & (SA_SIGINFO | SA_RESTART)) == SA_SIGINFO);
     note(sigismember(&old.sa_mask, SIGTERM));
     note(sigismember(&old.sa_mask, SIGKILL));
     action.sa_sigaction = on_chld;
