@@ -126,7 +126,7 @@ KINDS_OF = {
     c_ast.Constant: lambda node, meaning: None if node.type == 'string' else kind_of_number(node),
     c_ast.ID: kind_of_name,
     c_ast.ArrayRef: kind_of_element,
-    c_ast.StructRef: lambda node, meaning: MEMBER_KINDS.get(node.field.name, Kind.INT),
+    c_ast.StructRef: lambda node, meaning: Kind.INT if is_flags(node) else MEMBER_KINDS.get(node.field.name, Kind.INT),
     c_ast.UnaryOp: kind_of_unary,
     c_ast.BinaryOp: kind_of_binary,
     c_ast.TernaryOp: kind_of_choice,

@@ -20,6 +20,7 @@ LINE = re.compile(r'# (\d+) "([^"]*)"')
 USER = '<stdin>'
 INCLUDES = re.compile(r'^[ \t]*#[ \t]*include[ \t]*"jobk\.h"', re.M)
 DIRECTIVE = re.compile(r'^[ \t]*#(?:.*\\\n)*.*', re.M)
+OF_PLACE = re.compile(r'\b__(has_include|has_include_next|(FILE|FILE_NAME|BASE_FILE|DATE|TIME|TIMESTAMP)__)\b')
 ESCAPE = re.compile(r'\\(x[0-9a-fA-F]+|[0-7]{1,3}|.)|(.)', re.S)
 LETTERS = {'n': 10, 't': 9, 'r': 13, '\\': 92, "'": 39, '"': 34, '?': 63, 'a': 7, 'b': 8, 'f': 12, 'v': 11, 'e': 27}
 SYNTAX = {
@@ -56,12 +57,22 @@ def read_source(path):
 def parse_source(path, raw):
     """The tree of a text, of which each letter is a byte."""
     source = Source(path, [shown_line(line) for line in raw.split('\n')])
-    if re.search(r'^[ \t]*#[ \t]*(line\b|\d)', raw, re.M):
-        refuse_directive(source, raw, r'(line\b|\d)', '#line changes where a message points: leave it out')
+    refuse_places(source, raw)
     preprocessed = preprocess(source, raw)
     tokens, places = Tokens(source, raw).read(preprocessed)
     source.tree = parse(source, tokens, places)
     return source
+
+
+def refuse_places(source, raw):
+    """Refuses what gcc makes of where a file stands, and what would move the places of messages."""
+    if re.search(r'^[ \t]*#[ \t]*(line\b|\d)', raw, re.M):
+        refuse_directive(source, raw, r'(line\b|\d)', '#line changes where a message points: leave it out')
+    found = OF_PLACE.search(raw)
+    if found:
+        line = raw.count('\n', 0, found.start()) + 1
+        at = column(raw.split('\n')[line - 1], found.start() - raw.rfind('\n', 0, found.start()) - 1)
+        raise Refused(source.shown, line, at, f'{found[0]} is not in the subset: leave it out')
 
 
 def shown_line(line):
@@ -147,11 +158,13 @@ class Tokens:
                 if self.file != USER and ('..' in self.file or self.file.startswith('/')):
                     refuse_directive(self.source, self.raw, 'include', 'expected jobk.h or a header that it includes, '
                                      f'found `{self.file}`; write the code into this file')
-            elif piece.startswith('#pragma'):
-                refuse_directive(self.source, self.raw, 'pragma', '#pragma is not in the subset: leave it out')
             elif piece.startswith('#undef'):
                 self.refuse_undefined(piece.split()[1])
-            elif piece.strip() and not piece.startswith('#define'):
+            elif re.match(r'#\w', piece):
+                word = piece[1:].split()[0]
+                if word != 'define':
+                    refuse_directive(self.source, self.raw, word, f'#{word} is not in the subset: leave it out')
+            elif piece.strip():
                 self.token(file, line, first, piece.strip())
 
     def refuse_undefined(self, name):
