@@ -185,12 +185,13 @@ class Tokens:
         self.places.append(place)
 
     def place_of_macro(self):
+        """The place of the name, which stands behind the last token, if that isn't one of the macro's arguments."""
         line, end = self.behind
-        if line > self.line and self.macro is not None:         # its arguments go on on that line
-            return self.macro
         text, end = self.lines[self.line - 1], end if line == self.line else 0
-        end += len(text[end:]) - len(text[end:].lstrip())
-        self.macro = Place(self.source.shown, self.line, column(text, end))
+        end += len(re.match(r'(\s|/\*.*?\*/)*', text[end:])[0])
+        is_argument = line > self.line or not re.match(r'\w', text[end:])
+        if not is_argument or self.macro is None or self.macro.line != self.line:
+            self.macro = Place(self.source.shown, self.line, column(text, end))
         return self.macro
 
 
