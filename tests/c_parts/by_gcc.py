@@ -1,6 +1,7 @@
-"""Programs that note, write and end in a world as they do by gcc on Linux: those of by_gcc.txt. What is written there is
-what gcc's program does, and gcc has to do it still."""
+"""Programs that note, write and end in a world as they do by gcc on Linux: those in by_gcc. What is written there is what
+gcc's program does, and gcc has to do it still."""
 import concurrent.futures
+import glob
 import os
 import re
 import subprocess
@@ -18,13 +19,16 @@ EVENTS, WORKERS, LONGEST = ['step 100000'], 4, 20
 
 def cases():
     """The name of each program, its text, what it does, and what is said where it is refused, or None."""
-    with open(os.path.join(HERE, 'by_gcc.txt'), encoding='latin-1') as file:
-        parts = re.split(r'^-- ', file.read(), flags=re.M)[1:]
-    for part in parts:
-        name, _, rest = part.partition('\n')
-        text, _, lines = rest.partition('\n== ')
-        does, _, refused = lines.split('\n\n')[0].strip().partition('\n!! ')
-        yield name, text + '\n', does, refused or None
+    for path in sorted(glob.glob(os.path.join(HERE, 'by_gcc', '*.txt'))):
+        with open(path, encoding='latin-1') as file:
+            yield from map(case, re.split(r'^-- ', file.read(), flags=re.M)[1:])
+
+
+def case(part):
+    name, _, rest = part.partition('\n')
+    text, _, lines = rest.partition('\n== ')
+    does, _, refused = lines.split('\n\n')[0].strip().partition('\n!! ')
+    return name, text + '\n', does, refused or None
 
 
 def on_linux(text, folder):
@@ -53,7 +57,7 @@ def in_world(program, text, folder):
 
 
 def shown(notes, status, written):
-    return f'{" ".join(notes)} | {status}' + (f' | {written}' if written else '')
+    return (f'{" ".join(notes)} | {status}' + (f' | {written}' if written else '')).strip()
 
 
 def difference(program, name, text, does, refused):

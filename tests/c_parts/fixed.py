@@ -18,8 +18,8 @@ from source import parse_source, read_sources
 HERE = os.path.dirname(os.path.abspath(__file__))
 TOP = os.path.dirname(os.path.dirname(HERE))
 EXAMPLES = os.path.join(TOP, 'examples', 'c')
-# Files in examples/c that others run by execl.
-PROGRAMS = {'cat', 'reader', 'tool'}
+# Files that others run by execl.
+PROGRAMS = {'cat', 'less', 'reader', 'tool'}
 RUNS, WORKERS = 20, 8
 SEED, MOMENTS, ENDS = 1, 200, ['key 1 04', 'step 5000']
 MOMENTARY = ['tick 1', 'key 1 1A', 'key 1 03', 'hangup 1']
@@ -68,6 +68,31 @@ def refused():
         if said != wanted:
             failures.append(f'{name}: wanted {wanted}, got {said}')
     return count, failures
+
+
+# Names of the system that are no constants of C, or that C has in enums.
+NO_CONSTANTS, OF_ENUMS = {'SIGRTMIN', 'SIGRTMAX', 'SIG_DFL', 'SIG_IGN'}, {'P_ALL', 'P_PID', 'P_PGID'}
+
+
+def names_of_the_system():
+    """The numbers that tools/c/include has, and those that jobk has names for, beside those of the system's headers."""
+    header = read(TOP, 'tools', 'c', 'include', 'jobk.h')
+    numbers = dict(re.findall(r'^#define (\w+) (0x[0-9a-f]+|\d+)$', header, re.M))
+    numbers |= dict(re.findall(r'(CLD_\w+) = (\d+)', header))
+    rows = dict(re.findall(r'\(Kind::\w+, "(\w+)", (\w+)\)', read(TOP, 'crates', 'wording', 'src', 'table.rt')))
+    failures = [f'{name} is not in tools/c/include/jobk.h' for name in rows if not re.search(rf'\b{name}\b', header)]
+    failures += [f'{name} is a macro in one place' for name in OF_ENUMS if name in numbers]
+    checks = {**rows, **numbers}
+    with tempfile.TemporaryDirectory() as folder:
+        path = os.path.join(folder, 'names.c')
+        with open(path, 'w', encoding='ascii') as file:
+            file.write('#include "jobk.h"\n')
+            for name in sorted(checks.keys() - NO_CONSTANTS):
+                is_macro = 'not a macro' if name in OF_ENUMS else 'a macro'
+                file.write(f'#if{"" if name in OF_ENUMS else "n"}def {name}\n#error {name} is {is_macro}\n#endif\n'
+                           f'_Static_assert((long)({name}) == {checks[name].replace("_", "")}, "{name}");\n')
+        said = c_program.compile_file(path, folder, ['-c'])
+    return len(checks), failures + said.splitlines()
 
 
 def in_turn(program, planted=None):

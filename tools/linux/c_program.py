@@ -35,10 +35,10 @@ def read_events(path):
     return [line for line in lines if line]
 
 
-def compile_file(path, folder):
+def compile_file(path, folder, more=()):
     """Compiles a C file to a program of its name in a folder; gives what the compiler says of faults."""
     name = os.path.splitext(os.path.basename(path))[0]
-    done = subprocess.run(['gcc', *FLAGS, path, '-o', os.path.join(folder, name)], capture_output=True, text=True)
+    done = subprocess.run(['gcc', *FLAGS, *more, path, '-o', os.path.join(folder, name)], capture_output=True, text=True)
     return done.stderr if done.returncode else ''
 
 
