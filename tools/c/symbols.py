@@ -7,7 +7,7 @@ from dataclasses import dataclass, field
 from pycparser import c_ast
 
 from assembly import MEMORY
-from constants import bytes_of, constant, is_string, is_void
+from constants import bytes_of, constant, is_null, is_string, is_void, kind_of
 from facts import INSTEAD, PROVIDED
 from kinds import NUMBERS, RANKS, Function, Kind, Variable, holds, kind_of_words
 from refusal import refuse
@@ -56,8 +56,7 @@ class Resolver:
                 self.begin_function(node)
         for node in self.unit.source.tree.ext:
             if isinstance(node, c_ast.FuncDef):
-                self.scopes[0][node.decl.name] = self.unit.functions[node.decl.name]
-                self.walk_function(self.unit.functions[node.decl.name])
+                self.walk_function(self.declare_function(node.decl))
             elif isinstance(node, c_ast.Decl):
                 self.declare(node)
             elif node in own:
@@ -72,11 +71,17 @@ class Resolver:
             refuse(node, f'{name} is defined twice: give it another name')
         if name in PROVIDED:
             refuse(node, f'{name} is a call of the system: give the function another name')
-        result = node.decl.type.type
-        gives = self.kind(result, result) if isinstance(result, c_ast.TypeDecl) else None
-        if gives not in (*RANKS, Kind.VOID):
-            refuse(node, f'{name} gives int or nothing: write int {name}(..) or void {name}(..)')
-        self.unit.functions[name] = Function(name, node, gives)
+        self.unit.functions[name] = Function(name, node, None)
+
+    def declare_function(self, node):
+        """A declaration of a function of the file, which can be called from here on."""
+        function = self.unit.functions[node.name]
+        result = node.type.type
+        function.gives = self.kind(result, result) if isinstance(result, c_ast.TypeDecl) else None
+        if function.gives not in (*RANKS, Kind.VOID):
+            refuse(node, f'{node.name} gives int or nothing: write int {node.name}(..) or void {node.name}(..)')
+        self.scopes[-1][node.name] = function
+        return function
 
     def walk_function(self, function):
         if function.node.param_decls:
@@ -150,7 +155,7 @@ class Resolver:
         """A declaration of variables, constants or a function."""
         if isinstance(node.type, c_ast.FuncDecl):
             if node.name in self.unit.functions:
-                self.scopes[-1][node.name] = self.unit.functions[node.name]
+                self.declare_function(node)
             return
         if node.name is None:
             self.kind(node.type, node)
@@ -168,8 +173,19 @@ class Resolver:
             self.function.variables.append(variable)
         if node.init is not None:
             self.walk(node.init)
+            if variable.is_global or variable.is_static:
+                self.require_fixed(node.init)
             if is_errno(node.init):
                 self.save_errno(variable)
+
+    def require_fixed(self, node):
+        """What is there from the start begins with what is known then."""
+        if isinstance(node, (c_ast.InitList, c_ast.NamedInitializer)):
+            for part in node.exprs if isinstance(node, c_ast.InitList) else [node.expr]:
+                self.require_fixed(part)
+        elif not (is_string(node) or is_null(node, self.unit.meaning) or constant(node, self.unit.meaning) is not None
+                  or isinstance(node, (c_ast.ID, c_ast.Cast)) and kind_of(node, self.unit.meaning) is Kind.HANDLER):
+            refuse(node, 'what is static or global begins with a constant: assign it in a function')
 
     def variable(self, node, is_parameter=False):
         refused = {'extern', 'register', 'auto', '_Thread_local'} & set(node.storage or ())
