@@ -145,6 +145,7 @@ FORMS = [
     (['tools/jobk', 'show', 'examples/c/lost_wakeup.c', '--at', '82'], 0, 'runs, at lost_wakeup.c:21, in main'),
     (['tools/jobk', 'nothing.c'], 3, 'tools/cworld: cannot read nothing.c'),
     ([sys.executable, '-S', 'tools/cworld', 'examples/c/fork.c'], 3, 'tools/cworld: there is no pycparser: apt-get'),
+    (['env', 'PATH=', sys.executable, 'tools/cworld', 'examples/c/fork.c'], 3, 'tools/cworld: there is no gcc, which'),
 ]
 
 
