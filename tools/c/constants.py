@@ -211,17 +211,14 @@ def is_null(node, meaning):
 
 
 def size_of(node, meaning):
-    """The bytes that C says of a variable, an element, a string or a type."""
+    """The bytes that C says of a value, an array, a string or a type."""
     if is_string(node):
         return len(bytes_of(node)) + 1
-    if isinstance(node, c_ast.Typename):
-        kind, count = kind_of_typename(node), 1
-    elif isinstance(node, c_ast.ID):
-        variable = meaning.get(id(node))
-        kind = variable.kind if isinstance(variable, Variable) else None
-        count = 1 if kind is None or variable.length is None else variable.length
+    known = meaning.get(id(node)) if isinstance(node, c_ast.ID) else None
+    if isinstance(known, Variable):
+        kind, count = known.kind, known.length or 1
     else:
-        kind, count = kind_of(node, meaning) if isinstance(node, c_ast.ArrayRef) else None, 1
+        kind, count = kind_of_typename(node) if isinstance(node, c_ast.Typename) else kind_of(node, meaning), 1
     if kind not in NUMBERS:
         refuse(node, 'sizeof is of a number, of an array or of a string')
     return count * BITS[kind] // 8

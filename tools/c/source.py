@@ -21,6 +21,7 @@ USER = '<stdin>'
 INCLUDES = re.compile(r'^[ \t]*#[ \t]*include[ \t]*"jobk\.h"', re.M)
 DIRECTIVE = re.compile(r'^[ \t]*#(?:.*\\\n)*.*', re.M)
 OF_PLACE = re.compile(r'\b__(has_include|has_include_next|(FILE|FILE_NAME|BASE_FILE|DATE|TIME|TIMESTAMP)__)\b')
+QUOTED = re.compile(r'(["\'])(\\.|(?!\1)[^\\])*\1', re.S)
 ESCAPE = re.compile(r'\\(x[0-9a-fA-F]+|[0-7]{1,3}|.)|(.)', re.S)
 LETTERS = {'n': 10, 't': 9, 'r': 13, '\\': 92, "'": 39, '"': 34, '?': 63, 'a': 7, 'b': 8, 'f': 12, 'v': 11, 'e': 27}
 SYNTAX = {
@@ -203,6 +204,8 @@ def without_escapes(token, place):
         if re.match(r'\w+["\']', token):
             raise Refused(place.file, place.line, place.column, f'expected a string of char, found `{token}`')
         return token
+    if not QUOTED.fullmatch(token):
+        raise Refused(place.file, place.line, place.column, f'expected another {quote} on this line')
     values = []
     for escape, letter in ESCAPE.findall(token[1:-1]):
         if letter:
