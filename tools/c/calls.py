@@ -142,19 +142,27 @@ class Calls:
         if name in NEVER_FAIL:
             if store:
                 store()
-            return
-        keeps_errno = self.unit.keeps_errno
-        if not (keeps_errno or wanted == 'value' or store):
-            return
-        failed, back = self.new_label('failed'), self.new_label('back')
-        needs_code = keeps_errno or wanted == 'value'
-        self.emit('jlt', r(0), failed if needs_code else back)
-        if store:
+        elif store is None:
+            self.check(wanted)
+        else:
+            failed, back, is_told = self.new_label('failed'), self.new_label('back'), self.is_told(wanted)
+            self.emit('jlt', r(0), failed if is_told else back)
             if is_nothing:
                 self.emit('jz', r(0), back)
             store()
-        self.put(back)
-        if needs_code:
+            self.put(back)
+            if is_told:
+                self.write_later(lambda: self.fail(failed, back, wanted))
+
+    def is_told(self, wanted):
+        """Whether anybody asks which error a call gives."""
+        return self.unit.keeps_errno or wanted == 'value'
+
+    def check(self, wanted):
+        if self.is_told(wanted):
+            failed, back = self.new_label('failed'), self.new_label('back')
+            self.emit('jlt', r(0), failed)
+            self.put(back)
             self.write_later(lambda: self.fail(failed, back, wanted))
 
     def fail(self, failed, back, wanted):
@@ -199,14 +207,14 @@ class Calls:
         status = self.variable_at(arguments[1], Kind.INT, '&status')
         self.numbers([arguments[0], arguments[2]])
         options = self.constant(arguments[2])
-        self.finish('waitpid', wanted, status is not None and (lambda: self.store(1, status)),
+        self.finish('waitpid', wanted, None if status is None else lambda: self.store(1, status),
                     options is None or bool(options & WNOHANG))
 
     def call_wait(self, node, arguments, wanted):
         status = self.variable_at(arguments[0], Kind.INT, '&status')
         self.set(1, -1)
         self.set(2, 0)
-        self.finish('waitpid', wanted, status is not None and (lambda: self.store(1, status)))
+        self.finish('waitpid', wanted, None if status is None else lambda: self.store(1, status))
 
     def call_getpgrp(self, node, arguments, wanted):
         self.set(1, 0)
@@ -224,13 +232,26 @@ class Calls:
         self.put(done)
 
     def call_waitid(self, node, arguments, wanted):
+        """Of an error the siginfo_t is empty, as in Linux."""
         info = self.variable_at(arguments[2], Kind.INFO, '&info')
         self.numbers([arguments[0], arguments[1], arguments[3]])
+        if info is None:
+            self.finish('waitid', wanted)
+            return
+        none, told = self.new_label('none'), self.new_label('told')
+        self.emit('sys', 'waitid')
+        self.emit('jlt', r(0), none)
+        self.put(told)
+        self.store(1, info)
+        self.store_change(2, 1, 3, info)
+        self.check(wanted)
 
-        def store():
-            self.store(1, info)
-            self.store_change(2, 1, 3, info)
-        self.finish('waitid', wanted, info is not None and store)
+        def write():
+            self.put(none)
+            self.set(1, 0)
+            self.set(2, 0)
+            self.emit('jmp', told)
+        self.write_later(write)
 
     # signals
 
@@ -249,7 +270,7 @@ class Calls:
         def store():
             for number in range(3):
                 self.store(2 + number, old + number)
-        self.finish('sigaction', wanted, old is not None and store)
+        self.finish('sigaction', wanted, None if old is None else store)
 
     def call_signal(self, node, arguments, wanted):
         """The signal itself is in the mask of its handler, as the C library has it."""
@@ -274,7 +295,7 @@ class Calls:
         else:
             self.numbers(arguments[:1])
             self.load(2, signals)
-        self.finish('sigprocmask', wanted, old is not None and (lambda: self.store(2, old)))
+        self.finish('sigprocmask', wanted, None if old is None else lambda: self.store(2, old))
 
     def call_sigpending(self, node, arguments, wanted):
         signals = self.variable_at(arguments[0], Kind.SET, '&set')
