@@ -4,11 +4,17 @@ A program has global variables and arrays, functions that call those before them
 leaves the order of most operands open, so two operands never share what one of them changes; sums, products and
 shifts stay within 31 bits, indexes within arrays, and divisors are odd.
 """
-import random
 from dataclasses import dataclass, field
+
+import of_signals                                                           # noqa: F401
+import results                                                              # noqa: F401
+import texts                                                                # noqa: F401
+from features import GROUPS, Chance, indented
 
 MOST = 2 ** 30
 SMALL = 9973                        # what is kept in variables stays below
+FIRST_MARK = 900000                 # what is noted before a part
+HAS_GROUP = 0.5                     # how often a program has a part of a group
 ARITHMETIC = ('+', '-', '*', '/', '%', '&', '|', '^')
 COMPARISONS = ('==', '!=', '<', '<=', '>', '>=')
 
@@ -77,11 +83,29 @@ class Scope:
         return Scope(list(self.numbers), list(self.letters), list(self.arrays), dict(self.functions), self.counters)
 
 
+@dataclass
+class Program:
+    """A program without its #include; its main is main_ and its number, and those that it runs by execl have parameters."""
+    number: int
+    text: str
+    parts: list
+
+    @property
+    def tools(self):
+        """The programs that it runs: their names, and the lines of their main."""
+        return [part.tool for part in self.parts if part.tool]
+
+    @property
+    def groups(self):
+        return [part.name.partition(',')[0] for part in self.parts]
+
+
 class Generator:
     """Makes one program; names end with its number, so that many can stand in one file."""
 
     def __init__(self, seed, number, size=3):
-        self.random = random.Random(seed * 100003 + number)
+        self.random = Chance(seed * 100003 + number).begin()
+        self.number = number
         self.ending = f'_{number}'
         self.size = size
         self.names = 0
@@ -305,7 +329,7 @@ class Generator:
     # programs
 
     def program(self):
-        """The text without its #include; its main is main_ and its number."""
+        """A program with some parts; its main is main_ and its number."""
         scope = Scope([self.new('g') for _ in range(3)], [self.new('gc')], [self.new('ga')])
         lines = [f'static int {name} = {self.random.randrange(100)};' for name in scope.numbers]
         lines += [f'static char {name};' for name in scope.letters]
@@ -317,7 +341,19 @@ class Generator:
             lines += self.function(scope, raises, number)
         for name in ('on_usr1', 'on_usr2'):
             lines += self.handler(scope, name + self.ending)
-        return '\n'.join([*lines, *self.main(scope)]) + '\n'
+        parts = self.parts()
+        for place, part in enumerate(parts):
+            lines += [*part.before, f'static void part{place}{self.ending}(void)', '{', *indented(part.main), '}']
+        return Program(self.number, '\n'.join([*lines, *self.main(scope, parts)]) + '\n', parts)
+
+    def parts(self):
+        """The parts of some groups, in any order."""
+        made = []
+        for name, of in GROUPS.items():
+            if self.random.random() < HAS_GROUP:
+                made.append(of(self.random, self.new).any())
+        self.random.shuffle(made)
+        return made
 
     def function(self, scope, raises, number):
         name, count = self.new('f'), self.random.randrange(number == 2, 4)
@@ -359,9 +395,14 @@ class Generator:
         return [f'static void {name}(int signal_number)', '{', f'    int {number} = {self.random.randrange(50)};',
                 '    note(signal_number);', *self.block(inner, 0, 1, '    '), *calls, '}']
 
-    def main(self, scope):
+    def main(self, scope, parts):
         inner = scope.inner()
         lines = [f'int main{self.ending}(void)', '{', '    struct sigaction action = { .sa_handler = 0 };']
+        calls = [[f'    note({FIRST_MARK + place});', f'    part{place}{self.ending}();'] for place in range(len(parts))]
+        early = self.random.randrange(len(parts) + 1)
+        if any(part.has_terminal for part in parts):
+            lines.append('    setctty(1);')
+        lines += [line for call in calls[:early] for line in call] + [f'    note({FIRST_MARK + len(parts)});']
         for name, signal in (('on_usr1', 'SIGUSR1'), ('on_usr2', 'SIGUSR2')):
             lines += [f'    action.sa_handler = {name}{self.ending};', f'    sigaction({signal}, &action, NULL);']
         lines += self.declared(inner)
@@ -369,7 +410,8 @@ class Generator:
         lines += self.block(inner, 2, half, '    ') + self.child(inner) + self.block(inner, 2, self.size - half, '    ')
         lines += [f'    note({name});' for name in scope.numbers + scope.letters]
         lines += [f'    for (int i = 0; i < 8; i++) note({name}[i]);' for name in scope.arrays]
-        return [*lines, '    return 0;', '}']
+        lines += [line for call in calls[early:] for line in call]
+        return [*lines, f'    return {self.random.randrange(256)};', '}']
 
     def child(self, scope):
         """Two signals that are blocked for a while, and a child, of whose end is told."""

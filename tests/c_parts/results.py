@@ -1,0 +1,130 @@
+"""Results of calls that are compared, and types of numbers."""
+from features import Part, group, indented
+from typed import COMPARISONS, Typed
+
+
+@group('results')
+class Results:
+    """Functions with negative results, and what is done with these."""
+
+    def __init__(self, chance, new):
+        self.random, self.new = chance, new
+
+    def function(self):
+        name, argument = self.new('f'), self.new('l')
+        low = self.random.randrange(1, 5)
+        kinds = [[f'return {argument} - {low};'], [f'return -{low};'],
+                 [f'if ({argument} > 2)', f'    return -{low};', f'return {argument};'],
+                 [f'return {argument} == 1 ? -1 : -2;'],
+                 [f'int found = -1;', 'for (int i = 0; i < 3; i++)', f'    if (i == {argument})',
+                  '        found = found == -1 ? i : -2;', 'return found - 1;']]
+        return name, [f'static int {name}(int {argument})', '{', *indented(self.random.choice(kinds)), '}']
+
+    def compared(self, name, none):
+        call, value = f'{name}({self.random.randrange(5)})', self.random.choice(['-1', '-1', '-1', '-2', '0', '-3', '1', none])
+        operator = self.random.choice(COMPARISONS + ('==', '==', '!='))
+        return f'{value} {operator} {call}' if self.random.random() < 0.2 else f'{call} {operator} {value}'
+
+    def tested(self):
+        name, before = self.function()
+        none, main, counter = self.new('A').upper(), [], self.new('c')
+        before = [self.random.choice([f'#define {none} (-1)', f'enum {{ {none} = -1 }};', f'#define {none} (-2)']), *before]
+        for _ in range(self.random.randrange(1, 4)):
+            test = self.compared(name, none)
+            main += self.random.choice([
+                [f'note({test});'], [f'if ({test})', '    note(1);', 'else', '    note(2);'],
+                [f'note(({test}) {self.random.choice(["&&", "||"])} {self.compared(name, none)});'],
+                [f'note({test} ? 5 : 6);'], [f'note(!({test}));']])
+        main += self.random.choice([
+            [f'int {counter} = 0;', f'while ({counter} < 4 && {name}({counter}) != -1)', f'    {counter}++;', f'note({counter});'],
+            [f'switch ({name}(2)) {{', 'case -1:', '    note(1);', '    break;', 'case -2:', '    note(2);', '    break;',
+             'default:', '    note(3);', '}'],
+            [f'int {counter} = {name}(1);', f'note({counter} == -1);', f'note({counter} < -1);'],
+            [f'note({name}(0) + 1 == 0);'], []])
+        return Part('results, compared', before, main)
+
+    def of_system(self):
+        """Calls of the system that fail, or don't."""
+        call = self.random.choice(['kill(getpid(), 0)', 'kill(getpid(), 99)', 'waitpid(-1, NULL, WNOHANG)', 'getpgid(9999999)',
+                                   'setpgid(getpid(), -1)', 'alarm(0)', 'getpgid(0) - getpid()', 'setpgid(9999999, 0)'])
+        test = f'{call} {self.random.choice(COMPARISONS)} {self.random.choice(["-1", "-1", "0", "-2", "1"])}'
+        main = ['errno = 0;', f'if ({test})', '    note(errno);', 'else', '    note(-errno);', f'note({call});', f'note({test});']
+        return Part('results, of the system', [], main)
+
+    def of_program(self):
+        """What a program finds in its arguments."""
+        tool, argument = self.new('t'), self.random.choice(['-5', '-1', '-2', '0', '7', '-1', '-100'])
+        second = self.random.choice(['-1', '3'])
+        value = self.random.choice(['atoi(argv[1])', 'atoi(argv[1])', 'atoi(argv[2])'])
+        lines = [f'if ({value} {self.random.choice(["==", "==", "!=", "<", ">="])} -1)', '    note(1);', 'else', '    note(0);',
+                 'note(atoi(argv[1]) - atoi(argv[2]));', f'return {self.random.randrange(5)};']
+        child = self.new('l')
+        main = ['signal(SIGCHLD, SIG_DFL);', f'pid_t {child} = fork();', f'if ({child} == 0) {{',
+                f'    execl("{tool}", "{tool}", "{argument}", "{second}", (char *)NULL);', '    _exit(9);', '}',
+                f'int {child}s = 0;', f'waitpid({child}, &{child}s, 0);', f'note(WEXITSTATUS({child}s));']
+        return Part('results, of arguments', [], main, tool=[tool, *lines])
+
+    def any(self):
+        return self.random.choice([self.tested] * 4 + [self.of_system, self.of_system, self.of_program])()
+
+
+@group('types')
+class Types:
+    def __init__(self, chance, new):
+        self.random, self.new = chance, new
+
+    def numbers(self):
+        typed = Typed(self.random, self.new)
+        before = [typed.declare(is_global=True) for _ in range(2)]
+        if self.random.random() < 0.6:
+            before += typed.function()
+        main = [typed.declare() for _ in range(2)]
+        main += [f'(void){variable.name};' for variable in typed.variables if not variable.name.startswith('g')]
+        for _ in range(self.random.randrange(2, 5)):
+            main += typed.statement()
+        return Part('types, statements', before, main)
+
+    def few(self):
+        """One expression, in which a type without negative numbers meets a negative one."""
+        name = self.new('l')
+        of = self.random.one_of(['uid_t', 'gid_t', 'int', 'ssize_t', 'pid_t', 'char'], unsigned=['unsigned'],
+                                long=['size_t', 'long'])
+        less = self.random.choice(['- 1', '- 2', '+ -1', '* -1'])
+        main = [f'{of} {name} = {self.random.choice(["0", "1", "-1"])};',
+                f'note({name} {less} {self.random.choice(COMPARISONS)} 0);', f'note({name} {self.random.choice(COMPARISONS)} -1);',
+                f'note(sizeof {name});']
+        if of == 'uid_t' and self.random.random() < 0.5:
+            main[1:2] = [f'{name} = getuid() - getuid();', f'note({name} - 1 > 0);']
+        return Part('types, one', [], main)
+
+    def sizes(self):
+        array, counter, length = self.new('g'), self.new('l'), self.random.randrange(2, 7)
+        of = self.random.choice(['int', 'int', 'char'])
+        bytes_of = length * (4 if of == 'int' else 1)
+        size = self.random.choice([f'sizeof {array}', f'sizeof {array} / sizeof {array}[0]', 'sizeof(int)', f'sizeof {array}[1]'])
+        test = self.random.choice([f'note(-1 < {size});', f'note({counter} < {size});', f'note({size} - {bytes_of + 3} > 0);',
+                                   f'if ({counter} {self.random.choice(COMPARISONS)} {size})\n        note(10);',
+                                   f'note({size} * -1 < 0);', f'note(({counter} + {size}) / 2 > 100);'])
+        return Part('types, sizes', [f'static {of} {array}[{length}];'], [
+            f'int {counter} = {self.random.choice([-1, -2, 0, 3])};', f'(void){counter};', *test.split('\n'),
+            f'note({size});'])
+
+    def enums(self):
+        color, red, green, variable = self.new('e'), self.new('A').upper(), self.new('B').upper(), self.new('l')
+        first = self.random.choice(['', '', ' = 1', ' = -1'])
+        main = [f'enum {color} {variable} = {self.random.choice([red, green])};', f'note({variable} - 1 < 0);',
+                f'note({variable} {self.random.choice(COMPARISONS)} -1);', f'note({red} - 2 < 0);', f'note(-{variable} > 0);',
+                f'note({variable} == {red});']
+        self.random.shuffle(main[1:])
+        return Part('types, enums', [f'enum {color} {{ {red}{first}, {green} }};'], main[:self.random.randrange(2, 6)])
+
+    def calls(self):
+        """Results of the system whose types have no negative numbers."""
+        call = self.random.choice(['alarm(0)', 'alarm(0)', '(getuid() - getuid())', '(getegid() - getgid())'])
+        main = [f'note({call} - 1 {self.random.choice(COMPARISONS)} 0);', f'note({call} > -1);', f'note({call} == -1);']
+        if call == 'alarm(0)':
+            main = ['alarm(100);', 'note(alarm(50) > 3);', 'note(alarm(0) >= 1);', *main]
+        return Part('types, of calls', [], main)
+
+    def any(self):
+        return self.random.choice([self.numbers] * 5 + [self.few, self.sizes, self.sizes, self.enums, self.calls])()
