@@ -45,3 +45,16 @@ class Chance(random.Random):
     def one_of(self, always, **rare):
         """One of some, and of those that a program may have."""
         return self.choice([*always, *(it for construct, some in rare.items() if self.may(construct) for it in some)])
+
+
+class Maker:
+    """Makes the parts of a group."""
+
+    def __init__(self, chance, new):
+        self.random, self.new = chance, new
+
+    def pick(self, *some):
+        return self.random.choice(some)
+
+    def pick_of(self, some):
+        return self.random.choice(some)

@@ -85,7 +85,7 @@ class Scope:
 
 @dataclass
 class Program:
-    """A program without its #include; its main is main_ and its number, and those that it runs by execl have parameters."""
+    """A program without its #include; its main is main_ and its number."""
     number: int
     text: str
     parts: list
@@ -398,7 +398,8 @@ class Generator:
     def main(self, scope, parts):
         inner = scope.inner()
         lines = [f'int main{self.ending}(void)', '{', '    struct sigaction action = { .sa_handler = 0 };']
-        calls = [[f'    note({FIRST_MARK + place});', f'    part{place}{self.ending}();'] for place in range(len(parts))]
+        calls = [[f'    note({FIRST_MARK + place});', f'    part{place}{self.ending}();']
+                 for place in range(len(parts))]
         early = self.random.randrange(len(parts) + 1)
         if any(part.has_terminal for part in parts):
             lines.append('    setctty(1);')
@@ -411,7 +412,7 @@ class Generator:
         lines += [f'    note({name});' for name in scope.numbers + scope.letters]
         lines += [f'    for (int i = 0; i < 8; i++) note({name}[i]);' for name in scope.arrays]
         lines += [line for call in calls[early:] for line in call]
-        return [*lines, f'    return {self.random.randrange(256)};', '}']
+        return [*lines, f'    return {self.random.choice([0, 3, 255, 256, 300, -1])};', '}']
 
     def child(self, scope):
         """Two signals that are blocked for a while, and a child, of whose end is told."""

@@ -1,5 +1,5 @@
 """Sets of signals, what a handler is told, handlers that are entered again, and what a status word tells."""
-from features import Part, group, indented
+from features import Maker, Part, group, indented
 
 SIGNALS = ['SIGUSR1', 'SIGUSR2', 'SIGCHLD', 'SIGTERM', 'SIGHUP', 'SIGALRM', 'SIGRTMIN', 'SIGKILL', 'SIGSTOP']
 CAUGHT = ['SIGUSR1', 'SIGUSR2', 'SIGTERM', 'SIGHUP', 'SIGURG', 'SIGWINCH']
@@ -7,39 +7,38 @@ NUMBERS = [-1, 0, 1, 2, 10, 31, 32, 33, 34, 63, 64, 65, 66, 100, 150, 1000]
 
 
 @group('sets')
-class Sets:
-    def __init__(self, chance, new):
-        self.random, self.new = chance, new
-
+class Sets(Maker):
     def signal(self, name):
         """A signal by its name or by a variable; of a variable it may be none."""
-        return self.random.choice([self.random.choice(SIGNALS), name, name, f'{name} + 1'])
+        return self.pick(self.pick_of(SIGNALS), name, name, f'{name} + 1')
 
     def begin(self, a):
-        return f'{self.random.choice(["sigemptyset", "sigemptyset", "sigfillset"])}(&{a});'
+        return f'{self.pick("sigemptyset", "sigemptyset", "sigfillset")}(&{a});'
 
     def change(self, a, number):
-        call = self.random.choice(['sigaddset', 'sigaddset', 'sigdelset', 'sigismember'])
+        call = self.pick('sigaddset', 'sigaddset', 'sigdelset', 'sigismember')
         text = f'{call}(&{a}, {self.signal(number)})'
         roll = self.random.random()
         if roll < 0.25:
             return [f'if ({text} < 0)', '    note(errno);']
         if roll < 0.5:
             return [f'note({text});', 'note(errno);']
-        return [f'note({text});'] if roll < 0.75 else [f'{text};'] if call != 'sigismember' else [f'note({text} == -1);']
+        if roll < 0.75:
+            return [f'note({text});']
+        return [f'note({text} == -1);'] if call == 'sigismember' else [f'{text};']
 
     def members(self, a):
         name = self.new('l')
         if self.random.random() < 0.5:
-            low = self.random.choice([-1, 0, 1, 9, 30])
-            return [f'for (int {name} = {low}; {name} < {low + self.random.choice([3, 6, 40])}; {name}++)',
+            low = self.pick(-1, 0, 1, 9, 30)
+            return [f'for (int {name} = {low}; {name} < {low + self.pick(3, 6, 40)}; {name}++)',
                     f'    note(sigismember(&{a}, {name}));']
-        return [f'note(sigismember(&{a}, {self.random.choice(SIGNALS)}));' for _ in range(2)]
+        return [f'note(sigismember(&{a}, {self.pick_of(SIGNALS)}));' for _ in range(2)]
 
     def ranges(self):
         """Signals that are none, or those of the library, in variables."""
         a, b, number = self.new('l'), self.new('l'), self.new('l')
-        main = [f'sigset_t {a}, {b};', f'int {number} = {self.random.choice(NUMBERS)};', 'errno = 0;', self.begin(a)]
+        main = [f'sigset_t {a}, {b};', f'int {number} = {self.pick_of(NUMBERS)};', 'errno = 0;', self.begin(a)]
         for _ in range(self.random.randrange(2, 5)):
             main += self.change(a, number)
         if self.random.random() < 0.4:
@@ -52,45 +51,47 @@ class Sets:
         a, number = self.new('l'), self.new('l')
         main = [f'sigset_t {a};', self.begin(a)]
         for _ in range(self.random.randrange(2, 5)):
-            signal = self.random.choice(SIGNALS + ['SIGRTMIN + 2', '64', '1'])
-            main.append(self.random.choice([f'sigaddset(&{a}, {signal});', f'note(sigaddset(&{a}, {signal}));',
-                                            f'note(sigdelset(&{a}, {signal}) == -1);', f'sigdelset(&{a}, {signal});',
-                                            f'note(sigismember(&{a}, {signal}) == 1);']))
-        main += [f'for (int {number} = 1; {number} < 65; {number} += {self.random.choice([3, 7, 9])})',
+            signal = self.pick_of(SIGNALS + ['SIGRTMIN + 2', '64', '1'])
+            main.append(self.pick(f'sigaddset(&{a}, {signal});', f'note(sigaddset(&{a}, {signal}));',
+                                  f'note(sigdelset(&{a}, {signal}) == -1);', f'sigdelset(&{a}, {signal});',
+                                  f'note(sigismember(&{a}, {signal}) == 1);'))
+        main += [f'for (int {number} = 1; {number} < 65; {number} += {self.pick(3, 7, 9)})',
                  f'    note(sigismember(&{a}, {number}));']
         return Part('sets, in range', [], main)
 
     def masks(self):
         """What is blocked, and what is pending."""
         a, old, some = self.new('l'), self.new('l'), self.random.sample(CAUGHT, 2)
-        how = self.random.choice(['SIG_BLOCK', 'SIG_SETMASK', 'SIG_BLOCK', '99', '-1'])
+        how = self.pick('SIG_BLOCK', 'SIG_SETMASK', 'SIG_BLOCK', '99', '-1')
         ignored = [f'signal({it}, SIG_IGN);' for it in some]
         main = [f'sigset_t {a}, {old};', self.begin(a), f'sigemptyset(&{old});', f'sigaddset(&{a}, {some[0]});',
-                f'note(sigprocmask({how}, &{a}, &{old}));', 'note(errno == EINVAL);', f'note(sigismember(&{old}, {some[0]}));',
+                f'note(sigprocmask({how}, &{a}, &{old}));', 'note(errno == EINVAL);',
+                f'note(sigismember(&{old}, {some[0]}));',
                 f'sigprocmask(SIG_BLOCK, NULL, &{a});', f'note(sigismember(&{a}, {some[0]}));',
-                f'note(sigismember(&{a}, SIGKILL));', f'note(sigismember(&{a}, {self.random.choice(["32", "33", "64", "40"])}));',
+                f'note(sigismember(&{a}, SIGKILL));', f'note(sigismember(&{a}, {self.pick("32", "33", "64", "40")}));',
                 f'kill(getpid(), {some[1]});', f'sigpending(&{a});', f'note(sigismember(&{a}, {some[1]}));',
                 f'sigemptyset(&{a});', f'note(sigprocmask(SIG_SETMASK, &{a}, NULL));']
         return Part('sets, masks', [], ['errno = 0;', *ignored, *main])
 
     def any(self):
-        return self.random.choice([self.ranges, self.ranges, self.in_range, self.masks])()
+        return self.pick(self.ranges, self.ranges, self.in_range, self.masks)()
 
 
 @group('siginfo')
-class Siginfo:
+class Siginfo(Maker):
     """What a handler and waitid are told."""
     FIELDS = ['{0}si_code', '{0}si_code', '{0}si_pid == getpid()', '{0}si_status', '{0}si_value.sival_int', '{0}si_int',
               '{0}si_code == CLD_EXITED', '{0}si_code == CLD_KILLED', '{0}si_pid > 0', '{0}si_code < 0']
-    RARE_FIELDS = ['{0}si_signo', '{0}si_errno', '{0}si_uid == getuid()', '{0}si_code == SI_USER', '{0}si_code == SI_QUEUE']
+    RARE_FIELDS = ['{0}si_signo', '{0}si_errno', '{0}si_uid == getuid()', '{0}si_code == SI_USER',
+                   '{0}si_code == SI_QUEUE']
 
     def __init__(self, chance, new):
-        self.random, self.new = chance, new
+        super().__init__(chance, new)
         self.fields = self.FIELDS + (self.RARE_FIELDS if chance.may('members') else [])
 
     def shown(self, before, fields=None):
         return [f'note({field.format(before)});' for field in self.random.sample(fields or self.fields,
-                                                                                self.random.randrange(1, 4))]
+                                                                                 self.random.randrange(1, 4))]
 
     def handler(self, name, fields=None):
         return [f'static void {name}(int number, siginfo_t *info, void *context)', '{', '    (void)context;',
@@ -98,16 +99,16 @@ class Siginfo:
 
     def installed(self, name, signal):
         action = self.new('l')
-        flags = self.random.choice(['SA_SIGINFO', 'SA_SIGINFO', 'SA_SIGINFO | SA_RESTART'])
+        flags = self.pick('SA_SIGINFO', 'SA_SIGINFO', 'SA_SIGINFO | SA_RESTART')
         return [f'struct sigaction {action} = {{ .sa_sigaction = {name}, .sa_flags = {flags} }};',
                 f'sigaction({signal}, &{action}, NULL);']
 
     def sent(self):
         """Signals of kill, or of sigqueue."""
-        name, signal = self.new('on'), self.random.choice(CAUGHT + ['SIGCHLD', 'SIGRTMIN', 'SIGRTMIN + 1', 'SIGRTMAX'])
-        value = self.random.choice([0, 1, 5, 7, -1, 256, 65535, 100000])
-        send = self.random.choice([f'kill(getpid(), {signal});', f'kill(getpid(), {signal});', f'kill(0, {signal});',
-                                   f'sigqueue(getpid(), {signal}, (union sigval){{ .sival_int = {value} }});'])
+        name, signal = self.new('on'), self.pick_of(CAUGHT + ['SIGCHLD', 'SIGRTMIN', 'SIGRTMIN + 1', 'SIGRTMAX'])
+        value = self.pick(0, 1, 5, 7, -1, 256, 65535, 100000)
+        send = self.pick(f'kill(getpid(), {signal});', f'kill(getpid(), {signal});', f'kill(0, {signal});',
+                         f'sigqueue(getpid(), {signal}, (union sigval){{ .sival_int = {value} }});')
         fields = self.fields
         if 'sigqueue' not in send and self.random.random() < 0.5:
             fields = [it for it in self.fields if 'code' not in it]
@@ -116,47 +117,57 @@ class Siginfo:
     def child(self):
         """SIGCHLD of a child that exits, is killed or is stopped."""
         name, child = self.new('on'), self.new('l')
-        end = self.random.choice(['_exit({});'.format(self.random.choice([0, 1, 7, 255, 256, -1])), 'kill(getpid(), SIGKILL);',
-                                  'kill(getpid(), SIGTERM);'])
+        end = self.pick('_exit({});'.format(self.pick(0, 1, 7, 255, 256, -1)), 'kill(getpid(), SIGKILL);',
+                        'kill(getpid(), SIGTERM);')
         restored = ['signal(SIGTERM, SIG_DFL);'] if 'TERM' in end else []
-        main = [*self.installed(name, 'SIGCHLD'), f'pid_t {child} = fork();', f'if ({child} == 0) {{', *indented(restored),
+        main = [*self.installed(name, 'SIGCHLD'), f'pid_t {child} = fork();', f'if ({child} == 0) {{',
+                *indented(restored),
                 f'    {end}', '    _exit(3);', '}', f'while (waitpid({child}, NULL, 0) < 0)', '    ;']
         return Part('siginfo, of a child', self.handler(name), main)
 
     def waited(self):
         info, child = self.new('l'), self.new('l')
-        end = self.random.choice(['_exit({});'.format(self.random.choice([0, 1, 7, 255, 256, -1])), 'kill(getpid(), SIGKILL);'])
-        begin = self.random.choice([f'siginfo_t {info} = {{ 0 }};', f'siginfo_t {info};'])
+        end = self.pick('_exit({});'.format(self.pick(0, 1, 7, 255, 256, -1)), 'kill(getpid(), SIGKILL);')
+        begin = self.pick(f'siginfo_t {info} = {{ 0 }};', f'siginfo_t {info};')
         main = ['signal(SIGCHLD, SIG_DFL);', begin, f'pid_t {child} = fork();', f'if ({child} == 0) {{', f'    {end}',
-                '    _exit(3);', '}', f'note(waitid({self.random.choice(["P_ALL, 0", "P_PID, " + child])}, &{info}, WEXITED));',
+                '    _exit(3);', '}', f'note(waitid({self.pick("P_ALL, 0", "P_PID, " + child)}, &{info}, WEXITED));',
                 f'note({info}.si_pid == {child});', *self.shown(f'{info}.')]
         return Part('siginfo, of waitid', [], main)
+
+    def no_news(self):
+        """A child that has nothing to report yet."""
+        info, child, status = self.new('l'), self.new('l'), self.new('l')
+        main = ['signal(SIGCHLD, SIG_DFL);', f'siginfo_t {info} = {{ 0 }};', f'int {status} = 77;',
+                f'pid_t {child} = fork();',
+                f'if ({child} == 0)', '    while (1)', '        pause();', f'{info}.si_pid = 5;',
+                f'note(waitid(P_ALL, 0, &{info}, WEXITED | WNOHANG));', f'note({info}.si_pid);',
+                f'note(waitpid({child}, &{status}, WNOHANG));', f'note({status});', f'kill({child}, SIGKILL);',
+                f'note(waitid(P_PID, {child}, &{info}, WEXITED | WNOWAIT));', *self.shown(f'{info}.'),
+                f'note(waitpid({child}, &{status}, 0) == {child});', f'note({status});']
+        return Part('siginfo, no news', [], main)
 
     def kept(self):
         """Members that the program itself sets."""
         info = self.new('l')
         main = [f'siginfo_t {info} = {{ 0 }};']
         for _ in range(self.random.randrange(1, 4)):
-            field = self.random.choice(['si_status', 'si_code', 'si_pid', 'si_value.sival_int', 'si_status'])
-            main += [f'{info}.{field} = {self.random.choice([0, 1, 2, 5, 9, 127, 255, 256, 65535, 1000])};',
+            field = self.pick('si_status', 'si_code', 'si_pid', 'si_value.sival_int', 'si_status')
+            main += [f'{info}.{field} = {self.pick(0, 1, 2, 5, 9, 127, 255, 256, 65535, 1000)};',
                      f'note({info}.{field});']
         if self.random.random() < 0.3:
             main += self.shown(f'{info}.', [it for it in self.fields if '==' not in it and '<' not in it])
         return Part('siginfo, members', [], main)
 
     def any(self):
-        return self.random.choice([self.sent, self.sent, self.child, self.waited, self.waited, self.kept])()
+        return self.pick(self.sent, self.sent, self.child, self.waited, self.waited, self.no_news, self.kept)()
 
 
 @group('handlers')
-class Handlers:
+class Handlers(Maker):
     """Handlers that are entered again while they run, and some that are not. Each has variables that have to stay."""
 
-    def __init__(self, chance, new):
-        self.random, self.new = chance, new
-
     def variables(self, depth):
-        count = self.random.choice([1, 2, 3, 3, 3, 4, 4, 5])
+        count = self.pick(1, 2, 3, 3, 3, 4, 4, 5)
         names = [self.new('l') for _ in range(count)]
         begin = [f'int {name} = {depth} + {10 * place + 10};' for place, name in enumerate(names)]
         end = [f'note({name});' for name in names]
@@ -193,6 +204,22 @@ class Handlers:
         return Part('handlers, entered again by a copied action', *self.two_actions(
             lambda first, second, one: [f'{second} = {first};']))
 
+    def by_inner(self):
+        """A handler that is set, or let through, by what it calls itself."""
+        depth, name, other, mask, action = self.new('g'), self.new('on'), self.new('f'), self.new('g'), self.new('g')
+        one, second = self.random.sample(CAUGHT, 2)
+        body = self.pick(
+            [f'sigprocmask(SIG_UNBLOCK, &{mask}, NULL);', f'kill(getpid(), {one});'],
+            [f'kill(getpid(), {one});', f'sigprocmask(SIG_SETMASK, &{mask}, NULL);'],
+            [f'sigaction({second}, &{action}, NULL);', f'kill(getpid(), {second});'],
+            [f'kill(getpid(), {one});', f'sigsuspend(&{mask});'])
+        fill = [f'sigemptyset(&{mask});', *([f'sigaddset(&{mask}, {one});'] if 'UNBLOCK' in body[0] else [])]
+        before = [f'static volatile sig_atomic_t {depth};', f'static sigset_t {mask};',
+                  f'static struct sigaction {action};',
+                  f'static void {other}(void)', '{', *indented(body), '}', *self.handler(name, depth, f'{other}();')]
+        return Part('handlers, entered again by what they call', before, [
+            *fill, f'{action}.sa_handler = {name};', f'sigaction({one}, &{action}, NULL);', f'kill(getpid(), {one});'])
+
     def by_name(self):
         name = self.new('on')
         depth, one, other = self.new('g'), *self.random.sample(CAUGHT, 2)
@@ -202,7 +229,7 @@ class Handlers:
 
     def by_flag(self):
         """SA_NODEFER as a number, or by its name."""
-        depth, name, action, signal = self.new('g'), self.new('on'), self.new('l'), self.random.choice(CAUGHT)
+        depth, name, action, signal = self.new('g'), self.new('on'), self.new('l'), self.pick_of(CAUGHT)
         before = [f'static volatile sig_atomic_t {depth};', *self.handler(name, depth, f'kill(getpid(), {signal});')]
         flags = self.random.one_of(['0x40000000', '1073741824', '0x50000000', '010000000000', 'SA_RESTART | 0x40000000',
                                     'SA_RESTART * 4', '1 << 30'], names=['SA_NODEFER'])
@@ -219,7 +246,7 @@ class Handlers:
         depth, name, other, mask = self.new('g'), self.new('on'), self.new('on'), self.new('g')
         one, second = self.random.sample(CAUGHT, 2)
         first_action, second_action = self.new('l'), self.new('l')
-        unblock = self.random.choice([f'sigprocmask(SIG_UNBLOCK, &{mask}, NULL);', f'sigsuspend(&{mask});'])
+        unblock = self.pick(f'sigprocmask(SIG_UNBLOCK, &{mask}, NULL);', f'sigsuspend(&{mask});')
         fill = f'sigaddset(&{mask}, {one});' if 'UNBLOCK' in unblock else ''
         before = [f'static volatile sig_atomic_t {depth};', f'static sigset_t {mask};',
                   *self.handler(name, depth, f'kill(getpid(), {second});'), f'static void {other}(int number)', '{',
@@ -234,7 +261,7 @@ class Handlers:
         """A handler that waits for its turn: its own signal, or one of its mask."""
         depth, name, other, action = self.new('g'), self.new('on'), self.new('on'), self.new('l')
         one, second = self.random.sample(CAUGHT, 2)
-        sent = self.random.choice([one, second])
+        sent = self.pick(one, second)
         before = [f'static volatile sig_atomic_t {depth};', *self.handler(name, depth, f'kill(getpid(), {sent});'),
                   f'static void {other}(int number)', '{', '    note(number);', f'    note({depth});', '}']
         main = [f'struct sigaction {action} = {{ .sa_handler = {name} }};', f'sigaddset(&{action}.sa_mask, {second});',
@@ -243,35 +270,33 @@ class Handlers:
 
     def any(self):
         return self.random.one_of([self.by_member, self.by_old, self.by_flag, self.by_mask, self.by_mask, self.blocked,
-                                   self.blocked, self.blocked, self.blocked], names=[self.by_copy, self.by_name])()
+                                   self.blocked, self.blocked, self.blocked],
+                                  names=[self.by_copy, self.by_name, self.by_inner])()
 
 
 @group('statuses')
-class Statuses:
+class Statuses(Maker):
     """What status words, actions and results of calls tell."""
     TESTS = ['WIFEXITED', 'WEXITSTATUS', 'WIFSIGNALED', 'WTERMSIG', 'WIFSTOPPED', 'WSTOPSIG', 'WIFCONTINUED']
-
-    def __init__(self, chance, new):
-        self.random, self.new = chance, new
 
     def words(self):
         """The macros of words that no call gives."""
         word = self.new('l')
-        value = self.random.choice([0, 1, 127, 128, 255, 256, 383, 4991, 65535, 65280, 32512, 137, -1, -256, 70000, 9])
+        value = self.pick(0, 1, 127, 128, 255, 256, 383, 4991, 65535, 65280, 32512, 137, -1, -256, 70000, 9)
         return Part('statuses, of numbers', [], [f'int {word} = {value};', *(
             f'note({test}({word}));' for test in self.random.sample(self.TESTS, 3))])
 
     def children(self):
         child, status = self.new('l'), self.new('l')
-        end = self.random.choice(['_exit(0);', '_exit(200);', '_exit(-1);', 'exit(259);', 'kill(getpid(), SIGKILL);',
-                                  'kill(getpid(), SIGTERM);'])
+        end = self.pick('_exit(0);', '_exit(200);', '_exit(-1);', 'exit(259);', 'kill(getpid(), SIGKILL);',
+                        'kill(getpid(), SIGTERM);')
         main = ['signal(SIGCHLD, SIG_DFL);', f'int {status} = -1;', f'pid_t {child} = fork();', f'if ({child} == 0) {{',
                 '    signal(SIGTERM, SIG_DFL);', f'    {end}', '    _exit(3);', '}',
                 f'note(waitpid({child}, &{status}, 0) == {child});',
-                *(f'note({test}({status}) {self.random.choice(["", "== 0", "> 1"])});' for test in
+                *(f'note({test}({status}) {self.pick("", "== 0", "> 1")});' for test in
                   self.random.sample(self.TESTS, 3))]
         if self.random.random() < 0.5:
-            main += [f'note({self.random.choice(["wait(NULL)", "waitpid(-1, NULL, WNOHANG)"])});', 'note(errno == ECHILD);']
+            main += [f'note({self.pick("wait(NULL)", "waitpid(-1, NULL, WNOHANG)")});', 'note(errno == ECHILD);']
         return Part('statuses, of children', [], main)
 
     def stopped(self):
@@ -279,29 +304,33 @@ class Statuses:
         main = ['signal(SIGCHLD, SIG_DFL);', f'int {status} = 0;', f'pid_t {child} = fork();', f'if ({child} == 0) {{',
                 '    kill(getpid(), SIGSTOP);', '    _exit(3);', '}', f'waitpid({child}, &{status}, WUNTRACED);',
                 *(f'note({test}({status}));' for test in self.random.sample(self.TESTS, 3)),
-                self.random.choice([f'kill({child}, SIGCONT);', f'kill({child}, SIGKILL);']),
+                self.pick(f'kill({child}, SIGCONT);', f'kill({child}, SIGKILL);'),
                 f'waitpid({child}, &{status}, 0);', f'note({status});']
         return Part('statuses, of a stop', [], main)
 
     def groups(self):
         """Signals to groups, and to what is none."""
-        signal = self.random.choice(['SIGTERM', 'SIGHUP', 'SIGUSR1', '0'])
-        group_number = self.random.choice(['-getpid()', 'getpid()', '0', '-getpid()', '9999999', '-9999999'])
+        signal = self.pick('SIGTERM', 'SIGHUP', 'SIGUSR1', '0')
+        group_number = self.pick('-getpid()', 'getpid()', '0', '-getpid()', '9999999', '-9999999')
         ignored = [] if signal == '0' else [f'signal({signal}, SIG_IGN);']
-        main = [*ignored, 'errno = 0;', f'note(killpg({group_number}, {signal}));', 'note(errno);', 'note(getpgrp() == getpid());']
+        main = [*ignored, 'errno = 0;', f'note(killpg({group_number}, {signal}));', 'note(errno);',
+                'note(getpgrp() == getpid());']
         return Part('statuses, of groups', [], main)
 
     def actions(self):
         """What an action was."""
-        old, name, signal = self.new('l'), self.new('on'), self.random.choice(CAUGHT)
+        old, name, signal = self.new('l'), self.new('on'), self.pick_of(CAUGHT)
         before = [f'static void {name}(int number)', '{', '    note(number);', '}']
-        set_now = self.random.choice([f'signal({signal}, {name});', f'signal({signal}, SIG_IGN);', f'signal({signal}, SIG_DFL);'])
+        set_now = self.pick(f'signal({signal}, {name});', f'signal({signal}, SIG_IGN);', f'signal({signal}, SIG_DFL);')
         main = [f'struct sigaction {old};', set_now, f'note(sigaction({signal}, NULL, &{old}));',
                 f'note({old}.sa_handler == {name});', f'note({old}.sa_handler == SIG_IGN);',
                 f'note({old}.sa_handler == SIG_DFL);', f'note(({old}.sa_flags & SA_RESTART) != 0);',
-                f'note(sigaction({self.random.choice(["SIGKILL", "0", "65", "-1", "32", "SIGSTOP"])}, &{old}, NULL));',
+                f'note(sigaction({self.pick("SIGKILL", "0", "65", "-1", "32", "SIGSTOP")}, &{old}, NULL));',
                 'note(errno);']
+        if self.random.may('results of signal'):
+            result = self.pick('SIG_ERR', 'SIG_DFL', name)
+            main.append(f'note(signal({self.pick(signal, "SIGKILL", "0")}, SIG_IGN) == {result});')
         return Part('statuses, of actions', before, main)
 
     def any(self):
-        return self.random.choice([self.words, self.children, self.stopped, self.groups, self.groups, self.actions])()
+        return self.pick(self.words, self.children, self.stopped, self.groups, self.groups, self.actions)()

@@ -63,12 +63,14 @@ def with_main(program):
 
 
 def tool_text(lines):
-    return '\n'.join(['#include "jobk.h"', 'int main(int argc, char **argv)', '{', '    (void)argc;', *indented(lines), '}', ''])
+    head = ['#include "jobk.h"', 'int main(int argc, char **argv)', '{', '    (void)argc;']
+    return '\n'.join([*head, *indented(lines), '}', ''])
 
 
 def sources_of(program):
-    main = parse_source(f'random_{program.number}.c', '#include "jobk.h"\n' + with_main(program))
-    return [main, *(parse_source(f'{name}.c', tool_text(lines)) for name, *lines in program.tools)]
+    texts = {f'random_{program.number}.c': '#include "jobk.h"\n' + with_main(program)}
+    texts |= {f'{name}.c': tool_text(lines) for name, *lines in program.tools}
+    return [parse_source(name, text.encode('ascii')) for name, text in texts.items()]
 
 
 def make_program(number, planted=None):
@@ -175,7 +177,7 @@ def first_difference(program, here, there):
             return part_of(program, here.notes[:place]), f'{fault}note {place + 1} is {one} here, and {other} by gcc'
     if len(here.notes) != len(there.notes):
         both = min(len(here.notes), len(there.notes))
-        return part_of(program, here.notes[:both]), f'{fault}{len(here.notes)} notes here, and {len(there.notes)} by gcc'
+        return part_of(program, here.notes[:both]), f'{fault}{len(here.notes)} notes here, {len(there.notes)} by gcc'
     if here.written != there.written:
         return 'strings, writes', f'{fault}{here.written} is written here, and {there.written} by gcc'
     return 'statements', f'{fault}status {here.status} here, and {there.status} by gcc'

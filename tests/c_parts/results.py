@@ -1,14 +1,11 @@
 """Results of calls that are compared, and types of numbers."""
-from features import Part, group, indented
+from features import Maker, Part, group, indented
 from typed import COMPARISONS, Typed
 
 
 @group('results')
-class Results:
+class Results(Maker):
     """Functions with negative results, and what is done with these."""
-
-    def __init__(self, chance, new):
-        self.random, self.new = chance, new
 
     def function(self):
         name, argument = self.new('f'), self.new('l')
@@ -18,45 +15,48 @@ class Results:
                  [f'return {argument} == 1 ? -1 : -2;'],
                  [f'int found = -1;', 'for (int i = 0; i < 3; i++)', f'    if (i == {argument})',
                   '        found = found == -1 ? i : -2;', 'return found - 1;']]
-        return name, [f'static int {name}(int {argument})', '{', *indented(self.random.choice(kinds)), '}']
+        return name, [f'static int {name}(int {argument})', '{', *indented(self.pick_of(kinds)), '}']
 
     def compared(self, name, none):
-        call, value = f'{name}({self.random.randrange(5)})', self.random.choice(['-1', '-1', '-1', '-2', '0', '-3', '1', none])
-        operator = self.random.choice(COMPARISONS + ('==', '==', '!='))
+        call, value = f'{name}({self.random.randrange(5)})', self.pick('-1', '-1', '-1', '-2', '0', '-3', '1', none)
+        operator = self.pick_of(COMPARISONS + ('==', '==', '!='))
         return f'{value} {operator} {call}' if self.random.random() < 0.2 else f'{call} {operator} {value}'
 
     def tested(self):
         name, before = self.function()
         none, main, counter = self.new('A').upper(), [], self.new('c')
-        before = [self.random.choice([f'#define {none} (-1)', f'enum {{ {none} = -1 }};', f'#define {none} (-2)']), *before]
+        before = [self.pick(f'#define {none} (-1)', f'enum {{ {none} = -1 }};', f'#define {none} (-2)'), *before]
         for _ in range(self.random.randrange(1, 4)):
             test = self.compared(name, none)
-            main += self.random.choice([
+            main += self.pick(
                 [f'note({test});'], [f'if ({test})', '    note(1);', 'else', '    note(2);'],
-                [f'note(({test}) {self.random.choice(["&&", "||"])} {self.compared(name, none)});'],
-                [f'note({test} ? 5 : 6);'], [f'note(!({test}));']])
-        main += self.random.choice([
-            [f'int {counter} = 0;', f'while ({counter} < 4 && {name}({counter}) != -1)', f'    {counter}++;', f'note({counter});'],
-            [f'switch ({name}(2)) {{', 'case -1:', '    note(1);', '    break;', 'case -2:', '    note(2);', '    break;',
+                [f'note(({test}) {self.pick("&&", "||")} {self.compared(name, none)});'],
+                [f'note({test} ? 5 : 6);'], [f'note(!({test}));'])
+        main += self.pick(
+            [f'int {counter} = 0;', f'while ({counter} < 4 && {name}({counter}) != -1)', f'    {counter}++;',
+             f'note({counter});'],
+            [f'switch ({name}(2)) {{', 'case -1:', '    note(1);', '    break;', 'case -2:', '    note(2);',
+             '    break;',
              'default:', '    note(3);', '}'],
             [f'int {counter} = {name}(1);', f'note({counter} == -1);', f'note({counter} < -1);'],
-            [f'note({name}(0) + 1 == 0);'], []])
+            [f'note({name}(0) + 1 == 0);'], [])
         return Part('results, compared', before, main)
 
     def of_system(self):
         """Calls of the system that fail, or don't."""
-        call = self.random.choice(['kill(getpid(), 0)', 'kill(getpid(), 99)', 'waitpid(-1, NULL, WNOHANG)', 'getpgid(9999999)',
-                                   'setpgid(getpid(), -1)', 'alarm(0)', 'getpgid(0) - getpid()', 'setpgid(9999999, 0)'])
-        test = f'{call} {self.random.choice(COMPARISONS)} {self.random.choice(["-1", "-1", "0", "-2", "1"])}'
-        main = ['errno = 0;', f'if ({test})', '    note(errno);', 'else', '    note(-errno);', f'note({call});', f'note({test});']
+        call = self.pick('kill(getpid(), 0)', 'kill(getpid(), 99)', 'waitpid(-1, NULL, WNOHANG)', 'getpgid(9999999)',
+                         'setpgid(getpid(), -1)', 'alarm(0)', 'getpgid(0) - getpid()', 'setpgid(9999999, 0)')
+        test = f'{call} {self.pick_of(COMPARISONS)} {self.pick("-1", "-1", "0", "-2", "1")}'
+        main = ['errno = 0;', f'if ({test})', '    note(errno);', 'else', '    note(-errno);', f'note({call});',
+                f'note({test});']
         return Part('results, of the system', [], main)
 
     def of_program(self):
         """What a program finds in its arguments."""
-        tool, argument = self.new('t'), self.random.choice(['-5', '-1', '-2', '0', '7', '-1', '-100'])
-        second = self.random.choice(['-1', '3'])
-        value = self.random.choice(['atoi(argv[1])', 'atoi(argv[1])', 'atoi(argv[2])'])
-        lines = [f'if ({value} {self.random.choice(["==", "==", "!=", "<", ">="])} -1)', '    note(1);', 'else', '    note(0);',
+        tool, argument = self.new('t'), self.pick('-5', '-1', '-2', '0', '7', '-1', '-100')
+        second = self.pick('-1', '3')
+        value = self.pick('atoi(argv[1])', 'atoi(argv[1])', 'atoi(argv[2])')
+        lines = [f'if ({value} {self.pick("==", "==", "!=", "<", ">=")} -1)', '    note(1);', 'else', '    note(0);',
                  'note(atoi(argv[1]) - atoi(argv[2]));', f'return {self.random.randrange(5)};']
         child = self.new('l')
         main = ['signal(SIGCHLD, SIG_DFL);', f'pid_t {child} = fork();', f'if ({child} == 0) {{',
@@ -65,14 +65,11 @@ class Results:
         return Part('results, of arguments', [], main, tool=[tool, *lines])
 
     def any(self):
-        return self.random.choice([self.tested] * 4 + [self.of_system, self.of_system, self.of_program])()
+        return self.pick_of([self.tested] * 4 + [self.of_system, self.of_system, self.of_program])()
 
 
 @group('types')
-class Types:
-    def __init__(self, chance, new):
-        self.random, self.new = chance, new
-
+class Types(Maker):
     def numbers(self):
         typed = Typed(self.random, self.new)
         before = [typed.declare(is_global=True) for _ in range(2)]
@@ -89,9 +86,9 @@ class Types:
         name = self.new('l')
         of = self.random.one_of(['uid_t', 'gid_t', 'int', 'ssize_t', 'pid_t', 'char'], unsigned=['unsigned'],
                                 long=['size_t', 'long'])
-        less = self.random.choice(['- 1', '- 2', '+ -1', '* -1'])
-        main = [f'{of} {name} = {self.random.choice(["0", "1", "-1"])};',
-                f'note({name} {less} {self.random.choice(COMPARISONS)} 0);', f'note({name} {self.random.choice(COMPARISONS)} -1);',
+        less = self.pick('- 1', '- 2', '+ -1', '* -1')
+        main = [f'{of} {name} = {self.pick("0", "1", "-1")};',
+                f'note({name} {less} {self.pick_of(COMPARISONS)} 0);', f'note({name} {self.pick_of(COMPARISONS)} -1);',
                 f'note(sizeof {name});']
         if of == 'uid_t' and self.random.random() < 0.5:
             main[1:2] = [f'{name} = getuid() - getuid();', f'note({name} - 1 > 0);']
@@ -99,32 +96,40 @@ class Types:
 
     def sizes(self):
         array, counter, length = self.new('g'), self.new('l'), self.random.randrange(2, 7)
-        of = self.random.choice(['int', 'int', 'char'])
+        of = self.pick('int', 'int', 'char')
         bytes_of = length * (4 if of == 'int' else 1)
-        size = self.random.choice([f'sizeof {array}', f'sizeof {array} / sizeof {array}[0]', 'sizeof(int)', f'sizeof {array}[1]'])
-        test = self.random.choice([f'note(-1 < {size});', f'note({counter} < {size});', f'note({size} - {bytes_of + 3} > 0);',
-                                   f'if ({counter} {self.random.choice(COMPARISONS)} {size})\n        note(10);',
-                                   f'note({size} * -1 < 0);', f'note(({counter} + {size}) / 2 > 100);'])
-        return Part('types, sizes', [f'static {of} {array}[{length}];'], [
-            f'int {counter} = {self.random.choice([-1, -2, 0, 3])};', f'(void){counter};', *test.split('\n'),
+        size = self.pick(f'sizeof {array}', f'sizeof {array} / sizeof {array}[0]', 'sizeof(int)', f'sizeof {array}[1]')
+        test = self.pick(f'note(-1 < {size});', f'note({counter} < {size});', f'note({size} - {bytes_of + 3} > 0);',
+                         f'if ({counter} {self.pick_of(COMPARISONS)} {size})\n        note(10);',
+                         f'note({size} * -1 < 0);', f'note(({counter} + {size}) / 2 > 100);')
+        before = [f'static {of} {array}[{length}];']
+        if self.random.may('constants'):
+            more = self.new('g')
+            before += [self.pick(f'static char {more}[sizeof {array} + 1];',
+                                 f'enum {{ {more}n = sizeof {array} }};\nstatic '
+                                 f'char {more}[{more}n];',
+                                 f'static int {more}[sizeof {array} / sizeof {array}[0] * 2];')]
+            size = f'sizeof {more}'
+        return Part('types, sizes', before, [
+            f'int {counter} = {self.pick(-1, -2, 0, 3)};', f'(void){counter};', *test.split('\n'),
             f'note({size});'])
 
     def enums(self):
         color, red, green, variable = self.new('e'), self.new('A').upper(), self.new('B').upper(), self.new('l')
-        first = self.random.choice(['', '', ' = 1', ' = -1'])
-        main = [f'enum {color} {variable} = {self.random.choice([red, green])};', f'note({variable} - 1 < 0);',
-                f'note({variable} {self.random.choice(COMPARISONS)} -1);', f'note({red} - 2 < 0);', f'note(-{variable} > 0);',
+        first = self.pick('', '', ' = 1', ' = -1')
+        main = [f'enum {color} {variable} = {self.pick(red, green)};', f'note({variable} - 1 < 0);',
+                f'note({variable} {self.pick_of(COMPARISONS)} -1);', f'note({red} - 2 < 0);', f'note(-{variable} > 0);',
                 f'note({variable} == {red});']
         self.random.shuffle(main[1:])
         return Part('types, enums', [f'enum {color} {{ {red}{first}, {green} }};'], main[:self.random.randrange(2, 6)])
 
     def calls(self):
         """Results of the system whose types have no negative numbers."""
-        call = self.random.choice(['alarm(0)', 'alarm(0)', '(getuid() - getuid())', '(getegid() - getgid())'])
-        main = [f'note({call} - 1 {self.random.choice(COMPARISONS)} 0);', f'note({call} > -1);', f'note({call} == -1);']
+        call = self.pick('alarm(0)', 'alarm(0)', '(getuid() - getuid())', '(getegid() - getgid())')
+        main = [f'note({call} - 1 {self.pick_of(COMPARISONS)} 0);', f'note({call} > -1);', f'note({call} == -1);']
         if call == 'alarm(0)':
             main = ['alarm(100);', 'note(alarm(50) > 3);', 'note(alarm(0) >= 1);', *main]
         return Part('types, of calls', [], main)
 
     def any(self):
-        return self.random.choice([self.numbers] * 5 + [self.few, self.sizes, self.sizes, self.enums, self.calls])()
+        return self.pick_of([self.numbers] * 5 + [self.few, self.sizes, self.sizes, self.enums, self.calls])()

@@ -40,7 +40,8 @@ VOCABULARY = {
 }
 # Calls with results of which both sides know the bounds.
 CALLS = (('alarm(0)', UNSIGNED, 0, 0), ('(getuid() - getuid())', UNSIGNED, 0, 0), ('(getpid() - getpid())', INT, 0, 0),
-         ('(getgid() - getegid())', UNSIGNED, 0, 0), ('getpgid(9999999)', INT, -1, -1), ('kill(getpid(), 0)', INT, 0, 0),
+         ('(getgid() - getegid())', UNSIGNED, 0, 0), ('getpgid(9999999)', INT, -1, -1),
+         ('kill(getpid(), 0)', INT, 0, 0),
          ('kill(getpid(), 99)', INT, -1, -1), ('setpgid(-1, 0)', INT, -1, -1), ('(getpid() == getpgrp())', INT, 0, 1))
 
 
@@ -128,6 +129,8 @@ class Typed:
     def number(self):
         value = self.random.choice([0, 1, 2, 3, 7, 10, 20, 100, 127, 128, 255, 256, self.random.randrange(SMALL)])
         form = self.random.random()
+        if form < 0.03:
+            return Value('2147483647', INT, INT.high, INT.high)
         if form < 0.25:
             return Value(f'-{value}', INT, -value, -value)
         if form < 0.35:
@@ -139,6 +142,9 @@ class Typed:
             return Value(f'{value}{suffix}', of, value, value)
         if form < 0.6 and self.has_suffixes:
             return self.random.choice([Value('4294967295', LONG, 2**32 - 1, 2**32 - 1),
+                                       Value('(-2147483648)', LONG, -2**31, -2**31),
+                                       Value('0x80000000', UNSIGNED, 2**31, 2**31),
+                                       Value('(1u << 31)', UNSIGNED, 2**31, 2**31),
                                        Value('0xFFFFFFFF', UNSIGNED, 2**32 - 1, 2**32 - 1),
                                        Value('2147483648', LONG, 2**31, 2**31)])
         return Value(str(value), INT, value, value)
@@ -149,8 +155,9 @@ class Typed:
             array = self.random.choice(arrays)
             size = array.length * array.type.bits // 8
             if self.random.random() < 0.5:
-                return Value(f'sizeof {array.name} / sizeof {array.name}[0]', UNSIGNED_LONG, array.length, array.length)
-            return Value(self.random.choice([f'sizeof {array.name}', f'sizeof({array.name})']), UNSIGNED_LONG, size, size)
+                return Value(f'(sizeof {array.name} / sizeof {array.name}[0])', UNSIGNED_LONG, *[array.length] * 2)
+            return Value(self.random.choice([f'sizeof {array.name}', f'sizeof({array.name})']), UNSIGNED_LONG, size,
+                         size)
         if self.variables and self.random.random() < 0.5:
             variable = self.random.choice(self.variables)
             size = variable.type.bits // 8 * max(variable.length, 1)
@@ -202,7 +209,8 @@ class Typed:
         ends = [*left.converted(of), *right.converted(of)]
         power = 1 << max(abs(it) for it in ends).bit_length()
         low, high = (-power if min(ends) < 0 else 0), power - 1
-        return Value(f'({left.text} {self.random.choice("&|^")} {right.text})', of, max(low, of.low), min(high, of.high))
+        return Value(f'({left.text} {self.random.choice("&|^")} {right.text})', of, max(low, of.low),
+                     min(high, of.high))
 
     def unary(self, depth):
         inner = self.expression(depth - 1)
@@ -241,8 +249,8 @@ class Typed:
     def cast(self, depth):
         inner = self.expression(depth - 1)
         name = self.random.choice(list(self.names))
-        return Value(f'({name}){inner.text}' if inner.text[0] in '(' or inner.text.isalnum() else f'({name})({inner.text})',
-                     self.names[name], *inner.converted(self.names[name]))
+        text = inner.text if inner.text[0] == '(' or inner.text.isalnum() else f'({inner.text})'
+        return Value(f'({name}){text}', self.names[name], *inner.converted(self.names[name]))
 
     def call(self, depth):
         if not self.functions:
@@ -304,7 +312,8 @@ class Typed:
         target, of = self.target()
         sign = self.random.choice(['++', '--'])
         text = self.random.choice([f'{sign}{target.text}', f'{target.text}{sign}'])
-        show = self.random.choice([f'note({text});', f'{text};', f'note(({text}) {self.random.choice(COMPARISONS)} 0);'])
+        show = self.random.choice([f'note({text});', f'{text};',
+                                   f'note(({text}) {self.random.choice(COMPARISONS)} 0);'])
         return [show, *self.small(target, of)]
 
     def condition(self, depth):
@@ -319,7 +328,8 @@ class Typed:
         arrays = [it for it in self.variables if it.length]
         if arrays and self.random.random() < 0.5:
             array = self.random.choice(arrays)
-            head = f'for ({name} {counter} = 0; {counter} < sizeof {array.name} / sizeof {array.name}[0]; {counter}++) {{'
+            size = f'sizeof {array.name} / sizeof {array.name}[0]'
+            head = f'for ({name} {counter} = 0; {counter} < {size}; {counter}++) {{'
             body = [f'note({array.name}[{counter}]);']
         else:
             end = self.random.choice([f'{counter}-- > 0', f'{counter}--', f'{counter}-- != 0'])
@@ -355,7 +365,7 @@ class Typed:
     def function(self):
         """A function with parameters and a result of some types; its body names no other variables."""
         (result, of), kept = self.random.choice(list(self.names.items())), self.variables
-        if of.bits != 32 or self.random.random() < 0.6:
+        if of.bits != 32 and not self.random.may('types of results') or self.random.random() < 0.4:
             result, of = 'int', INT
         parameters = [self.random.choice(list(self.names.items())) for _ in range(self.random.randrange(1, 3))]
         self.variables = [Variable(self.new('l'), it) for _, it in parameters]
