@@ -65,7 +65,7 @@ class Results(Maker):
         return Part('results, of arguments', [], main, tool=[tool, *lines])
 
     def any(self):
-        return self.pick_of([self.tested] * 4 + [self.of_system, self.of_system, self.of_program])()
+        return self.pick_of([self.tested] * 4 + [self.of_system] * 2 + [self.of_program] * 2)()
 
 
 @group('types')
@@ -132,4 +132,4 @@ class Types(Maker):
         return Part('types, of calls', [], main)
 
     def any(self):
-        return self.pick_of([self.numbers] * 5 + [self.few, self.sizes, self.sizes, self.enums, self.calls])()
+        return self.pick_of([self.numbers] * 5 + [self.few, self.sizes, self.enums] * 2 + [self.calls])()

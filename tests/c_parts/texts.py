@@ -188,7 +188,7 @@ class Strings(Maker):
             word = ''.join(self.pick('a', 'b', 'cd', '\\n', '\\101', '\\t', '\\0') for _ in
                            range(self.random.randrange(1, 4)))
             size = len(word.replace('\\101', 'x').replace('\\0', 'x').replace('\\n', 'x').replace('\\t', 'x'))
-            count = self.pick(size, size, size + 1, self.random.randrange(1, size + 1))
+            count = self.pick(size, size + 1, size + 1, self.random.randrange(1, size + 1))
             file = self.pick(1, 1, 0)
             form = self.random.random()
             if form < 0.4:

@@ -248,7 +248,7 @@ class Typed:
 
     def cast(self, depth):
         inner = self.expression(depth - 1)
-        name = self.random.choice(list(self.names))
+        name = self.random.choice([it for it in self.names if it != 'char' or self.random.may('casts to char')])
         text = inner.text if inner.text[0] == '(' or inner.text.isalnum() else f'({inner.text})'
         return Value(f'({name}){text}', self.names[name], *inner.converted(self.names[name]))
 
