@@ -14,7 +14,7 @@ from features import GROUPS, Chance, indented
 MOST = 2 ** 30
 SMALL = 9973                        # what is kept in variables stays below
 FIRST_MARK = 900000                 # what is noted before a part
-HAS_GROUP = 0.5                     # how often a program has a part of a group
+HAS_GROUP, HAS_STATEMENTS = 0.5, 0.7    # how often a program has a part of a group, and statements beside
 ARITHMETIC = ('+', '-', '*', '/', '%', '&', '|', '^')
 COMPARISONS = ('==', '!=', '<', '<=', '>', '>=')
 
@@ -337,14 +337,17 @@ class Generator:
         raises = self.new('graises')
         lines += [f'static int {raises} = 3;', f'static int show{self.ending}(int a) {{ note(a); return a; }}']
         scope.functions[f'show{self.ending}'] = 1
-        for number in range(3):
-            lines += self.function(scope, raises, number)
-        for name in ('on_usr1', 'on_usr2'):
-            lines += self.handler(scope, name + self.ending)
+        has_statements = self.random.random() < HAS_STATEMENTS
+        if has_statements:
+            for number in range(3):
+                lines += self.function(scope, raises, number)
+            for name in ('on_usr1', 'on_usr2'):
+                lines += self.handler(scope, name + self.ending)
         parts = self.parts()
         for place, part in enumerate(parts):
             lines += [*part.before, f'static void part{place}{self.ending}(void)', '{', *indented(part.main), '}']
-        return Program(self.number, '\n'.join([*lines, *self.main(scope, parts)]) + '\n', parts)
+        lines += self.main(scope, parts, has_statements)
+        return Program(self.number, '\n'.join(lines) + '\n', parts)
 
     def parts(self):
         """The parts of some groups, in any order."""
@@ -395,24 +398,30 @@ class Generator:
         return [f'static void {name}(int signal_number)', '{', f'    int {number} = {self.random.randrange(50)};',
                 '    note(signal_number);', *self.block(inner, 0, 1, '    '), *calls, '}']
 
-    def main(self, scope, parts):
-        inner = scope.inner()
-        lines = [f'int main{self.ending}(void)', '{', '    struct sigaction action = { .sa_handler = 0 };']
+    def main(self, scope, parts, has_statements):
+        """Calls the parts, some before the statements and some after them."""
         calls = [[f'    note({FIRST_MARK + place});', f'    part{place}{self.ending}();']
                  for place in range(len(parts))]
         early = self.random.randrange(len(parts) + 1)
+        lines = [f'int main{self.ending}(void)', '{']
         if any(part.has_terminal for part in parts):
             lines.append('    setctty(1);')
-        lines += [line for call in calls[:early] for line in call] + [f'    note({FIRST_MARK + len(parts)});']
+        lines += [line for call in calls[:early] for line in call]
+        if has_statements:
+            lines += [f'    note({FIRST_MARK + len(parts)});', *self.statements(scope)]
+        lines += [line for call in calls[early:] for line in call]
+        return [*lines, f'    return {self.random.choice([0, 3, 255, 256, 300, -1])};', '}']
+
+    def statements(self, scope):
+        inner = scope.inner()
+        lines = ['    struct sigaction action = { .sa_handler = 0 };']
         for name, signal in (('on_usr1', 'SIGUSR1'), ('on_usr2', 'SIGUSR2')):
             lines += [f'    action.sa_handler = {name}{self.ending};', f'    sigaction({signal}, &action, NULL);']
         lines += self.declared(inner)
         half = self.size // 2
         lines += self.block(inner, 2, half, '    ') + self.child(inner) + self.block(inner, 2, self.size - half, '    ')
         lines += [f'    note({name});' for name in scope.numbers + scope.letters]
-        lines += [f'    for (int i = 0; i < 8; i++) note({name}[i]);' for name in scope.arrays]
-        lines += [line for call in calls[early:] for line in call]
-        return [*lines, f'    return {self.random.choice([0, 3, 255, 256, 300, -1])};', '}']
+        return lines + [f'    for (int i = 0; i < 8; i++) note({name}[i]);' for name in scope.arrays]
 
     def child(self, scope):
         """Two signals that are blocked for a while, and a child, of whose end is told."""

@@ -60,10 +60,11 @@ class Sets(Maker):
         return Part('sets, in range', [], main)
 
     def masks(self):
-        """What is blocked, and what is pending."""
-        a, old, some = self.new('l'), self.new('l'), self.random.sample(CAUGHT, 2)
+        """What is blocked, and what is pending. Signals that are ignored are not sent: Linux keeps them."""
+        name, a, old, some = self.new('on'), self.new('l'), self.new('l'), self.random.sample(CAUGHT, 2)
         how = self.pick('SIG_BLOCK', 'SIG_SETMASK', 'SIG_BLOCK', '99', '-1')
-        ignored = [f'signal({it}, SIG_IGN);' for it in some]
+        before = [f'static void {name}(int number)', '{', '    note(number);', '}']
+        handled = [f'signal({it}, {name});' for it in some[1:]]
         main = [f'sigset_t {a}, {old};', self.begin(a), f'sigemptyset(&{old});', f'sigaddset(&{a}, {some[0]});',
                 f'note(sigprocmask({how}, &{a}, &{old}));', 'note(errno == EINVAL);',
                 f'note(sigismember(&{old}, {some[0]}));',
@@ -71,7 +72,7 @@ class Sets(Maker):
                 f'note(sigismember(&{a}, SIGKILL));', f'note(sigismember(&{a}, {self.pick("32", "33", "64", "40")}));',
                 f'kill(getpid(), {some[1]});', f'sigpending(&{a});', f'note(sigismember(&{a}, {some[1]}));',
                 f'sigemptyset(&{a});', f'note(sigprocmask(SIG_SETMASK, &{a}, NULL));']
-        return Part('sets, masks', [], ['errno = 0;', *ignored, *main])
+        return Part('sets, masks', before, ['errno = 0;', *handled, *main])
 
     def any(self):
         return self.pick(self.ranges, self.ranges, self.in_range, self.masks)()
@@ -87,7 +88,7 @@ class Siginfo(Maker):
 
     def __init__(self, chance, new):
         super().__init__(chance, new)
-        self.fields = self.FIELDS + (self.RARE_FIELDS if chance.may('members') else [])
+        self.fields = self.FIELDS + [it for it in self.RARE_FIELDS if chance.may(it)]
 
     def shown(self, before, fields=None):
         return [f'note({field.format(before)});' for field in self.random.sample(fields or self.fields,
@@ -118,11 +119,14 @@ class Siginfo(Maker):
         """SIGCHLD of a child that exits, is killed or is stopped."""
         name, child = self.new('on'), self.new('l')
         end = self.pick('_exit({});'.format(self.pick(0, 1, 7, 255, 256, -1)), 'kill(getpid(), SIGKILL);',
-                        'kill(getpid(), SIGTERM);')
+                        'kill(getpid(), SIGTERM);', 'kill(getpid(), SIGSTOP);')
         restored = ['signal(SIGTERM, SIG_DFL);'] if 'TERM' in end else []
+        stopped = [f'while (waitpid({child}, NULL, WUNTRACED) < 0)', '    ;', f'kill({child}, SIGKILL);']
         main = [*self.installed(name, 'SIGCHLD'), f'pid_t {child} = fork();', f'if ({child} == 0) {{',
                 *indented(restored),
-                f'    {end}', '    _exit(3);', '}', f'while (waitpid({child}, NULL, 0) < 0)', '    ;']
+                f'    {end}', '    _exit(3);', '}', *(stopped if 'STOP' in end else []),
+                f'while (waitpid({child}, NULL, 0) < 0)',
+                '    ;']
         return Part('siginfo, of a child', self.handler(name), main)
 
     def waited(self):
@@ -268,10 +272,39 @@ class Handlers(Maker):
                 f'sigaction({one}, &{action}, NULL);', f'signal({second}, {other});', f'kill(getpid(), {one});']
         return Part('handlers, one after another', before, main)
 
+    def one_for_each(self):
+        """Handlers that interrupt each other, each for one signal, and call one function."""
+        depth, shared, names, signals = self.new('g'), self.new('f'), [self.new('on') for _ in range(2)], \
+            self.random.sample(CAUGHT, 2)
+        begin, end = self.variables(depth)
+        before = [f'static volatile sig_atomic_t {depth};', f'static int {shared}(int by)', '{', *indented(begin),
+                  '    by += 100;', *indented(end), '    return by;', '}', f'static void {names[1]}(int number)', '{',
+                  f'    note({shared}(number));', '}', *self.handler(names[0], depth, f'kill(getpid(), {signals[1]});')]
+        before[-1:] = [f'    note({shared}(1));', '}']
+        return Part('handlers, each for a signal', before, [
+            f'signal({signals[0]}, {names[0]});', f'signal({signals[1]}, {names[1]});',
+            f'kill(getpid(), {signals[0]});',
+            f'note({shared}(2));'])
+
+    def in_turn(self):
+        """Actions that take turns for one signal."""
+        name, other, signal = self.new('on'), self.new('on'), self.pick_of(CAUGHT)
+        first, second, old, depth = (self.new(stem) for stem in ('l', 'l', 'l', 'g'))
+        before = [f'static volatile sig_atomic_t {depth};', *self.handler(name, depth, f'kill(getpid(), {signal});'),
+                  f'static void {other}(int number)', '{', f'    {depth} = 0;', '    note(number * 10);', '}']
+        again = self.pick(f'sigaction({signal}, &{old}, NULL);', f'sigaction({signal}, &{first}, &{second});',
+                          f'{second} = {first};', f'{first}.sa_handler = {second}.sa_handler;')
+        return Part('handlers, in turn', before, [
+            f'struct sigaction {first} = {{ .sa_handler = {name} }}, {second} = {{ .sa_handler = {other} }}, {old};',
+            f'sigaction({signal}, &{first}, NULL);', f'kill(getpid(), {signal});',
+            f'sigaction({signal}, &{second}, &{old});',
+            f'kill(getpid(), {signal});', again, f'note({old}.sa_handler == {name});', f'kill(getpid(), {signal});'])
+
     def any(self):
-        return self.random.one_of([self.by_member, self.by_old, self.by_flag, self.by_mask, self.by_mask, self.blocked,
-                                   self.blocked, self.blocked, self.blocked],
-                                  names=[self.by_copy, self.by_name, self.by_inner])()
+        if self.random.random() < 0.3:
+            return self.random.one_of([self.by_member, self.by_old, self.by_flag, self.by_mask],
+                                      names=[self.by_copy, self.by_name, self.by_inner])()
+        return self.pick(self.blocked, self.one_for_each, self.in_turn)()
 
 
 @group('statuses')
@@ -311,7 +344,7 @@ class Statuses(Maker):
     def groups(self):
         """Signals to groups, and to what is none."""
         signal = self.pick('SIGTERM', 'SIGHUP', 'SIGUSR1', '0')
-        group_number = self.pick('-getpid()', 'getpid()', '0', '-getpid()', '9999999', '-9999999')
+        group_number = self.pick('-getpid()', '0', '-getpid()', '9999999', '-9999999')
         ignored = [] if signal == '0' else [f'signal({signal}, SIG_IGN);']
         main = [*ignored, 'errno = 0;', f'note(killpg({group_number}, {signal}));', 'note(errno);',
                 'note(getpgrp() == getpid());']

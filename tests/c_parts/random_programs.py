@@ -70,7 +70,7 @@ def tool_text(lines):
 def sources_of(program):
     texts = {f'random_{program.number}.c': '#include "jobk.h"\n' + with_main(program)}
     texts |= {f'{name}.c': tool_text(lines) for name, *lines in program.tools}
-    return [parse_source(name, text.encode('ascii')) for name, text in texts.items()]
+    return [parse_source(name, text) for name, text in texts.items()]
 
 
 def make_program(number, planted=None):

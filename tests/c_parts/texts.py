@@ -211,9 +211,8 @@ class Strings(Maker):
                                             f'note({name}[0] + {name}[1] * 2 + {name}[2] * 3);'])
 
     def any(self):
-        return self.random.one_of([self.array, self.array, self.braces, self.array, self.letter, self.write,
-                                   self.write],
-                                  sizes=[self.size])()
+        return self.random.one_of([self.array, self.array, self.array, self.letter, self.write, self.write],
+                                  sizes=[self.size], braces=[self.braces])()
 
 
 @group('names')

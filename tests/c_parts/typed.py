@@ -38,6 +38,8 @@ VOCABULARY = {
     'long': {'long': LONG, 'long int': LONG, 'unsigned long': UNSIGNED_LONG, 'size_t': UNSIGNED_LONG},
     'short': {'short': SHORT, 'unsigned short': UNSIGNED_SHORT, 'unsigned char': BYTE, 'signed char': CHAR},
 }
+# How often a part has the names of a row, if its program may have them.
+CHANCES = {'plain': 1, 'kin': 0.6, 'unsigned': 0.8, 'long': 0.8, 'short': 0.3}
 # Calls with results of which both sides know the bounds.
 CALLS = (('alarm(0)', UNSIGNED, 0, 0), ('(getuid() - getuid())', UNSIGNED, 0, 0), ('(getpid() - getpid())', INT, 0, 0),
          ('(getgid() - getegid())', UNSIGNED, 0, 0), ('getpgid(9999999)', INT, -1, -1),
@@ -84,7 +86,7 @@ class Typed:
         self.new = new
         self.names = {}
         for word, names in VOCABULARY.items():
-            if word == 'plain' or (chance.random() < 0.6 if word == 'kin' else chance.may(word)):
+            if chance.random() < CHANCES[word] and (word in ('plain', 'kin') or chance.may(word)):
                 self.names |= names
         self.has_suffixes = chance.may('suffixes')
         self.variables = []
@@ -174,7 +176,7 @@ class Typed:
         operator = self.random.choice('+-*/%+-')
         (low, high), (least, most) = left.converted(of), right.converted(of)
         if operator in '/%':
-            if of.is_signed and low == of.low:
+            if of.is_signed and low == of.low or of == UNSIGNED_LONG and not self.random.may('division of sizes'):
                 return self.comparison(depth)
             text = f'({left.text} {operator} ({right.text} | 1))'
             bound = max(abs(low), abs(high))
@@ -229,6 +231,8 @@ class Typed:
     def shift(self, depth):
         inner, count = self.expression(depth - 1), self.random.randrange(10)
         of = promoted(inner.type)
+        if of == UNSIGNED_LONG and not self.random.may('division of sizes'):
+            return inner
         if self.random.random() < 0.5:
             return Value(f'({inner.text} >> {count})', of, *self.wide(inner, of))
         if of.is_signed:
@@ -291,6 +295,8 @@ class Typed:
             return [f'{target.text} = {self.kept(value, of)};']
         if operator == '<<' and of.is_signed:
             operator = '>>'
+        if operator in ('/', '%', '>>') and UNSIGNED_LONG in (of, joined) and not self.random.may('division of sizes'):
+            operator = '^'
         text = value.text
         if operator in ('<<', '>>'):
             text = self.random.randrange(8)
