@@ -2,8 +2,10 @@
 import random
 from dataclasses import dataclass, field
 
-# How much a program has of what a compiler of a subset may lack: half of the programs have nothing of it.
+# How much a program has of what is rarer in C: half of the programs have nothing of it.
 BREADTHS = (0, 0, 0, 0.25, 0.25, 0.6)
+# How often a program may have a construct that a compiler of a subset rightly refuses: more would leave less to compare.
+SELDOM = 0.03
 GROUPS = {}                             # by name a class: `any` of an instance makes a part
 
 
@@ -31,16 +33,17 @@ def indented(lines):
 
 
 class Chance(random.Random):
-    """Draws, also which of the rarer constructs a program has: those that it may have it often has."""
+    """Draws, also which of the rarer constructs a program may have."""
 
     def begin(self):
         self.breadth, self.drawn = self.choice(BREADTHS), {}
         return self
 
     def may(self, construct):
-        if construct not in self.drawn:
-            self.drawn[construct] = self.random() < self.breadth
-        return self.drawn[construct]
+        return self.drawn.setdefault(construct, self.random() < self.breadth)
+
+    def seldom(self, construct):
+        return self.drawn.setdefault(construct, self.random() < SELDOM)
 
     def one_of(self, always, **rare):
         """One of some, and of those that a program may have."""

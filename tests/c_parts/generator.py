@@ -14,7 +14,8 @@ from features import GROUPS, Chance, indented
 MOST = 2 ** 30
 SMALL = 9973                        # what is kept in variables stays below
 FIRST_MARK = 900000                 # what is noted before a part
-HAS_GROUP, HAS_STATEMENTS = 0.5, 0.7    # how often a program has a part of a group, and statements beside
+HAS_STATEMENTS = 0.4                # how often a program has more than parts
+HAS_GROUP = {True: 0.2, False: 0.6}    # how often one with statements, and one without them, has a part of a group
 ARITHMETIC = ('+', '-', '*', '/', '%', '&', '|', '^')
 COMPARISONS = ('==', '!=', '<', '<=', '>', '>=')
 
@@ -103,11 +104,10 @@ class Program:
 class Generator:
     """Makes one program; names end with its number, so that many can stand in one file."""
 
-    def __init__(self, seed, number, size=3):
+    def __init__(self, seed, number):
         self.random = Chance(seed * 100003 + number).begin()
         self.number = number
         self.ending = f'_{number}'
-        self.size = size
         self.names = 0
         self.loops = 0
 
@@ -343,17 +343,17 @@ class Generator:
                 lines += self.function(scope, raises, number)
             for name in ('on_usr1', 'on_usr2'):
                 lines += self.handler(scope, name + self.ending)
-        parts = self.parts()
+        parts = self.parts(HAS_GROUP[has_statements])
         for place, part in enumerate(parts):
             lines += [*part.before, f'static void part{place}{self.ending}(void)', '{', *indented(part.main), '}']
         lines += self.main(scope, parts, has_statements)
         return Program(self.number, '\n'.join(lines) + '\n', parts)
 
-    def parts(self):
+    def parts(self, chance):
         """The parts of some groups, in any order."""
         made = []
         for name, of in GROUPS.items():
-            if self.random.random() < HAS_GROUP:
+            if self.random.random() < chance:
                 made.append(of(self.random, self.new).any())
         self.random.shuffle(made)
         return made
@@ -418,8 +418,10 @@ class Generator:
         for name, signal in (('on_usr1', 'SIGUSR1'), ('on_usr2', 'SIGUSR2')):
             lines += [f'    action.sa_handler = {name}{self.ending};', f'    sigaction({signal}, &action, NULL);']
         lines += self.declared(inner)
-        half = self.size // 2
-        lines += self.block(inner, 2, half, '    ') + self.child(inner) + self.block(inner, 2, self.size - half, '    ')
+        for _ in range(self.random.randrange(1, 3)):
+            lines += self.block(inner, 2, 1, '    ')
+        if self.random.random() < 0.5:
+            lines += self.child(inner) + self.block(inner, 1, 1, '    ')
         lines += [f'    note({name});' for name in scope.numbers + scope.letters]
         return lines + [f'    for (int i = 0; i < 8; i++) note({name}[i]);' for name in scope.arrays]
 
@@ -431,5 +433,5 @@ class Generator:
         return CHILD.format(other=self.random.choice([0, 2]), body=body, end=end).split('\n')
 
 
-def generate(seed, number, size=3):
-    return Generator(seed, number, size).program()
+def generate(seed, number):
+    return Generator(seed, number).program()

@@ -88,7 +88,7 @@ class Siginfo(Maker):
 
     def __init__(self, chance, new):
         super().__init__(chance, new)
-        self.fields = self.FIELDS + [it for it in self.RARE_FIELDS if chance.may(it)]
+        self.fields = self.FIELDS + [it for it in self.RARE_FIELDS if chance.seldom(it)]
 
     def shown(self, before, fields=None):
         return [f'note({field.format(before)});' for field in self.random.sample(fields or self.fields,
@@ -106,13 +106,15 @@ class Siginfo(Maker):
 
     def sent(self):
         """Signals of kill, or of sigqueue."""
-        name, signal = self.new('on'), self.pick_of(CAUGHT + ['SIGCHLD', 'SIGRTMIN', 'SIGRTMIN + 1', 'SIGRTMAX'])
+        name, signal = self.new('on'), self.pick_of(CAUGHT + ['SIGRTMIN', 'SIGRTMIN + 1', 'SIGRTMAX'])
+        if self.random.random() < 0.04:
+            signal = 'SIGCHLD'
         value = self.pick(0, 1, 5, 7, -1, 256, 65535, 100000)
         send = self.pick(f'kill(getpid(), {signal});', f'kill(getpid(), {signal});', f'kill(0, {signal});',
                          f'sigqueue(getpid(), {signal}, (union sigval){{ .sival_int = {value} }});')
         fields = self.fields
-        if 'sigqueue' not in send and self.random.random() < 0.5:
-            fields = [it for it in self.fields if 'code' not in it]
+        if self.random.random() < 0.85:             # what a signal tells that no child sends is hard to know
+            fields = [it for it in self.fields if 'code' not in it and 'status' not in it]
         return Part('siginfo, sent', self.handler(name, fields), [*self.installed(name, signal), send])
 
     def child(self):
@@ -235,8 +237,8 @@ class Handlers(Maker):
         """SA_NODEFER as a number, or by its name."""
         depth, name, action, signal = self.new('g'), self.new('on'), self.new('l'), self.pick_of(CAUGHT)
         before = [f'static volatile sig_atomic_t {depth};', *self.handler(name, depth, f'kill(getpid(), {signal});')]
-        flags = self.random.one_of(['0x40000000', '1073741824', '0x50000000', '010000000000', 'SA_RESTART | 0x40000000',
-                                    'SA_RESTART * 4', '1 << 30'], names=['SA_NODEFER'])
+        flags = self.pick('0x40000000', '1073741824', '0x50000000', '010000000000', 'SA_RESTART | 0x40000000',
+                          'SA_RESTART * 4', '1 << 30', *(['SA_NODEFER'] if self.random.may('names') else []))
         main = [f'struct sigaction {action} = {{ .sa_handler = {name}, .sa_flags = {flags} }};',
                 f'sigaction({signal}, &{action}, NULL);', f'kill(getpid(), {signal});']
         if self.random.random() < 0.3:
@@ -301,7 +303,7 @@ class Handlers(Maker):
             f'kill(getpid(), {signal});', again, f'note({old}.sa_handler == {name});', f'kill(getpid(), {signal});'])
 
     def any(self):
-        if self.random.random() < 0.3:
+        if self.random.random() < 0.18:
             return self.random.one_of([self.by_member, self.by_old, self.by_flag, self.by_mask],
                                       names=[self.by_copy, self.by_name, self.by_inner])()
         return self.pick(self.blocked, self.one_for_each, self.in_turn)()
@@ -360,7 +362,7 @@ class Statuses(Maker):
                 f'note({old}.sa_handler == SIG_DFL);', f'note(({old}.sa_flags & SA_RESTART) != 0);',
                 f'note(sigaction({self.pick("SIGKILL", "0", "65", "-1", "32", "SIGSTOP")}, &{old}, NULL));',
                 'note(errno);']
-        if self.random.may('results of signal'):
+        if self.random.seldom('results of signal'):
             result = self.pick('SIG_ERR', 'SIG_DFL', name)
             main.append(f'note(signal({self.pick(signal, "SIGKILL", "0")}, SIG_IGN) == {result});')
         return Part('statuses, of actions', before, main)

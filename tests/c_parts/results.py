@@ -101,7 +101,7 @@ class Types(Maker):
         size = self.pick(f'sizeof {array}', f'sizeof {array} / sizeof {array}[0]', 'sizeof(int)', f'sizeof {array}[1]')
         test = self.pick(f'note(-1 < {size});', f'note({counter} < {size});', f'note({size} - {bytes_of + 3} > 0);',
                          f'if ({counter} {self.pick_of(COMPARISONS)} {size})\n        note(10);',
-                         f'note({size} * -1 < 0);', f'note(({counter} + {size}) / 2 > 100);')
+                         f'note({size} * -1 < 0);', f'note({counter} + {size} > 100);')
         before = [f'static {of} {array}[{length}];']
         if self.random.may('constants'):
             more = self.new('g')

@@ -179,7 +179,8 @@ class Strings(Maker):
         return Part('strings, letters', [], main)
 
     def size(self):
-        return Part('strings, sizes', [], [f'note(sizeof {self.text()});', f"note(sizeof 'a');"])
+        letter = ["note(sizeof 'a');"] if self.random.seldom('sizes of expressions') else []
+        return Part('strings, sizes', [], [f'note(sizeof {self.text()});', *letter])
 
     def write(self):
         """Strings that are written, some with the 0 at their end."""
@@ -265,7 +266,7 @@ class Names(Maker):
                  [f'note(({name}++, {other} + {name}));'],
                  [f'note({name} ? {other}++ : {name}++);'], [f'note(!({name} = {other} - 1));'],
                  [f'{name} += {other} *= 2;', f'note({name});'], [f'note(-{name}++);'], [f'{name} = {other} = 7;']]
-        if self.random.may('sizes'):
+        if self.random.seldom('sizes of expressions'):
             kinds += [[f'note(sizeof({name}++));'], [f'note(sizeof({name} = {other}));']]
         main = [f'int {name} = {self.pick(-1, 0, 1)}, {other} = {self.value()};']
         for lines in self.random.sample(kinds, 3):

@@ -39,7 +39,7 @@ VOCABULARY = {
     'short': {'short': SHORT, 'unsigned short': UNSIGNED_SHORT, 'unsigned char': BYTE, 'signed char': CHAR},
 }
 # How often a part has the names of a row, if its program may have them.
-CHANCES = {'plain': 1, 'kin': 0.6, 'unsigned': 0.8, 'long': 0.8, 'short': 0.3}
+CHANCES = {'plain': 1, 'kin': 0.6, 'unsigned': 0.8, 'long': 0.8, 'short': 0}
 # Calls with results of which both sides know the bounds.
 CALLS = (('alarm(0)', UNSIGNED, 0, 0), ('(getuid() - getuid())', UNSIGNED, 0, 0), ('(getpid() - getpid())', INT, 0, 0),
          ('(getgid() - getegid())', UNSIGNED, 0, 0), ('getpgid(9999999)', INT, -1, -1),
@@ -86,7 +86,8 @@ class Typed:
         self.new = new
         self.names = {}
         for word, names in VOCABULARY.items():
-            if chance.random() < CHANCES[word] and (word in ('plain', 'kin') or chance.may(word)):
+            if chance.random() < CHANCES[word] and (word in ('plain', 'kin') or chance.may(word)) or \
+                    word == 'short' and chance.seldom(word):
                 self.names |= names
         self.has_suffixes = chance.may('suffixes')
         self.variables = []
@@ -94,7 +95,9 @@ class Typed:
         self.constants = []             # names of enum, with values
         self.sized = ['char', 'int']
         if chance.may('sizes'):
-            self.sized += ['1', "'a'", '"abc"', 'unsigned', 'long', 'size_t', 'pid_t', '1ul']
+            self.sized += ['"abc"', 'unsigned', 'long', 'size_t', 'pid_t']
+        if chance.seldom('sizes of expressions'):
+            self.sized += ['1', "'a'", '1ul', "'a' + 1"]
 
     # expressions
 
@@ -176,7 +179,7 @@ class Typed:
         operator = self.random.choice('+-*/%+-')
         (low, high), (least, most) = left.converted(of), right.converted(of)
         if operator in '/%':
-            if of.is_signed and low == of.low or of == UNSIGNED_LONG and not self.random.may('division of sizes'):
+            if of.is_signed and low == of.low or of == UNSIGNED_LONG and not self.random.seldom('division of sizes'):
                 return self.comparison(depth)
             text = f'({left.text} {operator} ({right.text} | 1))'
             bound = max(abs(low), abs(high))
@@ -231,7 +234,7 @@ class Typed:
     def shift(self, depth):
         inner, count = self.expression(depth - 1), self.random.randrange(10)
         of = promoted(inner.type)
-        if of == UNSIGNED_LONG and not self.random.may('division of sizes'):
+        if of == UNSIGNED_LONG and not self.random.seldom('division of sizes'):
             return inner
         if self.random.random() < 0.5:
             return Value(f'({inner.text} >> {count})', of, *self.wide(inner, of))
@@ -268,7 +271,8 @@ class Typed:
         low, high = self.bounds(of)
         if low <= value.low and value.high <= high or of.bits < 32 or not of.is_signed:
             return value.text
-        return f'({value.text}) % {SMALL if of == INT else LARGE}'
+        cast = '(int)' if value.type == UNSIGNED_LONG and not self.random.seldom('division of sizes') else ''
+        return f'{cast}({value.text}) % {SMALL if of == INT else LARGE}'
 
     # statements
 
@@ -295,7 +299,8 @@ class Typed:
             return [f'{target.text} = {self.kept(value, of)};']
         if operator == '<<' and of.is_signed:
             operator = '>>'
-        if operator in ('/', '%', '>>') and UNSIGNED_LONG in (of, joined) and not self.random.may('division of sizes'):
+        if operator in ('/', '%', '>>') and UNSIGNED_LONG in (of,
+                                                              joined) and not self.random.seldom('division of sizes'):
             operator = '^'
         text = value.text
         if operator in ('<<', '>>'):
@@ -371,7 +376,7 @@ class Typed:
     def function(self):
         """A function with parameters and a result of some types; its body names no other variables."""
         (result, of), kept = self.random.choice(list(self.names.items())), self.variables
-        if of.bits != 32 and not self.random.may('types of results') or self.random.random() < 0.4:
+        if of.bits != 32 and not self.random.seldom('types of results') or self.random.random() < 0.4:
             result, of = 'int', INT
         parameters = [self.random.choice(list(self.names.items())) for _ in range(self.random.randrange(1, 3))]
         self.variables = [Variable(self.new('l'), it) for _, it in parameters]
