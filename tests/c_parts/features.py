@@ -4,7 +4,7 @@ from dataclasses import dataclass, field
 
 # How much a program has of what is rarer in C: half of the programs have nothing of it.
 BREADTHS = (0, 0, 0, 0.25, 0.25, 0.6)
-# How often a program may have a construct that a compiler of a subset rightly refuses: more would leave less to compare.
+# How often a program may have a construct that a compiler of a subset may refuse: more would leave less to compare.
 SELDOM = 0.03
 GROUPS = {}                             # by name a class: `any` of an instance makes a part
 

@@ -15,7 +15,7 @@ MOST = 2 ** 30
 SMALL = 9973                        # what is kept in variables stays below
 FIRST_MARK = 900000                 # what is noted before a part
 HAS_STATEMENTS = 0.4                # how often a program has more than parts
-HAS_GROUP = {True: 0.2, False: 0.6}    # how often one with statements, and one without them, has a part of a group
+HAS_GROUP = {True: 0.22, False: 0.65}    # how often one with statements, and one without them, has a part of a group
 ARITHMETIC = ('+', '-', '*', '/', '%', '&', '|', '^')
 COMPARISONS = ('==', '!=', '<', '<=', '>', '>=')
 
