@@ -149,7 +149,9 @@ class Siginfo(Maker):
                 f'note(waitid(P_ALL, 0, &{info}, WEXITED | WNOHANG));', f'note({info}.si_pid);',
                 f'note(waitpid({child}, &{status}, WNOHANG));', f'note({status});', f'kill({child}, SIGKILL);',
                 f'note(waitid(P_PID, {child}, &{info}, WEXITED | WNOWAIT));', *self.shown(f'{info}.'),
-                f'note(waitpid({child}, &{status}, 0) == {child});', f'note({status});']
+                f'note(waitpid({child}, &{status}, 0) == {child});', f'note({status});',
+                f'note(waitid(P_PID, {child}, &{info}, {self.pick("WEXITED", "0", "WEXITED | WNOHANG")}));',
+                f'note({info}.si_pid);', 'note(errno);', *self.shown(f'{info}.')]
         return Part('siginfo, no news', [], main)
 
     def kept(self):

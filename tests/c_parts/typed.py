@@ -128,8 +128,15 @@ class Typed:
         return -most, most
 
     def read(self, variable):
-        index = f'[{self.random.randrange(variable.length)}]' if variable.length else ''
+        index = f'[{self.index(variable)}]' if variable.length else ''
         return Value(variable.name + index, variable.type, *self.bounds(variable.type))
+
+    def index(self, variable):
+        """The index of an element: a number, or one that a variable gives."""
+        plain = [it.name for it in self.variables if not it.length]
+        if plain and self.random.random() < 0.3:
+            return f'{self.random.choice(plain)} & 1'
+        return self.random.randrange(variable.length)
 
     def number(self):
         value = self.random.choice([0, 1, 2, 3, 7, 10, 20, 100, 127, 128, 255, 256, self.random.randrange(SMALL)])
@@ -277,7 +284,7 @@ class Typed:
     # statements
 
     def statement(self, depth=1):
-        kinds = [self.show] * 4 + [self.assign] * 3 + [self.step]
+        kinds = [self.show] * 4 + [self.assign] * 3 + [self.step, self.chain]
         if depth > 0:
             kinds += [self.condition, self.condition, self.loop, self.switch]
         return self.random.choice(kinds)(depth)
@@ -316,6 +323,19 @@ class Typed:
         if of.bits < 32 or not of.is_signed:
             return []
         return [f'{target.text} %= {SMALL if of == INT else LARGE};']
+
+    def chain(self, depth):
+        """The value of an assignment, which has the type of what is assigned to."""
+        if not self.variables:
+            return self.show(depth)
+        (one, of), (other, less), value = self.target(), self.target(), self.expression()
+        if one.text.partition('[')[0] in other.text or other.text.partition('[')[0] in one.text:
+            return self.assign(depth)
+        change, compared = f'{other.text} = {self.kept(value, less)}', f'{self.random.choice(COMPARISONS)} 0'
+        kinds = [[f'{one.text} = {change};', *self.small(one, of)], [f'note(({change}) {compared});'],
+                 [f'if (({change}))', '    note(1);'], [f'note(({change}) - 1);'], [f'note(-({change}) {compared});'],
+                 [f'note(({other.text} {self.random.choice("&|^")}= {value.text}) {compared});']]
+        return [*self.random.choice(kinds), *self.small(other, less)]
 
     def step(self, depth):
         if not self.variables:
