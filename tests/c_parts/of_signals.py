@@ -115,7 +115,8 @@ class Siginfo(Maker):
         fields = self.fields
         if self.random.random() < 0.85:             # what a signal tells that no child sends is hard to know
             fields = [it for it in self.fields if 'code' not in it and 'status' not in it]
-        return Part('siginfo, sent', self.handler(name, fields), [*self.installed(name, signal), send])
+        return Part(f'siginfo, of {send[:8].partition("(")[0]}', self.handler(name, fields),
+                    [*self.installed(name, signal), send])
 
     def child(self):
         """SIGCHLD of a child that exits, is killed or is stopped."""

@@ -92,7 +92,7 @@ class Types(Maker):
                 f'note(sizeof {name});']
         if of == 'uid_t' and self.random.random() < 0.5:
             main[1:2] = [f'{name} = getuid() - getuid();', f'note({name} - 1 > 0);']
-        return Part('types, one', [], main)
+        return Part(f'types, {of}', [], main)
 
     def sizes(self):
         array, counter, length = self.new('g'), self.new('l'), self.random.randrange(2, 7)

@@ -58,16 +58,18 @@ class Macros(Maker):
         within = self.pick([f'enum {{ {inner} = {self.value() + 7} }};', f'note({macro});'],
                            [f'int {inner} = {self.value() + 7};', f'note({macro});'],
                            [f'for (int {inner} = 7; {inner} < 9; {inner}++)', f'    note({macro});'])
+        kind = 'constants' if 'enum' in within[0] else 'variables'
         main = [f'note({macro});', '{', *indented(within), '}', f'note({macro});']
         if self.random.random() < 0.4:
             name = self.new('f')
-            before += [f'static int {name}_(void)', '{', f'    return {macro};', '}', f'static int {name}(int {inner})',
-                       '{',
-                       f'    return {macro} - {name}_();', '}']
+            before += [f'static int {name}_(void)', '{', f'    return {macro};', '}',
+                       f'static int {name}(int {inner})', '{', f'    return {macro} - {name}_();', '}']
+            kind = 'parameters'
             main = [f'note({name}({self.value() + 11}));', f'note({macro});']
         elif self.random.random() < 0.3:
+            kind = 'variables'
             main = [f'int {inner} = {self.value() + 3};', f'note({macro});', f'{inner}++;', f'note({macro});']
-        return Part('macros, scope', before, main)
+        return Part(f'macros, scope of {kind}', before, main)
 
     def later(self):
         """A name means a constant first, and a macro after a line."""
@@ -75,7 +77,7 @@ class Macros(Maker):
         before = [f'enum {{ {name} = {self.value()} }};', f'static int {function}(void)', '{', f'    return {name};',
                   '}',
                   f'#define {name} {self.value() + 20}']
-        return Part('macros, scope', before, [f'note({name});', f'note({function}());'])
+        return Part('macros, scope of lines', before, [f'note({name});', f'note({function}());'])
 
     def splice(self):
         """Lines that go on in the next one: in a comment, a name, a number, a definition."""
@@ -167,9 +169,10 @@ class Strings(Maker):
         main = [f'note(sizeof {name});', f'for (int i = 0; i < (int)sizeof {name}; i++)', f'    note({name}[i]);']
         if self.random.random() < 0.3:
             main = [f'note(sizeof {name});', *(f'note({name}[{place}]);' for place in range(24 if counted else 1))]
+        kind = 'strings, ' + ('tabs' if '\t' in text else 'joined' if '" ' in text or '""' in text else 'arrays')
         if name.startswith('g'):
-            return Part('strings, arrays', ['static ' + line], main)
-        return Part('strings, arrays', [], [line, *main])
+            return Part(kind, ['static ' + line], main)
+        return Part(kind, [], [line, *main])
 
     def letter(self):
         inner = self.random.one_of(ESCAPES + list(LETTERS) + ['"', '\t', '/', '*'], escapes=RARE_ESCAPES)
