@@ -95,13 +95,18 @@ joined_tallies go_on most olds ns i old new here joined all same e is =
     tallies_put ns i here joined go_on most (tally_of_node go_on most new) e is
     ∙ ap₂ both (tallies_same olds ns go_on most all) (tally_same old new go_on most same)
 
-pub joined_nodes : (search : Search) (place least : ℕ) (olds ns : List Node) (i : ℕ) (old new here joined : Node) → AreSameNodes olds ns → IsSameNode old new → slice_get ns i ≡ Some here
-    → (IsNode search place least here → IsNode search place least new → IsNode search place least joined) → All (IsNode search place least) olds → IsNode search place least old
-    → All (IsNode search place least) (slice_set ns i joined)
-joined_nodes search place least olds ns i old new here joined all same e is ps p =
-    let now = all_still (StandsAt search place least) olds ns all ps in
-    let at = subst (IsNode search place least) (get_or_from_slice_get ns i here here e) (now i here (slice_get_within ns i here e)) in
-    All-set (IsNode search place least) ns i joined (is at (subst (StandsAt search place least) (sym same) p)) now
+pub joined_nodes : (search : Search) (place least : ℕ) (olds ns : List Node) (i : ℕ) (joined : Node) → AreSameNodes olds ns
+    → IsNode search place least joined → All (IsNode search place least) olds → All (IsNode search place least) (slice_set ns i joined)
+joined_nodes search place least olds ns i joined all is ps =
+    All-set (IsNode search place least) ns i joined is (all_still (StandsAt search place least) olds ns all ps)
+
+-- it was and is one of them
+pub one_of_these : (search : Search) (place least : ℕ) (olds ns : List Node) (i : ℕ) (here : Node) → AreSameNodes olds ns → slice_get ns i ≡ Some here → All (IsNode search place least) olds → IsNode search place least here
+one_of_these search place least olds ns i here all e ps =
+    subst (IsNode search place least) (get_or_from_slice_get ns i here here e) (all_still (StandsAt search place least) olds ns all ps i here (slice_get_within ns i here e))
+
+pub stands_same : (search : Search) (place least : ℕ) (old new : Node) → IsSameNode old new → IsNode search place least old → IsNode search place least new
+stands_same search place least old new same p = subst (StandsAt search place least) (sym same) p
 
 -- it comes behind them
 pub pushed_tallies : (go_on : Outlook) (most : ℕ) (olds ns xs : List Node) (old new : Node) → AreSameNodes olds ns → IsSameNode old new → xs ≡ ns ++ new ∷ []

@@ -8,6 +8,7 @@ mod NodeLemmas
 mod LayerLemmas
 mod SpreadLemmas
 mod RowLemmas
+mod StopLemmas
 mod NodeCountLemmas
 mod NodeBookLemmas
 mod MergedLemmas

@@ -19,7 +19,8 @@ use Rattle.counting.specs.Counts.{tally_over}
 use Rattle.counting.specs.Courses.{course_from, course_of}
 use Rattle.counting.specs.Endings.{ending_of}
 use Rattle.counting.specs.Tallies.{TallyView, both, first_of, is_before, is_earlier, no_schedules}
-use Rattle.counting.specs.Texts.{has_text, have_text, marked, shown, unmarked}
+use Rattle.counting.specs.Patterns.{has_pattern}
+use Rattle.counting.specs.Texts.{have_text, marked, unmarked}
 use Rattle.counting.proofs.CountLemmas.{first_found, members}
 use Rattle.merging.specs.Merging.{Property, from_spot, if_none_left, marks_after, one_if, over_kinds, state_after, tally_at_place, tally_from, tally_of_rest}
 use Rattle.merging.proofs.TallyLemmas.{and_none, both_regrouped, exchanged, first_begun, first_if_before, none_and, step_equal, two_by_two}
@@ -52,23 +53,23 @@ marked_then [] ls ms marks = refl
 marked_then (t ∷ ts) ls ms [] = refl
 marked_then (t ∷ ts) ls ms (m ∷ marks) =
     ap₂ (λ b bs. b ∷ bs)
-    (ap (λ b. m || b) (list_any-append (λ (l : Line). has_text t (shown l.entry)) ls ms) ∙ sym (or_assoc m (have_text t ls) (have_text t ms)))
+    (ap (λ b. m || b) (list_any-append (λ (l : Line). has_pattern t l.entry) ls ms) ∙ sym (or_assoc m (have_text t ls) (have_text t ms)))
     (marked_then ts ls ms marks)
 
 abbrev entries_of : List Line → List Entry
 entries_of lines = map (λ l. l.entry) lines
 
 -- the numbers of the lines don't matter
-have_by_entries : (t : List ℕ) (lines : List Line) → have_text t lines ≡ list_any (λ (e : Entry). has_text t (shown e)) (entries_of lines)
+have_by_entries : (t : List ℕ) (lines : List Line) → have_text t lines ≡ list_any (λ (e : Entry). has_pattern t e) (entries_of lines)
 have_by_entries t [] = refl
-have_by_entries t (l ∷ lines) = ap (λ b. has_text t (shown l.entry) || b) (have_by_entries t lines)
+have_by_entries t (l ∷ lines) = ap (λ b. has_pattern t l.entry || b) (have_by_entries t lines)
 
 pub marked_by_entries : (texts : List (List ℕ)) (ls ms : List Line) (marks : List Bool) → map (λ (l : Line). l.entry) ls ≡ map (λ (l : Line). l.entry) ms → marked texts ls marks ≡ marked texts ms marks
 marked_by_entries [] ls ms marks e = refl
 marked_by_entries (t ∷ ts) ls ms [] e = refl
 marked_by_entries (t ∷ ts) ls ms (m ∷ marks) e =
     ap₂ (λ b bs. (m || b) ∷ bs)
-    (have_by_entries t ls ∙ ap (list_any (λ (x : Entry). has_text t (shown x))) e ∙ sym (have_by_entries t ms))
+    (have_by_entries t ls ∙ ap (list_any (λ (x : Entry). has_pattern t x)) e ∙ sym (have_by_entries t ms))
     (marked_by_entries ts ls ms marks e)
 
 -- ---- the tally of schedules, one by one

@@ -1,7 +1,4 @@
 -- From the start of a world to the book of a family.
-use Rattle.std.specs.Prelude.{Result, Ok, Err, IfErr, IsErrAnd}
-use Rattle.merging.specs.declared.search.Stop.{Stop}
-use Rattle.merging.specs.declared.search.Stop.TheVariants as stop
 use Rattle.std.proofs.Common.{◌≡◌, ℕ, ◌-◌, List, [], length, drop, refl, ap, ap₂, sym, ◌∙◌, arith, subst}
 use Rattle.std.specs.List.{All}
 use Rattle.std.proofs.lemmas.List.Elements.{All-weaker}
@@ -14,7 +11,7 @@ use Rattle.counting.specs.Tallies.{TallyView, both}
 use Rattle.counting.specs.Texts.{unmarked}
 use Rattle.merging.specs.declared.node.Node.{Node}
 use Rattle.merging.specs.declared.search.Search.{Search}
-use Rattle.merging.specs.Merging.{IsNode, IsStop, Outlook, Property, behind, counted_all, list_of, loose_of, most_of, nodes_tally, outlook_of, tally_from, tally_of_node, tally_of_nodes, texts_of, world_of}
+use Rattle.merging.specs.Merging.{IsNode, Outlook, Property, behind, counted_all, from_start, list_of, loose_of, most_of, nodes_tally, outlook_of, tally_from, tally_of_node, tally_of_nodes, texts_of, world_of}
 use Rattle.merging.proofs.NodeBookLemmas.{counted_book}
 use Rattle.merging.proofs.TallyLemmas.{behind_nothing, none_and}
 
@@ -38,10 +35,6 @@ begun go_on most world loose texts none nodes n empty one spots left state marks
     ∙ ap₂ (go_on most (kinds_of loose)) state marks
 
 -- ---- what goes on before the first event, and behind the last one before which something is put in
-
--- all schedules of the search
-abbrev pub from_start : Property → Search → TallyView
-from_start has s = outlook_of has s 0 (most_of s) (kinds_of (length (loose_of s))) (boot (world_of s)) (unmarked (texts_of s))
 
 outlook_first : (has : Property) (s : Search) → outlook_of has s 0 ≡ tally_from has (texts_of s) (loose_of s) s.family.now.upto 0 (list_of s)
 outlook_first has s =
@@ -70,8 +63,3 @@ merged_book s rest nodes is all same =
     (λ has. ap (λ (go_on : Outlook). tally_of_nodes go_on (most_of s) nodes) (sym (outlook_last has s rest is))
     ∙ same has
     ∙ ap (λ (go_on : Outlook). go_on (most_of s) (kinds_of (length (loose_of s))) (boot (world_of s)) (unmarked (texts_of s))) (outlook_first has s))
-
--- want of memory stops any search
-pub stopped_by_memory : {A : Type 0} (states upto : ℕ) (r : Result A Stop) → IsErrAnd r (λ why. why ≡ stop.Memory) → IfErr r (IsStop states upto)
-stopped_by_memory states upto (Ok a) h = absurd h
-stopped_by_memory states upto (Err why) h = subst (IsStop states upto) (sym h) tt

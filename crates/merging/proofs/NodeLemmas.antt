@@ -107,8 +107,8 @@ joined_tally old other mid n one (inr (same, first)) sum go_on most forgets =
     ∙ ap (λ t. both (behind old.count q rest) (behind other.count r t)) (goes_on_alike go_on most old other forgets one)
 
 -- with another count, and fewer spots at least, a node stands there, too
-pub stands_still : (search : Search) (place fewer least count : ℕ) (n : Node) → fewer ≤ least → IsNode search place least n → IsNode search place fewer (with_count count n)
-stands_still search place fewer least count n lower i =
+pub stands_still : (search : Search) (place fewer least count : ℕ) (n : Node) → fewer ≤ least → 1 ≤ count → IsNode search place least n → IsNode search place fewer (with_count count n)
+stands_still search place fewer least count n lower some i =
     let at_least = i.least in
     record {
       reached = i.reached;
@@ -120,14 +120,17 @@ stands_still search place fewer least count n lower i =
       least = omega (arith, at_least, lower);
       few = i.few;
       last = i.last;
+      begun = some;
     }
 
-pub joined_node : (old other mid : Node) (n : ℕ) → IsFirstOf old other mid → (search : Search) (place least : ℕ) → IsNode search place least old → IsNode search place least other
+pub joined_node : (old other mid : Node) (n : ℕ) → IsFirstOf old other mid → n ≡ old.count + other.count → (search : Search) (place least : ℕ) → IsNode search place least old → IsNode search place least other
     → IsNode search place least (with_count n mid)
-joined_node old other mid n (inl (same, first)) search place least i j =
-    stands_still search place least least n mid (omega arith) (subst (λ (m : Node). IsNode search place least m) (sym same) j)
-joined_node old other mid n (inr (same, first)) search place least i j =
-    stands_still search place least least n mid (omega arith) (subst (λ (m : Node). IsNode search place least m) (sym same) i)
+joined_node old other mid n (inl (same, first)) sum search place least i j =
+    let some = i.begun in
+    stands_still search place least least n mid (omega arith) (omega (arith, sum, some)) (subst (λ (m : Node). IsNode search place least m) (sym same) j)
+joined_node old other mid n (inr (same, first)) sum search place least i j =
+    let some = i.begun in
+    stands_still search place least least n mid (omega arith) (omega (arith, sum, some)) (subst (λ (m : Node). IsNode search place least m) (sym same) i)
 
 -- ---- nodes that are given events
 
@@ -135,8 +138,8 @@ joined_node old other mid n (inr (same, first)) search place least i j =
 with_event : (search : Search) (place later least more : ℕ) (x : Event) (old : Node) (new : SeenNode) → IsNode search place least old → new.state ≡ state_after x old.kernel.state
     → IsRegular new.state → IsSettled new.state → new.events ≤ length old.given + 1 → new.marks ≡ marks_after (texts_of search) x old.kernel.state old.marks.items
     → new.given ≡ old.given ++ x ∷ [] → length new.given ≡ later + length new.spots → more ≤ length new.spots → length new.spots + length new.left ≤ most_of search
-    → (later ≡ search.family.now.upto → new.left ≡ []) → StandsAt search later more new
-with_event search place later least more x old new i state regular settled events marks given longer most few last = record {
+    → (later ≡ search.family.now.upto → new.left ≡ []) → new.count ≡ old.count → StandsAt search later more new
+with_event search place later least more x old new i state regular settled events marks given longer most few last count = record {
   reached = reached_then (boot (world_of search)) old.kernel.state new.state old.given x i.reached state ∙ ap (λ xs. (course_from 1 (boot (world_of search)) xs).last) (sym given);
   regular = regular;
   settled = settled;
@@ -146,30 +149,31 @@ with_event search place later least more x old new i state regular settled event
   least = most;
   few = few;
   last = last;
+  begun = let some = i.begun in omega (arith, count, some);
 }
 
 -- the event of the list
 pub given_node : (search : Search) (place least : ℕ) (x : Event) (old : Node) (new : SeenNode) → IsNode search place least old → (place + 1 ≡ search.family.now.upto → old.left.items ≡ [])
     → new.state ≡ state_after x old.kernel.state → IsRegular new.state → IsSettled new.state → new.events ≡ old.kernel.events + 1
-    → new.marks ≡ marks_after (texts_of search) x old.kernel.state old.marks.items → new.given ≡ old.given ++ x ∷ [] → new.spots ≡ old.spots → new.left ≡ old.left.items
+    → new.marks ≡ marks_after (texts_of search) x old.kernel.state old.marks.items → new.given ≡ old.given ++ x ∷ [] → new.spots ≡ old.spots → new.left ≡ old.left.items → new.count ≡ old.count
     → StandsAt search (place + 1) least new
-given_node search place least x old new i none state regular settled events marks given spots left =
+given_node search place least x old new i none state regular settled events marks given spots left count =
     let had = i.events in
     let long = i.given in
     let least_was = i.least in
     let few = i.few in
     let same = ap length spots in
     with_event search place (place + 1) least least x old new i state regular settled (omega (arith, events, had)) marks given
-    (omega (arith, long, same, ap length given, length-append old.given (x ∷ []))) (omega (arith, least_was, same)) (omega (arith, few, same, ap length left)) (λ end. left ∙ none end)
+    (omega (arith, long, same, ap length given, length-append old.given (x ∷ []))) (omega (arith, least_was, same)) (omega (arith, few, same, ap length left)) (λ end. left ∙ none end) count
 
 -- a tick or a loose event before it, with as many left as still can be put in
 pub put_node : (search : Search) (place least q : ℕ) (x : Event) (n : Node) (m : SeenNode) → IsNode search place least n → place < search.family.now.upto
     → m.state ≡ state_after x n.kernel.state → IsRegular m.state → IsSettled m.state → m.events ≤ length n.given + 1
     → m.marks ≡ marks_after (texts_of search) x n.kernel.state n.marks.items → m.given ≡ n.given ++ x ∷ [] → m.spots ≡ n.spots ++ q ∷ []
-    → length n.spots + 1 + length m.left ≤ most_of search → StandsAt search place (least + 1) m
-put_node search place least q x n m i before state regular settled events marks given spots few =
+    → m.count ≡ n.count → length n.spots + 1 + length m.left ≤ most_of search → StandsAt search place (least + 1) m
+put_node search place least q x n m i before state regular settled events marks given spots count few =
     let long = i.given in
     let least_was = i.least in
     let more : length m.spots ≡ length n.spots + 1 = ap length spots ∙ length-append n.spots (q ∷ []) in
     with_event search place place least (least + 1) x n m i state regular settled events marks given
-    (omega (arith, long, more, ap length given, length-append n.given (x ∷ []))) (omega (arith, least_was, more)) (omega (arith, few, more)) (λ end. absurd (omega (arith, before, end)))
+    (omega (arith, long, more, ap length given, length-append n.given (x ∷ []))) (omega (arith, least_was, more)) (omega (arith, few, more)) (λ end. absurd (omega (arith, before, end))) count

@@ -1,7 +1,7 @@
 -- Rows of nodes before an event: which node stands in which row, and what all rows are told of as they go on.
-use Rattle.std.proofs.Common.{◌≡◌, ℕ, ◌+◌, ◌<◌, false, List, [], ◌∷◌, ◌++◌, append-nil, drop, length, length-append, refl, ap, ap₂, sym, subst, ◌∙◌, arith}
+use Rattle.std.proofs.Common.{◌≡◌, ℕ, ◌+◌, ◌<◌, ◌≤◌, get_or, take, false, List, [], ◌∷◌, ◌++◌, append-nil, drop, length, length-append, refl, ap, ap₂, sym, subst, ◌∙◌, arith}
 use Rattle.std.specs.List.{All}
-use Rattle.std.proofs.lemmas.List.{length-map}
+use Rattle.std.proofs.lemmas.List.{length-map, take_all, take_more}
 use Rattle.std.proofs.lemmas.List.Elements.{All-append, All-head, All-nil, All-weaker}
 use Rattle.std.proofs.lemmas.List.Concat.{flat_map-append}
 use Rattle.posix.specs.Common.{IsRegular, IsSettled, boot}
@@ -38,7 +38,7 @@ pub nodes_of_rows : (search : Search) (place least : ℕ) (rows : List Layer) �
 nodes_of_rows search place least [] are = All-nil (IsNode search place 0)
 nodes_of_rows search place least (row ∷ rows) are =
     All-append (IsNode search place 0) row.nodes.items (nodes_in rows)
-    (All-weaker (IsNode search place least) (IsNode search place 0) (λ n. stands_still search place 0 least n.count n (omega arith)) row.nodes.items are.0)
+    (All-weaker (IsNode search place least) (IsNode search place 0) (λ n is. stands_still search place 0 least n.count n (omega arith) is.begun is) row.nodes.items are.0)
     (nodes_of_rows search place (least + 1) rows are.1)
 
 -- ---- one more row
@@ -53,6 +53,16 @@ one_longer old new row is = ap length is ∙ length-append old (row ∷ [])
 
 nodes_more : (rows : List Layer) (row : Layer) → nodes_in (rows ++ row ∷ []) ≡ nodes_in rows ++ row.nodes.items
 nodes_more rows row = flat_map-append (λ (r : Layer). r.nodes.items) rows (row ∷ []) ∙ ap (λ ns. nodes_in rows ++ ns) (append-nil row.nodes.items)
+
+-- so many nodes at least are in these rows
+pub count_more : (rows : List Layer) (i : ℕ) (row : Layer) (states new : ℕ) → i < length rows → row ≡ get_or rows i row → states ≤ length (nodes_in (take i rows)) → new ≤ states + length row.nodes.items
+    → new ≤ length (nodes_in (take (i + 1) rows))
+count_more rows i row states new within is was more =
+    let taken = take_more rows i row within ∙ ap (λ x. take i rows ++ x ∷ []) (sym is) in
+    omega (arith, was, more, ap length (ap nodes_in taken ∙ nodes_more (take i rows) row), length-append (nodes_in (take i rows)) row.nodes.items)
+
+pub count_all : (rows : List Layer) (i states : ℕ) → length rows ≤ i → states ≤ length (nodes_in (take i rows)) → states ≤ length (nodes_in rows)
+count_all rows i states end was = subst (λ xs. states ≤ length (nodes_in xs)) (take_all i rows end) was
 
 -- ---- a row goes on
 
@@ -117,8 +127,8 @@ nodes_of_one none rows row empty is = ap nodes_in (is ∙ ap (λ xs. xs ++ row �
 -- ---- the first node
 
 pub first_node : (search : Search) (n : Node) → n.kernel.state ≡ boot (world_of search) → IsRegular n.kernel.state → IsSettled n.kernel.state → n.kernel.events ≡ 0 → n.spots ≡ []
-    → n.left.items ≡ kinds_of (length (loose_of search)) → n.given ≡ [] → n.marks.items ≡ unmarked (texts_of search) → IsNode search 0 0 n
-first_node search n state regular settled events spots left given marks =
+    → n.left.items ≡ kinds_of (length (loose_of search)) → n.given ≡ [] → n.marks.items ≡ unmarked (texts_of search) → n.count ≡ 1 → IsNode search 0 0 n
+first_node search n state regular settled events spots left given marks one =
     let none = ap length spots in
     let kinds : length n.left.items ≡ length (loose_of search) = ap length left ∙ length_kinds_of (length (loose_of search)) in
     record {
@@ -131,4 +141,5 @@ first_node search n state regular settled events spots left given marks =
       least = omega arith;
       few = omega (arith, none, kinds);
       last = λ end. left ∙ ap (λ xs. kinds_of (length xs)) (search.family.now.placed (sym end));
+      begun = omega (arith, one);
     }

@@ -1,17 +1,17 @@
 -- Schedules that meet in one state: how many of those that go on from there have a property, and which is the first.
-use Rattle.std.specs.Prelude.{◌≡◌, ◌⊎◌, ◌≤◌, ◌-◌, ℕ, zero, suc, ◌+◌, ◌*◌, Bool, true, List, [], ◌∷◌, ◌++◌, length, map, flat_map, drop, nat_lt, remove, slice_index_or, Some, option_map, if◌then◌else◌}
+use Rattle.std.specs.Prelude.{◌≡◌, ◌⊎◌, ◌<◌, ◌≤◌, ◌-◌, ℕ, zero, suc, ◌+◌, ◌*◌, Bool, true, List, [], ◌∷◌, ◌++◌, length, map, flat_map, drop, nat_lt, remove, slice_index_or, Some, option_map, if◌then◌else◌}
 use Rattle.std.specs.List.{All}
 use Rattle.posix.specs.declared.event.Event.{Event}
 use Rattle.posix.specs.declared.event.Event.TheVariants.{Tick}
 use Rattle.posix.specs.Common.{numbered, IsRegular, IsSettled, State, World, boot, next}
-use Rattle.schedules.specs.Families.{Spots, spot}
+use Rattle.schedules.specs.Families.{Spots, kinds_of, spot}
 use Rattle.schedules.specs.Schedules.{event_of}
 use Rattle.counting.specs.declared.ending.Ending.{Ending}
 use Rattle.counting.specs.Books.{BookView, with_many_runs}
 use Rattle.counting.specs.Courses.{course_from}
 use Rattle.counting.specs.Endings.{ending_of}
 use Rattle.counting.specs.Tallies.{TallyView, both, no_schedules}
-use Rattle.counting.specs.Texts.{marked}
+use Rattle.counting.specs.Texts.{marked, unmarked}
 use Rattle.merging.specs.declared.layer.Layer.{Layer}
 use Rattle.merging.specs.declared.node.Node.{Node}
 use Rattle.merging.specs.declared.search.Search.{Search}
@@ -109,15 +109,6 @@ most_of s = s.family.now.ticks + length (loose_of s)
 abbrev pub outlook_of : Property → Search → ℕ → Outlook
 outlook_of has s place = tally_from has (texts_of s) (loose_of s) (s.family.now.upto - place) place (drop place (list_of s))
 
--- A search stops where there is no memory, or more states than are kept behind one of the first so many events.
-abbrev pub IsStop : ℕ → ℕ → Stop → Type 0
-IsStop states upto stop.Memory = Unit {0}
-IsStop states upto (stop.States most place) = (most ≡ states) × (1 ≤ place) × (place ≤ upto)
-
--- of this search
-abbrev pub IsStopOf : Search → Stop → Type 0
-IsStopOf s why = IsStop s.family.now.states s.family.now.upto why
-
 -- ---- states, and the beginnings of schedules that lead to them
 
 -- of the schedules of a node
@@ -137,7 +128,7 @@ nodes_in rows = flat_map (λ row. row.nodes.items) rows
 pub record SeenNode : Type 0 where
   pub state : State
   pub events : ℕ
-  pub count : ℕ
+  pub count : ℕ  -- of beginnings
   pub spots : Spots
   pub left : List ℕ
   pub given : List Event
@@ -147,8 +138,8 @@ abbrev pub seen : Node → SeenNode
 seen n = record { state = n.kernel.state; events = n.kernel.events; count = n.count; spots = n.spots; left = n.left.items; given = n.given; marks = n.marks.items }
 
 -- A node stands before the event with this place: it was given all events before it, and what it put in, at so many spots at least. Its events
--- lead to its state in the world of the search. Its kernel was given no more than these, there is a mark for each text, and what is left can
--- still be put in.
+-- lead to its state in the world of the search. Its kernel was given no more than these, there is a mark for each text, what is left can still be
+-- put in, and one schedule at least begins so.
 pub record StandsAt (s : Search) (place fewest : ℕ) (n : SeenNode) : Type 0 where
   pub reached : n.state ≡ (course_from 1 (boot (world_of s)) n.given).last
   pub regular : IsRegular n.state
@@ -159,6 +150,7 @@ pub record StandsAt (s : Search) (place fewest : ℕ) (n : SeenNode) : Type 0 wh
   pub least : fewest ≤ length n.spots
   pub few : length n.spots + length n.left ≤ most_of s
   pub last : place ≡ s.family.now.upto → n.left ≡ []
+  pub begun : 1 ≤ n.count
 
 abbrev pub IsNode : Search → ℕ → ℕ → Node → Type 0
 IsNode s place least n = StandsAt s place least (seen n)
@@ -245,6 +237,27 @@ with_kind has s place n i = kind_tally has s place n (slice_index_or n.left.item
 -- with each of the loose events put in that are left
 abbrev pub loose_tally : Property → Search → ℕ → Node → TallyView
 loose_tally has s place n = over_kinds (kind_tally has s place n) (length n.left.items) n.left.items
+
+-- ---- why a search stops
+
+-- all schedules of the search
+abbrev pub from_start : Property → Search → TallyView
+from_start has s = outlook_of has s 0 (most_of s) (kinds_of (length (loose_of s))) (boot (world_of s)) (unmarked (texts_of s))
+
+-- More nodes than states are kept stand before the event with this place, and of these schedules theirs are some.
+pub record AreTooMany (s : Search) (place : ℕ) (whole : Property → TallyView) (nodes : List Node) : Type 0 where
+  pub stand : All (IsNode s place 0) nodes
+  pub more : s.family.now.states < length nodes
+  pub some : (has : Property) → (others : TallyView) × (whole has ≡ both (nodes_tally has s place nodes) others)
+
+-- Of these schedules no more are gone on with, as there is no memory, or as too many nodes stand behind so many events.
+abbrev pub IsStop : Search → (Property → TallyView) → Stop → Type 0
+IsStop s whole stop.Memory = Unit {0}
+IsStop s whole (stop.States most place) = (most ≡ s.family.now.states) × (place ≤ s.family.now.upto) × (nodes : List Node) × AreTooMany s place whole nodes
+
+-- of all schedules
+abbrev pub IsStopOf : Search → Stop → Type 0
+IsStopOf s why = IsStop s (λ has. from_start has s) why
 
 -- ---- the book of many schedules
 

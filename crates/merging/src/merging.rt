@@ -6,11 +6,11 @@ ghost use Rattle.schedules.specs.Families.{family as family_of, kinds_of};
 ghost use Rattle.text.specs.EventTexts.{most_events};
 ghost use Rattle.counting.specs.Counts.{book_over};
 ghost use Rattle.counting.specs.Texts.{unmarked};
-ghost use Rattle.merging.specs.Merging.{AreRows, ForgetsHalted, IsNode, IsStop, IsStopOf, Outlook, Property, counted, counted_all, list_of, loose_of, most_of, nodes_in, nodes_tally, outlook_of, rows_tally, tally_of_nodes, texts_of, world_of};
+ghost use Rattle.merging.specs.Merging.{AreRows, ForgetsHalted, IsNode, IsStop, IsStopOf, Outlook, Property, counted, counted_all, from_start, list_of, loose_of, most_of, nodes_in, nodes_tally, rows_tally, tally_of_nodes, texts_of, world_of};
 
 use crate::layer::Layer;
 use crate::node::Node;
-use crate::rows::{push_row, rows_behind};
+use crate::rows::{count_states, push_row, rows_behind};
 use crate::search::{Search, Stop};
 use counting::{Book, Family, Line, Progress, event_at, events_from, mark, run_all};
 use std::alloc::{AllocError, Global};
@@ -77,15 +77,6 @@ fn count_all(
     Ok(())
 }
 
-/// How many states these are.
-fn count_states(rows: &VecDeque<Layer>) -> usize {
-    let mut states: usize = 0;
-    for row in rows.iter() {
-        states = states.saturating_add(row.nodes.len());
-    }
-    states
-}
-
 /// The nodes of a row come to others.
 fn take_nodes(nodes: &mut Vec<Node>, row: Layer) -> Result<(), AllocError>
     ensures { OnOk result (nodes.new.items ≡ nodes.old.items ++ row.nodes.items) }
@@ -133,7 +124,7 @@ fn reach<P: Progress>(
     requires nodes { All (IsNode search.now 0 0) first.nodes.items }
     ensures rows { IfOk result (λ rows. AreRows search.now search.now.family.now.upto 0 rows.items) }
     ensures tally { (has : Property) → IfOk result (λ rows. rows_tally has search.now search.now.family.now.upto rows.items ≡ nodes_tally has search.now 0 first.nodes.items) }
-    ensures stop { IfErr result (IsStopOf search.now) }
+    ensures stop { IfErr result (IsStop search.now (λ has. nodes_tally has search.now 0 first.nodes.items)) }
 {
     let upto = search.family.upto;
     let mut rows = VecDeque::new(search.alloc);
@@ -143,11 +134,7 @@ fn reach<P: Progress>(
             unreachable!()
         };
         rows = rows_behind(rows, place, event, search, lines)?;
-        let states = count_states(&rows);
-        if states > search.family.states {
-            return Err(Stop::States(search.family.states, place + 1));
-        }
-        progress.reach(place + 1, upto, states as u64);
+        progress.reach(place + 1, upto, count_states(&rows) as u64);
     }
     Ok(rows)
 }
@@ -177,8 +164,7 @@ fn search_all<P: Progress>(
     progress: &mut P,
 ) -> Result<Vec<Node>, Stop>
     ensures nodes { IfOk result (λ nodes. All (IsNode search.now search.now.family.now.upto 0) nodes.items) }
-    ensures tally { (has : Property) → IfOk result (λ nodes. nodes_tally has search.now search.now.family.now.upto nodes.items
-        ≡ outlook_of has search.now 0 (most_of search.now) (kinds_of (length (loose_of search.now))) (boot (world_of search.now)) (unmarked (texts_of search.now))) }
+    ensures tally { (has : Property) → IfOk result (λ nodes. nodes_tally has search.now search.now.family.now.upto nodes.items ≡ from_start has search.now) }
     ensures stop { IfErr result (IsStopOf search.now) }
 {
     let first = start(search)?;
@@ -195,7 +181,7 @@ pub fn merge<'a, P: Progress>(
     progress: &mut P,
 ) -> Result<Book<'a>, Stop>
     ensures book { IfOk result (λ book. book ≡ book_over family.now.world.now family.now.loose.now family.now.events.now (map (λ t. t.now) texts.now) (family_of family.now.upto family.now.ticks (length family.now.loose.now))) }
-    ensures stop { IfErr result (IsStop family.now.states family.now.upto) }
+    ensures stop { IfErr result (IsStopOf (record { alloc = alloc; family = family.entry; texts = texts.entry })) }
 {
     let search = Search {
         alloc,

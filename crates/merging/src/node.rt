@@ -288,7 +288,7 @@ impl Node {
     fn join_first(&mut self, other: &mut Node) -> Result<(), AllocError>
         requires { IsOne self.old other.old }
         ensures tally { (go_on : Outlook) (most : ℕ) → ForgetsHalted go_on → OnOk result (tally_of_node go_on most self.new ≡ both (tally_of_node go_on most self.old) (tally_of_node go_on most other.old)) }
-        ensures node { (search : SearchValue) (place least : ℕ) → IsNode search place least self.old → IsNode search place least other.old → IsNode search place least self.new }
+        ensures node { (search : SearchValue) (place least : ℕ) → IsNode search place least self.old → IsNode search place least other.old → OnOk result (IsNode search place least self.new) }
     {
         if other.spots.is_before(&self.spots) {
             swap(self, other);
@@ -300,7 +300,7 @@ impl Node {
     pub fn join(&mut self, mut other: Node) -> Result<(), AllocError>
         requires { IsOne self.old other }
         ensures tally { (go_on : Outlook) (most : ℕ) → ForgetsHalted go_on → OnOk result (tally_of_node go_on most self.new ≡ both (tally_of_node go_on most self.old) (tally_of_node go_on most other)) }
-        ensures node { (search : SearchValue) (place least : ℕ) → IsNode search place least self.old → IsNode search place least other → IsNode search place least self.new }
+        ensures node { (search : SearchValue) (place least : ℕ) → IsNode search place least self.old → IsNode search place least other → OnOk result (IsNode search place least self.new) }
     {
         let done = self.join_first(&mut other);
         drop(other);

@@ -1,8 +1,8 @@
 //! Rows of layers, each with one spot more than the row before, which go on from before an event to behind it.
 
-ghost use Rattle.std.specs.Prelude.{◌≡◌, ◌+◌, ◌<◌, ◌++◌, ℕ, [], ◌∷◌, length, All, IfErr, IfOk, OnOk, Some, slice_get};
+ghost use Rattle.std.specs.Prelude.{◌≡◌, ◌+◌, ◌<◌, ◌≤◌, ◌++◌, ℕ, [], ◌∷◌, length, All, IfErr, IfOk, OnOk, Some, slice_get};
 ghost use Rattle.merging.specs.declared.search.Search.{Search as SearchValue};
-ghost use Rattle.merging.specs.Merging.{AreRows, IsNode, IsStopOf, Property, list_of, nodes_in, rows_tally, tally_of_all};
+ghost use Rattle.merging.specs.Merging.{AreRows, IsNode, IsStop, Property, list_of, nodes_in, rows_tally, tally_of_all};
 
 use crate::layer::Layer;
 use crate::search::{Search, Stop};
@@ -31,18 +31,26 @@ pub fn push_row(rows: &mut VecDeque<Layer>, row: Layer) -> Result<(), AllocError
     Ok(())
 }
 
-/// How many states the last row has.
-fn last_states(rows: &VecDeque<Layer>) -> usize {
-    rows.back().map_or(0, |row| row.nodes.len())
+/// How many states these are, or the greatest usize.
+pub fn count_states(rows: &VecDeque<Layer>) -> usize
+    ensures { result ≤ length (nodes_in rows.now.items) }
+{
+    let mut states: usize = 0;
+    for index in 0..rows.len() {
+        let Some(row) = rows.get(index) else {
+            unreachable!()
+        };
+        states = states.saturating_add(row.nodes.len());
+    }
+    states
 }
 
-/// A row goes on from before the event with this place: behind it to the last of the rows there, which have so many
-/// states, and with one more spot to the first of the other rows, which comes back.
+/// A row goes on from before the event with this place: behind it to the last of the rows there, and with one more spot
+/// to the first of the other rows, which comes back.
 fn row_behind(
     row: Layer,
     rows: &mut VecDeque<Layer>,
     next: &mut VecDeque<Layer>,
-    kept: usize,
     place: u64,
     event: Event,
     search: &Search<'_, '_, '_>,
@@ -59,10 +67,10 @@ fn row_behind(
     ensures next { OnOk result (AreRows search.now (place + 1) 0 next.new.items) }
     ensures tally { (has : Property) → IfOk result (λ more. tally_of_all has search.now place more.nodes.items rows.new.items next.new.items
         ≡ tally_of_all has search.now place row.nodes.items rows.old.items next.old.items) }
-    ensures stop { IfErr result (IsStopOf search.now) }
+    ensures stop { IfErr result (IsStop search.now (λ has. tally_of_all has search.now place row.nodes.items rows.old.items next.old.items)) }
 {
     let mut more = take_row(rows, search.alloc);
-    match spread_row(row, &mut more, kept, place, event, search, lines) {
+    match spread_row(row, &mut more, place, event, search, lines) {
         Ok(behind) => match push_row(next, behind) {
             Ok(()) => Ok(more),
             Err(e) => {
@@ -92,13 +100,15 @@ fn all_behind(
     requires none { next.old.items ≡ [] }
     ensures rows { OnOk result (AreRows search.now (place + 1) 0 next.new.items) }
     ensures tally { (has : Property) → OnOk result (rows_tally has search.now (place + 1) next.new.items ≡ rows_tally has search.now place rows.old.items) }
-    ensures stop { IfErr result (IsStopOf search.now) }
+    ensures stop { IfErr result (IsStop search.now (λ has. rows_tally has search.now place rows.old.items)) }
 {
     let mut row = take_row(rows, search.alloc);
-    let mut kept: usize = 0;
     for _spots in 0..search.family.ticks + search.family.loose.len() + 1 {
-        row = row_behind(row, rows, next, kept, place, event, search, lines)?;
-        kept = kept.saturating_add(last_states(next));
+        row = row_behind(row, rows, next, place, event, search, lines)?;
+        if count_states(next) > search.family.states {
+            drop(row);
+            return Err(Stop::States(search.family.states, place + 1));
+        }
     }
     drop(row);
     Ok(())
@@ -117,7 +127,7 @@ pub fn rows_behind(
     requires rows { AreRows search.now place 0 rows.items }
     ensures rows { IfOk result (λ next. AreRows search.now (place + 1) 0 next.items) }
     ensures tally { (has : Property) → IfOk result (λ next. rows_tally has search.now (place + 1) next.items ≡ rows_tally has search.now place rows.items) }
-    ensures stop { IfErr result (IsStopOf search.now) }
+    ensures stop { IfErr result (IsStop search.now (λ has. rows_tally has search.now place rows.items)) }
 {
     let mut rows = rows;
     let mut next = VecDeque::new(search.alloc);

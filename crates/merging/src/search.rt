@@ -8,7 +8,7 @@ use std::alloc::{AllocError, Global};
 pub enum Stop {
     /// There is no memory.
     Memory,
-    /// There are more than so many states behind the event with this number.
+    /// There are more than so many states behind so many events.
     States(usize, u64),
 }
 

@@ -2,7 +2,7 @@
 
 ghost use Rattle.std.specs.Prelude.{◌≡◌, ◌+◌, ◌<◌, ℕ, true, false, [], length, All, IfErr, IfOk, OnOk, Some, slice_get};
 ghost use Rattle.counting.specs.Tallies.{both};
-ghost use Rattle.merging.specs.Merging.{IsNode, IsStopOf, Property, given_tally, list_of, loose_tally, node_tally, nodes_tally, tally_around, tally_with, tick_tally, with_kind};
+ghost use Rattle.merging.specs.Merging.{IsNode, IsStop, Property, given_tally, list_of, loose_tally, node_tally, nodes_tally, tally_around, tally_with, tick_tally, with_kind};
 
 use crate::layer::Layer;
 use crate::node::Node;
@@ -179,7 +179,6 @@ fn spread_all(
     nodes: &mut Vec<Node>,
     more: &mut Layer,
     next: &mut Layer,
-    kept: usize,
     place: u64,
     event: Event,
     search: &Search<'_, '_, '_>,
@@ -192,11 +191,15 @@ fn spread_all(
     ensures next { (least : ℕ) → All (IsNode search.now place least) nodes.old.items → All (IsNode search.now (place + 1) least) next.old.nodes.items → OnOk result (All (IsNode search.now (place + 1) least) next.new.nodes.items) }
     ensures tally { (has : Property) → OnOk result (tally_around has search.now place more.new.nodes.items next.new.nodes.items
         ≡ both (tally_around has search.now place more.old.nodes.items next.old.nodes.items) (nodes_tally has search.now place nodes.old.items)) }
-    ensures stop { IfErr result (IsStopOf search.now) }
+    ensures stop { IfErr result (IsStop search.now (λ has. both (tally_around has search.now place more.old.nodes.items next.old.nodes.items) (nodes_tally has search.now place nodes.old.items))) }
 {
     let most = search.family.states;
     while let Some(node) = nodes.pop() {
-        if more.nodes.len() > most || next.nodes.len() > most - kept.min(most) {
+        if more.nodes.len() > most {
+            drop(node);
+            return Err(Stop::States(most, place));
+        }
+        if next.nodes.len() > most {
             drop(node);
             return Err(Stop::States(most, place + 1));
         }
@@ -210,7 +213,6 @@ fn spread_all(
 pub fn spread_row(
     row: Layer,
     more: &mut Layer,
-    kept: usize,
     place: u64,
     event: Event,
     search: &Search<'_, '_, '_>,
@@ -223,20 +225,11 @@ pub fn spread_row(
     ensures next { (least : ℕ) → All (IsNode search.now place least) row.nodes.items → IfOk result (λ next. All (IsNode search.now (place + 1) least) next.nodes.items) }
     ensures tally { (has : Property) → IfOk result (λ next. tally_around has search.now place more.new.nodes.items next.nodes.items
         ≡ both (nodes_tally has search.now place more.old.nodes.items) (nodes_tally has search.now place row.nodes.items)) }
-    ensures stop { IfErr result (IsStopOf search.now) }
+    ensures stop { IfErr result (IsStop search.now (λ has. both (nodes_tally has search.now place more.old.nodes.items) (nodes_tally has search.now place row.nodes.items))) }
 {
     let mut row = row;
     let mut next = Layer::new(search.alloc);
-    let done = spread_all(
-        &mut row.nodes,
-        more,
-        &mut next,
-        kept,
-        place,
-        event,
-        search,
-        lines,
-    );
+    let done = spread_all(&mut row.nodes, more, &mut next, place, event, search, lines);
     drop(row);
     match done {
         Ok(()) => Ok(next),

@@ -2,7 +2,8 @@ use Rattle.std.proofs.Common.{◌≡◌, ◌∙◌, ap}
 use Rattle.counting.specs.Books.{empty_book}
 use Rattle.merging.specs.declared.search.Search.{Search}
 use Rattle.merging.specs.Merging.{counted_all, texts_of}
-use Rattle.merging.proofs.MergedLemmas.{merged_book, stopped_by_memory}
+use Rattle.merging.proofs.MergedLemmas.{merged_book}
+use Rattle.merging.proofs.StopLemmas.{stopped_by_memory}
 use Rattle.merging.proofs.merging.merge.Goals as goal
 
 pub returns-clause-book : goal.returns-clause-book

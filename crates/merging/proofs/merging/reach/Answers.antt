@@ -1,6 +1,7 @@
 use Rattle.std.proofs.Common.{◌∙◌, ap, sym}
 use Rattle.merging.specs.Merging.{nodes_tally}
 use Rattle.merging.proofs.RowLemmas.{nodes_of_one, one_row}
+use Rattle.merging.proofs.StopLemmas.{stops_too}
 use Rattle.merging.proofs.merging.reach.Goals as goal
 
 pub loop-place-init : goal.loop-place-init
@@ -20,3 +21,7 @@ loop-place-preserved g c = record {
   rows = c.in_ok-rows.ensures.rows;
   tally = λ has. c.in_ok-rows.ensures.tally has ∙ c.loop-place.invariant.tally has;
 }
+
+pub returns-in_err-rows-clause-stop : goal.returns-in_err-rows-clause-stop
+returns-in_err-rows-clause-stop g c =
+    stops_too c.args.search.now _ _ c.from_residual-in_err-rows.result c.in_err-rows.field-0.0 c.from_residual-in_err-rows.ensures.1 (λ has. sym (c.loop-place.invariant.tally has)) c.in_err-rows.ensures.stop

@@ -9,7 +9,7 @@ returns-in-Ok-clause-nodes c =
     let s = c.args.search.now in
     let e = c.in_ok-node.ensures in
     c.in-Ok.ensures.nodes s 0 0 (of_none (IsNode s 0 0) c.new-layer.result.nodes.items c.new-layer.ensures)
-    (first_node s c.in_ok-node.node e.state e.regular e.settled e.events e.spots e.left e.given e.marks)
+    (first_node s c.in_ok-node.node e.state e.regular e.settled e.events e.spots e.left e.given e.marks e.one)
 
 pub returns-in-Ok-clause-tally : goal.returns-in-Ok-clause-tally
 returns-in-Ok-clause-tally c = λ go_on forgets.

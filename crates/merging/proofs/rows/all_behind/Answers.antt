@@ -1,7 +1,9 @@
-use Rattle.std.proofs.Common.{◌≡◌, ◌+◌, ◌<◌, ap, arith, length, subst, sym}
+use Rattle.std.proofs.Common.{◌≡◌, ◌∙◌, ◌+◌, ◌++◌, ◌<◌, ap, arith, length, subst, sym}
 use Rattle.std.specs.List.{All}
-use Rattle.merging.specs.Merging.{AreRows, IsNode, most_of}
-use Rattle.merging.proofs.RowLemmas.{rows_begin, rows_end}
+use Rattle.merging.specs.Merging.{AreRows, IsNode, most_of, nodes_in, nodes_tally}
+use Rattle.merging.proofs.RowLemmas.{nodes_of_rows, rows_begin, rows_end}
+use Rattle.merging.proofs.StopLemmas.{stops_too, too_many}
+use Rattle.merging.proofs.TallyLemmas.{both_swapped}
 use Rattle.merging.proofs.rows.all_behind.Goals as goal
 
 pub loop-spots-init : goal.loop-spots-init
@@ -23,3 +25,20 @@ returns-clause-tally c = λ has.
     let l = c.loop-spots in
     let above : most_of s < length l.next.items = omega (arith, l.invariant.len, c.loop-spots-test.false) in
     rows_end has s c.args.place (length l.next.items) l.row.nodes.items l.rows.items l.next.items _ above l.invariant.nodes l.invariant.rows (l.invariant.tally has)
+
+pub returns-in_err-row-clause-stop : goal.returns-in_err-row-clause-stop
+returns-in_err-row-clause-stop c =
+    let l = c.loop-spots in
+    stops_too c.args.search.now _ _ c.from_residual.result c.in_err-row.field-0.0 c.from_residual.ensures.1 (λ has. sym (l.invariant.tally has)) c.in_err-row.ensures.stop
+
+pub returns-then-count_states-search-clause-stop : goal.returns-then-count_states-search-clause-stop
+returns-then-count_states-search-clause-stop c =
+    let s = c.args.search.now in
+    let place = c.args.place in
+    let l = c.loop-spots in
+    let e = c.in_ok-row.ensures in
+    let next = c.row_behind.new.next.items in
+    let others = c.in_ok-row.row.nodes.items ++ nodes_in c.row_behind.new.rows.items in
+    too_many s (place + 1) _ (λ has. nodes_tally has s place others) (nodes_in next) (omega (arith, c.requires.place)) (omega (arith, c.count_states.ensures, c.if-count_states-search.true))
+    (nodes_of_rows s (place + 1) 0 next e.next)
+    (λ has. sym (l.invariant.tally has) ∙ sym (e.tally has) ∙ both_swapped (nodes_tally has s place others) (nodes_tally has s (place + 1) (nodes_in next)))

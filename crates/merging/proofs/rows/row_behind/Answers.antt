@@ -1,6 +1,8 @@
 use Rattle.std.proofs.Common.{◌≡◌, ◌+◌, arith, length, subst, sym}
 use Rattle.std.specs.List.{All}
-use Rattle.merging.specs.Merging.{AreRows, IsNode}
+use Rattle.counting.specs.Tallies.{both}
+use Rattle.merging.specs.Merging.{AreRows, IsNode, nodes_in, nodes_tally}
+use Rattle.merging.proofs.StopLemmas.{of_rows, stop_among}
 use Rattle.merging.proofs.RowLemmas.{one_longer, row_goes_on, rows_more}
 use Rattle.merging.proofs.rows.row_behind.Goals as goal
 
@@ -39,3 +41,10 @@ returns-in-Ok-push_row-clause-tally c = λ has.
     let s = c.args.search.now in
     row_goes_on has s c.args.place c.args.row.nodes.items c.take_row-more.result.nodes.items c.spread_row.new.more.nodes.items c.args.rows.now.items c.take_row-more.new.rows.items c.args.next.now.items c.push_row.new.rows.items c.in-Ok.behind
     c.take_row-more.ensures.nodes (c.in-Ok.ensures.tally has) c.in-Ok-push_row.ensures
+
+pub returns-in-Err-clause-stop : goal.returns-in-Err-clause-stop
+returns-in-Err-clause-stop c =
+    let s = c.args.search.now in
+    stop_among s _ _ (λ has. both (nodes_tally has s c.args.place (nodes_in c.take_row-more.new.rows.items)) (nodes_tally has s (c.args.place + 1) (nodes_in c.args.next.now.items))) c.in-Err.e
+    (λ has. of_rows has s c.args.place c.args.row.nodes.items c.take_row-more.result.nodes.items c.args.rows.now.items c.take_row-more.new.rows.items c.args.next.now.items c.take_row-more.ensures.nodes)
+    c.in-Err.ensures.stop

@@ -17,7 +17,7 @@ insert-requires c =
     let e = c.in_ok-ticked.ensures in
     let few : length n.spots + 1 + length m.left.items ≤ most_of s = omega (arith, c.len.ensures, c.len-2.ensures.value, c.if-len-family.false, ap length e.left) in
     all_worlds s c.args.place (c.requires.node.0 + 1) c.args.more.now.nodes.items m c.requires.node.2
-    (put_node s c.args.place c.requires.node.0 c.spot.result Tick n (seen m) c.requires.node.1 c.requires.place e.state e.regular e.settled e.events e.marks e.given e.spots few)
+    (put_node s c.args.place c.requires.node.0 c.spot.result Tick n (seen m) c.requires.node.1 c.requires.place e.state e.regular e.settled e.events e.marks e.given e.spots e.count few)
 
 pub returns-clause-nodes : goal.returns-clause-nodes
 returns-clause-nodes c = λ least is all.
@@ -26,7 +26,7 @@ returns-clause-nodes c = λ least is all.
     let m = c.in_ok-ticked.ticked in
     let e = c.in_ok-ticked.ensures in
     let few : length n.spots + 1 + length m.left.items ≤ most_of s = omega (arith, c.len.ensures, c.len-2.ensures.value, c.if-len-family.false, ap length e.left) in
-    c.insert.ensures.nodes s c.args.place (least + 1) all (put_node s c.args.place least c.spot.result Tick n (seen m) is c.requires.place e.state e.regular e.settled e.events e.marks e.given e.spots few)
+    c.insert.ensures.nodes s c.args.place (least + 1) all (put_node s c.args.place least c.spot.result Tick n (seen m) is c.requires.place e.state e.regular e.settled e.events e.marks e.given e.spots e.count few)
 
 pub returns-clause-tally : goal.returns-clause-tally
 returns-clause-tally c = λ has.

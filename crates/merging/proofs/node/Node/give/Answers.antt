@@ -17,7 +17,7 @@ returns c =
     let given = c.in_ok-push.ensures.ok in
     record {
       node = λ search place least i same none.
-          given_node search place least x n _ i none e.state e.regular e.settled e.events (marks ∙ ap (λ ts. marks_after ts x n.kernel.state n.marks.items) (sym same)) given refl refl;
+          given_node search place least x n _ i none e.state e.regular e.settled e.events (marks ∙ ap (λ ts. marks_after ts x n.kernel.state n.marks.items) (sym same)) given refl refl refl;
       state = e.state;
       regular = e.regular;
       settled = e.settled;

@@ -22,5 +22,6 @@ returns c =
     record {
       tally = λ go_on most forgets. on_ok_weaker c.add.result
           (λ (is : c.add.new.self ≡ mid.count + last.count). joined_tally old other mid c.add.new.self c.requires which (is ∙ sum) go_on most forgets) c.add.ensures.ok;
-      node = λ search place least i j. joined_node old other mid c.add.new.self which search place least i j;
+      node = λ search place least i j. on_ok_weaker c.add.result
+          (λ (is : c.add.new.self ≡ mid.count + last.count). joined_node old other mid c.add.new.self which (is ∙ sum) search place least i j) c.add.ensures.ok;
     }
