@@ -8,6 +8,8 @@ mod counts;
 mod explorations;
 mod feeding;
 #[cfg(test)]
+mod group_counts;
+#[cfg(test)]
 mod pieces;
 #[cfg(test)]
 mod refusals;
