@@ -1,5 +1,5 @@
 -- The program's commands: what the words are for, and what a status means.
-use Rattle.std.specs.Prelude.{◌≡◌, ◌≤◌, ◌||◌, ℕ, Bool, List, [], ◌∷◌, Some, codes, if◌then◌else◌, map}
+use Rattle.std.specs.Prelude.{◌≡◌, ◌≤◌, ◌||◌, ℕ, Bool, true, false, List, [], ◌∷◌, Some, codes, if◌then◌else◌, map}
 use Rattle.std.specs.Str.{bytes_eq}
 use Rattle.explaining.specs.Drawings.{MeansOfDrawing, drawing_asked}
 use Rattle.explaining.specs.Serving.{Means as MeansOfExplaining}
@@ -84,11 +84,11 @@ ServesAs contents old new before after status Helps = IsToldAs HELP.now before a
 ServesAs contents old new before after status TellsVersion = IsToldAs VERSION.now before after status
 ServesAs contents old new before after status RunsStored = MeansOfRun AreStored (Some STORED_WORLD.now) old new before after status × (status ≤ 3)
 ServesAs contents old new before after status (Runs more) = MeansOfRun (AskFor contents (run_asked more)) (run_asked more) old new before after status × (status ≤ 3)
-ServesAs contents old new before after status (Audits more) = MeansOfAudit (AskForAudit contents (audit_asked more)) (audit_asked more) old new before after status × (status ≤ 3)
+ServesAs contents old new before after status (Audits more) = MeansOfAudit false (AskForAudit contents (audit_asked more)) (audit_asked more) old new before after status × (status ≤ 3)
 ServesAs contents old new before after status (Explores more) = MeansOfExploring contents (exploring_asked more) old new before after status × (status ≤ 4)
 ServesAs contents old new before after status (Shows more) = status ≤ 3
 ServesAs contents old new before after status (Explains more) = MeansOfExplaining contents (explaining_asked more) old new before after status × (status ≤ 3)
-ServesAs contents old new before after status (AuditsInWords more) = MeansOfAudit (AskForAudit contents (audit_asked more)) (audit_asked more) old new before after status × (status ≤ 3)
+ServesAs contents old new before after status (AuditsInWords more) = MeansOfAudit true (AskForAudit contents (audit_asked more)) (audit_asked more) old new before after status × (status ≤ 3)
 ServesAs contents old new before after status (Draws more) = MeansOfDrawing contents (drawing_asked more) old new status × (status ≤ 3)
 ServesAs contents old new before after status (Names more) = MeansOfNaming contents (text_in_words more) old new before after status × (status ≤ 3)
 ServesAs contents old new before after status AsksNothing = (status ≡ 2) × (new ≡ old)

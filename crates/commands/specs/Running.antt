@@ -1,5 +1,5 @@
 -- What `run` and `audit` do, and what a status means.
-use Rattle.std.specs.Prelude.{◌≡◌, ◌≢◌, ◌⊎◌, ℕ, List, [], ◌∷◌, ◌++◌, codes, Option, Result, Ok, Err, IfSome, IsSomeAnd}
+use Rattle.std.specs.Prelude.{◌≡◌, ◌≢◌, ◌⊎◌, ℕ, Bool, List, [], ◌∷◌, ◌++◌, codes, decimal, unwrap_or, if◌then◌else◌, Option, Result, Ok, Err, IfSome, IsSomeAnd}
 use Rattle.std.specs.Borrow.{Bor}
 use Rattle.kernel.specs.declared.summary.Summary.{Summary}
 use Rattle.posix.specs.Common.{World}
@@ -10,8 +10,12 @@ use Rattle.text.specs.declared.fault.TextFault.{TextFault}
 use Rattle.kernel.specs.declared.texts.RunError.TheVariants as error
 use Rattle.kernel.specs.Headline.{CutsShort, Traces}
 use Rattle.trace.specs.Sinks.{BreaksOff, Seen, TakesAll}
-use Rattle.audit.specs.Texts.{IsLawful}
+use Rattle.audit.specs.Faults.{law_of, number_of}
+use Rattle.audit.specs.Texts.{IsFirstFault, IsLawful}
+use Rattle.audit.specs.declared.fault.AuditFault.{AuditFault}
+use Rattle.audit.specs.declared.texts.TraceFault.{TraceFault}
 use Rattle.inputs.specs.Failures.{MeansOf}
+use Rattle.judging.specs.Lines.{line_of}
 use Rattle.inputs.specs.Reads.{AreInFiles, Contents, Text}
 use Rattle.commands.specs.declared.running.Failure.{Failure}
 use Rattle.commands.specs.declared.running.Failure.TheVariants as failure
@@ -52,13 +56,38 @@ OfTexts Asks P = (world : List ℕ) × (events : List ℕ) × Asks world events 
 abbrev pub OfTrace : (List ℕ → Type 0) → (List ℕ → Type 0) → Type 0
 OfTrace Asks P = (trace : List ℕ) × Asks trace × P trace
 
+-- ---- what an audit answers
+
+abbrev pub ok_answer : List ℕ
+ok_answer = codes "ok" ++ 10 ∷ []
+
+-- `line N: fault K`
+abbrev pub fault_answer : TraceFault → List ℕ
+fault_answer why = (((codes "line " ++ decimal why.line) ++ codes ": fault ") ++ decimal (number_of why.fault)) ++ 10 ∷ []
+
+abbrev pub law_answer : AuditFault → List ℕ
+law_answer fault = (codes "   " ++ law_of fault) ++ 10 ∷ []
+
+-- the faulty line, and behind it the law that it breaks
+abbrev pub line_and_law : List ℕ → TraceFault → List ℕ
+line_and_law trace why = unwrap_or (line_of why.line trace) [] ++ law_answer why.fault
+
+-- these are told behind the fault where it is asked to
+abbrev pub faulty_answer : Bool → List ℕ → TraceFault → List ℕ
+faulty_answer tells_law trace why = fault_answer why ++ (if tells_law then line_and_law trace why else [])
+
 -- The laws of a trace hold of this text, and that was answered.
 abbrev pub IsAccepted : Seen → Seen → List ℕ → Type 0
-IsAccepted before after trace = IsLawful trace × TakesAll before after (codes "ok" ++ 10 ∷ [])
+IsAccepted before after trace = IsLawful trace × TakesAll before after ok_answer
 
--- The laws of a trace don't hold of this text.
-abbrev pub IsFaulty : List ℕ → Type 0
-IsFaulty trace = IsLawful trace → ⊥
+-- The laws of a trace don't hold of this text, and its first fault was answered.
+abbrev pub IsFaulty : Bool → Seen → Seen → List ℕ → Type 0
+IsFaulty tells_law before after trace = (IsLawful trace → ⊥) × ((why : TraceFault) × IsFirstFault trace why × TakesAll before after (faulty_answer tells_law trace why))
+
+-- A beginning of the answer was put.
+abbrev pub IsCutOff : Bool → Seen → Seen → List ℕ → Type 0
+IsCutOff tells_law before after trace = (IsLawful trace × BreaksOff before after ok_answer)
+    ⊎ ((why : TraceFault) × IsFirstFault trace why × BreaksOff before after (faulty_answer tells_law trace why))
 
 -- The whole printed trace of a run of the two texts was taken.
 abbrev pub IsTraced : Seen → Seen → List ℕ → List ℕ → Type 0
@@ -82,14 +111,14 @@ EndsRun Asks old new before after (Err (failure.Run error.Memory)) = new ≡ old
 EndsRun Asks old new before after (Err (failure.Run error.Write)) = OfTexts Asks (λ world events. CutsShort world events before after)
 
 -- and of an audit
-abbrev pub EndsAudit : {S : Type 0} → (List ℕ → Type 0) → S → S → Seen → Seen → Result (Unit {0}) Failure → Type 0
-EndsAudit Audits old new before after (Ok done) = OfTrace Audits (IsAccepted before after)
-EndsAudit Audits old new before after (Err failure.Faulty) = OfTrace Audits IsFaulty
-EndsAudit Audits old new before after (Err (failure.Unread why)) = new ≡ old
-EndsAudit Audits old new before after (Err (failure.Run (error.World fault))) = ⊥
-EndsAudit Audits old new before after (Err (failure.Run (error.Events fault))) = ⊥
-EndsAudit Audits old new before after (Err (failure.Run error.Memory)) = new ≡ old
-EndsAudit Audits old new before after (Err (failure.Run error.Write)) = OfTrace Audits (λ trace. Unit {0})
+abbrev pub EndsAudit : {S : Type 0} → Bool → (List ℕ → Type 0) → S → S → Seen → Seen → Result (Unit {0}) Failure → Type 0
+EndsAudit tells_law Audits old new before after (Ok done) = OfTrace Audits (IsAccepted before after)
+EndsAudit tells_law Audits old new before after (Err failure.Faulty) = OfTrace Audits (IsFaulty tells_law before after)
+EndsAudit tells_law Audits old new before after (Err (failure.Unread why)) = new ≡ old
+EndsAudit tells_law Audits old new before after (Err (failure.Run (error.World fault))) = ⊥
+EndsAudit tells_law Audits old new before after (Err (failure.Run (error.Events fault))) = ⊥
+EndsAudit tells_law Audits old new before after (Err (failure.Run error.Memory)) = new ≡ old
+EndsAudit tells_law Audits old new before after (Err (failure.Run error.Write)) = OfTrace Audits (IsCutOff tells_law before after)
 
 -- What a status means of a run of texts, with what is asked for, if something is, and the output from the call to the
 -- return: 3 that nothing was put, or a beginning of the printed trace.
@@ -97,10 +126,10 @@ abbrev pub MeansOfRun : {A S : Type 0} → (List ℕ → List ℕ → Type 0) �
 MeansOfRun Asks asked old new before after status = MeansOf (OfTexts Asks (IsTraced before after)) (OfTexts Asks IsRefused × (new ≡ old))
     (OfTexts Asks (λ world events. CutsShort world events before after)) asked old new status
 
--- and of an audit: 3 that nothing was put, or not all of the answer
-abbrev pub MeansOfAudit : {A S : Type 0} → (List ℕ → Type 0) → Option A → S → S → Seen → Seen → ℕ → Type 0
-MeansOfAudit Audits asked old new before after status =
-    MeansOf (OfTrace Audits (IsAccepted before after)) (OfTrace Audits IsFaulty) (OfTrace Audits (λ trace. Unit {0})) asked old new status
+-- and of an audit: 3 that nothing was put, or a beginning of the answer
+abbrev pub MeansOfAudit : {A S : Type 0} → Bool → (List ℕ → Type 0) → Option A → S → S → Seen → Seen → ℕ → Type 0
+MeansOfAudit tells_law Audits asked old new before after status =
+    MeansOf (OfTrace Audits (IsAccepted before after)) (OfTrace Audits (IsFaulty tells_law before after)) (OfTrace Audits (IsCutOff tells_law before after)) asked old new status
 
 -- A text of the program's own was put, or a put of it failed.
 abbrev pub IsToldAs : List ℕ → Seen → Seen → ℕ → Type 0

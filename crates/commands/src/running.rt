@@ -1,18 +1,18 @@
 //! What `run` and `audit` do: their texts and their statuses.
 
-ghost use Rattle.std.specs.Prelude.{◌≡◌, ◌≤◌, IfOk, IfErr, IfSome, OnErr, OnOk, Some, map};
+ghost use Rattle.std.specs.Prelude.{◌≡◌, ◌≤◌, ◌++◌, IfErr, IfSome, OnErr, OnOk, Some, map};
 ghost use Rattle.trace.specs.Sinks.{BreaksOff, TakesAll};
 ghost use Rattle.inputs.specs.Reads.{AreInFiles};
-ghost use Rattle.commands.specs.Running.{AreStored, AskFor, AskForAudit, EndsAudit, EndsRun, IsToldAs, MeansOfAudit, MeansOfRun, answer_of, status_of};
+ghost use Rattle.commands.specs.Running.{AreStored, AskFor, AskForAudit, EndsAudit, EndsRun, IsToldAs, MeansOfAudit, MeansOfRun, answer_of, fault_answer, faulty_answer, law_answer, line_and_law, status_of};
 ghost use Rattle.commands.specs.Words.{audit_asked, run_asked};
 
 use arrayvec::ArrayString;
 use audit::{AuditFault, TraceFault, audit_text};
 use inputs::{FileFailure, ReadFault, ReadFiles, named_file, named_world_and_events, tell};
+use itoa::Buffer;
 use judging::line_at;
 use kernel::{RunError, Sink, SinkFault, put_all, run};
 use std::alloc::Global;
-use std::fmt::Write;
 use std::hash::RandomState;
 
 /// Why the program doesn't end with status 0.
@@ -89,23 +89,67 @@ fn put_answer<'a, O: Sink>(answer: &[u8], out: &mut O) -> Result<(), Failure<'a>
     put_all(out, answer).map_err(|_| Failure::Run(RunError::Write))
 }
 
-/// Tells the first fault of a trace. The longest of these texts has less than 40 bytes.
-fn put_fault<'a, O: Sink>(why: TraceFault, out: &mut O) -> Result<(), Failure<'a>>
-    ensures { IfErr result (λ why. why ≡ Failure.Run RunError.Write) }
+/// Returns the answer to the first fault of a trace: its line, and its number.
+fn fault_line(why: TraceFault) -> ArrayString<64>
+    ensures { result.bytes ≡ fault_answer why }
 {
     let mut text = ArrayString::<64>::new();
-    let _ = writeln!(text, "line {}: fault {}", why.line, why.fault.number());
-    put_answer(text.as_str().as_bytes(), out)
+    text.push_str("line ");
+    text.push_str(Buffer::new().format(why.line));
+    text.push_str(": fault ");
+    text.push_str(Buffer::new().format(why.fault.number()));
+    text.push_str("\n");
+    text
 }
 
-/// Tells the first faulty line of a trace, and which law it breaks. The longest of these laws has less than 60 bytes.
-fn put_law<'a, O: Sink>(why: TraceFault, trace: &[u8], out: &mut O) -> Result<(), Failure<'a>>
-    ensures { IfErr result (λ why. why ≡ Failure.Run RunError.Write) }
+/// Returns the line with the law that a faulty line breaks.
+fn law_line(fault: AuditFault) -> ArrayString<64>
+    ensures { result.bytes ≡ law_answer fault }
 {
-    let mut law = ArrayString::<64>::new();
-    let _ = writeln!(law, "   {}", why.fault);
-    put_answer(line_at(trace, why.line).unwrap_or(&[]), out)?;
-    put_answer(law.as_str().as_bytes(), out)
+    let mut text = ArrayString::<64>::new();
+    text.push_str("   ");
+    text.push_str(fault.law());
+    text.push_str("\n");
+    text
+}
+
+/// Puts two texts, one behind the other.
+fn put_both<'a, O: Sink>(first: &[u8], second: &[u8], out: &mut O) -> Result<(), Failure<'a>>
+    ensures ok { OnOk result (TakesAll (O.seen out.old) (O.seen out.new) (first.now ++ second.now)) }
+    ensures err { IfErr result (λ why. why ≡ Failure.Run RunError.Write) }
+    ensures cut { OnErr result (BreaksOff (O.seen out.old) (O.seen out.new) (first.now ++ second.now)) }
+{
+    put_answer(first, out)?;
+    put_answer(second, out)
+}
+
+/// Puts the first faulty line of a trace, and the law that it breaks.
+fn put_law<'a, O: Sink>(why: TraceFault, trace: &[u8], out: &mut O) -> Result<(), Failure<'a>>
+    ensures ok { OnOk result (TakesAll (O.seen out.old) (O.seen out.new) (line_and_law trace.now why)) }
+    ensures err { IfErr result (λ why. why ≡ Failure.Run RunError.Write) }
+    ensures cut { OnErr result (BreaksOff (O.seen out.old) (O.seen out.new) (line_and_law trace.now why)) }
+{
+    let line = line_at(trace, why.line).unwrap_or(&[]);
+    put_both(line, law_line(why.fault).as_str().as_bytes(), out)
+}
+
+/// Puts the answer to the first fault of a trace, with the line and the law where it is asked to.
+fn put_fault<'a, O: Sink>(
+    why: TraceFault,
+    trace: &[u8],
+    tells_law: bool,
+    out: &mut O,
+) -> Result<(), Failure<'a>>
+    ensures ok { OnOk result (TakesAll (O.seen out.old) (O.seen out.new) (faulty_answer tells_law trace.now why)) }
+    ensures err { IfErr result (λ why. why ≡ Failure.Run RunError.Write) }
+    ensures cut { OnErr result (BreaksOff (O.seen out.old) (O.seen out.new) (faulty_answer tells_law trace.now why)) }
+{
+    put_answer(fault_line(why).as_str().as_bytes(), out)?;
+    if tells_law {
+        put_law(why, trace, out)
+    } else {
+        Ok(())
+    }
 }
 
 /// Audits a trace. Where it is asked to, it tells the law that is broken first, too.
@@ -116,7 +160,7 @@ fn audit_trace<'a, O: Sink>(
     tells_law: bool,
     out: &mut O,
 ) -> Result<(), Failure<'a>>
-    ensures { EndsAudit (λ t. t ≡ trace.now)
+    ensures { EndsAudit tells_law (λ t. t ≡ trace.now)
         out.old out.new (O.seen out.old) (O.seen out.new) result }
 {
     let Some(keys) = keys else {
@@ -126,10 +170,7 @@ fn audit_trace<'a, O: Sink>(
         Ok(()) => put_answer(b"ok\n", out),
         Err(why) if why.fault == AuditFault::Memory => Err(Failure::Run(RunError::Memory)),
         Err(why) => {
-            put_fault(why, out)?;
-            if tells_law {
-                put_law(why, trace, out)?;
-            }
+            put_fault(why, trace, tells_law, out)?;
             Err(Failure::Faulty)
         }
     }
@@ -144,7 +185,7 @@ fn audit_file<'a, F: ReadFiles, O: Sink>(
     tells_law: bool,
     out: &mut O,
 ) -> Result<(), Failure<'a>>
-    ensures { EndsAudit (λ t. IfSome (F.contents files.now trace.entry.now) (λ known. t ≡ known))
+    ensures { EndsAudit tells_law (λ t. IfSome (F.contents files.now trace.entry.now) (λ known. t ≡ known))
         out.old out.new (O.seen out.old) (O.seen out.new) result }
 {
     let bytes = files.read_file(trace).map_err(Failure::Unread)?;
@@ -226,7 +267,7 @@ pub fn serve_audit<'a, F: ReadFiles, O: Sink, E: Sink>(
 ) -> u8
     ensures status { result ≤ 3 }
     ensures meaning { let asked = audit_asked (map (λ w. w.now) words.entry.now) in
-        MeansOfAudit (AskForAudit (F.contents files.now) asked) asked out.old out.new (O.seen out.old) (O.seen out.new) result }
+        MeansOfAudit tells_law (AskForAudit (F.contents files.now) asked) asked out.old out.new (O.seen out.old) (O.seen out.new) result }
 {
     let usage: &[u8] = if tells_law { USAGE_IN_WORDS } else { USAGE };
     match named_file(alloc, "audit", "trace", words) {

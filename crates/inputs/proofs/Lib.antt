@@ -1,6 +1,6 @@
 mod ReadLemmas
 mod NumberLemmas
-mod PutLemmas
+pub mod PutLemmas
 pub mod MeaningLemmas
 pub mod RowLemmas
 pub mod RequestLemmas

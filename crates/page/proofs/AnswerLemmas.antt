@@ -1,5 +1,5 @@
 -- What a page is answered to its words.
-use Rattle.std.proofs.Common.{◌≡◌, ◌⊎◌, ◌∙◌, ℕ, ◌≤◌, List, [], ◌∷◌, ◌++◌, Option, None, Some, map, length, take, drop, refl, ap, sym, subst, arith, append-nil, inl, inr, codes, Ok, Err, IsUtf8}
+use Rattle.std.proofs.Common.{◌≡◌, ◌⊎◌, ◌∙◌, ℕ, false, ◌≤◌, List, [], ◌∷◌, ◌++◌, Option, None, Some, map, length, take, drop, refl, ap, sym, subst, arith, append-nil, inl, inr, codes, Ok, Err, IsUtf8}
 use Rattle.std.specs.Io.KnownBytes.{Appends}
 use Rattle.std.specs.List.{AllByRecursion}
 use Rattle.std.specs.Option.{IsSomeAnd}
@@ -10,7 +10,7 @@ use Rattle.trace.specs.Sinks.{Seen}
 use Rattle.inputs.specs.declared.command_line.WordsFault.TheVariants.{NotText, Memory}
 use Rattle.inputs.proofs.MeaningLemmas.{means_along}
 use Rattle.inputs.specs.Reads.{Contents, Text}
-use Rattle.commands.specs.Running.{AskFor, AskForAudit, IsAccepted, IsFaulty, IsRefused, IsTraced, OfTexts, OfTrace}
+use Rattle.commands.specs.Running.{AskFor, AskForAudit, IsAccepted, IsFaulty, IsRefused, IsTraced, OfTexts, OfTrace, fault_answer}
 use Rattle.commands.specs.Words.{audit_asked, run_asked}
 use Rattle.exploring.specs.Serving.{Means as MeansOfExploring}
 use Rattle.exploring.specs.Words.{Asked as AskedOfExploring}
@@ -239,7 +239,9 @@ is_audited words trace world events put status is h =
         most = m.1;
         lawful = λ e. let accepted = of_audit trace world events (IsAccepted s.before s.after) (m.0.done e) in
             (accepted.0, put_all s.before.taken s.after.taken put _ s.began s.taken accepted.1.taken);
-        faulty = λ e. of_audit trace world events IsFaulty (m.0.refused e);
+        faulty = λ e. let faulty = of_audit trace world events (IsFaulty false s.before s.after) (m.0.refused e) in
+            let why = faulty.1.0 in
+            (faulty.0, (why, faulty.1.1, put_all s.before.taken s.after.taken put _ s.began s.taken faulty.1.2.taken ∙ append-nil (fault_answer why)));
         known = λ e. something _ _ asked_to_audit (m.0.other_words e).0;
       }
       | inr none ↦ record {

@@ -4,9 +4,10 @@ use Rattle.posix.specs.declared.event.Event.{Event}
 use Rattle.posix.specs.Common.{Line, State, print}
 use Rattle.kernel.specs.Headline.{RunsTexts}
 use Rattle.trace.specs.Sinks.{Seen}
-use Rattle.audit.specs.Texts.{IsLawful}
+use Rattle.audit.specs.Texts.{IsFirstFault, IsLawful}
+use Rattle.audit.specs.declared.texts.TraceFault.{TraceFault}
 use Rattle.inputs.specs.Reads.{Contents}
-use Rattle.commands.specs.Running.{IsRefused}
+use Rattle.commands.specs.Running.{IsRefused, fault_answer}
 use Rattle.commands.specs.Serving.{Serves, Words}
 use Rattle.page.specs.Files.{files_of}
 use Rattle.page.specs.Words.{AreWordsOf}
@@ -63,5 +64,5 @@ pub record IsRun (world events put : List ℕ) (status : ℕ) : Type 0 where
 pub record IsAudited (trace put : List ℕ) (status : ℕ) : Type 0 where
   pub most : status ≤ 3
   pub lawful : status ≡ 0 → IsLawful trace × (put ≡ codes "ok" ++ 10 ∷ [])
-  pub faulty : status ≡ 1 → IsLawful trace → ⊥
+  pub faulty : status ≡ 1 → (IsLawful trace → ⊥) × ((why : TraceFault) × IsFirstFault trace why × (put ≡ fault_answer why))
   pub known : status ≢ 2
