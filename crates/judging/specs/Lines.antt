@@ -1,8 +1,19 @@
 -- The lines of a text.
-use Rattle.std.specs.Prelude.{ℕ, ◌-◌, List, Option}
+use Rattle.std.specs.Prelude.{zero, suc, ℕ, ◌+◌, ◌-◌, List, [], ◌∷◌, Option, None, Some, length, nat_lt, if◌then◌else◌}
 use Rattle.std.specs.List.{slice_get}
 use Rattle.text.specs.Lines.{all_lines}
+use Rattle.text.specs.Words.{line_words}
 
 -- the line with a number, from 1
 abbrev pub line_of : ℕ → List ℕ → Option (List ℕ)
 line_of number text = slice_get (all_lines text) (number - 1)
+
+-- the number of the last of so many lines that has words, if the first of them has this number; else what was found before
+abbrev pub last_worded : ℕ → ℕ → Option ℕ → List (List ℕ) → Option ℕ
+last_worded zero number found lines = found
+last_worded (suc count) number found [] = found
+last_worded (suc count) number found (line ∷ lines) = last_worded count (number + 1) (if nat_lt 0 (length (line_words line)) then Some number else found) lines
+
+-- the number of the last line before the one with this number that has words
+abbrev pub last_with_words : ℕ → List ℕ → Option ℕ
+last_with_words before text = last_worded (before - 1) 1 None (all_lines text)

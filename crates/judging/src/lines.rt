@@ -2,11 +2,11 @@
 
 ghost use Rattle.std.specs.Prelude.{◌≡◌, ◌==◌, [], bytes_eq, length, nat_lt, option_map, unwrap_or};
 ghost use Rattle.std.specs.List.{list_any, slice_get};
-ghost use Rattle.judging.specs.Lines.{line_of};
+ghost use Rattle.judging.specs.Lines.{last_with_words as last_with_words_of, line_of};
 ghost use Rattle.text.specs.Lines.{all_lines};
 ghost use Rattle.text.specs.Words.{line_words, words};
 
-use text::{Lines, Words, next_word, split_comment};
+use text::{Lines, Words, next_line, next_word, split_comment};
 
 /// The line with a number, from 1; none where the text has none of this number.
 pub fn line_at(text: &[u8], number: u64) -> Option<&[u8]>
@@ -16,12 +16,25 @@ pub fn line_at(text: &[u8], number: u64) -> Option<&[u8]>
 }
 
 /// The number of the last line before another one that has words; none where none has.
-pub fn last_with_words(text: &[u8], before: u64) -> Option<u64> {
-    let lines = (1..before).zip(Lines(text));
-    let (number, _) = lines
-        .filter(|(_, line)| Line::new(line).has_words())
-        .last()?;
-    Some(number)
+pub fn last_with_words(text: &[u8], before: u64) -> Option<u64>
+    ensures { result ≡ last_with_words_of before text.now }
+{
+    let mut found = None;
+    let mut number = 0;
+    let mut left = before.saturating_sub(1);
+    let mut rest = text;
+    while left > 0 {
+        let Some((line, more)) = next_line(rest) else {
+            return found;
+        };
+        number += 1;
+        if Line::new(line).has_words() {
+            found = Some(number);
+        }
+        rest = more;
+        left -= 1;
+    }
+    found
 }
 
 /// Whether a text has one line.

@@ -1,2 +1,3 @@
 pub mod FaultLemmas
 pub mod SightLemmas
+pub mod TellingLemmas

@@ -9,7 +9,8 @@ use Rattle.text.specs.Lines.{all_lines}
 use Rattle.text.specs.WorldTexts.{world_text}
 use Rattle.text.specs.declared.fault.Reason.TheVariants.{Memory}
 use Rattle.text.specs.declared.fault.TextFault.{TextFault}
-use Rattle.refusing.specs.Telling.{IsTold}
+use Rattle.refusing.specs.Telling.{IsToldOf, ShowsLine}
+use Rattle.refusing.specs.declared.telling.Shown.{Shown}
 
 -- A text, with numbers for its names, has this fault: events, for a world of so many consoles, or a world.
 abbrev pub HasFault : Option ℕ → List ℕ → TextFault → Type 0
@@ -29,10 +30,10 @@ lines_without number (line ∷ more) = (if number == 1 then [] else line) ++ 10 
 abbrev pub without_line : ℕ → List ℕ → List ℕ
 without_line number text = lines_without number (all_lines text)
 
--- What is told of a text in a file with this name, which has this fault first, and of so many others at most: each is the first fault of the text in
--- which a line of the one before is left out.
-unfoldable pub Tells : ℕ → Option ℕ → Text → List ℕ → TextFault → List ℕ → Type 0
-Tells zero consoles name given why out = IsTold name given why out
-Tells (suc others) consoles name given why out = IsTold name given why out
-    ⊎ ((number : ℕ) × (named told : List ℕ) × (next : TextFault) × (first rest : List ℕ) × IsTold name given why first
-    × IsNamed (without_line number given) named told × HasFault consoles named next × Tells others consoles name (without_line number given) next rest × (out ≡ first ++ rest))
+-- What is told of a text in a file with this name, and of the second with numbers for its names, which has this fault first,
+-- and of so many others at most: each is the first fault of the text in which the line is left out that was shown before.
+unfoldable pub Tells : ℕ → Option ℕ → Text → List ℕ → List ℕ → TextFault → List ℕ → Type 0
+Tells zero consoles name given named why out = (shown : Shown) × IsToldOf name given named why shown out
+Tells (suc others) consoles name given named why out = ((shown : Shown) × IsToldOf name given named why shown out)
+    ⊎ ((number : ℕ) × (left told : List ℕ) × (next : TextFault) × (shown : Shown) × (first rest : List ℕ) × IsToldOf name given named why shown first × ShowsLine shown number
+    × IsNamed (without_line number given) left told × HasFault consoles left next × Tells others consoles name (without_line number given) left next rest × (out ≡ first ++ rest))

@@ -1,7 +1,11 @@
 -- Words in a line, and what is seen of it.
-use Rattle.std.specs.Prelude.{zero, suc, ◌≡◌, ◌≤◌, ◌<◌, ◌⊎◌, ℕ, ◌-◌, ◌++◌, List, [], ◌∷◌, bytes_eq, drop, length, take, if◌then◌else◌}
-use Rattle.text.specs.Words.{before_comment, behind_word, from_word}
+use Rattle.std.specs.Prelude.{zero, suc, ◌≡◌, ℕ, ◌+◌, ◌-◌, ◌^◌, ◌==◌, ◌&&◌, Bool, List, [], ◌∷◌, bytes_eq, codes, drop, length, min, nat_lt, take, unwrap_or, if◌then◌else◌}
+use Rattle.std.specs.List.{slice_get}
+use Rattle.text.specs.Words.{before_comment, behind_word, from_word, line_words}
+use Rattle.text.specs.declared.fault.Reason.{Reason}
+use Rattle.text.specs.declared.fault.Reason.TheVariants.{UnknownWord, BadNumber, OutOfRange, NameUnknown, NameTwice, LineTooLong, EndMissing, NoProgram, Memory}
 use Rattle.refusing.specs.declared.sight.Sight.{Sight}
+use Rattle.refusing.specs.declared.sight.Words.{Words}
 
 -- a carriage return at the end of a line isn't shown
 abbrev pub without_return : List ℕ → List ℕ
@@ -12,36 +16,84 @@ abbrev pub behind_words : ℕ → List ℕ → List ℕ
 behind_words zero text = text
 behind_words (suc count) text = behind_words count (behind_word text)
 
--- Some words of a line are marked, one at least: `first` words stand before them.
-pub record IsMarked (line before marked : List ℕ) : Type 0 where
-  pub first : ℕ
-  pub count : ℕ
-  pub some : 1 ≤ count
-  pub is_word : 0 < length (from_word (behind_words first (before_comment line)))
-  pub after : List ℕ
-  pub whole : before_comment line ≡ before ++ (marked ++ after)
-  pub begins : marked ++ after ≡ from_word (behind_words first (before_comment line))
-  pub ends : after ≡ behind_words count (marked ++ after)
+-- ---- words that are marked
 
--- A text begins so.
-abbrev pub IsFront : List ℕ → List ℕ → Type 0
-IsFront text front = front ≡ take (length front) text
+-- a line without its comment, from the word at this place on, counted from 0; nothing if there is no such word
+abbrev pub from_place : ℕ → List ℕ → List ℕ
+from_place place line = from_word (behind_words place (before_comment line))
 
--- A word is missing: nothing is marked, and the mark stands within the line or at its end.
-pub record IsMissing (line before marked : List ℕ) : Type 0 where
-  pub none : marked ≡ []
-  pub first : ℕ
-  pub few : from_word (behind_words first (before_comment line)) ≡ []
-  pub within : IsFront line before
+-- such words, and what is before them in the line
+abbrev pub marked_words : Words → List ℕ → List ℕ
+marked_words w line = take (length (from_place w.first line) - length (behind_words (suc w.more) (from_place w.first line))) (from_place w.first line)
 
--- Of a line that is too long its beginning is shown, and marked.
-pub record IsLong (line shown before marked : List ℕ) : Type 0 where
-  pub long : 60 < length line
-  pub shown_is : shown ≡ take 60 line
-  pub before_is : before ≡ []
-  pub marked_is : marked ≡ shown
+abbrev pub before_words : Words → List ℕ → List ℕ
+before_words w line = take (length (before_comment line) - length (from_place w.first line)) (before_comment line)
 
--- What is seen of a line: all of it, with a word that is marked, or behind which one is missing; or its beginning.
-abbrev pub IsSight : List ℕ → Sight → Type 0
-IsSight line s = (s.line.now ≡ line) × (IsMarked line s.before.now s.marked.now ⊎ IsMissing line s.before.now s.marked.now)
-    ⊎ IsLong line s.line.now s.before.now s.marked.now
+-- how many bytes of a line there are to the end of its last word
+abbrev pub words_len : List ℕ → ℕ
+words_len line = length (before_comment line) - length (behind_words (length (line_words line)) (before_comment line))
+
+-- what is before a word that is missing: the line to the end of its last word, and one byte more, if there is one
+abbrev pub before_missing : List ℕ → List ℕ
+before_missing line = if words_len line == 0 then [] else take (words_len line + 1) line
+
+-- ---- what is seen of a line
+
+-- the line, what is in it before the words that are marked, and these
+pub record View : Type 0 where
+  pub line : List ℕ
+  pub before : List ℕ
+  pub marked : List ℕ
+
+abbrev pub view_of : Sight → View
+view_of s = record { line = s.line.now; before = s.before.now; marked = s.marked.now }
+
+-- A word is missing: nothing is marked, after the last word.
+abbrev pub missing_in : List ℕ → View
+missing_in line = record { line = line; before = before_missing line; marked = [] }
+
+-- These words are marked, or the first of them is missing.
+abbrev pub marked_in : List ℕ → Words → View
+marked_in line w =
+    if length (from_place w.first line) == 0 then missing_in line else record { line = line; before = before_words w line; marked = marked_words w line }
+
+-- Of a line of more than 60 bytes its beginning is shown, and marked; of another one the first word is marked.
+abbrev pub beginning_of : List ℕ → View
+beginning_of line =
+    if nat_lt 60 (length line) then record { line = take 60 line; before = []; marked = take 60 line } else marked_in line (record { first = 0; more = 0 })
+
+-- ---- the words that a user wrote
+
+-- the first word of a line is this one
+abbrev pub begins_with : List ℕ → List ℕ → Bool
+begins_with line word = bytes_eq (unwrap_or (slice_get (line_words line) 0) []) word
+
+-- how many words more a user wrote in a line than it has with numbers for names
+abbrev pub others_of : List ℕ → List ℕ → ℕ
+others_of line given = length (line_words given) - length (line_words line)
+
+-- The words that a user wrote for the word at a place of a line with numbers for names: several for the value of a `set`, of
+-- which a word after the value is farther back; the word with keys of a `type`; else the word at that place.
+abbrev pub words_at : List ℕ → List ℕ → ℕ → Words
+words_at line given place =
+    if begins_with line (codes "set") && (place == 2) then record { first = 2; more = others_of line given }
+    else if begins_with line (codes "set") && nat_lt 2 place then record { first = min (place + others_of line given) (2 ^ 64 - 1); more = 0 }
+    else if begins_with given (codes "type") && nat_lt 2 place then record { first = 2; more = 0 }
+    else record { first = place; more = 0 }
+
+-- What is seen of a line that a user wrote, which is refused for this reason, at the word at a place of the line with numbers
+-- for names: its beginning, if it is too long; that a word is missing, if the text ends too early; otherwise this word.
+abbrev pub view_at : Reason → List ℕ → List ℕ → ℕ → View
+view_at LineTooLong line given place = beginning_of given
+view_at EndMissing line given place = missing_in given
+view_at NoProgram line given place = missing_in given
+view_at UnknownWord line given place = marked_in given (words_at line given place)
+view_at BadNumber line given place = marked_in given (words_at line given place)
+view_at OutOfRange line given place = marked_in given (words_at line given place)
+view_at NameUnknown line given place = marked_in given (words_at line given place)
+view_at NameTwice line given place = marked_in given (words_at line given place)
+view_at Memory line given place = marked_in given (words_at line given place)
+
+-- It is this, at some place.
+abbrev pub IsSight : Reason → List ℕ → List ℕ → Sight → Type 0
+IsSight reason line given s = (place : ℕ) × (view_of s ≡ view_at reason line given place)

@@ -52,5 +52,5 @@ pub record AreAccepted (world events : Input) : Type 0 where
 
 -- The world has a fault, or else the events have one, and this is told of it and of nine others at most.
 abbrev pub IsRefused : Input → Input → List ℕ → Type 0
-IsRefused world events out = (why : TextFault) × (HasFault None world.named why × Tells 9 None world.name world.given why out
-    ⊎ ((known : World) × (world_text world.named ≡ Ok known) × HasFault (Some known.consoles) events.named why × Tells 9 (Some known.consoles) events.name events.given why out))
+IsRefused world events out = (why : TextFault) × (HasFault None world.named why × Tells 9 None world.name world.given world.named why out
+    ⊎ ((known : World) × (world_text world.named ≡ Ok known) × HasFault (Some known.consoles) events.named why × Tells 9 (Some known.consoles) events.name events.given events.named why out))

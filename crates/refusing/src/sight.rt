@@ -1,7 +1,7 @@
 //! A line that is shown, and the words in it that are marked.
 
-ghost use Rattle.std.specs.Prelude.{◌≡◌, ◌≤◌, ◌-◌, [], length};
-ghost use Rattle.refusing.specs.Sights.{IsFront, IsSight, behind_words as behind_words_of, without_return as without_return_of};
+ghost use Rattle.std.specs.Prelude.{◌≡◌, ◌≤◌, length};
+ghost use Rattle.refusing.specs.Sights.{before_missing as before_missing_of, beginning_of, behind_words as behind_words_of, marked_in, missing_in, view_of, without_return as without_return_of, words_at as words_at_of, words_len as words_len_of};
 
 use judging::Line;
 use text::{next_word, skip_separators, split_comment};
@@ -43,22 +43,20 @@ fn behind_words(text: &[u8], count: usize) -> &[u8]
 }
 
 /// How many bytes there are to the end of the last word.
-fn words_len(code: &[u8]) -> usize
-    ensures { result ≤ length code.now }
-{
-    let mut rest = code;
-    while let Some((_, _, more)) = next_word(rest) {
-        rest = more;
-    }
-    code.len() - rest.len()
-}
-
-/// What stands before a word that is missing: the line to the end of its last word, and one byte more, if there is one.
-fn before_missing(line: &[u8]) -> &[u8]
-    ensures { IsFront line.now result.now }
+fn words_len(line: &[u8]) -> usize
+    ensures is { result ≡ words_len_of line.now }
+    ensures within { result ≤ length line.now }
 {
     let (code, _) = split_comment(line);
-    let end = words_len(code);
+    let count = Line::new(line).count();
+    code.len() - behind_words(code, count).len()
+}
+
+/// What is before a word that is missing: the line to the end of its last word, and one byte more, if there is one.
+fn before_missing(line: &[u8]) -> &[u8]
+    ensures { result.now ≡ before_missing_of line.now }
+{
+    let end = words_len(line);
     if end > 0 && end < line.len() {
         &line[..end + 1]
     } else {
@@ -78,10 +76,8 @@ pub fn without_return(line: &[u8]) -> &[u8]
 
 impl<'a> Sight<'a> {
     /// The sight of a line in which a word is missing.
-    fn of_missing(line: &'a [u8]) -> Sight<'a>
-        ensures line { result.line.now ≡ line.entry.now }
-        ensures before { IsFront line.entry.now result.before.now }
-        ensures marked { result.marked.now ≡ [] }
+    pub fn of_missing(line: &'a [u8]) -> Sight<'a>
+        ensures { view_of result ≡ missing_in line.entry.now }
     {
         Sight {
             line,
@@ -92,7 +88,7 @@ impl<'a> Sight<'a> {
 
     /// The sight of some words of a line.
     pub fn of_words(line: &'a [u8], words: Words) -> Sight<'a>
-        ensures { IsSight line.entry.now result }
+        ensures { view_of result ≡ marked_in line.entry.now words }
     {
         let (code, _) = split_comment(line);
         let rest = skip_separators(behind_words(code, words.first));
@@ -100,7 +96,7 @@ impl<'a> Sight<'a> {
             return Sight::of_missing(line);
         }
         let (before, _) = code.split_at(code.len() - rest.len());
-        let after = behind_words(rest, words.more.saturating_add(1));
+        let after = behind_words(behind_words(rest, 1), words.more);
         let (marked, _) = rest.split_at(rest.len() - after.len());
         Sight {
             line,
@@ -111,7 +107,7 @@ impl<'a> Sight<'a> {
 
     /// The sight of the beginning of a line that is too long, or of the first word of a line that isn't.
     pub fn of_beginning(line: &'a [u8]) -> Sight<'a>
-        ensures { IsSight line.entry.now result }
+        ensures { view_of result ≡ beginning_of line.entry.now }
     {
         if line.len() <= MOST_SHOWN {
             return Sight::of_words(line, Words { first: 0, more: 0 });
@@ -126,14 +122,24 @@ impl<'a> Sight<'a> {
 }
 
 /// The words of a line, as the user wrote it, that stand for one word of the line with numbers for names.
-pub fn words_at(line: &[u8], given: &[u8], place: usize) -> Words {
+pub fn words_at(line: &[u8], given: &[u8], place: usize) -> Words
+    ensures { result ≡ words_at_of line.now given.now place }
+{
     let (line, given) = (Line::new(line), Line::new(given));
     let others = given.count().saturating_sub(line.count());
-    let (first, more) = match line.first() {
-        b"set" if place == 2 => (2, others),
-        b"set" if place > 2 => (place.saturating_add(others), 0),
-        _ if place > 2 && given.first() == b"type".as_slice() => (2, 0),
-        _ => (place, 0),
+    let is_set = line.first() == b"set".as_slice();
+    if is_set && place == 2 {
+        return Words {
+            first: 2,
+            more: others,
+        };
+    }
+    let first = if is_set && place > 2 {
+        place.saturating_add(others)
+    } else if given.first() == b"type".as_slice() && place > 2 {
+        2
+    } else {
+        place
     };
-    Words { first, more }
+    Words { first, more: 0 }
 }

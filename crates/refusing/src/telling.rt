@@ -1,9 +1,10 @@
 //! What is told of a text that is refused.
 
-ghost use Rattle.std.specs.Prelude.{◌≡◌, IfOk, IfSome, MatchOption};
+ghost use Rattle.std.specs.Prelude.{◌≡◌, ◌⊎◌, IfOk, IfSome, MatchOption, None};
+ghost use Rattle.judging.specs.Lines.{last_with_words as last_with_words_of};
 ghost use Rattle.refusing.specs.Sections.{section_line};
-ghost use Rattle.refusing.specs.Sights.{IsSight};
-ghost use Rattle.refusing.specs.Telling.{EndsEarly, IsLineShown, IsNumber, IsShownOf};
+ghost use Rattle.refusing.specs.Sights.{view_at, view_of};
+ghost use Rattle.refusing.specs.Telling.{EndsEarly, IsLineShown, IsNumber, IsShownOf, ShowsLine, line_or_empty as line_or_empty_of};
 
 use crate::sight::{Sight, without_return, words_at};
 use crate::why::{Seen, put_why};
@@ -104,8 +105,20 @@ pub struct Told<'a> {
     pub why: Vec<u8>,
     pub note: Vec<u8>,
     pub section: Section,
-    /// The line to leave out, so that the text's other faults are told; none where those may come of this one.
-    pub left_out: Option<u64>,
+    /// Whether the text's other faults are told: not if those may come of this one.
+    pub has_others: bool,
+}
+
+impl Told<'_> {
+    /// The line to leave out, so that the text's other faults are told: the one that is shown.
+    pub fn left_out(&self) -> Option<u64>
+        ensures { IfSome result (ShowsLine self.now.shown) }
+    {
+        match self.shown {
+            Shown::Line(number, _) if self.has_others => Some(number),
+            _ => None,
+        }
+    }
 }
 
 /// What is told of a file that is no text.
@@ -117,36 +130,33 @@ fn told_of_file<'a>(alloc: Global, what: &str, section: Section) -> Result<Told<
         why: Vec::from_slice(alloc, what.as_bytes())?,
         note: Vec::new(alloc),
         section,
-        left_out: None,
+        has_others: false,
     })
 }
 
-/// The sight of the word that is wrong in a line, as the user wrote it.
-fn sight_of<'a>(line: &[u8], given: &'a [u8], refusal: &Refusal<'_>) -> Sight<'a>
-    ensures { IsSight given.entry.now result }
+/// The sight of the word at a place of a line, as the user wrote the line, which is refused for this reason.
+fn sight_of<'a>(reason: Reason, line: &[u8], given: &'a [u8], place: usize) -> Sight<'a>
+    ensures { view_of result ≡ view_at reason line.now given.entry.now place }
 {
-    if refusal.reason == Reason::LineTooLong {
-        Sight::of_beginning(given)
-    } else {
-        Sight::of_words(given, words_at(line, given, refusal.place))
+    match reason {
+        Reason::LineTooLong => Sight::of_beginning(given),
+        Reason::EndMissing | Reason::NoProgram => Sight::of_missing(given),
+        _ => Sight::of_words(given, words_at(line, given, place)),
     }
 }
 
-/// What is shown of the line with a number, which has this text with numbers for names; nothing where there is none.
-fn shown_of<'a>(
-    given: &'a [u8],
-    number: Option<u64>,
-    line: &[u8],
-    refusal: &Refusal<'_>,
-) -> Shown<'a>
-    ensures { MatchOption number (result ≡ Shown.File) (λ n. IsLineShown n given.entry.now result) }
+/// What is shown of the line with a number, which has this text with numbers for names: the word at a place; nothing if
+/// there is no such line.
+fn shown_of<'a>(refused: &Refused<'a>, number: Option<u64>, line: &[u8], place: usize) -> Shown<'a>
+    ensures { MatchOption number (result ≡ Shown.File) (λ n. IsLineShown refused.now.fault.reason n refused.now.given.now line.now result) }
 {
     let Some(number) = number else {
         return Shown::File;
     };
-    match line_at(given, number) {
-        Some(written) => {
-            let sight = sight_of(line, without_return(written), refusal);
+    match line_at(refused.given, number) {
+        Some(given) => {
+            let reason = refused.fault.reason;
+            let sight = sight_of(reason, line, without_return(given), place);
             Shown::Line(number, sight)
         }
         None => Shown::File,
@@ -154,7 +164,9 @@ fn shown_of<'a>(
 }
 
 /// The line with a number; empty where there is none.
-fn line_or_empty(text: &[u8], number: u64) -> &[u8] {
+fn line_or_empty(text: &[u8], number: u64) -> &[u8]
+    ensures { result.now ≡ line_or_empty_of number text.now }
+{
     line_at(text, number).unwrap_or(&[])
 }
 
@@ -191,32 +203,48 @@ fn no_text_of(refused: &Refused<'_>) -> Option<&'static str>
     }
 }
 
+/// The line that is shown of a mistake in this line: the last one that has words, if the text ends too early.
+fn number_of(refused: &Refused<'_>, mistake: u64) -> Option<u64>
+    requires { EndsEarly refused.now.fault.reason ⊎ IsNumber refused.now.fault.reason refused.now.fault.line refused.now.named.now mistake }
+    ensures { MatchOption result (EndsEarly refused.now.fault.reason × (last_with_words_of refused.now.fault.line refused.now.named.now ≡ None)) (IsNumber refused.now.fault.reason refused.now.fault.line refused.now.named.now) }
+{
+    match refused.fault.reason {
+        Reason::EndMissing | Reason::NoProgram => last_with_words(
+            refused.named,
+            refused.fault.line,
+        ),
+        _ => Some(mistake),
+    }
+}
+
 /// What is told of a line of events.
+#[tactic(auto, using(crate::proofs::TellingLemmas::own_line))]
 pub fn told_of_events<'a>(
     alloc: Global,
     refused: &Refused<'a>,
     consoles: u8,
 ) -> Result<Told<'a>, AllocError>
-    ensures { IfOk result (λ told. IsShownOf refused.now.fault refused.now.given.now told.shown) }
+    ensures { IfOk result (λ told. IsShownOf refused.now.fault refused.now.given.now refused.now.named.now told.shown) }
 {
     if let Some(what) = no_text_of(refused) {
         return told_of_file(alloc, what, Section::Events);
     }
-    let number = refused.fault.line;
-    let line = line_or_empty(refused.named, number);
+    let number = number_of(refused, refused.fault.line);
+    let here = number.unwrap_or(0);
+    let line = line_or_empty(refused.named, here);
     let refusal = refusal_of(line, consoles, refused.fault.reason);
     let seen = Seen {
         text: refused.named,
         line,
-        given: line_or_empty(refused.given, number),
+        given: line_or_empty(refused.given, here),
         world: None,
     };
     Ok(Told {
-        shown: shown_of(refused.given, Some(number), line, &refusal),
-        why: why_of(alloc, refused, &seen, number, &refusal)?,
+        shown: shown_of(refused, number, line, refusal.place),
+        why: why_of(alloc, refused, &seen, here, &refusal)?,
         note: Vec::new(alloc),
         section: Section::Events,
-        left_out: Some(number),
+        has_others: true,
     })
 }
 
@@ -226,7 +254,7 @@ fn mistake_in<'a>(
     refused: &Refused<'a>,
     world: &World<'a>,
 ) -> Result<Mistake<'a>, AllocError>
-    ensures { IfOk result (λ mistake. IsNumber refused.now.fault.reason refused.now.fault.line mistake.line) }
+    ensures { IfOk result (λ mistake. EndsEarly refused.now.fault.reason ⊎ IsNumber refused.now.fault.reason refused.now.fault.line refused.now.named.now mistake.line) }
 {
     let TextFault { line, reason } = refused.fault;
     let refusal = match (reason, world.refused) {
@@ -248,17 +276,6 @@ fn mistake_in<'a>(
         refusal,
         note: None,
     })
-}
-
-/// The line that is shown of a mistake: the last one that has words, where the text ends too early.
-fn number_of(refused: &Refused<'_>, mistake: &Mistake<'_>) -> Option<u64>
-    requires { IsNumber refused.now.fault.reason refused.now.fault.line mistake.now.line }
-    ensures { MatchOption result (EndsEarly refused.now.fault.reason) (IsNumber refused.now.fault.reason refused.now.fault.line) }
-{
-    match refused.fault.reason {
-        Reason::EndMissing | Reason::NoProgram => last_with_words(refused.named, mistake.line),
-        _ => Some(mistake.line),
-    }
 }
 
 /// What is told of another line.
@@ -289,8 +306,8 @@ fn note_of(alloc: Global, note: Option<Note<'_>>) -> Result<Vec<u8>, AllocError>
     told.finish()
 }
 
-/// The line of a program that a mistake stands in, unless it may be the definition that another line lacks.
-fn line_left_out(fault: TextFault, mistake: &Mistake<'_>, section: Section) -> Option<u64> {
+/// Whether a mistake is in a line of a program, and that line isn't the definition that another line may lack.
+fn has_others(fault: TextFault, mistake: &Mistake<'_>, section: Section) -> bool {
     let is_own = fault.reason != Reason::NameUnknown || mistake.line == fault.line;
     let is_between = matches!(
         mistake.note,
@@ -299,22 +316,19 @@ fn line_left_out(fault: TextFault, mistake: &Mistake<'_>, section: Section) -> O
             ..
         })
     );
-    match section {
-        Section::ProgramLines if is_own || is_between => Some(mistake.line),
-        _ => None,
-    }
+    matches!(section, Section::ProgramLines) && (is_own || is_between)
 }
 
 /// What is told of a line of a world.
 pub fn told_of_world<'a>(alloc: Global, refused: &Refused<'a>) -> Result<Told<'a>, AllocError>
-    ensures { IfOk result (λ told. IsShownOf refused.now.fault refused.now.given.now told.shown) }
+    ensures { IfOk result (λ told. IsShownOf refused.now.fault refused.now.given.now refused.now.named.now told.shown) }
 {
     if let Some(what) = no_text_of(refused) {
         return told_of_file(alloc, what, Section::Header);
     }
     let world = World::judge(alloc, refused.named)?;
     let mistake = mistake_in(alloc, refused, &world)?;
-    let number = number_of(refused, &mistake);
+    let number = number_of(refused, mistake.line);
     let here = number.unwrap_or(0);
     let refusal = mistake.refusal;
     let seen = Seen {
@@ -325,10 +339,10 @@ pub fn told_of_world<'a>(alloc: Global, refused: &Refused<'a>) -> Result<Told<'a
     };
     let section = Section::of_world(&world, &refusal, Line::new(seen.line));
     Ok(Told {
-        shown: shown_of(refused.given, number, seen.line, &refusal),
+        shown: shown_of(refused, number, seen.line, refusal.place),
         why: why_of(alloc, refused, &seen, here, &refusal)?,
         note: note_of(alloc, mistake.note)?,
         section,
-        left_out: line_left_out(refused.fault, &mistake, section),
+        has_others: has_others(refused.fault, &mistake, section),
     })
 }

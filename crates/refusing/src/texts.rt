@@ -1,9 +1,10 @@
 //! A world and its events that may have names, and what is told where one of them is refused.
 
-ghost use Rattle.std.specs.Prelude.{◌≡◌, ◌≢◌, ◌⊎◌, IfErr, IfOk, MatchOption};
+ghost use Rattle.std.specs.Prelude.{◌≡◌, ◌≢◌, ◌⊎◌, IfErr, IfOk, IfSome, MatchOption};
 ghost use Rattle.text.specs.declared.fault.Reason.TheVariants.{Memory};
 ghost use Rattle.naming.specs.Texts.{IsNamed};
-ghost use Rattle.refusing.specs.Telling.{IsTold};
+ghost use Rattle.refusing.specs.Telling.{IsToldOf, ShowsLine};
+ghost use Rattle.refusing.specs.declared.telling.Shown.{Shown};
 ghost use Rattle.refusing.specs.Faults.{HasFault, HasNoFault, Tells, without_line as without_line_of};
 ghost use Rattle.refusing.specs.Texts.{AreAccepted, IsInput, IsRefused, IsUnread, input_of};
 
@@ -80,7 +81,7 @@ impl<'a> Input<'a> {
         consoles: Option<u8>,
         fault: TextFault,
     ) -> Result<(Vec<u8>, Option<u64>), AllocError>
-        ensures { IfOk result (λ t. IsTold self.now.name.now self.now.given.items fault t.0.items) }
+        ensures { IfOk result (λ t. (shown : Shown) × IsToldOf self.now.name.now self.now.given.items self.now.named.text.items fault shown t.0.items × IfSome t.1 (ShowsLine shown)) }
     {
         let refused = Refused {
             given: self.given.as_slice(),
@@ -92,7 +93,7 @@ impl<'a> Input<'a> {
             Some(consoles) => told_of_events(alloc, &refused, consoles)?,
             None => told_of_world(alloc, &refused)?,
         };
-        Ok((printed(alloc, self.name, &told)?, told.left_out))
+        Ok((printed(alloc, self.name, &told)?, told.left_out()))
     }
 
     /// The text with an empty line for one of its lines.
@@ -119,7 +120,7 @@ impl<'a> Input<'a> {
         fault: TextFault,
         others: u8,
     ) -> Result<Vec<u8>, AllocError>
-        ensures { IfOk result (λ out. Tells others consoles self.now.name.now self.now.given.items fault out.items) }
+        ensures { IfOk result (λ out. Tells others consoles self.now.name.now self.now.given.items self.now.named.text.items fault out.items) }
     {
         let (mut out, left_out) = self.told_first(alloc, consoles, fault)?;
         let Some(number) = left_out else {
