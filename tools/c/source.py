@@ -94,23 +94,23 @@ def preprocess(source, raw):
     done = subprocess.run([*command, '-'], input=raw.encode('latin-1'), cwd=HEADERS, capture_output=True,
                           env={**environment, 'LC_ALL': 'C'})
     if done.returncode != 0:
-        raise preprocessor_error(source, raw, done.stderr.decode('utf-8', 'replace'))
+        raise preprocessor_error(source, done.stderr.decode('utf-8', 'replace'))
     return done.stdout.decode('latin-1')
 
 
-def preprocessor_error(source, raw, said):
+def preprocessor_error(source, said):
     """What gcc says first, at the place in the file, which it tells after the place in a macro of a header."""
     found = re.search(r'^\S*: (?:fatal )?error: (.*)', said, re.M)
     place = found and re.compile(rf'^{USER}:(\d+):(\d+):', re.M).search(said, found.start())
     if not place:
         raise NoGcc(said.strip().split('\n')[0])
-    line, what = int(place[1]), found[1]
+    what = found[1]
     if what.endswith('No such file or directory'):
         what = (f'expected jobk.h or a header that it includes, found `{what.partition(":")[0]}`; write the code into '
                 'this file, or into a program of its own for execl')
     what = re.sub(r'"(\w+)" is not defined, .*', lambda match: not_defined(match[1]), what)
     what = what.replace('unterminated comment', 'this comment has no end: write */')
-    return Refused(source.shown, line, column(raw.split('\n')[line - 1], int(place[2]) - 1), what)
+    return Refused(source.shown, int(place[1]), int(place[2]), what)
 
 
 def not_defined(name):
