@@ -8,7 +8,7 @@ from dataclasses import dataclass, field
 
 import of_signals                                                           # noqa: F401
 import results                                                              # noqa: F401
-import texts                                                                # noqa: F401
+import tokens                                                               # noqa: F401
 from features import GROUPS, Chance, indented
 
 MOST = 2 ** 30

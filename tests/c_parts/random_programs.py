@@ -3,6 +3,7 @@ import concurrent.futures
 import os
 import re
 import resource
+import signal
 import subprocess
 import tempfile
 import tty
@@ -131,7 +132,7 @@ def run_there(folder, number):
     try:
         text = process.communicate(timeout=LONGEST)[1]
     except subprocess.TimeoutExpired:
-        os.killpg(process.pid, 9)
+        os.killpg(process.pid, signal.SIGKILL)          # all of its session: also children that it left
         text, fault = process.communicate()[1], 'it does not end on Linux: '
     written = b''
     try:
