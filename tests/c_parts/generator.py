@@ -154,7 +154,7 @@ class Generator:
             return self.joined(left, right, f'({left.text} {operator} ({right.text} | 1))', left.most)
         most = left.most * right.most if operator == '*' else 2 * (left.most + right.most) + 2
         if most > MOST:
-            return self.joined(left, right, f'({left.text} % 1009 {operator} {right.text} % 997)', 1009 * 997)
+            return self.joined(left, right, f'({left.text} % 1009 {operator} ({right.text} % 997))', 1009 * 997)
         return self.joined(left, right, f'({left.text} {operator} {right.text})', most)
 
     def comparison(self, scope, depth):

@@ -198,7 +198,7 @@ class Typed:
             return Value(f'({left.text} {operator} {right.text})', of, *ends)
         if not of.is_signed:
             return Value(f'({left.text} {operator} {right.text})', of, of.low, of.high)
-        return Value(f'({left.text} % 1009 {operator} {right.text} % 997)', of, -1009 * 997, 1009 * 997)
+        return Value(f'({left.text} % 1009 {operator} ({right.text} % 997))', of, -1009 * 997, 1009 * 997)
 
     def comparison(self, depth):
         left, right = self.two(depth)

@@ -160,7 +160,7 @@ class Assignments:
             self.with_number('and', register, 255)
 
     def change_by(self, node, kind, depth):
-        """An operation such as that of += on the value of a kind that stands at a depth, which is of that kind again."""
+        """An operation such as that of += on the value at a depth, which is of the same kind again."""
         operation, other = node.op[:-1], self.number_kind(node.rvalue)
         if operation in ('<<', '>>'):
             count = self.shift_count(node, node.rvalue, promoted(kind))

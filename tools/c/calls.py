@@ -97,8 +97,8 @@ class Calls:
     # arguments
 
     def numbers(self, arguments, first=1, kind=Kind.INT):
-        """The values of arguments in a type, or each in its own, from left to right, into neighbouring registers; constants
-        come last."""
+        """The values of arguments in a type, or each in its own, from left to right, into neighbouring registers;
+        constants come last."""
         kinds = kind if isinstance(kind, list) else [kind] * len(arguments)
         waiting = []
         for register, (argument, kind) in enumerate(zip(arguments, kinds), first):
@@ -127,8 +127,8 @@ class Calls:
         if is_null(node, self.unit.meaning):
             return None
         inner = node.expr if isinstance(node, c_ast.UnaryOp) and node.op == '&' else None
-        is_place = isinstance(inner, (c_ast.ID, c_ast.ArrayRef)) or isinstance(inner, c_ast.StructRef) and kind is Kind.SET
-        if not is_place or self.stored_kind(inner) is not kind:
+        places = (c_ast.ID, c_ast.ArrayRef, c_ast.StructRef) if kind is Kind.SET else (c_ast.ID, c_ast.ArrayRef)
+        if not isinstance(inner, places) or self.stored_kind(inner) is not kind:
             refuse(node, f'the address of a variable stands here: {what}')
         place = self.fixed_place(inner)
         return refuse(node, f'the index is a constant here, or write a variable: {what}') if place is None else place

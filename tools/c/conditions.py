@@ -131,8 +131,8 @@ class Conditions:
         self.compare_with_0(depth + 1, '<' if operation == '>' else '>=', label)
 
     def compare_wide(self, kind, left, right, operation, label, depth):
-        """Where the signs of two numbers differ the first one's tells which is less, and else that of the difference. Numbers
-        without a sign are moved to those with one."""
+        """Where the signs of two numbers differ the first one's tells which is less, and else that of the difference.
+        Numbers without a sign are moved to those with one."""
         self.value_as(left, depth, kind)
         with self.waiting(depth):
             self.value_as(right, depth + 1, kind)

@@ -4,8 +4,8 @@ import re
 from pycparser import c_ast
 
 from facts import RESULTS
-from kinds import BITS, MEMBER_KINDS, NUMBERS, RANKS, UNSIGNED, Function, Kind, Variable, common, holds, kind_of_words, \
-    promoted, wrapped
+from kinds import BITS, MEMBER_KINDS, NUMBERS, RANKS, UNSIGNED, Function, Kind, Variable, common, holds, \
+    kind_of_words, promoted, wrapped
 from refusal import refuse
 
 COMPARISONS = {'==', '!=', '<', '<=', '>', '>='}
@@ -46,7 +46,8 @@ def digits_of(node):
     """The value of a number, its base and its letters."""
     found = NUMBER.match(node.value)
     if not found:
-        refuse(node, f'expected a number of int or long, found `{node.value}`; write no point, and no letters but u and l')
+        refuse(node, f'expected a number of int or long, found `{node.value}`; write no point, and no letters '
+               'but u and l')
     text = found[1]
     value = int(text, 8) if re.fullmatch('0[0-7]+', text) else int(text, 0)
     if not holds(Kind.UNSIGNED_LONG, value):
@@ -98,7 +99,8 @@ def kind_of_unary(node, meaning):
     if node.op == 'sizeof':
         return Kind.UNSIGNED_LONG
     inner = kind_of(node.expr, meaning)
-    return {'!': Kind.INT, '&': None, '*': None}.get(node.op, inner if node.op[-2:] in ('++', '--') else promoted(inner))
+    others = inner if node.op[-2:] in ('++', '--') else promoted(inner)
+    return {'!': Kind.INT, '&': None, '*': None}.get(node.op, others)
 
 
 def kind_of_binary(node, meaning):

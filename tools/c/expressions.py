@@ -14,7 +14,7 @@ from pycparser import c_ast
 from assembly import Address, Word
 from constants import COMPARISONS, constant, is_flags, is_null, kind_of, kind_of_typename
 from facts import NEVER_NEGATIVE, OWN_RESULTS
-from kinds import BITS, MEMBERS, NUMBERS, UNSIGNED, Function, Kind, Variable, common, promoted, wrapped
+from kinds import BITS, MEMBERS, NUMBERS, Function, Kind, Variable, common, promoted, wrapped
 from refusal import refuse
 
 SCRATCH, DEEPEST = 5, 2

@@ -22,8 +22,8 @@ PROVIDED = set(ARGUMENTS)
 # Calls whose arguments have no sign, and the types of results that are no int.
 UNSIGNED_ARGUMENTS = {'setuid', 'seteuid', 'setgid', 'setegid', 'alarm'}
 NEVER_NEGATIVE = {'getuid', 'geteuid', 'getgid', 'getegid', 'alarm'}
-RESULTS = {**dict.fromkeys(NEVER_NEGATIVE, Kind.UNSIGNED), 'read': Kind.LONG, 'write': Kind.LONG, 'signal': Kind.HANDLER,
-           **dict.fromkeys(('note', 'exit', '_exit'), Kind.VOID)}
+RESULTS = {**dict.fromkeys(NEVER_NEGATIVE, Kind.UNSIGNED), 'read': Kind.LONG, 'write': Kind.LONG,
+           'signal': Kind.HANDLER, **dict.fromkeys(('note', 'exit', '_exit'), Kind.VOID)}
 # Results that are no errors, also where they are below 0.
 OWN_RESULTS = NEVER_NEGATIVE | {'atoi', 'note', 'exit', '_exit', 'memset'}
 

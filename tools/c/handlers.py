@@ -1,5 +1,5 @@
-"""Which handlers handle which signals, and what follows: a handler has its variables once, so it must not be entered while
-it runs, and what siginfo_t says has to be known.
+"""Which handlers handle which signals, and what follows: a handler has its variables once, so it must not be entered
+while it runs, and what siginfo_t says has to be known.
 """
 from dataclasses import dataclass
 
@@ -45,8 +45,8 @@ def installed(unit):
 
 
 class Flow:
-    """Follows a function from statement to statement, and keeps what the handlers of its variables can be. What is global
-    can have all that it is ever given."""
+    """Follows a function from statement to statement, and keeps what the handlers of its variables can be. What is
+    global can have all that it is ever given."""
 
     def __init__(self, unit):
         self.meaning = unit.meaning
@@ -184,8 +184,9 @@ def refuse_again(unit, handler, changer):
         again = f'can be interrupted by {changer.name}, which changes the mask'
     if again:
         last = max(its, key=lambda it: (it.node.coord.line, it.node.coord.column), default=None)
-        refuse(last.node if last else handler.node, f'{handler.name} {again}, so it can be entered while it runs, and its '
-               'variables have one place: write a handler for each signal, or keep what it has to at most two variables')
+        refuse(last.node if last else handler.node, f'{handler.name} {again}, so it can be entered while it runs, and '
+               'its variables have one place: write a handler for each signal, or keep what it has to at most two '
+               'variables')
 
 
 def changes_mask(unit, context):
@@ -231,8 +232,8 @@ def tells_of_children(unit, handler):
 
 
 def refuse_unknown_members(unit, units):
-    """Refuses what isn't known in the siginfo_t of a handler: where a child tells of itself its status word is known, and
-    else a value. Who sends SIGCHLD otherwise tells neither."""
+    """Refuses what isn't known in the siginfo_t of a handler: where a child tells of itself its status word is known,
+    and else a value. Who sends SIGCHLD otherwise tells neither."""
     for node in unit.members:
         variable, member = unit.meaning.get(id(node.name)), node.field.name
         if not isinstance(variable, Variable) or not variable.is_pointer or member == 'si_pid':
@@ -248,7 +249,8 @@ def refuse_unknown_members(unit, units):
         elif member in ('si_code', 'si_status'):
             refuse(node, f'{member} is known in a handler of SIGCHLD alone: write a handler of its own for SIGCHLD')
         elif CHLD in signals or None in signals:
-            refuse(node, f'{member} is known in a handler of other signals than SIGCHLD: write a handler for each signal')
+            refuse(node, f'{member} is known in a handler of other signals than SIGCHLD: write a handler for each '
+                   'signal')
 
 
 def sends_chld(unit):

@@ -82,8 +82,8 @@ class Signals:
     # siginfo_t
 
     def store_change(self, word, child, free, info):
-        """What the status word in a register says goes to a siginfo_t, as far as the file asks: si_code, which is 0 where no
-        child is told of, and si_status."""
+        """What the status word in a register says goes to a siginfo_t, as far as the file asks: si_code, which is 0
+        where no child is told of, and si_status."""
         if self.unit.uses_member('si_code'):
             none = self.new_label('code')
             self.move(free, child)
