@@ -17,7 +17,7 @@ pub const HELP: &[u8] =
         --upto N               before the first N events alone
         --states N             keeps up to N states before one event; 50000 if not named
         --anywhere EVENT       puts in EVENT once, as key 1 1A or hangup 1, anywhere before these
-        --find TEXT            counts the schedules that have a line with TEXT
+        --find TEXT            counts the schedules that have a line with these words, as stop * SIGTSTP
         --must-halt            status 4 where a schedule doesn't halt
         --all                  runs each by itself, also more than 10000000
         --outcomes             status 2 where there are too many to tell of outcomes

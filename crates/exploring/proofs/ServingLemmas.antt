@@ -1,16 +1,17 @@
 -- What a status means.
-use Rattle.std.proofs.Common.{◌≡◌, ◌⊎◌, ◌∙◌, ℕ, ◌+◌, Bool, true, false, Option, Some, None, List, length, refl, ap, sym, subst, arith, inl, inr, Result, Ok, Err}
-use Rattle.std.specs.Prelude.{◌||◌, IsErrAnd, IsSomeAnd}
+use Rattle.std.proofs.Common.{Bor, ◌≡◌, ◌⊎◌, ◌∙◌, ℕ, zero, suc, ◌+◌, ◌<◌, [], ◌∷◌, map, get_or, slice_get, Bool, true, false, Option, Some, None, List, length, refl, ap, sym, subst, arith, inl, inr, Result, Ok, Err}
+use Rattle.std.specs.Prelude.{◌||◌, All, IsErrAnd, IsSomeAnd}
 use Rattle.posix.specs.declared.event.Event.{Event}
 use Rattle.posix.specs.Common.{World}
 use Rattle.inputs.specs.Reads.{AreRead, Contents}
 use Rattle.exploring.specs.declared.serving.Failure.{Failure}
 use Rattle.exploring.specs.declared.serving.Failure.TheVariants as failure
 use Rattle.counting.specs.Books.{BookView}
+use Rattle.counting.specs.Samples.{CanBeShown, IsShownByNone}
 use Rattle.trace.specs.Sinks.{BreaksOff, Seen, TakesAll}
 use Rattle.exploring.specs.declared.words.Written.{Written}
 use Rattle.exploring.specs.Reports.{IsAsFor}
-use Rattle.exploring.specs.Serving.{IsExplored, Means, answer_of, book_asked, is_told, schedules_of, status_of}
+use Rattle.exploring.specs.Serving.{IsExplored, IsOneUnshown, Means, answer_of, book_asked, is_told, schedules_of, status_of}
 use Rattle.exploring.specs.Words.{Asked, Parted, Put, are_run, asked_by_parts, can_be_put, family_asked, loose_asked, states_asked, ticks_asked, upto_asked, written_asked}
 
 pub means_explored : {S : Type 0} (contents : Contents) (a : Asked) (old new : S) (before after : Seen) (told : Bool) → IsExplored contents a told (TakesAll before after)
@@ -76,22 +77,49 @@ means_refused contents a old before after world events (Err f) e A h read none (
       done = λ e. absurd (omega (arith, e, is));
       told = λ e. absurd (omega (arith, e, is));
       refused = λ e. absurd (omega (arith, e, is));
-      other_words = λ e. (inr (inr (world, events, read, none two.1)), refl);
+      other_words = λ e. (inr (inr (inr (world, events, read, none two.1))), refl);
+      cut_short = λ e. absurd (omega (arith, e, is));
+    }
+
+-- ---- texts that no line can have
+
+is_there : (texts : List (Bor (List ℕ))) (i : ℕ) (d : Bor (List ℕ)) → i < length texts → slice_get (map (λ t. t.now) texts) i ≡ Some (get_or texts i d).now
+is_there [] i d l = absurd (omega (arith, l))
+is_there (t ∷ texts) zero d l = refl
+is_there (t ∷ texts) (suc i) d l = is_there texts i d (omega (arith, l))
+
+pub unshown_here : (texts : List (Bor (List ℕ))) (i : ℕ) (d : Bor (List ℕ)) → i < length texts → IsShownByNone (get_or texts i d).now → IsOneUnshown (map (λ t. t.now) texts)
+unshown_here texts i d l none = (i, (get_or texts i d).now, is_there texts i d l, none)
+
+-- one of them is refused, or memory was
+pub means_unshown : {S : Type 0} (contents : Contents) (a : Asked) (old : S) (before after : Seen) (r : Result Bool Failure) (e : Failure) → IsErrAnd r (λ why. why ≡ e)
+    → (status_of e ≡ 3) ⊎ ((status_of e ≡ 2) × IsOneUnshown a.finds) → Means contents (Some a) old old before after (answer_of r)
+means_unshown contents a old before after (Ok told) e h why = absurd h
+means_unshown contents a old before after (Err f) e h (inl three) = means_cut_short contents (Some a) old old before after (status_of f) (ap status_of h ∙ three) (inl refl)
+means_unshown contents a old before after (Err f) e h (inr two) = by (status_of f) (ap status_of h ∙ two.0)
+  where
+    by : (status : ℕ) → status ≡ 2 → Means contents (Some a) old old before after status
+    by status is = record {
+      done = λ e. absurd (omega (arith, e, is));
+      told = λ e. absurd (omega (arith, e, is));
+      refused = λ e. absurd (omega (arith, e, is));
+      other_words = λ e. (inr (inr (inl two.1)), refl);
       cut_short = λ e. absurd (omega (arith, e, is));
     }
 
 -- all schedules of the family were run, and the text was put that is asked for
 pub explored : (contents : Contents) (a : Asked) (world : World) (events : List Event) (p : Put) (states : ℕ) (written : Written) (book : BookView) (told : Bool) (text : List ℕ) (IsPut : List ℕ → Type 0)
-    → AreRead contents (a.world, a.events) world events → ticks_asked a.ticks ≡ Some p.ticks → upto_asked (length events) a.upto ≡ Some p.upto → states_asked a.states ≡ Some states
+    → AreRead contents (a.world, a.events) world events → All CanBeShown a.finds → ticks_asked a.ticks ≡ Some p.ticks → upto_asked (length events) a.upto ≡ Some p.upto → states_asked a.states ≡ Some states
     → loose_asked world.consoles a.anywhere ≡ Some p.loose → can_be_put (a.all || a.outcomes) p.upto (length p.loose) ≡ true
     → are_run a.all a.outcomes (length (schedules_of p)) (length events + (p.ticks + length p.loose)) ≡ true → book ≡ book_asked world events a.finds p
     → told ≡ is_told a.must_halt book → written_asked a.write ≡ Some written → IsAsFor written p.loose events p.upto p.ticks book text → IsPut text → IsExplored contents a told IsPut
-explored contents a world events p states written book told text IsPut read ticks_are upto_is states_are loose_are put_in run is answer asked is_as_asked put = record {
+explored contents a world events p states written book told text IsPut read finds ticks_are upto_is states_are loose_are put_in run is answer asked is_as_asked put = record {
   world = world;
   events = events;
   put_in = p;
   written = written;
   read = read;
+  finds = finds;
   in_range = in_range a world.consoles (length events) p states ticks_are upto_is states_are loose_are put_in run;
   answer = answer ∙ ap (is_told a.must_halt) is;
   asked = asked;

@@ -2,7 +2,7 @@
 
 ghost use Rattle.std.specs.Prelude.{◌≡◌, ◌↔◌, IfSome, IsNone, IsTrue, Some, option_map};
 ghost use Rattle.std.specs.Option.{option_copied};
-ghost use Rattle.counting.specs.Texts.{shown as shown_of};
+ghost use Rattle.counting.specs.Patterns.{shown as shown_of};
 
 use counting::{Line, process_number, shown};
 use std::alloc::{AllocError, Global};

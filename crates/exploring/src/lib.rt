@@ -3,6 +3,7 @@
 #![tactic(auto)]
 
 mod apart;
+mod finding;
 mod report;
 mod serving;
 mod turns;

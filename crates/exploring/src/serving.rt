@@ -1,6 +1,6 @@
 //! What the program does: its texts and its statuses.
 
-ghost use Rattle.std.specs.Prelude.{◌≡◌, ◌⊎◌, ◌+◌, ◌≤◌, ◌||◌, false, true, Bool, ℕ, List, [], length, Result, MatchResult, IfOk, IfSome, IsNone, None, OnErr, OnOk, Some, map, option_map};
+ghost use Rattle.std.specs.Prelude.{◌≡◌, ◌⊎◌, ◌+◌, ◌≤◌, ◌||◌, All, false, true, Bool, ℕ, List, [], length, Result, MatchResult, IfOk, IfSome, IsNone, None, OnErr, OnOk, Some, map, option_map};
 ghost use Rattle.std.specs.String.{string_bytes};
 ghost use Rattle.trace.specs.Sinks.{BreaksOff, TakesAll};
 ghost use Rattle.posix.specs.declared.event.Event.{Event as EventValue};
@@ -9,10 +9,12 @@ ghost use Rattle.text.specs.EventTexts.{event_text, most_events};
 ghost use Rattle.text.specs.Reading.{IsFaultOf};
 ghost use Rattle.schedules.specs.Families.{family as family_of};
 ghost use Rattle.counting.specs.Counts.{book_over};
+ghost use Rattle.counting.specs.Samples.{CanBeShown};
 ghost use Rattle.exploring.specs.Reports.{bytes_put};
-ghost use Rattle.exploring.specs.Serving.{Means, answer_of, is_found as has_found, all_halt as have_halted, is_told as told_by, status_of};
+ghost use Rattle.exploring.specs.Serving.{IsOneUnshown, Means, answer_of, is_found as has_found, all_halt as have_halted, is_told as told_by, status_of};
 ghost use Rattle.exploring.specs.Words.{are_run, are_run_each as each_is_run, asked_by_parts, can_be_put, loose_asked, only, parted_as, request_of_words, run_each, said, states_asked, ticks_asked, upto_asked, written_asked};
 
+use crate::finding::{Unshown, find_unshown};
 use crate::words::{Parts, Request, Written, parts_of, requested};
 use crate::written::text_of;
 use counting::{Book, Family, Progress, event_at, explore};
@@ -50,6 +52,8 @@ enum Failure<'a> {
     OutcomesAnywhere,
     #[error("jobk: --write takes rest, going, find, or the number of an outcome")]
     Which,
+    #[error("jobk: --find: {0}")]
+    Unshown(Unshown<'a>),
     #[error("jobk: --outcomes tells of up to {0} schedules and {1} events in all: say fewer by --ticks or --upto")]
     TooManyOutcomes(u64, u64),
     #[error("jobk: --outcomes tells of up to {0} schedules with --all: say fewer by --ticks or --upto")]
@@ -157,6 +161,7 @@ impl Failure<'_> {
             | Failure::AllAnywhere
             | Failure::OutcomesAnywhere
             | Failure::Which
+            | Failure::Unshown(_)
             | Failure::TooManyOutcomes(_, _)
             | Failure::TooManyForAll(_)
             | Failure::TooManyEvents(_, _) => 2,
@@ -212,6 +217,19 @@ fn written_of<'a>(word: Option<&str>) -> Result<Written, Failure<'a>>
         return Ok(Written::Report);
     };
     Written::named(word).ok_or(Failure::Which)
+}
+
+/// Refuses texts of which one can be in no line.
+fn find_well<'a>(alloc: Global, texts: &[&'a str]) -> Result<(), Failure<'a>>
+    ensures { MatchResult result
+        (λ _. All CanBeShown (map (λ t. t.now) texts.now))
+        (λ why. (status_of why ≡ 3) ⊎ ((status_of why ≡ 2) × IsOneUnshown (map (λ t. t.now) texts.now))) }
+{
+    match find_unshown(alloc, texts) {
+        Ok(None) => Ok(()),
+        Ok(Some(why)) => Err(Failure::Unshown(why)),
+        Err(_) => Err(Failure::Memory),
+    }
 }
 
 /// Why a word isn't the text of an event: want of memory is no fault of it.
@@ -435,6 +453,7 @@ fn serve_request<'a, 'w, F: ReadFiles, O: Sink, E: Sink, P: Progress>(
 {
     let ticks = ticks_of(request.ticks)?;
     let written = written_of(request.write)?;
+    find_well(alloc, request.finds)?;
     let inputs = read_inputs(alloc, files, request.world, request.events)?;
     let upto = upto_of(request.upto, inputs.events.len())?;
     let states = states_of(request.states)?;
