@@ -1,4 +1,3 @@
 mod DrawingLemmas
-pub mod ExplanationLemmas
 pub mod ServingLemmas
 pub mod WordLemmas

@@ -6,7 +6,7 @@ use Rattle.inputs.specs.Reads.{Contents, Text}
 use Rattle.inputs.specs.declared.failure.FileFailure.{FileFailure}
 use Rattle.inputs.specs.declared.failure.FileFailure.TheVariants.{Usage, Unread, Memory, Write}
 use Rattle.trace.specs.Sinks.{Seen}
-use Rattle.explaining.specs.Explanations.{Explains}
+use Rattle.showing.specs.Explanations.{Explains}
 use Rattle.explaining.specs.Serving.{Means, answer_of}
 use Rattle.explaining.specs.Words.{OfTrace}
 

@@ -1,4 +1,3 @@
 pub mod Drawings
-pub mod Explanations
 pub mod Serving
 pub mod Words

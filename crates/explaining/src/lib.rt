@@ -15,4 +15,3 @@ mod words;
 
 pub use drawing::draw_trace;
 pub use serving::{serve_explain, serve_lanes};
-pub use texts::explain_text;

@@ -4,8 +4,8 @@ ghost use Rattle.std.specs.Prelude.{IfErr};
 ghost use Rattle.explaining.specs.Drawings.{IsCutOff};
 
 use crate::rows::{Arrow, Cause, Mark, Row, Rows, State, digits};
-use crate::texts::PIECE;
 use inputs::FileFailure;
+use showing::PIECE;
 use std::alloc::AllocError;
 use trace::{Sink, put_all};
 use wording::Prose;

@@ -6,7 +6,7 @@ ghost use Rattle.explaining.specs.Serving.{Means, answer_of};
 ghost use Rattle.explaining.specs.Words.{OfTrace, asked_in_words, said};
 
 use crate::drawing::draw_trace;
-use crate::texts::explain_text;
+use crate::texts::explain_trace;
 use crate::words::{Asked, request, requested};
 use inputs::{FileFailure, ReadFiles, tell};
 use showing::serve_beside;
@@ -23,7 +23,7 @@ fn explain_file<'a, F: ReadFiles, O: Sink>(
     ensures { Means (F.contents files.now) (Some (OfTrace name.entry.now)) out.old out.new (O.seen out.old) (O.seen out.new) (answer_of result) }
 {
     let trace = files.read_file(name).map_err(FileFailure::Unread)?;
-    explain_text(alloc, trace.as_slice(), out)
+    explain_trace(alloc, trace.as_slice(), out)
 }
 
 /// The status of the program. A failure is told.

@@ -1,2 +1,4 @@
 mod ComparisonLemmas
+pub mod ExplanationLemmas
 mod PastLemmas
+mod ServingLemmas

@@ -5,6 +5,8 @@ use Rattle.inputs.specs.Reads.{AreRefused, Contents, Text}
 use Rattle.inputs.specs.Statuses.{status_of}
 use Rattle.inputs.specs.declared.InputFault.{InputFault}
 use Rattle.showing.specs.Comparisons.{Compares, OfRun}
+use Rattle.showing.specs.Explanations.{IsCutShort, OfExplained}
+use Rattle.trace.specs.Sinks.{Seen, TakesAll}
 use Rattle.showing.specs.declared.comparing.Named.{Named as DeclaredNamed}
 
 -- the names of three files
@@ -16,11 +18,19 @@ pub record Named : Type 0 where
 abbrev pub said : DeclaredNamed → Named
 said n = record { trace = n.trace.now; world = n.world.now; events = n.events.now }
 
--- The trace in a file is the printed trace of a run of the machine on the two texts; or it isn't, and this line is the
--- first that differs.
+-- This trace can be that in its file, as far as it is known what that holds. It is the printed trace of a run of the
+-- machine on the two texts; or it isn't, and this line is the first that differs.
+abbrev pub IsTraceBeside : Contents → Named → List ℕ → Option ℕ → Type 0
+IsTraceBeside contents names trace number =
+    IfSome (contents names.trace) (λ known. trace ≡ known) × OfRun contents (names.world, names.events) (λ printed. Compares trace printed number)
+
+-- So is the trace in a file.
 abbrev pub IsCompared : Contents → Named → Option ℕ → Type 0
-IsCompared contents names number =
-    (trace : List ℕ) × IfSome (contents names.trace) (λ known. trace ≡ known) × OfRun contents (names.world, names.events) (λ printed. Compares trace printed number)
+IsCompared contents names number = (trace : List ℕ) × IsTraceBeside contents names trace number
+
+-- It is that of a run, and P holds of a text that is this trace with what is said of its lines.
+abbrev pub OfSame : Contents → Named → (List ℕ → Type 0) → Type 0
+OfSame contents names P = (trace : List ℕ) × IsTraceBeside contents names trace None × OfExplained trace P
 
 -- One of the two texts is refused, where that is the reason.
 abbrev pub IsUnread : Contents → Named → InputFault → Type 0
@@ -30,6 +40,7 @@ IsUnread contents names why = status_of why ≡ 1 → AreRefused contents (names
 abbrev pub IsOther : Contents → Named → Type 0
 IsOther contents names = AreRefused contents (names.world, names.events) ⊎ ((number : ℕ) × IsCompared contents names (Some number))
 
--- What a status means. Of what is put no clause says more than that with 1 it is nothing.
-abbrev pub Means : {S : Type 0} → Contents → Named → S → S → ℕ → Type 0
-Means contents names old new status = MeansOf (IsCompared contents names None) (IsOther contents names × (new ≡ old)) (Unit {0}) (Some names) old new status
+-- What a status means, and what was put.
+abbrev pub Means : {S : Type 0} → Contents → Named → S → S → Seen → Seen → ℕ → Type 0
+Means contents names old new before after status =
+    MeansOf (OfSame contents names (TakesAll before after)) (IsOther contents names × (new ≡ old)) (OfSame contents names (IsCutShort before after)) (Some names) old new status

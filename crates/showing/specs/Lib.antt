@@ -1,4 +1,5 @@
 pub mod Comparing
 pub mod Comparisons
+pub mod Explanations
 pub mod Pasts
 pub mod Statuses

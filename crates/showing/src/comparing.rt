@@ -1,18 +1,22 @@
 //! What `explain TRACE WORLD EVENTS` does: a trace beside the one that the world writes; where they are the same, what each
 //! event did, and what in the world is surely not meant.
 
-ghost use Rattle.std.specs.Prelude.{◌≡◌, ◌⊎◌, ◌≤◌, IfOk, MatchResult, length};
+ghost use Rattle.std.specs.Prelude.{◌≡◌, ◌≤◌, IfOk, MatchResult, length};
+ghost use Rattle.inputs.specs.Failures.{status_of as status_of_failure};
 ghost use Rattle.inputs.specs.Statuses.{status_of};
 ghost use Rattle.text.specs.EventTexts.{most_events};
-ghost use Rattle.showing.specs.Comparing.{IsCompared, IsUnread, Means, said};
+ghost use Rattle.showing.specs.Comparing.{IsTraceBeside, IsUnread, Means, said};
+ghost use Rattle.showing.specs.Explanations.{Explains};
 
 use crate::comparison::first_difference;
-use crate::serving::serve_trace;
-use inputs::{InputFault, Inputs, ReadFiles, read_inputs, tell};
-use std::alloc::{AllocError, Global};
+use crate::lines::explain_text;
+use crate::told_run::ToldRun;
+use inputs::{FileFailure, InputFault, Inputs, ReadFiles, read_inputs, tell};
+use std::alloc::Global;
+use telling::View;
 use trace::{Sink, put_all};
 use warning::put_warnings;
-use wording::Prose;
+use wording::{Listing, Prose};
 
 /// The files of a trace, of a world, and of its events, by their names.
 #[derive(Clone, Copy)]
@@ -22,34 +26,72 @@ pub struct Named<'a> {
     pub events: &'a str,
 }
 
-/// Reads the three files. The number of the first line in which the trace isn't the one that the world writes over the
-/// events, if there is one.
+/// What three files hold.
+#[derive(Drop)]
+struct Compared {
+    trace: Vec<u8>,
+    inputs: Inputs,
+    /// The number of the first line in which the trace isn't the one that the world writes over the events, if there is
+    /// one.
+    other: Option<u64>,
+}
+
+/// Reads the three files, and compares the trace.
 fn compare<'a, F: ReadFiles>(
     alloc: Global,
     files: &F,
     named: Named<'a>,
-) -> Result<(Option<u64>, Inputs), InputFault<'a>>
-    ensures compared { MatchResult result (λ read. IsCompared (F.contents files.now) (said named.entry) read.0) (IsUnread (F.contents files.now) (said named.entry)) }
-    ensures within { IfOk result (λ read. length read.1.events ≤ most_events) }
+) -> Result<Compared, InputFault<'a>>
+    ensures compared { MatchResult result (λ c. IsTraceBeside (F.contents files.now) (said named.entry) c.trace.items c.other) (IsUnread (F.contents files.now) (said named.entry)) }
+    ensures within { IfOk result (λ c. length c.inputs.events ≤ most_events) }
 {
     let trace = files.read_file(named.trace).map_err(InputFault::Unread)?;
     let inputs = read_inputs(alloc, files, named.world, named.events)?;
     match first_difference(alloc, trace.as_slice(), &inputs) {
-        Ok(number) => Ok((number, inputs)),
+        Ok(other) => Ok(Compared {
+            trace,
+            inputs,
+            other,
+        }),
         Err(_) => Err(InputFault::Memory),
     }
 }
 
-/// Puts what each event did behind the lines of the trace, and tells what in the world is surely not meant. An error,
-/// before anything is put, where there is no memory for that.
-fn serve_same<O: Sink, E: Sink>(
+/// Puts a trace, and after the first line of each event what the event did in the run of a world.
+fn explain_run<'a, O: Sink>(
     alloc: Global,
     inputs: &Inputs,
+    trace: &[u8],
+    out: &mut O,
+) -> Result<(), FileFailure<'a>>
+    requires { length inputs.now.events ≤ most_events }
+    ensures { Explains (O.seen out.old) (O.seen out.new) trace.now result }
+{
+    let listing = Listing::new(alloc, inputs.world_text.as_slice())?;
+    let view = View {
+        alloc,
+        listing: &listing,
+        events: inputs.events.len(),
+        traced: true,
+        only: &[],
+    };
+    let mut run = ToldRun::new(view, &inputs.world, &inputs.events)?;
+    let done = explain_text(alloc, &mut run, trace, out);
+    drop(run);
+    done
+}
+
+/// Puts the trace as [`explain_run`] does, and tells what in the world is surely not meant. Nothing is put if there is no
+/// memory for that.
+fn serve_same<'a, O: Sink, E: Sink>(
+    alloc: Global,
+    inputs: &Inputs,
+    trace: &[u8],
     out: &mut O,
     err: &mut E,
-) -> Result<u8, AllocError>
+) -> Result<(), FileFailure<'a>>
     requires { length inputs.now.events ≤ most_events }
-    ensures { IfOk result (λ status. (status ≡ 0) ⊎ (status ≡ 3)) }
+    ensures { Explains (O.seen out.old) (O.seen out.new) trace.now result }
 {
     let mut warnings = Prose::new(alloc);
     put_warnings(
@@ -59,11 +101,9 @@ fn serve_same<O: Sink, E: Sink>(
         &mut warnings,
     )?;
     let told = warnings.as_bytes()?;
-    let status = serve_trace(alloc, inputs, out, err);
-    if status == 0 {
-        let _ = put_all(err, told);
-    }
-    Ok(status)
+    explain_run(alloc, inputs, trace, out)?;
+    let _ = put_all(err, told);
+    Ok(())
 }
 
 /// The status of a program that ends so. It is told.
@@ -85,20 +125,21 @@ pub fn serve_beside<'a, F: ReadFiles, O: Sink, E: Sink>(
     err: &mut E,
 ) -> u8
     ensures most { result ≤ 3 }
-    ensures meaning { Means (F.contents files.now) (said named.entry) out.old out.new result }
+    ensures meaning { Means (F.contents files.now) (said named.entry) out.old out.new (O.seen out.old) (O.seen out.new) result }
 {
-    match compare(alloc, files, named) {
-        Ok((None, inputs)) => match serve_same(alloc, &inputs, out, err) {
-            Ok(status) => status,
-            Err(_) => ended(InputFault::Memory, err),
-        },
-        Ok((Some(number), _)) => {
-            tell(
-                format_args!("jobk: line {number}: not what the world writes"),
-                err,
-            );
-            1
-        }
-        Err(why) => ended(why, err),
+    let read = match compare(alloc, files, named) {
+        Ok(read) => read,
+        Err(why) => return ended(why, err),
+    };
+    if let Some(number) = read.other {
+        tell(
+            format_args!("jobk: line {number}: not what the world writes"),
+            err,
+        );
+        return 1;
+    }
+    match serve_same(alloc, &read.inputs, read.trace.as_slice(), out, err) {
+        Ok(()) => 0,
+        Err(failure) => failure.end(b"", err),
     }
 }

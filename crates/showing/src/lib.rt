@@ -6,12 +6,15 @@ mod comparing;
 mod comparing_sink;
 mod comparison;
 mod hearing;
+mod lines;
 mod replay;
 mod serving;
 mod state;
 mod stepping;
+mod told_run;
 mod words;
 
 pub use comparing::{Named, serve_beside};
+pub use lines::{Explain, PIECE, explain_text};
 pub use serving::serve;
 pub use stepping::Ask;

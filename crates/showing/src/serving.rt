@@ -1,6 +1,6 @@
 //! What `show` does: its texts and its statuses.
 
-ghost use Rattle.std.specs.Prelude.{◌≡◌, ◌≤◌, ◌⊎◌, IfOk, MatchResult, None, Some, length, option_map};
+ghost use Rattle.std.specs.Prelude.{◌≡◌, ◌≤◌, IfOk, MatchResult, None, Some, length, option_map};
 ghost use Rattle.inputs.specs.Numbers.{number_asked};
 ghost use Rattle.text.specs.EventTexts.{most_events};
 ghost use Rattle.showing.specs.Statuses.{status_of};
@@ -9,6 +9,7 @@ use crate::hearing::Telling;
 use crate::replay::{Replay, past_at, run_to};
 use crate::state::put_state;
 use crate::stepping::{Ask, Steps, put_text};
+use crate::told_run::TOLD_AT_ONCE;
 use crate::words::{Request, requested};
 use inputs::{
     InputFault, Inputs, NoRequest, NumberFault, ReadFault, ReadFiles, number, number_up_to,
@@ -111,9 +112,6 @@ fn processes_of<'a>(alloc: Global, words: &[&str]) -> Result<Vec<Pid>, Failure<'
     Ok(pids)
 }
 
-/// So many events are told before their lines are put.
-const TOLD_AT_ONCE: u64 = 1_000;
-
 /// Gives the events up to the one with number `last`, and puts a line for each.
 fn put_events<'a, O: Sink>(
     replay: &mut Replay,
@@ -209,40 +207,6 @@ fn serve_inputs<'a, 't, O: Sink, A: Ask>(
     };
     drop(replay);
     done
-}
-
-/// Puts the trace of a run, and behind the first line of each event what it did.
-fn put_trace<'a, O: Sink>(alloc: Global, inputs: &Inputs, out: &mut O) -> Result<(), Failure<'a>>
-    requires { length inputs.now.events ≤ most_events }
-{
-    let listing = Listing::new(alloc, inputs.world_text.as_slice())?;
-    let last = inputs.events.len();
-    let view = View {
-        alloc,
-        listing: &listing,
-        events: last,
-        traced: true,
-        only: &[],
-    };
-    let mut replay = past_at(alloc, &inputs.world, &inputs.events, 0)?;
-    let done = serve_calls(view, &mut replay, inputs, last, out);
-    drop(replay);
-    done
-}
-
-/// Puts what `show --trace` puts of a world and its events, and gives the status of the program: 0, or 3 where a put failed
-/// or there was no memory, which is told.
-pub fn serve_trace<O: Sink, E: Sink>(alloc: Global, inputs: &Inputs, out: &mut O, err: &mut E) -> u8
-    requires { length inputs.now.events ≤ most_events }
-    ensures { (result ≡ 0) ⊎ (result ≡ 3) }
-{
-    match put_trace(alloc, inputs, out) {
-        Ok(()) => 0,
-        Err(failure) => {
-            tell_failure(failure, err);
-            3
-        }
-    }
 }
 
 /// Does what the words ask for.

@@ -1,6 +1,6 @@
 use Rattle.std.proofs.Common.{length}
-use Rattle.explaining.proofs.ExplanationLemmas.{HasTold}
-use Rattle.explaining.proofs.texts.explain_text.Given as goal
+use Rattle.showing.proofs.ExplanationLemmas.{HasTold}
+use Rattle.showing.proofs.lines.explain_text.Given as goal
 
 abbrev pub invariant-loop-line : goal.invariant-loop-line
 invariant-loop-line g l = HasTold (g.O.Sink.seen l.fn.out) l.fn.trace l.rest (g.O.Sink.seen l.out) l.waiting.items

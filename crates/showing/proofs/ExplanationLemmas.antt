@@ -1,4 +1,4 @@
--- A trace is told line by line.
+-- A trace is put line by line, with what is said of it.
 use Rattle.std.proofs.Common.{◌≡◌, ℕ, ◌==◌, true, false, List, [], ◌∷◌, ◌++◌, flat_map, inl, inr, refl, ap, sym, ◌∙◌, subst, append_assoc, Result, Ok, Err}
 use Rattle.std.specs.Prelude.{IsErrAnd}
 use Rattle.std.specs.List.{AllByRecursion}
@@ -8,7 +8,7 @@ use Rattle.std.specs.Io.KnownBytes.{Appends}
 use Rattle.trace.specs.Sinks.{BreaksOff, Gathers, Seen, TakesAll}
 use Rattle.trace.proofs.SinkLemmas.{break_on, gathers_break, gathers_then}
 use Rattle.trace.specs.Lines.{IsCut, is_one_line}
-use Rattle.explaining.specs.Explanations.{AreOneLine, Explains, IsBegun, IsExplained, OfExplained, Stops, Told, told_line}
+use Rattle.showing.specs.Explanations.{AreOneLine, Explains, IsBegun, IsExplained, OfExplained, Stops, Told, told_line}
 use Rattle.inputs.specs.declared.failure.FileFailure.{FileFailure}
 use Rattle.inputs.specs.declared.failure.FileFailure.TheVariants.{Usage, Unread, Memory, Write}
 

@@ -1,5 +1,5 @@
--- A trace, and behind its lines what they say.
-use Rattle.std.specs.Prelude.{◌≡◌, ℕ, ◌==◌, true, List, [], ◌∷◌, ◌++◌, length, codes, flat_map, if◌then◌else◌, Result, Ok, Err}
+-- A trace, and after its lines what is said of them.
+use Rattle.std.specs.Prelude.{◌≡◌, ◌⊎◌, ℕ, ◌==◌, true, List, [], ◌∷◌, ◌++◌, length, codes, flat_map, if◌then◌else◌, Result, Ok, Err}
 use Rattle.std.specs.List.{AllByRecursion}
 use Rattle.std.specs.Io.KnownBytes.{Appends}
 use Rattle.trace.specs.Sinks.{BreaksOff, Seen, TakesAll}
@@ -9,14 +9,14 @@ use Rattle.inputs.specs.declared.failure.FileFailure.TheVariants.{Usage, Unread,
 
 -- ---- the text
 
--- what stands behind a line: three spaces and words, or nothing where there are no words
+-- what is after a line: three spaces and words, or nothing if there are no words
 abbrev pub behind : List ℕ → List ℕ
 behind words = if length words == 0 then [] else codes "   " ++ words
 
 abbrev pub told_line : List ℕ → List ℕ → List ℕ
 told_line line words = line ++ (behind words ++ 10 ∷ [])
 
--- a line of a trace, and the words that are told of it
+-- a line of a trace, and the words that are said of it
 pub record Told : Type 0 where
   pub line : List ℕ
   pub words : List ℕ
@@ -25,8 +25,8 @@ pub record Told : Type 0 where
 abbrev pub AreOneLine : Told → Type 0
 AreOneLine t = (is_one_line t.line ≡ true) × (is_one_line t.words ≡ true)
 
--- The text is the trace, line by line, and behind each line stands nothing, or three spaces and words without a line
--- feed; what follows the last line feed stands alone.
+-- The text is the trace, line by line, and after each line is nothing, or three spaces and words without a line feed; what
+-- follows the last line feed has nothing after it.
 pub record IsExplained (trace text : List ℕ) : Type 0 where
   pub lines : List Told
   pub last : List ℕ
@@ -45,7 +45,11 @@ pub record IsBegun (before after : Seen) (text : List ℕ) : Type 0 where
   pub taken : Appends before.taken after.taken front
   pub no_failure : after.failures ≡ before.failures
 
--- P holds of a text that is the trace with what its lines say.
+-- A beginning of a text was taken, and a put may have failed.
+abbrev pub IsCutShort : Seen → Seen → List ℕ → Type 0
+IsCutShort before after text = BreaksOff before after text ⊎ IsBegun before after text
+
+-- P holds of a text that is the trace with what is said of its lines.
 abbrev pub OfExplained : List ℕ → (List ℕ → Type 0) → Type 0
 OfExplained trace P = (text : List ℕ) × IsExplained trace text × P text
 

@@ -1,10 +1,6 @@
-use Rattle.inputs.specs.declared.failure.FileFailure.TheVariants.{Memory, Write}
-use Rattle.explaining.proofs.ExplanationLemmas.{explains_by, told_all, told_in_part, told_more, told_no_more, untold}
-use Rattle.explaining.proofs.texts.explain_text.Goals as goal
-
-pub returns-in_err-known : goal.returns-in_err-known
-returns-in_err-known g c =
-    explains_by c.from_residual.result Memory _ _ c.args.trace.now c.from_residual.ensures.1 (untold (g.O.Sink.seen c.args.out.now) c.args.trace.now)
+use Rattle.inputs.specs.declared.failure.FileFailure.TheVariants.{Write}
+use Rattle.showing.proofs.ExplanationLemmas.{explains_by, told_all, told_in_part, told_more, told_no_more}
+use Rattle.showing.proofs.lines.explain_text.Goals as goal
 
 pub loop-line-preserved : goal.loop-line-preserved
 loop-line-preserved g c =
@@ -16,7 +12,7 @@ pub returns-in_err-explain_line : goal.returns-in_err-explain_line
 returns-in_err-explain_line g c =
     let why = c.in_err-explain_line.field-0.0 in
     let stopped = c.in_err-explain_line.ensures.err in
-    explains_by c.from_residual-in_err-explain_line.result why _ _ c.args.trace.now c.from_residual-in_err-explain_line.ensures.1
+    explains_by c.from_residual.result why _ _ c.args.trace.now c.from_residual.ensures.1
     (told_no_more g.O.Sink.seen _ c.loop-line.out c.explain_line.new.out c.args.trace.now c.loop-line.rest.now c.in-Some.line.now c.in-Some.more.now c.loop-line.waiting.items stopped.0 why
     c.loop-line.invariant c.in-Some.ensures.cut stopped.1 stopped.2)
 
