@@ -10,7 +10,8 @@ use wording::{Kind, number_named};
 
 /// Lines of each form. Where words bear on each other there is one for each way: so many bytes are shown by twice as
 /// many digits.
-static SAMPLES: [&[&str]; 28] = [
+static SAMPLES: [&[&str]; 29] = [
+    &["halt"],
     &["note", "1", "0"],
     &["call", "1", "kill", "=", "0"],
     &["call", "1", "waitpid", "=", "2", "status", "0"],
