@@ -9,7 +9,7 @@ from constants import constant, is_flags
 from kinds import Function, Kind, Variable
 from refusal import refuse
 
-CHLD, SIG_BLOCK, SA_NODEFER = 17, 0, 0x40000000
+CHLD, SIG_BLOCK, SA_NODEFER, FLAGS, BELOW_32 = 17, 0, 0x40000000, 0xd0000007, 0xffffffff
 BRANCHES = (c_ast.If, c_ast.TernaryOp)
 LOOPS = (c_ast.While, c_ast.DoWhile, c_ast.For, c_ast.Switch)
 
@@ -166,17 +166,18 @@ def is_call(node, name):
 def refuse_entered_again(unit, contexts):
     """Refuses a handler that can be entered while it runs, where it has words of memory: it has them once."""
     changer = next((context.root for context in contexts if changes_mask(unit, context)), None)
+    is_at_once = may_be_entered_at_once(unit)
     for context in contexts:
         if any(instance.frame.size for instance in context.instances.values()):
-            refuse_again(unit, context.root, changer)
+            refuse_again(unit, context.root, changer, is_at_once)
 
 
-def refuse_again(unit, handler, changer):
+def refuse_again(unit, handler, changer, is_at_once):
     its = [it for it in unit.installed if it.function is handler]
     signals, again = {it.signal for it in its}, None
     if len(signals) > 1 or None in signals:
         again = 'handles several signals'
-    elif may_be_entered_at_once(unit):
+    elif is_at_once:
         again = 'may be set with SA_NODEFER'
     elif changer is handler:
         again = 'changes the mask'
@@ -200,20 +201,29 @@ def changes_mask(unit, context):
 
 
 def may_be_entered_at_once(unit):
-    """Whether a flag that is set may be SA_NODEFER."""
-    return any(bits is None or bits & SA_NODEFER for node in unit.source.tree.ext for bits in flags_set(node, unit))
+    """Whether a flag that is set is SA_NODEFER."""
+    return any(bits & SA_NODEFER for node in unit.source.tree.ext for bits in flags_set(node, unit))
 
 
 def flags_set(node, unit):
-    """The values that become flags, None where they aren't known."""
+    """The values that become flags. Others than those that the machine has, or that aren't known, are refused: it fails
+    with EINVAL where Linux takes what it doesn't know."""
     if isinstance(node, c_ast.Assignment) and is_flags(node.lvalue) and node.op != '&=':
-        yield from values_of(node.rvalue, unit) if node.op in ('=', '|=') else [None]
-    elif isinstance(node, c_ast.UnaryOp) and is_flags(node.expr) and node.op != '&':
-        yield None
+        if node.op not in ('=', '|=', '^='):
+            refuse(node, f'expected =, |=, ^= or &= behind sa_flags, found `{node.op}`')
+        yield from known_flags(node.rvalue, unit)
     elif isinstance(node, c_ast.NamedInitializer) and getattr(node.name[0], 'name', None) == 'sa_flags':
-        yield from values_of(node.expr, unit)
+        yield from known_flags(node.expr, unit)
     for _, child in node.children():
         yield from flags_set(child, unit)
+
+
+def known_flags(node, unit):
+    values = values_of(node, unit)
+    if any(bits is None or bits & ~FLAGS & BELOW_32 for bits in values):
+        refuse(node, 'expected constant flags, of SA_NOCLDSTOP, SA_NOCLDWAIT, SA_SIGINFO, SA_RESTART, SA_NODEFER and '
+               'SA_RESETHAND')
+    return values
 
 
 def values_of(node, unit):
