@@ -24,10 +24,7 @@ OF_PLACE = re.compile(r'\b__(has_include|has_include_next|(FILE|FILE_NAME|BASE_F
 QUOTED = re.compile(r'(["\'])(\\.|(?!\1)[^\\])*\1', re.S)
 ESCAPE = re.compile(r'\\(x[0-9a-fA-F]+|[0-7]{1,3}|.)|(.)', re.S)
 LETTERS = {'n': 10, 't': 9, 'r': 13, '\\': 92, "'": 39, '"': 34, '?': 63, 'a': 7, 'b': 8, 'f': 12, 'v': 11, 'e': 27}
-SYNTAX = {
-    'invalid expression': 'no expression stands here: write a value, or leave out what comes before',
-    'at end of input': 'the file ends within a function or a statement: write } or ;',
-}
+SYNTAX = {'at end of input': 'the file ends within a function or a statement: write } or ;'}
 
 
 class NoGcc(Exception):
@@ -229,7 +226,7 @@ def parse(source, tokens, places):
     try:
         tree = parser.parse('\n'.join(tokens), source.shown)
     except (c_parser.ParseError, AssertionError) as error:          # the latter where a } is too much
-        raise syntax_error(source, places, parser, str(error)) from None
+        raise syntax_error(source, tokens, places, parser, str(error)) from None
     locate(tree, places)
     return tree
 
@@ -242,12 +239,14 @@ def locate(node, places):
         locate(child, places)
 
 
-def syntax_error(source, places, parser, message):
+def syntax_error(source, tokens, places, parser, message):
     found = re.match(r'.*?:(\d+):\d+: (.*)', message)
     if found:
         line, what = int(found[1]), found[2]
     else:
         line, what = number_of_next(parser, places), message.rpartition(': ')[2]
+    if what == 'Invalid expression' and 0 < line <= len(tokens):        # so later versions; earlier ones name the token
+        what = f'before: {tokens[line - 1].strip()}'
     if what.startswith('before: '):
         what = f'this is no C from here on: {what[len("before: "):]}'
     what = SYNTAX.get(what.lower(), what) or 'a } is too much: leave it out'
