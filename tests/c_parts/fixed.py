@@ -227,7 +227,7 @@ def compile_all(folder):
 
 
 # Outcomes on Linux alone. The shell comes too late to make a group for a job that has called exec, and the terminal goes to
-# a group that nobody is in, so the job reads EIO (CONFORMANCE, "tcsetpgrp of a process").
+# a group that nobody is in, so the job reads EIO (CONFORMANCE, "tcsetpgrp of a process ID").
 ON_LINUX_ALONE = {'shell_alone': {(((2, (0,)), (3, (-1,))), 0)}}
 
 

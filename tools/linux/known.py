@@ -13,15 +13,15 @@ REFUSED_AFTER_A_HANGUP = {'tcgetpgrp': '-5', 'settostop': '-5', 'tcsetpgrp': '-2
 FAULTS = 4, 5, 7, 8, 11, 31
 WITH_A_CORE = 3, 4, 5, 6, 7, 8, 11, 24, 25, 31
 # Headings where the result of a call differs, and nothing else comes of it.
-RESULTS_ALONE = {'a-bad-signal-for-nobody', 'kill-of-all-with-none-permitted', 'setctty-again', 'tcsetpgrp-of-no-group',
-                 'tcsetpgrp-in-an-orphaned-group', 'tcgetpgrp-without-a-foreground', 'setpgid-of-a-negative-process',
-                 'waitpid-of-the-least-number', 'waitid-and-a-zombie-alone', 'seteuid-of-the-present-id',
-                 'terminal-calls-after-a-hangup'}
+RESULTS_ALONE = {'einval-or-esrch-from-kill', 'kill-of-all-without-permission', 'setctty-of-the-same-console',
+                 'tcsetpgrp-of-an-unused-number', 'tcsetpgrp-in-an-orphaned-group',
+                 'tcgetpgrp-without-a-foreground-group', 'setpgid-of-a-negative-process-id', 'waitpid-of-int_min',
+                 'waitid-without-wexited', 'seteuid-of-the-current-id', 'terminal-calls-after-a-hangup'}
 # Headings behind which the states can agree again, and all that is hidden in them, too.
-PASSING = {'a-foreground-group-made-again', 'tcsetpgrp-of-a-process', 'a-blocked-signal-of-process-1',
-           'cont-pending-in-process-1', 'kill-of-a-stopped-process', 'notice-of-a-continue',
-           'a-fatal-signal-that-comes-first', 'sigsuspend-that-goes-on', 'which-child-is-reported',
-           'which-orphan-is-told-of-first'}
+PASSING = {'a-recreated-foreground-group', 'tcsetpgrp-of-a-process-id', 'a-blocked-signal-for-process-1',
+           'pending-sigcont-in-process-1', 'sigkill-of-a-stopped-process', 'sigchld-for-a-continue',
+           'fatal-signals-act-at-once', 'the-temporary-mask-of-sigsuspend', 'which-child-is-reported',
+           'which-orphan-is-reported-first'}
 
 
 def reported(text):
@@ -163,7 +163,7 @@ class Known:
             anchor = self.of_result(d.what, here, there)
         if not anchor and d.what.startswith('foreground'):
             is_made_again = here == '0' and there == str(self.lost[int(d.what.split()[-1]) - 1])
-            return 'a-foreground-group-made-again' if is_made_again else None
+            return 'a-recreated-foreground-group' if is_made_again else None
         return anchor or self.of_state(d.what, d.number, here, there)
 
     # -- where the result of the call differs that is made or taken up again
@@ -181,9 +181,9 @@ class Known:
         if name == 'sigaction' and pair == ('-22', '0'):
             if r1 in (32, 33):
                 return 'signals-32-and-33'
-            return 'unknown-flags' if r4 & ~rules.FLAGS and r1 in rules.SIGNALS else None
+            return 'unknown-sigaction-flags' if r4 & ~rules.FLAGS and r1 in rules.SIGNALS else None
         if name == 'setpgid' and pair == ('-3', '-22') and r1 < 0 and r2 == 0:
-            return 'setpgid-of-a-negative-process'
+            return 'setpgid-of-a-negative-process-id'
         return self.of_setctty(pair, r1) if name == 'setctty' else None
 
     def of_setctty(self, pair, r1):
@@ -193,27 +193,27 @@ class Known:
         console = self.machine.consoles[r1 - 1]
         if console.is_hung_up or own and own.is_hung_up:
             return 'setctty-after-a-hangup'
-        return 'setctty-again' if console is own else None
+        return 'setctty-of-the-same-console' if console is own else None
 
     def of_send(self, name, pair, r1, r2):
         p, others = self.run.p, [q for q in self.machine.rising() if q.number != 1]
         if pair == ('-22', '0') and r2 in (32, 33):
             return 'signals-32-and-33'
         if pair == ('-22', '-3') and r2 not in (0, *rules.SIGNALS):
-            return 'a-bad-signal-for-nobody'
+            return 'einval-or-esrch-from-kill'
         if pair == ('-1', '0') and (name, r1) == ('kill', -1):
             is_any_permitted = any(p.may_signal(q, r2) for q in others if q is not p)
-            return None if is_any_permitted else 'kill-of-all-with-none-permitted'
+            return None if is_any_permitted else 'kill-of-all-without-permission'
         if pair == ('-11', '0') and r2 > 33:
-            return 'a-full-queue' if any(len(q.queue) == 32 for q in self.machine.rising()) else None
+            return 'a-full-signal-queue' if any(len(q.queue) == 32 for q in self.machine.rising()) else None
         return None
 
     def of_ids(self, name, pair, r1):
         if pair == ('-22', '0') and not 0 <= r1 <= rules.GREATEST:
-            return 'great-ids'
+            return 'large-ids'
         present = self.run.p.users[1] if name == 'seteuid' else self.run.p.groups[1]
         is_effective = name in ('seteuid', 'setegid')
-        return 'seteuid-of-the-present-id' if is_effective and pair == ('-1', '0') and r1 == present else None
+        return 'seteuid-of-the-current-id' if is_effective and pair == ('-1', '0') and r1 == present else None
 
     def of_wait(self, name, here, there):
         p, (r1, r2, r3) = self.run.p, self.run.registers[1:4]
@@ -221,18 +221,18 @@ class Known:
         if anchor:
             return anchor
         if name == 'waitpid' and r1 == -2**31 and (here, there) == ('-10', '-3'):
-            return 'waitpid-of-the-least-number'
+            return 'waitpid-of-int_min'
         if name == 'waitid' and there == '-10' and self.has_ends_alone(p, r1, r2, r3):
-            return 'waitid-and-a-zombie-alone'
+            return 'waitid-without-wexited'
         number, word = reported(here)
         if not number or not self.asks_for(word):
             return None
         child = self.machine.processes.get(number)
         if child and KILL in child.standard and sort_of(word) != EXITED and there[0] != '-':
-            return 'kill-of-a-stopped-process'
+            return 'sigkill-of-a-stopped-process'
         is_taken_away = number in self.dying and there in ('0', 'asleep')
         if word == CONTINUED_WORD and (is_taken_away or number in self.continued and there == 'asleep'):
-            return 'notice-of-a-continue'
+            return 'sigchld-for-a-continue'
         return 'which-child-is-reported' if self.came_before(number, there) else None
 
     def asks_for(self, word):
@@ -255,9 +255,9 @@ class Known:
     def of_blocked_wait(self, name, here, there):
         p, run, (r1, r2) = self.run.p, self.run, self.run.registers[1:3]
         if p.number in self.stopped_in_call and there == 'asleep' and not run.is_there(p.number):
-            return 'a-stopped-waiter-that-is-ended'
+            return 'a-fatal-signal-for-a-stopped-waiter'
         if p.number in self.stopped_in_call and self.is_interrupted(p, there):
-            return 'a-stopped-call-and-a-handler'
+            return 'eintr-after-a-stop'
         if there != 'asleep':
             return None
         since, group = self.begun[p.number]
@@ -270,7 +270,7 @@ class Known:
         else:
             came = self.came.get(number, 0) > since and sort_of(word) != EXITED
             is_changed = self.asks_for(word) and (came or is_group and self.moved.get(number, 0) > since)
-        return 'a-blocked-wait-judged-afresh' if is_changed else None
+        return 'rechecking-a-blocked-wait' if is_changed else None
 
     def means_own_group(self, name, r1, r2):
         return r1 == 0 if name == 'waitpid' else (r1, r2) == (rules.A_GROUP, 0)
@@ -284,23 +284,23 @@ class Known:
         p, machine, r1, pair = self.run.p, self.machine, self.run.registers[1], (here, there)
         console = machine.console_of(p)
         if there == '-6':
-            return 'children-born-before-setctty' if console and p.number in self.without else None
+            return 'children-forked-before-setctty' if console and p.number in self.without else None
         if console and console.is_hung_up and there == REFUSED_AFTER_A_HANGUP.get(name):
             return 'terminal-calls-after-a-hangup'
         if pair == ('begins again', '-4') and self.run.kind == 'call':
             is_caught = any(number in p.standard and interrupts(p, number) for number in (rules.TTIN, rules.TTOU))
-            return 'ttin-or-ttou-caught' if is_caught else None
+            return 'caught-sigttin-or-sigttou' if is_caught else None
         if name == 'tcgetpgrp' and here == str(self.run.world.pidmax + 1):
             is_lost = there == str(self.lost[machine.consoles.index(console)])
-            return 'tcgetpgrp-without-a-foreground' if is_lost else None
+            return 'tcgetpgrp-without-a-foreground-group' if is_lost else None
         if name == 'tcsetpgrp':
             if pair == ('-5', '-25') and machine.is_orphaned(p.group):
                 return 'tcsetpgrp-in-an-orphaned-group'
             if pair == ('-1', '-3') and not any(r1 in (q.number, q.group, q.session) for q in machine.rising()):
-                return 'tcsetpgrp-of-no-group'
+                return 'tcsetpgrp-of-an-unused-number'
             named = machine.processes.get(r1)
             if pair == ('-1', '0') and named and named.session == p.session and not machine.members(r1):
-                return 'tcsetpgrp-of-a-process'
+                return 'tcsetpgrp-of-a-process-id'
         return self.of_read(console, here, there) if name == 'read' else None
 
     def is_interrupted(self, p, there):
@@ -310,12 +310,12 @@ class Known:
         p, run = self.run.p, self.run
         if run.kind == 'again':
             if p.number in self.stopped_in_call and ' bytes ' in here and self.is_interrupted(p, there):
-                return 'a-stopped-call-and-a-handler'
+                return 'eintr-after-a-stop'
             is_judged = here in ('begins again', '-5', '-25')
             if is_judged and (there in ('asleep', '0') or ' bytes ' in there or self.is_interrupted(p, there)):
-                return 'a-blocked-read-judged-afresh'
+                return 'rechecking-a-blocked-read'
         if console and console.has_dropped and ' bytes ' in there:
-            return 'long-lines'
+            return 'input-line-limits'
         if there != 'asleep' or here[0] == '-':
             return None
         others = [q for q in self.machine.rising() if q is not p and q.session == p.session
@@ -328,18 +328,18 @@ class Known:
         run, q = self.run, self.machine.processes.get(number)
         words = [line[0] for line in run.lines]
         if run.frames == 16 and run.kind == 'signal' and ['end', '11'] in [line[::2] for line in run.lines]:
-            return 'seventeen-handlers'
+            return 'seventeen-nested-handlers'
         if what == 'record' and there == 'gone' and run.kind == 'kill' and run.was_in in WAITS:
-            return 'kill-of-a-waiting-parent' if number in [child.number for child in self.left] else None
+            return 'sigkill-of-a-waiting-parent' if number in [child.number for child in self.left] else None
         if what == 'record' and there == 'there' and run.kind == 'signal' and 'end' in words:
-            return 'a-stopped-waiter-that-is-ended' if run.p.number in self.stopped_in_call else None
+            return 'a-fatal-signal-for-a-stopped-waiter' if run.p.number in self.stopped_in_call else None
         if not q:
             return None
         if self.is_told_of_hangup(what, q, here, there):
-            return 'hup-and-cont-of-a-hangup'
+            return 'signals-of-a-hangup'
         call, registers = (run.was_in, run.registers) if q is run.p else (q.call, q.r)
         if call == 'waitid' and there == '-10' and self.has_ends_alone(q, *registers[1:4]):
-            return 'waitid-and-a-zombie-alone'
+            return 'waitid-without-wexited'
         if what in ('life', 'pending') and 'end' in words and self.is_orphaned_twice(what, q, here, there):
             return 'a-group-orphaned-twice'
         if what == 'pending':
@@ -354,7 +354,7 @@ class Known:
         signals, is_of_another = self.dying.get(number), what in ('parent', 'group', 'session', 'mask', 'record')
         if not signals or is_of_another or what == 'status' and int(there) not in signals:
             return None
-        return 'a-fatal-signal-that-comes-first'
+        return 'fatal-signals-act-at-once'
 
     def is_told_of_hangup(self, what, q, here, there):
         """Whether Linux sends q a CONT, too: the leader at a hangup, and at its end what was the foreground then, which
@@ -380,14 +380,14 @@ class Known:
     def of_pending(self, q, more_here, more_there):
         if q.number == 1 and more_there and not more_here:
             is_blocked = all(q.mask & bit(number) and not q.has_handler(number) for number in more_there)
-            return 'a-blocked-signal-of-process-1' if is_blocked else None
+            return 'a-blocked-signal-for-process-1' if is_blocked else None
         if q.number == 1 and more_here and not more_there:
             sent = self.sent()
             discards = more_here == {CONT} and sent in STOPS or more_here <= {*STOPS} and sent == CONT
             if discards and not q.has_handler(sent):
-                return 'cont-pending-in-process-1'
+                return 'pending-sigcont-in-process-1'
         if not more_there and self.goes_on(q, more_here):
-            return 'sigsuspend-that-goes-on'
+            return 'the-temporary-mask-of-sigsuspend'
         if more_here | more_there == {rules.CHLD}:
             children = [c for c in self.machine.children(q) if c.number in (self.continued if more_here else self.told)]
             return self.of_continue(children)
@@ -403,8 +403,8 @@ class Known:
     def of_continue(self, children):
         """Of the notice that Linux sends as one of these children next runs, or not at all as it is dying."""
         if any(KILL in child.standard for child in children):
-            return 'kill-of-a-stopped-process'
-        return 'notice-of-a-continue' if children else None
+            return 'sigkill-of-a-stopped-process'
+        return 'sigchld-for-a-continue' if children else None
 
     def of_handler(self, q, here, there):
         """The same for a handler, `here` and there its signal, value and sender, behind `handler` there."""
@@ -415,15 +415,15 @@ class Known:
                 return self.of_continue([child])
         if here[0] == '17' and signal == rules.CHLD and int(here[2]) < sender:
             if {int(here[2]), sender} <= self.came_together.get(q.number, set()):
-                return 'which-orphan-is-told-of-first'
+                return 'which-orphan-is-reported-first'
         if signal in FAULTS and signal in q.standard and here[0].isdecimal() and int(here[0]) < signal:
-            return 'signals-of-faults-first'
-        return 'sigsuspend-that-goes-on' if signal and self.goes_on(q, {signal}) else None
+            return 'synchronous-signals-first'
+        return 'the-temporary-mask-of-sigsuspend' if signal and self.goes_on(q, {signal}) else None
 
     def of_life(self, q, there):
         ends = [number for number in q.standard if self.goes_on(q, {number}) and q.action(number)[0] == rules.DEFAULT
                 and number not in STOPS and not q.does_nothing(number)]
-        return 'sigsuspend-that-goes-on' if there == 'zombie' and ends else None
+        return 'the-temporary-mask-of-sigsuspend' if there == 'zombie' and ends else None
 
     def goes_on(self, q, signals):
         """Whether q goes on with a sigsuspend whose mask alone blocks these signals."""
