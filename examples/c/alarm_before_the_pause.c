@@ -1,4 +1,4 @@
-/* A pause that an alarm is to end. The alarm can ring before the pause begins: then nobody wakes the pause. */
+/* A pause that an alarm should end. If the alarm rings before the pause begins, no signal ends the pause. */
 #include "jobk.h"
 
 static void on_alrm(int signal_number)

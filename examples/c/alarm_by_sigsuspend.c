@@ -1,4 +1,4 @@
-/* A wait that an alarm is to end. SIGALRM is blocked but while the program waits, so it can't ring too early. */
+/* A wait that an alarm should end. SIGALRM is blocked except while the program waits, so it cannot arrive too early. */
 #include "jobk.h"
 
 static void on_alrm(int signal_number)

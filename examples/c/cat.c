@@ -1,4 +1,4 @@
-/* A job: it reads lines from the terminal, and writes each. */
+/* A job that reads lines from the terminal, and writes each. */
 #include "jobk.h"
 
 int main(void)

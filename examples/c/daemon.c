@@ -1,4 +1,4 @@
-/* A daemon: born by two forks, in a session that it doesn't lead, so that it can't get a controlling terminal. */
+/* A daemon made by a double fork. It does not lead its session, so it cannot acquire a controlling terminal. */
 #include "jobk.h"
 
 int main(void)

@@ -1,4 +1,4 @@
-/* A daemon is born by two forks. It may ask for its parent before the one in the middle has ended. */
+/* A double fork makes a daemon. It may call getppid before the intermediate process has exited. */
 #include "jobk.h"
 
 int main(void)

@@ -1,4 +1,4 @@
-/* A daemon is born by two forks. It looks again until its parent is another process than the one in the middle. */
+/* A double fork makes a daemon. It repeats getppid until its parent is no longer the intermediate process. */
 #include "jobk.h"
 
 int main(void)

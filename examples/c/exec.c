@@ -1,4 +1,4 @@
-/* Runs another program, with a number. */
+/* Runs another program with a number as argument. */
 #include "jobk.h"
 
 int main(void)

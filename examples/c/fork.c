@@ -1,4 +1,4 @@
-/* A child that exits with 3, and its parent, which waits for it. */
+/* A child exits with code 3, and its parent waits for it. */
 #include "jobk.h"
 
 int main(void)

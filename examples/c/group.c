@@ -1,4 +1,4 @@
-/* A signal to the process group of a child. */
+/* Sends a signal to the process group of a child. */
 #include "jobk.h"
 
 int main(void)

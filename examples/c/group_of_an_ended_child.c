@@ -1,4 +1,4 @@
-/* A shell whose SIGCHLD handler collects children. A child can end, and be collected, before its group is made. */
+/* A shell whose SIGCHLD handler reaps children. A child can exit, and be reaped, before its group is made. */
 #include "jobk.h"
 
 static void on_chld(int signal_number)

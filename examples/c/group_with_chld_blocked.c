@@ -1,4 +1,4 @@
-/* A shell whose SIGCHLD handler collects children. It is blocked from the fork to the last call for the child. */
+/* A shell whose SIGCHLD handler reaps children. SIGCHLD is blocked from the fork to the last call for the child. */
 #include "jobk.h"
 
 static void on_chld(int signal_number)

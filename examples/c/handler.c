@@ -1,4 +1,4 @@
-/* A handler that counts. */
+/* A handler that counts signals. */
 #include "jobk.h"
 
 static volatile sig_atomic_t count;

@@ -1,10 +1,10 @@
-/* A small init: three services, of which one fails and is started again, and an orderly end.
+/* A small init: it runs three services, restarts one that exits, and shuts down in order.
  *
- * A service that ends is started again, three times at most; then init ends the others. TERM comes first, and KILL
- * after two seconds for those that are still there: the second service ignores TERM, the third one cleans up.
+ * A service that exits is restarted, for at most three starts. Then init terminates the others: it sends SIGTERM, and
+ * after two seconds SIGKILL to those left. The second service ignores SIGTERM, the third cleans up.
  *
- * SIGCHLD and SIGALRM are blocked but while init waits in sigsuspend. SIGTERM is blocked from before the fork until a
- * service has said what it does with it, so no service is ended by a TERM that comes too early.
+ * SIGCHLD and SIGALRM are blocked except while init waits in sigsuspend. SIGTERM is blocked from before the fork until
+ * a service has set its action, so no service is killed by an early SIGTERM.
  */
 #include "jobk.h"
 
@@ -64,7 +64,7 @@ static int service_of(pid_t pid)
     return -1;
 }
 
-/* Collects what has ended, and gives the last service of it, or -1. */
+/* Reaps one process. Returns its service, or -1 if there is none. */
 static int collect(void)
 {
     int status = 0, service = -1;
@@ -92,7 +92,7 @@ static void send_all(int signal_number)
             kill(pids[i], signal_number);
 }
 
-/* Starts again what ends, until a service has ended too often. */
+/* Restarts services that exit, until one has exited too often. */
 static void watch(void)
 {
     for (;;) {

@@ -1,4 +1,4 @@
-/* The job alone makes its process group and takes the terminal for it. The shell asks whether the group is there. */
+/* Only the job makes its process group and gives it the terminal. The shell checks whether the group exists. */
 #include "jobk.h"
 
 static void run_job(void)

@@ -1,4 +1,4 @@
-/* A shell that runs one job in the foreground, and continues it there once it has stopped. */
+/* A shell that runs one job in the foreground, and continues it there after a stop. */
 #include "jobk.h"
 
 static void run_job(void)

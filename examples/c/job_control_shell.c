@@ -1,9 +1,9 @@
-/* The shell of examples/job_control_shell: a job in the foreground, which ^Z stops, and which bg and fg continue. */
+/* The shell of examples/job_control_shell: ^Z stops its foreground job, and bg and fg continue it. */
 #include "jobk.h"
 
 static char line[16];
 
-/* As the shell or the job may act first, both make the group, and both give it the terminal. */
+/* Either the shell or the job may run first, so both make the group, and both give it the terminal. */
 static void run_job(void)
 {
     setpgid(0, 0);
@@ -17,7 +17,7 @@ static void run_job(void)
     }
 }
 
-/* Waits until the job stops or ends, and takes the terminal back. */
+/* Waits until the job stops or terminates, and takes the terminal back. */
 static void watch(pid_t shell)
 {
     int status = 0;

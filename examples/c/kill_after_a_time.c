@@ -1,4 +1,4 @@
-/* TERM, and a time to clean up before KILL: a wait that an alarm bounds. */
+/* SIGTERM, then time to clean up before SIGKILL: a wait that an alarm limits. */
 #include "jobk.h"
 
 static void on_term(int signal_number)

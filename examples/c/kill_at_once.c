@@ -1,4 +1,4 @@
-/* TERM, and KILL at once behind it: whether the child still cleans up depends on who acts between them. */
+/* SIGTERM, and SIGKILL right after it: whether the child cleans up depends on which process runs between them. */
 #include "jobk.h"
 
 static void on_term(int signal_number)

@@ -1,4 +1,4 @@
-/* TERM, and a time to clean up before KILL. The child tells by USR1 that its handler is set. */
+/* SIGTERM, then time to clean up before SIGKILL. The child sends SIGUSR1 when its handler is set. */
 #include "jobk.h"
 
 static void on_term(int signal_number)

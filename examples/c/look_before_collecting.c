@@ -1,4 +1,4 @@
-/* Looks at a child that has ended, which stays a zombie, and then collects it. */
+/* Looks at a child that has exited, which stays a zombie, and then reaps it. */
 #include "jobk.h"
 
 int main(void)

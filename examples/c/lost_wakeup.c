@@ -1,4 +1,4 @@
-/* A handler counts the children that ended. The last one can end between the look at the count and the pause. */
+/* A handler counts the children that have exited. The last one can exit between the check of it and the pause. */
 #include "jobk.h"
 
 static volatile sig_atomic_t ended;

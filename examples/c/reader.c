@@ -1,4 +1,4 @@
-/* A job that reads one line: it notes how many bytes came. */
+/* A job that reads one line, and shows how many bytes it has. */
 #include "jobk.h"
 
 int main(void)

@@ -1,4 +1,4 @@
-/* A service manager is the parent of what its services leave behind. */
+/* A service manager becomes the parent of the orphans of its services. */
 #include "jobk.h"
 
 static void manage(void)

@@ -1,34 +1,34 @@
-/* A job control shell: a table of eight jobs, each a process or a pipeline of three, in the foreground or behind it.
+/* A shell with job control, and a table of eight jobs: each a process or a pipeline of three, foreground or background.
  *
- * Commands are words of which the first letter counts, with the number of a job where one is meant:
+ * Only the first letter of a command counts; a command can have the number of a job:
  *
- *     cat         a job in the foreground            fg 2        job 2 goes on in the foreground
- *     pipe        a pipeline of three                bg 2        job 2 goes on in the background
+ *     cat         a job in the foreground            fg 2        job 2 continues in the foreground
+ *     pipe        a pipeline of three                bg 2        job 2 continues in the background
  *     cat &       a job in the background            jobs        shows the table
  *
- * Without a number the last job is meant. An end of file ends the shell. What becomes of a job is noted before the next
- * prompt, as 100 times its number and its state.
+ * Without a number, fg and bg take the last job. End of file ends the shell. Before each prompt, the shell notes each
+ * job whose state has changed, as 100 * its number + its state.
  *
- * SIGCHLD is blocked while the shell looks at its table: only while it waits, for a job in sigsuspend or for a command
- * in read, can the handler change it. So no change is missed, and a child that has ended stays a zombie, whose
- * process group is there, until the shell has done with it.
+ * SIGCHLD is blocked while the shell uses its table. The handler can change the table only while the shell waits: for a
+ * job in sigsuspend, or for a command in read. So no change is missed, and until the shell has finished with a child
+ * that has terminated, it stays a zombie, and its process group exists.
  */
 #include "jobk.h"
 
 #define JOBS 8
-#define WIDTH 3                         /* the most processes of a job */
+#define WIDTH 3                         /* at most so many processes in a job */
 
 enum state { NONE, RUNNING, STOPPED, DONE };
 
 static pid_t members[JOBS * WIDTH];     /* the processes of each job, side by side */
-static int states[JOBS * WIDTH];        /* and what each of them does */
+static int states[JOBS * WIDTH];        /* and the state of each */
 static pid_t groups[JOBS];              /* the process group of each job, or 0 */
-static int told[JOBS];                  /* the state that was told last */
+static int told[JOBS];                  /* the state that was noted last */
 static char line[16];                   /* the command */
-static sigset_t open_mask;              /* the signal mask while the shell waits, and of its jobs */
-static int last;                        /* the job that is meant without a number */
+static sigset_t open_mask;              /* the signal mask while the shell waits, and in its jobs */
+static int last;                        /* the job of fg and bg without a number */
 
-/* Keeps what became of a process; called by the handler alone. */
+/* Records the new state of a process. Only the handler calls this. */
 static void mark(pid_t pid, int status)
 {
     int i = 0;
@@ -56,7 +56,7 @@ static void on_chld(int signal_number)
     errno = saved;
 }
 
-/* The state of a job: it runs while one of its processes does, and is done once all are. */
+/* Returns the state of a job: it runs while one of its processes runs, and is done once all are done. */
 static int state_of(int job)
 {
     int state = DONE;
@@ -69,7 +69,7 @@ static int state_of(int job)
     return state;
 }
 
-/* Tells of a job what wasn't told yet, and forgets it once it is done. */
+/* Notes the state of a job if it has changed, and forgets the job once it is done. */
 static void tell(int job)
 {
     int state = state_of(job);
@@ -88,7 +88,7 @@ static void tell_all(void)
             tell(job);
 }
 
-/* The signals that a terminal sends: the shell ignores them, its jobs have them by default. */
+/* Sets the signals that a terminal sends: the shell ignores them, its jobs have the default action. */
 static void set_terminal_signals(int ignored)
 {
     struct sigaction action = { .sa_handler = SIG_DFL };
@@ -100,7 +100,7 @@ static void set_terminal_signals(int ignored)
     sigaction(SIGTTOU, &action, NULL);
 }
 
-/* A process of a job. As the shell or the job may act first, both make the group, and both give it the terminal. */
+/* A process of a job. Either the shell or the job may run first, so both make the group, and both give it the terminal. */
 static void run_member(pid_t group, int background)
 {
     setpgid(0, group);
@@ -112,7 +112,7 @@ static void run_member(pid_t group, int background)
     _exit(127);
 }
 
-/* Waits until a job in the foreground stops or is done, and takes the terminal back. */
+/* Waits until a foreground job stops or is done, and takes the terminal back. */
 static void wait_for(int job)
 {
     while (state_of(job) == RUNNING)
@@ -128,7 +128,7 @@ static int free_job(void)
     return -1;
 }
 
-/* Starts a job of so many processes. */
+/* Starts a job of COUNT processes. */
 static void launch(int count, int background)
 {
     int job = free_job();
@@ -158,7 +158,7 @@ static void launch(int count, int background)
     wait_for(job);
 }
 
-/* Lets a job go on: in the foreground it gets the terminal first. */
+/* Continues a job. In the foreground, it gets the terminal first. */
 static void resume(int job, int foreground)
 {
     if (job < 0 || job >= JOBS || groups[job] == 0) {
@@ -177,7 +177,7 @@ static void resume(int job, int foreground)
         wait_for(job);
 }
 
-/* The job that a command of so many bytes names behind its word, or the last one. */
+/* Returns the job that a command of COUNT bytes names, or the last job. */
 static int named_job(int count)
 {
     for (int i = 0; i < count; i++)
@@ -194,7 +194,7 @@ static int is_background(int count)
     return 0;
 }
 
-/* Reads a command: how many bytes it has, or 0 at the end of file. */
+/* Reads a command. Returns the number of its bytes, or 0 at end of file. */
 static int read_command(void)
 {
     sigset_t blocked;
@@ -232,7 +232,7 @@ static void obey(int count)
     }
 }
 
-/* Ends what is left, also where it is stopped. */
+/* Terminates the jobs that are left, even stopped ones. */
 static void leave(void)
 {
     for (int job = 0; job < JOBS; job++)

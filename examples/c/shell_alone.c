@@ -1,4 +1,4 @@
-/* The shell alone gives its job a process group and the terminal. */
+/* Only the shell gives its job a process group and the terminal. */
 #include "jobk.h"
 
 static void run_job(void)

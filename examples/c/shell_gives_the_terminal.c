@@ -1,4 +1,4 @@
-/* The shell and the job make the job's process group, and the shell alone gives it the terminal. */
+/* The shell and the job both make the job's process group, and only the shell gives it the terminal. */
 #include "jobk.h"
 
 static void run_job(void)

@@ -1,4 +1,4 @@
-/* A shell that hands HUP on to its jobs as its terminal hangs up, and ends once they have ended. */
+/* A shell whose terminal hangs up sends SIGHUP to its jobs, and exits once they have terminated. */
 #include "jobk.h"
 
 static int jobs[2];

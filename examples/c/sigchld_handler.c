@@ -1,4 +1,4 @@
-/* A SIGCHLD handler that collects children. The signal is blocked but while the program waits in sigsuspend. */
+/* A SIGCHLD handler that reaps children. The signal is blocked except while the program waits in sigsuspend. */
 #include "jobk.h"
 
 static volatile sig_atomic_t ended;

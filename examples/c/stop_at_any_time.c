@@ -1,10 +1,10 @@
-/* The shell of job_control_shell.c, which ignores TSTP, too: a ^Z at its prompt, where it has the terminal itself, would
+/* The shell of job_control_shell.c, which also ignores SIGTSTP: at its prompt it is in the foreground, so a ^Z would
    stop it. */
 #include "jobk.h"
 
 static char line[16];
 
-/* As the shell or the job may act first, both make the group, and both give it the terminal. */
+/* Either the shell or the job may run first, so both make the group, and both give it the terminal. */
 static void run_job(void)
 {
     setpgid(0, 0);
@@ -19,7 +19,7 @@ static void run_job(void)
     }
 }
 
-/* Waits until the job stops or ends, and takes the terminal back. */
+/* Waits until the job stops or terminates, and takes the terminal back. */
 static void watch(pid_t shell)
 {
     int status = 0;

@@ -1,4 +1,4 @@
-/* A wait that an alarm ends, and what becomes of the child then. */
+/* A wait that an alarm ends. Then the child is killed and reaped. */
 #include "jobk.h"
 
 static void on_alrm(int signal_number)

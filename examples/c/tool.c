@@ -1,4 +1,4 @@
-/* The program that exec.c runs: it exits with its argument. */
+/* The program that exec.c runs. It exits with its argument. */
 #include "jobk.h"
 
 int main(int argc, char **argv)

@@ -1,4 +1,4 @@
-/* Collects all children: until there is none, and also where a signal comes between. */
+/* Reaps all children, even if a signal interrupts a wait. */
 #include "jobk.h"
 
 int main(void)

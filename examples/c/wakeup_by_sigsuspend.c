@@ -1,4 +1,4 @@
-/* A handler counts the children that ended. SIGCHLD is blocked but while the program waits in sigsuspend. */
+/* A handler counts the children that have exited. SIGCHLD is blocked except while the program waits in sigsuspend. */
 #include "jobk.h"
 
 static volatile sig_atomic_t ended;
