@@ -1,4 +1,4 @@
-/* A handler counts the children that have exited. The last one can exit between the check of it and the pause. */
+/* A handler counts exited children. The last one can exit after main has checked the count and before it pauses. */
 #include "jobk.h"
 
 static volatile sig_atomic_t ended;

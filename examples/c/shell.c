@@ -100,7 +100,7 @@ static void set_terminal_signals(int ignored)
     sigaction(SIGTTOU, &action, NULL);
 }
 
-/* A process of a job. Either the shell or the job may run first, so both make the group, and both give it the terminal. */
+/* A process of a job. The shell or the job may run first, so both make the group, and both give it the terminal. */
 static void run_member(pid_t group, int background)
 {
     setpgid(0, group);
