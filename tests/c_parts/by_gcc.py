@@ -1,5 +1,5 @@
-"""Programs that note, write and end in a world as they do by gcc on Linux: those in by_gcc. What is written there is what
-gcc's program does, and gcc has to do it still."""
+"""The programs of by_gcc note, write and exit in a world as on Linux, where gcc compiles them. Each file there also has
+what its programs do, which gcc's programs must still do."""
 import concurrent.futures
 import glob
 import os
@@ -18,7 +18,7 @@ EVENTS, WORKERS, LONGEST = ['step 100000'], 4, 20
 
 
 def cases():
-    """The name of each program, its text, what it does, and what is said where it is refused, or None."""
+    """Yields the name of each program, its text, what it does, and the message if it is refused, otherwise None."""
     for path in sorted(glob.glob(os.path.join(HERE, 'by_gcc', '*.txt'))):
         with open(path, encoding='latin-1') as file:
             yield from map(case, re.split(r'^-- ', file.read(), flags=re.M)[1:])
@@ -32,7 +32,7 @@ def case(part):
 
 
 def on_linux(text, folder):
-    """What gcc's program notes, how it ends, and what it writes."""
+    """Returns what gcc's program notes, its exit status, and what it writes."""
     path = os.path.join(folder, 'program')
     with open(path + '.c', 'w', encoding='latin-1') as file:
         file.write(text)
@@ -44,7 +44,7 @@ def on_linux(text, folder):
 
 
 def in_world(program, text, folder):
-    """The same of the world, or what is said where it is refused."""
+    """Returns the same of the world, or the message if the program is refused."""
     try:
         made = world([parse_source('p.c', text)])
     except Refused as it:

@@ -1,22 +1,22 @@
-"""What random programs have beside their statements: parts that each show one thing that C says."""
+"""Parts of random programs beside their statements. Each part shows one rule of C."""
 import random
 from dataclasses import dataclass, field
 
-# How much a program has of what is rarer in C: half of the programs have nothing of it.
+# How likely a program may have each construct that is rare in C: not at all for half of the programs.
 BREADTHS = (0, 0, 0, 0.25, 0.25, 0.6)
-# How often a program may have a construct that a compiler of a subset may refuse: more would leave less to compare.
+# How often a program may have a construct that the compiler may refuse: a refused program is not compared.
 SELDOM = 0.03
-GROUPS = {}                             # by name a class: `any` of an instance makes a part
+GROUPS = {}                             # by name, a class whose method `any` makes a part
 
 
 @dataclass
 class Part:
-    """Lines for the file and lines for a function; what is shown after its mark tells of it."""
+    """Lines for the file and lines for a function. What is shown after its mark is its output."""
     name: str
     before: list
     main: list
     has_terminal: bool = False
-    tool: list = field(default_factory=list)            # the lines of a program that it runs by execl
+    tool: list = field(default_factory=list)            # a program that it runs by execl: its name and lines
 
 
 def group(name):
@@ -27,13 +27,13 @@ def group(name):
 
 
 def indented(lines):
-    """Lines within braces; those of directives, and what goes on from a line before, stay where they are."""
+    """Indents lines, except directives and lines that continue the one before."""
     return [line if line.startswith('#') or before.endswith('\\') else '    ' + line
             for before, line in zip(['', *lines], lines)]
 
 
 class Chance(random.Random):
-    """Draws, also which of the rarer constructs a program may have."""
+    """A source of random numbers, which also draws the rare constructs that a program may have."""
 
     def begin(self):
         self.breadth, self.drawn = self.choice(BREADTHS), {}
@@ -46,7 +46,7 @@ class Chance(random.Random):
         return self.drawn.setdefault(construct, self.random() < SELDOM)
 
     def one_of(self, always, **rare):
-        """One of some, and of those that a program may have."""
+        """Returns one of these choices, or of the rare ones that the program may have."""
         return self.choice([*always, *(it for construct, some in rare.items() if self.may(construct) for it in some)])
 
 

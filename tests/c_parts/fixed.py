@@ -18,7 +18,7 @@ from source import parse_source, read_sources
 HERE = os.path.dirname(os.path.abspath(__file__))
 TOP = os.path.dirname(os.path.dirname(HERE))
 EXAMPLES = os.path.join(TOP, 'examples', 'c')
-# Files that others run by execl.
+# Programs that other programs run by execl.
 PROGRAMS = {'cat', 'less', 'reader', 'tool'}
 RUNS, WORKERS = 20, 8
 SEED, MOMENTS, ENDS = 1, 200, ['key 1 04', 'step 5000']
@@ -70,18 +70,18 @@ def refused():
     return count, failures
 
 
-# Names of the system that are no constants of C, or that C has in enums.
+# Names of the system that are not constants in C, and names that C has in enums.
 NO_CONSTANTS, OF_ENUMS = {'SIGRTMIN', 'SIGRTMAX', 'SIG_DFL', 'SIG_IGN'}, {'P_ALL', 'P_PID', 'P_PGID'}
 
 
 def names_of_the_system():
-    """The numbers that tools/c/include has, and those that jobk has names for, beside those of the system's headers."""
+    """Compares the numbers of tools/c/include, and those that jobk has names for, with the system's headers."""
     header = read(TOP, 'tools', 'c', 'include', 'jobk.h')
     numbers = dict(re.findall(r'^#define (\w+) (0x[0-9a-f]+|\d+)$', header, re.M))
     numbers |= dict(re.findall(r'(CLD_\w+) = (\d+)', header))
     rows = dict(re.findall(r'\(Kind::\w+, "(\w+)", (\w+)\)', read(TOP, 'crates', 'wording', 'src', 'table.rt')))
     failures = [f'{name} is not in tools/c/include/jobk.h' for name in rows if not re.search(rf'\b{name}\b', header)]
-    failures += [f'{name} is a macro in one place' for name in OF_ENUMS if name in numbers]
+    failures += [f'{name} is a macro in tools/c/include/jobk.h, but not in C' for name in OF_ENUMS if name in numbers]
     checks = {**rows, **numbers}
     with tempfile.TemporaryDirectory() as folder:
         path = os.path.join(folder, 'names.c')

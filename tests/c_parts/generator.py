@@ -13,9 +13,9 @@ from features import GROUPS, Chance, indented
 
 MOST = 2 ** 30
 SMALL = 9973                        # what is kept in variables stays below
-FIRST_MARK = 900000                 # what is noted before a part
-HAS_STATEMENTS = 0.4                # how often a program has more than parts
-HAS_GROUP = {True: 0.22, False: 0.65}    # how often one with statements, and one without them, has a part of a group
+FIRST_MARK = 900000                 # the first of the notes that mark the parts
+HAS_STATEMENTS = 0.4                # how often a program has statements beside its parts
+HAS_GROUP = {True: 0.22, False: 0.65}    # how often a program has a part of a group, with statements or without
 ARITHMETIC = ('+', '-', '*', '/', '%', '&', '|', '^')
 COMPARISONS = ('==', '!=', '<', '<=', '>', '>=')
 
@@ -86,14 +86,14 @@ class Scope:
 
 @dataclass
 class Program:
-    """A program without its #include; its main is main_ and its number."""
+    """A program without its #include. Its main is named main_ and its number."""
     number: int
     text: str
     parts: list
 
     @property
     def tools(self):
-        """The programs that it runs: their names, and the lines of their main."""
+        """Returns the programs that it runs: the name of each, and the lines of its main."""
         return [part.tool for part in self.parts if part.tool]
 
     @property
@@ -329,7 +329,7 @@ class Generator:
     # programs
 
     def program(self):
-        """A program with some parts; its main is main_ and its number."""
+        """Returns a program with some parts. Its main is named main_ and its number."""
         scope = Scope([self.new('g') for _ in range(3)], [self.new('gc')], [self.new('ga')])
         lines = [f'static int {name} = {self.random.randrange(100)};' for name in scope.numbers]
         lines += [f'static char {name};' for name in scope.letters]
@@ -350,7 +350,7 @@ class Generator:
         return Program(self.number, '\n'.join(lines) + '\n', parts)
 
     def parts(self, chance):
-        """The parts of some groups, in any order."""
+        """Returns parts of some groups, in any order."""
         made = []
         for name, of in GROUPS.items():
             if self.random.random() < chance:
@@ -399,7 +399,7 @@ class Generator:
                 '    note(signal_number);', *self.block(inner, 0, 1, '    '), *calls, '}']
 
     def main(self, scope, parts, has_statements):
-        """Calls the parts, some before the statements and some after them."""
+        """Returns a main that calls the parts, some before the statements and some after them."""
         calls = [[f'    note({FIRST_MARK + place});', f'    part{place}{self.ending}();']
                  for place in range(len(parts))]
         early = self.random.randrange(len(parts) + 1)

@@ -1,4 +1,4 @@
-"""Sets of signals, what a handler is told, handlers that are entered again, and what a status word tells."""
+"""Signal sets, members of siginfo_t, handlers that are entered again while they run, and wait statuses."""
 from features import Maker, Part, group, indented
 
 SIGNALS = ['SIGUSR1', 'SIGUSR2', 'SIGCHLD', 'SIGTERM', 'SIGHUP', 'SIGALRM', 'SIGRTMIN', 'SIGKILL', 'SIGSTOP']
@@ -9,7 +9,7 @@ NUMBERS = [-1, 0, 1, 2, 10, 31, 32, 33, 34, 63, 64, 65, 66, 100, 150, 1000]
 @group('sets')
 class Sets(Maker):
     def signal(self, name):
-        """A signal by its name or by a variable; of a variable it may be none."""
+        """Returns a signal's name, or an expression of a variable, whose value may be no signal."""
         return self.pick(self.pick_of(SIGNALS), name, name, f'{name} + 1')
 
     def begin(self, a):
@@ -36,7 +36,7 @@ class Sets(Maker):
         return [f'note(sigismember(&{a}, {self.pick_of(SIGNALS)}));' for _ in range(2)]
 
     def ranges(self):
-        """Signals that are none, or those of the library, in variables."""
+        """Variables whose values are no signals, or signals that the C library reserves."""
         a, b, number = self.new('l'), self.new('l'), self.new('l')
         main = [f'sigset_t {a}, {b};', f'int {number} = {self.pick_of(NUMBERS)};', 'errno = 0;', self.begin(a)]
         for _ in range(self.random.randrange(2, 5)):
@@ -60,7 +60,7 @@ class Sets(Maker):
         return Part('sets, in range', [], main)
 
     def masks(self):
-        """What is blocked, and what is pending. Signals that are ignored are not sent: Linux keeps them."""
+        """Blocked and pending signals. No ignored signal is sent: Linux keeps a blocked one pending, jobk doesn't."""
         name, a, old, some = self.new('on'), self.new('l'), self.new('l'), self.random.sample(CAUGHT, 2)
         how = self.pick('SIG_BLOCK', 'SIG_SETMASK', 'SIG_BLOCK', '99', '-1')
         before = [f'static void {name}(int number)', '{', '    note(number);', '}']
@@ -80,7 +80,7 @@ class Sets(Maker):
 
 @group('siginfo')
 class Siginfo(Maker):
-    """What a handler and waitid are told."""
+    """The siginfo_t of handlers and of waitid."""
     FIELDS = ['{0}si_code', '{0}si_code', '{0}si_pid == getpid()', '{0}si_status', '{0}si_value.sival_int', '{0}si_int',
               '{0}si_code == CLD_EXITED', '{0}si_code == CLD_KILLED', '{0}si_pid > 0', '{0}si_code < 0']
     RARE_FIELDS = ['{0}si_signo', '{0}si_errno', '{0}si_uid == getuid()', '{0}si_code == SI_USER',
@@ -105,7 +105,7 @@ class Siginfo(Maker):
                 f'sigaction({signal}, &{action}, NULL);']
 
     def sent(self):
-        """Signals of kill, or of sigqueue."""
+        """Signals that kill or sigqueue sends."""
         name, signal = self.new('on'), self.pick_of(CAUGHT + ['SIGRTMIN', 'SIGRTMIN + 1', 'SIGRTMAX'])
         if self.random.random() < 0.04:
             signal = 'SIGCHLD'
@@ -113,7 +113,7 @@ class Siginfo(Maker):
         send = self.pick(f'kill(getpid(), {signal});', f'kill(getpid(), {signal});', f'kill(0, {signal});',
                          f'sigqueue(getpid(), {signal}, (union sigval){{ .sival_int = {value} }});')
         fields = self.fields
-        if self.random.random() < 0.85:             # what a signal tells that no child sends is hard to know
+        if self.random.random() < 0.85:             # si_code and si_status are refused if the signal is not SIGCHLD
             fields = [it for it in self.fields if 'code' not in it and 'status' not in it]
         return Part(f'siginfo, of {send[:8].partition("(")[0]}', self.handler(name, fields),
                     [*self.installed(name, signal), send])
@@ -142,7 +142,7 @@ class Siginfo(Maker):
         return Part('siginfo, of waitid', [], main)
 
     def no_news(self):
-        """A child that has nothing to report yet."""
+        """A child without a status change that is to be reported."""
         info, child, status = self.new('l'), self.new('l'), self.new('l')
         main = ['signal(SIGCHLD, SIG_DFL);', f'siginfo_t {info} = {{ 0 }};', f'int {status} = 77;',
                 f'pid_t {child} = fork();',
@@ -156,7 +156,7 @@ class Siginfo(Maker):
         return Part('siginfo, no news', [], main)
 
     def kept(self):
-        """Members that the program itself sets."""
+        """Members that the program sets itself."""
         info = self.new('l')
         main = [f'siginfo_t {info} = {{ 0 }};']
         for _ in range(self.random.randrange(1, 4)):
@@ -173,7 +173,7 @@ class Siginfo(Maker):
 
 @group('handlers')
 class Handlers(Maker):
-    """Handlers that are entered again while they run, and some that are not. Each has variables that have to stay."""
+    """Handlers that are entered again while they run, and some that are not. Each checks that its variables last."""
 
     def variables(self, depth):
         count = self.pick(1, 2, 3, 3, 3, 4, 4, 5)
@@ -191,7 +191,7 @@ class Handlers(Maker):
                 f'    if ({depth} < 2)', f'        {send}', *indented(end), '}']
 
     def two_actions(self, copy):
-        """One handler for two signals, by a copy of its address."""
+        """Sets one handler for two signals, by a copy of its address."""
         depth, name, (one, other) = self.new('g'), self.new('on'), self.random.sample(CAUGHT, 2)
         first, second = self.new('l'), self.new('l')
         before = [f'static volatile sig_atomic_t {depth};', *self.handler(name, depth, f'kill(getpid(), {other});')]
@@ -209,12 +209,12 @@ class Handlers(Maker):
             lambda first, second, one: [f'sigaction({one}, NULL, &{second});']))
 
     def by_copy(self):
-        """The same by means that the compiler can see."""
+        """Copies the whole action."""
         return Part('handlers, entered again by a copied action', *self.two_actions(
             lambda first, second, one: [f'{second} = {first};']))
 
     def by_inner(self):
-        """A handler that is set, or let through, by what it calls itself."""
+        """A handler that calls a function that sets it for another signal, or unblocks its signal."""
         depth, name, other, mask, action = self.new('g'), self.new('on'), self.new('f'), self.new('g'), self.new('g')
         one, second = self.random.sample(CAUGHT, 2)
         body = self.pick(
@@ -251,7 +251,7 @@ class Handlers(Maker):
         return Part('handlers, entered again by a flag', before, main)
 
     def by_mask(self):
-        """Another handler lets the signal through."""
+        """A handler that is interrupted by another one, which unblocks its signal."""
         depth, name, other, mask = self.new('g'), self.new('on'), self.new('on'), self.new('g')
         one, second = self.random.sample(CAUGHT, 2)
         first_action, second_action = self.new('l'), self.new('l')
@@ -267,7 +267,7 @@ class Handlers(Maker):
         return Part('handlers, entered again by a mask', before, [line for line in main if line])
 
     def blocked(self):
-        """A handler that waits for its turn: its own signal, or one of its mask."""
+        """A handler that sends its own signal or one of its mask, which is delivered only after it returns."""
         depth, name, other, action = self.new('g'), self.new('on'), self.new('on'), self.new('l')
         one, second = self.random.sample(CAUGHT, 2)
         sent = self.pick(one, second)
@@ -278,7 +278,7 @@ class Handlers(Maker):
         return Part('handlers, one after another', before, main)
 
     def one_for_each(self):
-        """Handlers that interrupt each other, each for one signal, and call one function."""
+        """Two handlers, each for one signal, and a function that both call. One handler interrupts the other."""
         depth, shared, names, signals = self.new('g'), self.new('f'), [self.new('on') for _ in range(2)], \
             self.random.sample(CAUGHT, 2)
         begin, end = self.variables(depth)
@@ -292,7 +292,7 @@ class Handlers(Maker):
             f'note({shared}(2));'])
 
     def in_turn(self):
-        """Actions that take turns for one signal."""
+        """Several actions of one signal, one after another."""
         name, other, signal = self.new('on'), self.new('on'), self.pick_of(CAUGHT)
         first, second, old, depth = (self.new(stem) for stem in ('l', 'l', 'l', 'g'))
         before = [f'static volatile sig_atomic_t {depth};', *self.handler(name, depth, f'kill(getpid(), {signal});'),
@@ -314,11 +314,11 @@ class Handlers(Maker):
 
 @group('statuses')
 class Statuses(Maker):
-    """What status words, actions and results of calls tell."""
+    """Wait statuses, the actions of signals, and results of calls."""
     TESTS = ['WIFEXITED', 'WEXITSTATUS', 'WIFSIGNALED', 'WTERMSIG', 'WIFSTOPPED', 'WSTOPSIG', 'WIFCONTINUED']
 
     def words(self):
-        """The macros of words that no call gives."""
+        """The macros of wait.h, with statuses that no call returns."""
         word = self.new('l')
         value = self.pick(0, 1, 127, 128, 255, 256, 383, 4991, 65535, 65280, 32512, 137, -1, -256, 70000, 9)
         return Part('statuses, of numbers', [], [f'int {word} = {value};', *(
@@ -347,7 +347,7 @@ class Statuses(Maker):
         return Part('statuses, of a stop', [], main)
 
     def groups(self):
-        """Signals to groups, and to what is none."""
+        """Signals to process groups, and to numbers that are no group."""
         signal = self.pick('SIGTERM', 'SIGHUP', 'SIGUSR1', '0')
         group_number = self.pick('-getpid()', '0', '-getpid()', '9999999', '-9999999')
         ignored = [] if signal == '0' else [f'signal({signal}, SIG_IGN);']
@@ -356,7 +356,7 @@ class Statuses(Maker):
         return Part('statuses, of groups', [], main)
 
     def actions(self):
-        """What an action was."""
+        """The action that sigaction stores."""
         old, name, signal = self.new('l'), self.new('on'), self.pick_of(CAUGHT)
         before = [f'static void {name}(int number)', '{', '    note(number);', '}']
         set_now = self.pick(f'signal({signal}, {name});', f'signal({signal}, SIG_IGN);', f'signal({signal}, SIG_DFL);')

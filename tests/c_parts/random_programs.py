@@ -24,8 +24,8 @@ NAME = re.compile(r'\b\w+_\d+\w*|\d+')
 
 @dataclass
 class Shown:
-    """What a program does: notes, with the processes numbered in the order in which they come, what is written, how it
-    ends, and what went wrong."""
+    """What a program does: its notes, with the processes numbered in the order of their first notes; what it writes;
+    its exit status; and what went wrong."""
     notes: list
     written: str
     status: int = None
@@ -34,7 +34,7 @@ class Shown:
 
 @dataclass
 class Result:
-    """Of some programs how many there are, which show something else than by gcc, and which are refused."""
+    """The result for some programs: how many there are, which differ from gcc's, and which are refused."""
     count: int = 0
     made: Counter = field(default_factory=Counter)              # by group, how many have a part of it
     accepted: Counter = field(default_factory=Counter)
@@ -55,7 +55,7 @@ def numbered(pairs):
 
 
 def shown(text):
-    """What is noted in a trace."""
+    """Returns the notes of a trace."""
     return numbered(re.findall(r'note (\d+) (-?\d+)$', text, re.M))
 
 
@@ -75,7 +75,7 @@ def sources_of(program):
 
 
 def make_program(number, planted=None):
-    """A program that fits into a world, and its world or why there is none."""
+    """Returns a program that fits into a world, and its world or why there is none."""
     for seed in range(SEED, SEED + 20):
         program = generate(seed, number)
         try:
@@ -89,7 +89,7 @@ def make_program(number, planted=None):
 
 
 def compile_together(folder, first, programs, include, compiler='gcc'):
-    """One file that has all programs, and is what its name says."""
+    """Compiles all programs into one executable, which runs the program by whose name it is called."""
     path = os.path.join(folder, f'from_{first}')
     parts, cases = ['#include "jobk.h"\n'], ''
     for program in programs:
@@ -122,7 +122,7 @@ def run_here(program, folder, number, text):
 
 
 def run_there(folder, number):
-    """The program on Linux, in a session and with a terminal of its own."""
+    """Runs the program on Linux, in its own session and with its own terminal."""
     master, slave = os.openpty()
     tty.setraw(slave)
     process = subprocess.Popen([os.path.join(folder, f'random_{number}')], cwd=folder, stdin=slave, stdout=slave,
@@ -132,7 +132,7 @@ def run_there(folder, number):
     try:
         text = process.communicate(timeout=LONGEST)[1]
     except subprocess.TimeoutExpired:
-        os.killpg(process.pid, signal.SIGKILL)          # all of its session: also children that it left
+        os.killpg(process.pid, signal.SIGKILL)          # also the children that it left in its process group
         text, fault = process.communicate()[1], 'it does not end on Linux: '
     written = b''
     try:
@@ -165,13 +165,13 @@ def compare_some(program, include, first, count, planted):
 
 
 def part_of(program, notes):
-    """The name of the part in which the last of some notes is."""
+    """Returns the name of the part that has the last of some notes."""
     marks = [value - FIRST_MARK for _, value in notes if 0 <= value - FIRST_MARK <= len(program.parts)]
     return program.parts[marks[-1]].name if marks and marks[-1] < len(program.parts) else 'statements'
 
 
 def first_difference(program, here, there):
-    """In which part something is different, and what."""
+    """Returns the part that has the first difference, and the difference."""
     fault = here.fault + there.fault
     for place, (one, other) in enumerate(zip(here.notes, there.notes)):
         if one != other:
@@ -194,13 +194,13 @@ def compare(program, include, count, planted=None, first=0):
 
 
 def too_few(result):
-    """Groups of which too few programs are accepted: of these the comparison tells little."""
-    return [f'random programs: of {result.made[name]} with {name} {result.accepted[name]} are accepted'
+    """Returns a failure for each group if fewer than a third of its programs are accepted: too few to compare."""
+    return [f'random programs: only {result.accepted[name]} of {result.made[name]} with {name} are accepted'
             for name in GROUPS if result.accepted[name] * 3 < result.made[name]]
 
 
 def table(result):
-    """For each group how many programs have a part of it, and how many of these are accepted; and why others aren't."""
+    """Returns how many programs have a part of each group, how many of these are accepted, and why others aren't."""
     lines = [f'{result.made[name]} with {name}, {result.accepted[name]} accepted' for name in GROUPS]
     reasons = defaultdict(list)
     for number, reason in result.refused:
@@ -210,7 +210,7 @@ def table(result):
 
 
 def keep(result, folder):
-    """Writes the programs that show something else into a folder, with what is different in their first line."""
+    """Writes the programs that differ to a folder. The first line of each says what differs."""
     os.makedirs(folder, exist_ok=True)
     for number, part, what in result.different:
         program = make_program(number)[0]

@@ -1,11 +1,11 @@
-"""Results of calls that are compared, and types of numbers."""
+"""Comparisons of results of calls, and types of numbers."""
 from features import Maker, Part, group, indented
 from typed import COMPARISONS, Typed
 
 
 @group('results')
 class Results(Maker):
-    """Functions with negative results, and what is done with these."""
+    """Functions with negative results, and uses of these results."""
 
     def function(self):
         name, argument = self.new('f'), self.new('l')
@@ -43,7 +43,7 @@ class Results(Maker):
         return Part('results, compared', before, main)
 
     def of_system(self):
-        """Calls of the system that fail, or don't."""
+        """System calls that fail or succeed."""
         call = self.pick('kill(getpid(), 0)', 'kill(getpid(), 99)', 'waitpid(-1, NULL, WNOHANG)', 'getpgid(9999999)',
                          'setpgid(getpid(), -1)', 'alarm(0)', 'getpgid(0) - getpid()', 'setpgid(9999999, 0)')
         test = f'{call} {self.pick_of(COMPARISONS)} {self.pick("-1", "-1", "0", "-2", "1")}'
@@ -52,7 +52,7 @@ class Results(Maker):
         return Part('results, of the system', [], main)
 
     def of_program(self):
-        """What a program finds in its arguments."""
+        """A program that reads its arguments."""
         tool, argument = self.new('t'), self.pick('-5', '-1', '-2', '0', '7', '-1', '-100')
         second = self.pick('-1', '3')
         value = self.pick('atoi(argv[1])', 'atoi(argv[1])', 'atoi(argv[2])')
@@ -82,7 +82,7 @@ class Types(Maker):
         return Part('types, statements', before, main)
 
     def few(self):
-        """One expression, in which a type without negative numbers meets a negative one."""
+        """Expressions in which an unsigned type meets a negative number."""
         name = self.new('l')
         of = self.random.one_of(['uid_t', 'gid_t', 'int', 'ssize_t', 'pid_t', 'char'], unsigned=['unsigned'],
                                 long=['size_t', 'long'])
@@ -124,7 +124,7 @@ class Types(Maker):
         return Part('types, enums', [f'enum {color} {{ {red}{first}, {green} }};'], main[:self.random.randrange(2, 6)])
 
     def calls(self):
-        """Results of the system whose types have no negative numbers."""
+        """Results of system calls, in unsigned types."""
         call = self.pick('alarm(0)', 'alarm(0)', '(getuid() - getuid())', '(getegid() - getgid())')
         main = [f'note({call} - 1 {self.pick_of(COMPARISONS)} 0);', f'note({call} > -1);', f'note({call} == -1);']
         if call == 'alarm(0)':

@@ -1,5 +1,5 @@
-"""Macros, strings and names: what C does with a text before it is a program, what bytes stand between quotes, and which
-of two variables of a name is meant."""
+"""Macros, strings and names: how the preprocessor changes a text, which bytes a string has, and which of several
+variables a name means."""
 from features import Maker, Part, group, indented
 
 LETTERS = 'abcXYZ012789 .,;#%&'
@@ -12,13 +12,13 @@ LOOK_ALIKE = ['/*', '*/', '//', '//x', '/* x */', '#', '\\\\n', '??', "'"]
 
 @group('macros')
 class Macros(Maker):
-    """Each gives the lines of a file and those of a function."""
+    """Macros and other directives, continued lines and comments."""
 
     def value(self):
         return self.pick(0, 1, 2, 3, 5, 9, 40, 1000)
 
     def number(self):
-        """A value as it stands in a #define."""
+        """Returns the text of a value for a #define."""
         value = self.value()
         return self.pick(str(value), str(value), f'({value})', f'(-{value})', f'({value} + 1)', hex(value))
 
@@ -36,7 +36,7 @@ class Macros(Maker):
                                                             f'note(3 * {other} + {one});'])
 
     def redefined(self):
-        """A value that is another one from some line on; a macro that has it in its body follows."""
+        """A macro whose value changes at some line, and with it the value of a macro that names it."""
         one, other, name = self.new('A').upper(), self.new('B').upper(), self.new('f')
         undefined = [f'#undef {one}'] if self.random.may('directives') else []
         before = [f'#define {one} {self.number()}', f'#define {other} ({one} + 1)', f'static int {name}(void)', '{',
@@ -50,7 +50,7 @@ class Macros(Maker):
         return Part('macros, redefined', before, main)
 
     def scope(self):
-        """A macro has a name in its body that means something else in other places."""
+        """A macro that names something which means something else in other places."""
         inner, macro = self.new('b'), self.new('A').upper()
         outer = self.random.one_of([f'enum {{ {inner} = {self.value()} }};'],
                                    variables=[f'static int {inner} = {self.value()};'])
@@ -72,7 +72,7 @@ class Macros(Maker):
         return Part(f'macros, scope of {kind}', before, main)
 
     def later(self):
-        """A name means a constant first, and a macro after a line."""
+        """A name that means a constant first, and a macro from a line on."""
         name, function = self.new('b'), self.new('f')
         before = [f'enum {{ {name} = {self.value()} }};', f'static int {function}(void)', '{', f'    return {name};',
                   '}',
@@ -80,7 +80,7 @@ class Macros(Maker):
         return Part('macros, scope of lines', before, [f'note({name});', f'note({function}());'])
 
     def splice(self):
-        """Lines that go on in the next one: in a comment, a name, a number, a definition."""
+        """Lines that are continued: in a comment, a name, a number, a definition or a string."""
         name, macro = self.new('l'), self.new('A').upper()
         kinds = [
             ([], ['// this goes on \\', f'note({self.value()});', 'note(2);']),
@@ -96,7 +96,7 @@ class Macros(Maker):
         return Part('macros, splices', *self.random.one_of(kinds[:1], splices=kinds[1:]))
 
     def comment(self):
-        """What looks like a comment, and is none, and the other way round."""
+        """Text that looks like a comment but is none, and comments that look like text."""
         return Part('macros, comments', [], self.pick(
             [f'note(6 //* a comment */ {self.value()}', '    + 1);'], ["note('\"'); // \"", 'note(2); /* " */'],
             ['note(8 /* // */ / 2);'], ['/* // */ note(1);', '// /*', 'note(2); // */'],
@@ -139,7 +139,7 @@ class Macros(Maker):
 @group('strings')
 class Strings(Maker):
     def piece(self, most=4):
-        """What stands between two quotes."""
+        """Returns some text between two quotes."""
         parts = []
         for _ in range(self.random.randrange(most)):
             roll = self.random.random()
@@ -148,7 +148,7 @@ class Strings(Maker):
         return ''.join(parts)
 
     def text(self):
-        """One string or several, of which one goes on where an escape of another could."""
+        """Returns one string or several, where the text of one could continue an escape of the one before."""
         if self.random.random() < 0.35:
             one = self.pick('\\x1', '\\x4', '\\0', '\\1', '\\12', 'b\\0', 'a\\x', '\\00')
             one += self.pick_of('0123456789abcdef') if one.endswith('x') else ''
@@ -186,7 +186,7 @@ class Strings(Maker):
         return Part('strings, sizes', [], [f'note(sizeof {self.text()});', *letter])
 
     def write(self):
-        """Strings that are written, some with the 0 at their end."""
+        """Strings that are written, some with the 0 at the end."""
         main = []
         for _ in range(self.random.randrange(1, 4)):
             word = ''.join(self.pick('a', 'b', 'cd', '\\n', '\\101', '\\t', '\\0') for _ in
@@ -221,7 +221,7 @@ class Strings(Maker):
 
 @group('names')
 class Names(Maker):
-    """Variables of one name within each other, and those that stay."""
+    """Variables that hide others of the same name, and static variables."""
 
     def value(self):
         return self.pick(0, 1, 2, 3, 5, 9, 40, 1000)
@@ -263,7 +263,7 @@ class Names(Maker):
         return Part('names, static', before, main)
 
     def effects(self):
-        """What is evaluated, and what is not."""
+        """Side effects of operands that are evaluated, and of operands that are not."""
         name, other = self.new('l'), self.new('l')
         kinds = [[f'note({name}++ && {other}++);'], [f'note({name}-- || {other}++);'],
                  [f'note(({name}++, {other} + {name}));'],

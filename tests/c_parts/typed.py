@@ -1,18 +1,18 @@
 """Expressions and statements of C's types of numbers.
 
-Each expression has a type and bounds of its value, so that no signed number overflows and no divisor is 0. It has no
-side effects but those of calls that change nothing. Names of types are drawn once for each part: so many programs have
-few types, and some have all.
+Each expression has a type and bounds of its value, so no signed number overflows and no divisor is 0. It has no side
+effects: the calls in it change nothing. The names of types are drawn once for each part, so many programs have few
+types, and some have all.
 """
 from dataclasses import dataclass
 
 COMPARISONS = ('==', '!=', '<', '<=', '>', '>=')
-SMALL, LARGE = 9973, 1000003        # what is kept in variables of int and of long stays below
+SMALL, LARGE = 9973, 1000003        # variables of int and of long stay below these
 
 
 @dataclass(frozen=True)
 class Type:
-    """A type of numbers of a C compiler for x86-64."""
+    """A type of numbers of C on x86-64."""
     bits: int
     is_signed: bool
 
@@ -30,7 +30,7 @@ class Type:
 
 INT, UNSIGNED, LONG, UNSIGNED_LONG = Type(32, True), Type(32, False), Type(64, True), Type(64, False)
 CHAR, BYTE, SHORT, UNSIGNED_SHORT = Type(8, True), Type(8, False), Type(16, True), Type(16, False)
-# Names of types by what a program needs to know for them.
+# Names of types, in groups: a part has the names of some groups.
 VOCABULARY = {
     'plain': {'int': INT, 'char': CHAR},
     'kin': {'pid_t': INT, 'uid_t': UNSIGNED, 'gid_t': UNSIGNED, 'ssize_t': LONG, 'sig_atomic_t': INT},
@@ -38,9 +38,9 @@ VOCABULARY = {
     'long': {'long': LONG, 'long int': LONG, 'unsigned long': UNSIGNED_LONG, 'size_t': UNSIGNED_LONG},
     'short': {'short': SHORT, 'unsigned short': UNSIGNED_SHORT, 'unsigned char': BYTE, 'signed char': CHAR},
 }
-# How often a part has the names of a row, if its program may have them.
+# How often a part has the names of a group, if its program may have them.
 CHANCES = {'plain': 1, 'kin': 0.6, 'unsigned': 0.8, 'long': 0.8, 'short': 0}
-# Calls with results of which both sides know the bounds.
+# Calls, with the types and bounds of their results.
 CALLS = (('alarm(0)', UNSIGNED, 0, 0), ('(getuid() - getuid())', UNSIGNED, 0, 0), ('(getpid() - getpid())', INT, 0, 0),
          ('(getgid() - getegid())', UNSIGNED, 0, 0), ('getpgid(9999999)', INT, -1, -1),
          ('kill(getpid(), 0)', INT, 0, 0),
@@ -52,7 +52,7 @@ def promoted(of):
 
 
 def common(one, other):
-    """The type to which two operands are converted."""
+    """Returns the type to which two operands are converted."""
     one, other = promoted(one), promoted(other)
     if one.bits != other.bits:
         return one if one.bits > other.bits else other
@@ -67,7 +67,7 @@ class Value:
     high: int
 
     def converted(self, to):
-        """The bounds of the value in another type."""
+        """Returns the bounds of the value in another type."""
         return (self.low, self.high) if to.has(self.low, self.high) else (to.low, to.high)
 
 
@@ -121,7 +121,7 @@ class Typed:
         return self.number()
 
     def bounds(self, of):
-        """What variables of a type have."""
+        """Returns the bounds of the variables of a type."""
         if of.bits < 32 or not of.is_signed:
             return of.low, of.high
         most = SMALL if of == INT else LARGE
@@ -132,7 +132,7 @@ class Typed:
         return Value(variable.name + index, variable.type, *self.bounds(variable.type))
 
     def index(self, variable):
-        """The index of an element: a number, or one that a variable gives."""
+        """Returns an index: a number, or an expression of a variable."""
         plain = [it.name for it in self.variables if not it.length]
         if plain and self.random.random() < 0.3:
             return f'{self.random.choice(plain)} & 1'
@@ -274,7 +274,7 @@ class Typed:
         return Value(f'{name}({", ".join(arguments)})', of, *self.bounds(of))
 
     def kept(self, value, of):
-        """The text of a value that a variable of a type can have."""
+        """Returns the text of a value, reduced to the bounds of a type's variables."""
         low, high = self.bounds(of)
         if low <= value.low and value.high <= high or of.bits < 32 or not of.is_signed:
             return value.text
@@ -319,13 +319,13 @@ class Typed:
         return [f'{target.text} {operator}= {text};', *self.small(target, of)]
 
     def small(self, target, of):
-        """Takes a variable back to small numbers."""
+        """Reduces a variable to the bounds of its type."""
         if of.bits < 32 or not of.is_signed:
             return []
         return [f'{target.text} %= {SMALL if of == INT else LARGE};']
 
     def chain(self, depth):
-        """The value of an assignment, which has the type of what is assigned to."""
+        """Uses the value of an assignment, which has the type of its left side."""
         if not self.variables:
             return self.show(depth)
         (one, of), (other, less), value = self.target(), self.target(), self.expression()
@@ -354,7 +354,7 @@ class Typed:
         return [*lines, '}']
 
     def loop(self, depth):
-        """A loop that counts, in a type that may have no negative numbers, down to 0 or up to a size."""
+        """Counts down to 0 or up to a size, in a type that may be unsigned."""
         name, counter = self.random.choice(list(self.names)), self.new('c')
         arrays = [it for it in self.variables if it.length]
         if arrays and self.random.random() < 0.5:
@@ -394,7 +394,7 @@ class Typed:
         return f'{"static " if is_global else ""}{name} {variable.name}{dimension} = {value};'
 
     def function(self):
-        """A function with parameters and a result of some types; its body names no other variables."""
+        """Writes a function with parameters and a result of some types. Its body uses only its parameters."""
         (result, of), kept = self.random.choice(list(self.names.items())), self.variables
         if of.bits != 32 and not self.random.seldom('types of results') or self.random.random() < 0.4:
             result, of = 'int', INT

@@ -53,7 +53,7 @@ class Assignments:
 
     def value_assignment(self, node, depth):
         if self.stored_kind(node.lvalue) not in (*NUMBERS, Kind.HANDLER) or is_flags(node.lvalue):
-            refuse(node, 'the value of this assignment is not kept: write it as a statement of its own')
+            refuse(node, 'expected an assignment whose value is not used; write it as a statement of its own')
         self.assign(node, depth, is_wanted=True)
 
     def assign(self, node, depth, is_wanted):
@@ -66,7 +66,7 @@ class Assignments:
         if self.assign_whole(node):
             return
         if node.op != '=' and self.stored_kind(target) is Kind.HANDLER:
-            self.refuse_found(node, '= behind a handler', node.op)
+            self.refuse_found(node, '= after a handler', node.op)
         place = self.fixed_place(target)
         if place is None:
             self.assign_element(node, depth, is_wanted)
@@ -94,14 +94,14 @@ class Assignments:
         return True
 
     def stored_kind(self, node):
-        """The kind of what stands at the left of an assignment, as it is kept."""
+        """Returns the kind in which the left side of an assignment is stored."""
         if isinstance(node, c_ast.StructRef):
             return MEMBER_KINDS.get(self.member(node)[1], Kind.INT) if node.field.name != 'sival_int' else Kind.INT
         variable = self.element(node) if isinstance(node, c_ast.ArrayRef) else self.meaning(node)
         if not isinstance(variable, Variable):
             refuse(node, 'a variable, an element or a member has to stand here')
         if isinstance(node, c_ast.ID) and variable.length is not None:
-            refuse(node, f'{variable.name} is an array: write an index behind it')
+            refuse(node, f'expected a number, found the array `{variable.name}`; write {variable.name}[0]')
         return variable.kind
 
     def assign_fixed(self, node, place, depth, is_wanted):
@@ -125,7 +125,7 @@ class Assignments:
                 self.sign(depth)
 
     def is_in_place(self, node, kind):
-        """Whether an operation on the register of a variable needs no more."""
+        """Returns true if one instruction on the register of a variable does the whole operation."""
         other = self.number_kind(node.rvalue)
         return (node.op[:-1] in INSTRUCTIONS and kind in (Kind.INT, Kind.LONG) and common(kind, other) is kind)
 
@@ -160,7 +160,7 @@ class Assignments:
             self.with_number('and', register, 255)
 
     def change_by(self, node, kind, depth):
-        """An operation such as that of += on the value at a depth, which is of the same kind again."""
+        """Does the operation of += and the like on the value at a depth. The result has the kind of the value."""
         operation, other = node.op[:-1], self.number_kind(node.rvalue)
         if operation in ('<<', '>>'):
             count = self.shift_count(node, node.rvalue, promoted(kind))
@@ -309,7 +309,7 @@ class Assignments:
         self.fill(place, values + [None] * (variable.length - len(values)), [variable.kind] * variable.length)
 
     def fill(self, place, values, kinds=()):
-        """Neighbouring words get values of kinds, or 0."""
+        """Stores values in consecutive words, each in its kind, and 0 for each missing value."""
         for number, value in enumerate(values):
             if value is None:
                 self.set(0, 0)
@@ -334,5 +334,5 @@ class Assignments:
                 refuse(value, f'members are named: .{order[0]} = ..')
         kinds = [MEMBER_KINDS.get(name, Kind.INT) for name in order]
         if Kind.SET in kinds and values[1] is not None:
-            refuse(init, 'a mask is not given in braces: write sigemptyset(&action.sa_mask)')
+            refuse(init, 'expected braces without sa_mask; write sigemptyset(&action.sa_mask)')
         self.fill(place, list(values.values()), kinds)

@@ -62,7 +62,7 @@ class Calls:
         if len(arguments) > MOST_PARAMETERS:
             refuse(node, f'a function has at most {MOST_PARAMETERS} parameters: make one a global variable')
         if wanted and function.gives is Kind.VOID:
-            refuse(node, f'{function.name} gives nothing: write int in front of it')
+            refuse(node, f'expected a value, found `{function.name}`, which returns void; declare it as int')
         instance = self.instance.context.instances[function]
         if any(self.calls_functions(argument) for argument in arguments):
             self.numbers(arguments, 0, [variable.kind for variable in function.parameters])
@@ -97,8 +97,8 @@ class Calls:
     # arguments
 
     def numbers(self, arguments, first=1, kind=Kind.INT):
-        """The values of arguments in a type, or each in its own, from left to right, into neighbouring registers;
-        constants come last."""
+        """Puts arguments into consecutive registers, all in one kind or each in its own. Constants come last; the
+        others are evaluated from left to right."""
         kinds = kind if isinstance(kind, list) else [kind] * len(arguments)
         waiting = []
         for register, (argument, kind) in enumerate(zip(arguments, kinds), first):
@@ -155,7 +155,7 @@ class Calls:
                 self.write_later(lambda: self.fail(failed, back, wanted))
 
     def is_told(self, wanted):
-        """Whether anybody asks which error a call gives."""
+        """Returns true if the program uses the error of a call."""
         return self.unit.keeps_errno or wanted == 'value'
 
     def check(self, wanted):
@@ -176,7 +176,7 @@ class Calls:
         self.emit('jmp', back)
 
     def invalid(self, back, wanted):
-        """A label at which a call fails with EINVAL that isn't made."""
+        """Returns a label that fails with EINVAL without making the call."""
         label = self.new_label('invalid')
 
         def write():
@@ -187,11 +187,12 @@ class Calls:
         return label
 
     def check_alarm(self, node):
-        """A time that the machine doesn't take, where C has one, is an access outside of memory."""
+        """Refuses a constant that is longer than the machine's longest alarm. If another value is longer, the program
+        accesses memory outside of its own, and SIGSEGV kills it."""
         seconds = self.constant(node)
         if seconds is not None:
             if wrapped(seconds, Kind.UNSIGNED) > LONGEST_ALARM:
-                refuse(node, f'an alarm comes after at most {LONGEST_ALARM} seconds')
+                refuse(node, f'expected an alarm of at most {LONGEST_ALARM} seconds, found `{seconds}`')
             return
         fault, back = self.new_label('too_long'), self.new_label('back')
 
@@ -221,7 +222,7 @@ class Calls:
         self.finish('getpgid', wanted)
 
     def call_killpg(self, node, arguments, wanted):
-        """As kill of the negative number, but no group has a negative one."""
+        """Calls kill with the negated number. A negative process group fails with EINVAL."""
         self.numbers(arguments)
         done = self.new_label('done')
         self.emit('jlt', r(1), self.invalid(done, wanted))
@@ -232,7 +233,7 @@ class Calls:
         self.put(done)
 
     def call_waitid(self, node, arguments, wanted):
-        """Of an error the siginfo_t is empty, as in Linux."""
+        """Stores an empty siginfo_t if the call fails, as Linux does."""
         info = self.variable_at(arguments[2], Kind.INFO, '&info')
         self.numbers([arguments[0], arguments[1], arguments[3]])
         if info is None:
@@ -273,7 +274,7 @@ class Calls:
         self.finish('sigaction', wanted, None if old is None else store)
 
     def call_signal(self, node, arguments, wanted):
-        """The signal itself is in the mask of its handler, as the C library has it."""
+        """Sets a handler whose mask has the signal itself, as the C library does."""
         self.numbers(arguments, kind=[Kind.INT, Kind.HANDLER])
         signal, done = self.constant(arguments[0]), self.new_label('done')
         if signal is not None:
@@ -300,13 +301,13 @@ class Calls:
     def call_sigpending(self, node, arguments, wanted):
         signals = self.variable_at(arguments[0], Kind.SET, '&set')
         if signals is None:
-            refuse(node, 'the address of a set stands here: &set')
+            refuse(node, 'expected the address of a sigset_t; write &set')
         self.finish('sigpending', wanted, lambda: self.store(1, signals))
 
     def call_sigsuspend(self, node, arguments, wanted):
         signals = self.variable_at(arguments[0], Kind.SET, '&set')
         if signals is None:
-            refuse(node, 'the address of a set stands here: &set')
+            refuse(node, 'expected the address of a sigset_t; write &set')
         self.load(1, signals)
         self.finish('sigsuspend', wanted)
 
@@ -350,13 +351,13 @@ class Calls:
         else:
             place, size = self.buffer(arguments[1])
         if count is not None and count > size:
-            refuse(arguments[2], f'expected at most {size} bytes, as many as there are, found `{count}`')
+            refuse(arguments[2], f'expected at most {size} bytes, the size of the array or string, found `{count}`')
         self.numbers(arguments[2:], 2, Kind.UNSIGNED_LONG)
         self.set(1, place)
         self.finish(name, wanted)
 
     def buffer(self, node):
-        """The place of an array of char, or of an element of it, and how many there are from there on."""
+        """Returns the place of an array of char, or of an element, and how many bytes the array has from there on."""
         is_address = isinstance(node, c_ast.UnaryOp) and node.op == '&'
         inner, offset = node.expr if is_address else node, 0
         if is_address and isinstance(inner, c_ast.ArrayRef):
@@ -366,11 +367,11 @@ class Calls:
                 or variable.length is None and not is_address:
             refuse(node, 'an array of char stands here, or &letter of a char, or &line[4]')
         if not 0 <= offset <= (variable.length or 0):
-            refuse(node, f'{variable.name} has the elements 0 to {variable.length - 1}')
+            refuse(node, f'expected an element 0 to {variable.length - 1} of {variable.name}, found `{offset}`')
         return self.place(variable) + offset, (variable.length or 1) - offset
 
     def text(self, node, count):
-        """Puts a string into words of the frame, as much of it as is written."""
+        """Puts what is written of a string into words of the frame. Returns their place and the size of the string."""
         values = [*bytes_of(node), 0]
         size = len(values)
         values = values[:size if count is None else count]

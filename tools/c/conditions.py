@@ -1,20 +1,20 @@
-"""Code for conditions: where an expression is tested, and not used as a value."""
+"""Code for conditions: expressions that are tested, not used as values."""
 from pycparser import c_ast
 
 from constants import COMPARISONS
 from expressions import DEEPEST, SCRATCH, SIGN, r
 from kinds import UNSIGNED, Function, Kind, wrapped
 
-# The comparison that holds where another doesn't, and the one of exchanged sides.
+# By comparison: the one that holds if it does not, and the one that holds if its sides are exchanged.
 OPPOSITE = {'==': '!=', '!=': '==', '<': '>=', '>=': '<', '>': '<=', '<=': '>'}
 MIRRORED = {'==': '==', '!=': '!=', '<': '>', '>=': '<=', '>': '<', '<=': '>='}
 
 
 class Conditions:
-    """Writes conditions of one function; a part of Writer."""
+    """Writes code for conditions in one function; a part of Writer."""
 
     def branch(self, node, label, when, depth=0):
-        """Goes to a label where the truth of a condition is `when`, else on."""
+        """Jumps to a label if the truth of a condition is `when`; otherwise goes on."""
         number = self.constant(node)
         if number is not None:
             if bool(number) == when:
@@ -46,7 +46,7 @@ class Conditions:
             self.put(behind)
 
     def truth(self, node, depth):
-        """1 where a condition holds, else 0."""
+        """Puts 1 into a register if a condition holds, otherwise 0."""
         otherwise, end = self.new_label('not'), self.new_label('end')
         self.branch(node, otherwise, False, depth)
         self.set(depth, 1)
@@ -71,7 +71,7 @@ class Conditions:
         self.compare_as(kind, left, right, operation, label, depth)
 
     def compare_as(self, kind, left, right, operation, label, depth):
-        """Compares in a type. Below 64 bits a difference has a sign that tells which is less."""
+        """Compares in a type. A difference of numbers of 32 bits fits in a register: its sign says which is smaller."""
         number, is_equality = self.constant(right), operation in ('==', '!=')
         number = None if number is None else wrapped(number, kind)
         if number == -1 and self.fails_with_minus_1(left) and is_equality:
@@ -111,7 +111,7 @@ class Conditions:
         self.emit('jz' if operation == '==' else 'jnz', r(depth), label)
 
     def compare_with_number(self, kind, left, number, operation, label, depth):
-        """A difference is below 0: left - number, or the other way round."""
+        """Tests whether left - number or number - left is below 0."""
         if operation in ('<', '<='):
             self.value_as(left, depth, kind)
             self.with_number('sub', depth, number + (operation == '<='))
@@ -123,7 +123,7 @@ class Conditions:
             self.emit('jlt', r(depth + 1), label)
 
     def compare_greater(self, kind, left, right, operation, label, depth):
-        """Left is greater where right - left is below 0."""
+        """Left is greater if right - left is below 0."""
         register = self.operand_as(left, depth, kind)
         with self.waiting(*([register] if register == depth else [])):
             self.value_as(right, depth + 1, kind)
@@ -131,8 +131,8 @@ class Conditions:
         self.compare_with_0(depth + 1, '<' if operation == '>' else '>=', label)
 
     def compare_wide(self, kind, left, right, operation, label, depth):
-        """Where the signs of two numbers differ the first one's tells which is less, and else that of the difference.
-        Numbers without a sign are moved to those with one."""
+        """If two numbers have different signs, the sign of the first says which is smaller; otherwise the sign of the
+        difference does. Unsigned numbers are first mapped to signed ones in the same order: the top bit is flipped."""
         self.value_as(left, depth, kind)
         with self.waiting(depth):
             self.value_as(right, depth + 1, kind)
@@ -164,12 +164,12 @@ class Conditions:
             self.put(behind)
 
     def fails_with_minus_1(self, node):
-        """Whether the one result of an expression below 0 is -1, of a call that fails."""
+        """Returns true if an expression is a system call, and -1 for a failure is its only negative result."""
         return isinstance(node, c_ast.FuncCall) and not isinstance(self.meaning(node.name), Function) \
             and self.is_error_negative(node)
 
     def sign_of(self, node, depth):
-        """The register with a value of which only the sign counts, and whether it is 0."""
+        """Returns the register of a value; the caller uses only its sign and whether it is 0."""
         if isinstance(node, c_ast.FuncCall):
             return self.call(node, depth, wanted='sign')
         if isinstance(node, c_ast.ArrayRef) and self.element(node).kind is Kind.CHAR and depth <= DEEPEST:

@@ -1,4 +1,4 @@
-"""What expressions are before anything runs: their types, and the values of those that are constant."""
+"""The types of expressions, and the values of constant expressions."""
 import re
 
 from pycparser import c_ast
@@ -25,7 +25,8 @@ def is_flags(node):
 
 
 def bytes_of(node):
-    """The bytes of a string or a letter between its quotes, of which source.py has made what escapes mean."""
+    """Returns the bytes between the quotes of a string or a character constant. source.py has left no escapes in it but
+    those of three octal digits."""
     return [int(octal, 8) if octal else ord(letter)
             for octal, letter in re.findall(r'\\([0-7]{3})|(.)', node.value[1:-1], re.S)]
 
@@ -33,21 +34,21 @@ def bytes_of(node):
 # numbers
 
 def number_of(node):
-    """The value of a number or a letter."""
+    """Returns the value of a number or a character constant."""
     if node.value.startswith("'"):
         values = bytes_of(node)
         if len(values) != 1:
-            refuse(node, 'one letter stands between the quotes')
+            refuse(node, f'expected one character between quotes, found `{node.value}`')
         return wrapped(values[0], Kind.CHAR)
     return digits_of(node)[0]
 
 
 def digits_of(node):
-    """The value of a number, its base and its letters."""
+    """Returns the value of a number, its base (16 also for octal and binary) and its suffix."""
     found = NUMBER.match(node.value)
     if not found:
-        refuse(node, f'expected a number of int or long, found `{node.value}`; write no point, and no letters '
-               'but u and l')
+        refuse(node, f'expected an int or long constant, found `{node.value}`; write no point, and no suffix '
+               'but u, l and ul')
     text = found[1]
     value = int(text, 8) if re.fullmatch('0[0-7]+', text) else int(text, 0)
     if not holds(Kind.UNSIGNED_LONG, value):
@@ -56,7 +57,7 @@ def digits_of(node):
 
 
 def kind_of_number(node):
-    """The first type that holds a number: one without a sign only by the letter u, or where the base isn't 10."""
+    """Returns the first type in which a number fits: an unsigned one only with a suffix u, or if it isn't decimal."""
     if node.value.startswith("'"):
         return Kind.INT
     value, base, letters = digits_of(node)
@@ -64,13 +65,13 @@ def kind_of_number(node):
         if holds(kind, value) and not ('l' in letters and BITS[kind] < 64) \
                 and (kind in UNSIGNED if 'u' in letters else kind not in UNSIGNED or base != 10):
             return kind
-    return refuse(node, f'expected a number that long holds, found `{node.value}`; write u behind it')
+    return refuse(node, f'expected a number that fits in long, found `{node.value}`; append u')
 
 
 # types
 
 def kind_of_typename(node):
-    """The kind of a type in parentheses, or None."""
+    """Returns the kind of a type in parentheses, or None."""
     inner = node.type
     if isinstance(inner, c_ast.TypeDecl) and isinstance(inner.type, c_ast.IdentifierType):
         return kind_of_words(inner.type.names)
@@ -78,7 +79,7 @@ def kind_of_typename(node):
 
 
 def kind_of(node, meaning):
-    """The type of an expression, or None where it has none that is known here."""
+    """Returns the type of an expression, or None if it is not known here."""
     method = KINDS_OF.get(type(node))
     return method(node, meaning) if method else None
 
@@ -142,7 +143,7 @@ KINDS_OF = {
 # constants
 
 def divide(left, right):
-    """The quotient cut towards 0, as C has it."""
+    """Returns the quotient, rounded towards 0 as in C."""
     quotient = abs(left) // abs(right)
     return quotient if (left < 0) == (right < 0) else -quotient
 
@@ -159,7 +160,7 @@ UNARY = {'-': lambda a: -a, '+': lambda a: a, '~': lambda a: ~a, '!': lambda a: 
 
 
 def constant(node, meaning):
-    """The value of a constant expression in its type, or None."""
+    """Returns the value of a constant expression in its type, or None if it is not constant."""
     if isinstance(node, c_ast.Constant):
         return None if node.type == 'string' else number_of(node)
     if isinstance(node, c_ast.ID):
@@ -190,7 +191,7 @@ def binary_constant(node, meaning):
     kind = kind_of(node, meaning)
     if node.op in ('<<', '>>'):
         if not 0 <= right < BITS[kind]:
-            refuse(node, f'a number is shifted by 0 to {BITS[kind] - 1}')
+            refuse(node, f'expected a shift by 0 to {BITS[kind] - 1}, found `{right}`')
         return wrapped(OPERATIONS[node.op](left, right), kind)
     if node.op not in ('&&', '||'):
         both = common(kind_of(node.left, meaning), kind_of(node.right, meaning))
@@ -199,21 +200,21 @@ def binary_constant(node, meaning):
 
 
 def fitted(node, value, kind):
-    """A value that C leaves undefined beyond the bits of its type, but in a type without a sign."""
+    """Returns a result in its type: an unsigned type wraps, and C leaves what a signed type can't hold undefined."""
     if kind not in UNSIGNED and not holds(kind, value):
-        refuse(node, f'expected a value that {kind.value} holds, found `{value}`')
+        refuse(node, f'expected a value that fits in {kind.value}, found `{value}`')
     return wrapped(value, kind)
 
 
 def is_null(node, meaning):
-    """Whether a node is NULL, or 0."""
+    """Returns true if a node is NULL or 0."""
     while isinstance(node, c_ast.Cast) and isinstance(node.to_type.type, c_ast.PtrDecl):
         node = node.expr
     return constant(node, meaning) == 0 and kind_of(node, meaning) in NUMBERS
 
 
 def size_of(node, meaning):
-    """The bytes that C says of a value, an array, a string or a type."""
+    """Returns the size in bytes of a value, an array, a string or a type."""
     if is_string(node):
         return len(bytes_of(node)) + 1
     known = meaning.get(id(node)) if isinstance(node, c_ast.ID) else None
@@ -222,5 +223,5 @@ def size_of(node, meaning):
     else:
         kind, count = kind_of_typename(node) if isinstance(node, c_ast.Typename) else kind_of(node, meaning), 1
     if kind not in NUMBERS:
-        refuse(node, 'sizeof is of a number, of an array or of a string')
+        refuse(node, 'expected a number, an array or a string after sizeof')
     return count * BITS[kind] // 8

@@ -4,8 +4,9 @@ A value comes into one of the registers r0 to r4, by the depth at which it stand
 less depth waits in the registers before. r5 is for addresses, r6 and r7 hold variables. Where a call comes while
 values wait they are put into words of the frame, as a call changes registers.
 
-A register holds a number as C has it: of 32 bits with its sign, or without one. C leaves the order of most operands
-open: here the left one comes first, and arguments from left to right.
+A register holds a number in its C type: a number of 32 bits is sign-extended if the type is signed, and otherwise
+zero-extended. C leaves the order of most operands open: here the left one comes first, and arguments come from left to
+right.
 """
 from contextlib import contextmanager
 
@@ -19,19 +20,19 @@ from refusal import refuse
 
 SCRATCH, DEEPEST = 5, 2
 BELOW_32, SIGN_OF_32, SIGN = 0xffffffff, 0x80000000, -2 ** 63
-SA_RESTORER = 0x04000000            # Linux sets it in the flags that it keeps
+SA_RESTORER = 0x04000000            # Linux sets it in the flags that it stores
 INSTRUCTIONS = {'+': 'add', '-': 'sub', '*': 'mul', '/': 'div', '%': 'rem', '&': 'and', '|': 'or', '^': 'xor'}
 USED = {Kind.SET: 'write sigismember(&set, SIGCHLD)', Kind.ARGUMENTS: 'write atoi(argv[1])',
         Kind.CONTEXT: 'leave it out'}
 NO_VALUES = {
-    'Constant': 'a string stands in write and in execl alone: write letters',
-    'CompoundLiteral': 'a literal of a struct stands as the value of sigqueue alone: write a variable',
-    'InitList': 'values in braces stand behind an array or a struct alone',
-    'StructRef': 'the members that are known are those of struct sigaction, siginfo_t and union sigval',
-    'Cast': 'a cast is to a number, or to void: write the value alone',
+    'Constant': 'expected a string only in write and execl; write an array of char',
+    'CompoundLiteral': 'expected a struct literal only as the value of sigqueue; write a variable',
+    'InitList': 'expected braces only for an array or a struct; write the value alone',
+    'StructRef': 'expected a member of struct sigaction, siginfo_t or union sigval',
+    'Cast': 'expected a cast to a number or to void; write the value alone',
 }
 NO_OPERATORS = {'*': 'there are no pointers: write an array and an index',
-                '&': 'an address is given to calls of the system alone, as &status'}
+                '&': 'expected an address only as an argument of a system call, as &status'}
 
 
 def r(number):
@@ -107,7 +108,7 @@ class Expressions:
         return kind_of(node, self.unit.meaning)
 
     def number_kind(self, node):
-        """The type that an operand has, which is a number."""
+        """Returns the type of an operand. Refuses an operand that is not a number."""
         kind = self.kind_of(node)
         if kind in NUMBERS:
             return promoted(kind)
@@ -122,20 +123,20 @@ class Expressions:
         if isinstance(node, c_ast.ArrayRef):
             self.element(node)
         if kind is Kind.VOID and isinstance(node, c_ast.FuncCall):
-            refuse(node, f'{node.name.name} gives nothing: write int in front of it'
-                   if isinstance(self.meaning(node.name), Function) else f'the result of {node.name.name} is not kept')
+            declare = '; declare it as int' if isinstance(self.meaning(node.name), Function) else ''
+            refuse(node, f'expected a value, found `{node.name.name}`, which returns void{declare}')
         if kind is Kind.HANDLER:
-            refuse(node, 'expected a number, found a handler; it is compared by == and !=')
+            refuse(node, 'expected a number, found a handler; compare it by == or !=')
         name = type(node).__name__
         return refuse(node, NO_VALUES.get(name, f'{name} is not in the subset'))
 
     @staticmethod
     def require_number(node, variable):
         if variable.length is not None:
-            refuse(node, f'{variable.name} is an array: write an index behind it')
+            refuse(node, f'expected a number, found the array `{variable.name}`; write {variable.name}[0]')
         if variable.kind not in NUMBERS:
             instead = USED.get(variable.kind, 'name a member')
-            refuse(node, f'{variable.name} is no number but a {variable.kind.value}: {instead}')
+            refuse(node, f'expected a number, found `{variable.name}` of type {variable.kind.value}; {instead}')
 
     @staticmethod
     def refuse_found(node, expected, found):
@@ -145,7 +146,7 @@ class Expressions:
         return common(self.number_kind(left), self.number_kind(right))
 
     def is_kept(self, node, kind):
-        """Whether a value is the same in another type: 64 bits are those of the register, and some are small."""
+        """Returns true if a value needs no conversion to another type: that has 64 bits, or the value fits in it."""
         own = promoted(self.kind_of(node))
         if own is kind or BITS[kind] == 64:
             return True
@@ -157,21 +158,21 @@ class Expressions:
         return False
 
     def convert(self, register, kind):
-        """A value of another type in one of 32 bits."""
+        """Converts a value of another type to a type of 32 bits."""
         self.with_number('and', register, BELOW_32)
         if kind is Kind.INT:
             self.with_number('xor', register, SIGN_OF_32)
             self.emit('sub', r(register), r(SCRATCH))
 
     def keep_bits(self, register, kind):
-        """What is left of a result that has more bits than its type, where C says which: without a sign."""
+        """Cuts a result to the bits of an unsigned type. What does not fit in a signed type is undefined in C."""
         if kind is Kind.UNSIGNED:
             self.with_number('and', register, BELOW_32)
 
     # values
 
     def value(self, node, depth):
-        """The value of an expression in its own type, into a register."""
+        """Puts the value of an expression, in its own type, into a register."""
         number = self.constant(node)
         if number is not None:
             self.set(depth, number)
@@ -186,7 +187,7 @@ class Expressions:
             method(node, depth)
 
     def value_as(self, node, depth, kind):
-        """The value in a type. A char is an int that is kept as a byte: see keep_char."""
+        """Puts the value of an expression, in a type, into a register. For char it stays an int: see keep_char."""
         if kind is Kind.HANDLER:
             self.value_of_handler(node, depth)
             return
@@ -204,7 +205,7 @@ class Expressions:
         elif self.kind_of(node) is Kind.HANDLER:
             self.value(node, depth)
         else:
-            refuse(node, 'a handler stands here: SIG_DFL, SIG_IGN, or the name of a function')
+            refuse(node, 'expected a handler: SIG_DFL, SIG_IGN or the name of a function')
 
     def operand(self, node, depth):
         """The register that has the value of an expression: its own, where it is a variable in a register."""
@@ -253,9 +254,9 @@ class Expressions:
     def value_structref(self, node, depth):
         place = self.fixed_place(node)
         if is_flags(node):
-            refuse(node, 'flags are read bit by bit, as the system adds one: write sa_flags & SA_RESTART')
+            refuse(node, 'expected one flag of sa_flags, because the system adds a flag; write sa_flags & SA_RESTART')
         if self.kind_of(node) not in (*NUMBERS, Kind.HANDLER):
-            refuse(node, f'{node.field.name} is no number but a {self.kind_of(node).value}')
+            refuse(node, f'expected a number, found `{node.field.name}` of type {self.kind_of(node).value}')
         self.load(depth, place)
 
     def value_cast(self, node, depth):
@@ -323,7 +324,7 @@ class Expressions:
                       lambda right: self.operate(node, node.op, kind, depth, right))
 
     def flags_in(self, node):
-        """The flags and the mask, where bits of sa_flags are read that mean here what they mean in Linux."""
+        """Returns sa_flags and the mask of an & that reads no bit of sa_flags that differs in Linux; otherwise None."""
         for flags, mask in ((node.left, node.right), (node.right, node.left)):
             bits = self.constant(mask)
             if is_flags(flags) and bits is not None:
@@ -331,15 +332,15 @@ class Expressions:
         return None
 
     def operate(self, node, operation, kind, register, right):
-        """An operation of two registers in a type."""
+        """Does an operation on two registers in a type."""
         if kind is Kind.UNSIGNED_LONG and operation in '/%':
-            refuse(node, f'{operation} of unsigned long is not in the subset: cast both sides to int')
+            refuse(node, f'expected no unsigned long, found `{operation}`; cast both sides to int')
         self.emit(INSTRUCTIONS[operation], r(register), r(right))
         if operation in '+-*':
             self.keep_bits(register, kind)
 
     def both(self, left, right, depth, kind, operate):
-        """The left value in a register, and then the right one, as operands of what is done, in a type."""
+        """Evaluates the left side, then the right side, both in a type, and gives the right register to `operate`."""
         if self.planted == 'order':
             self.value_as(right, depth, kind)
             slot = self.slot()
@@ -368,17 +369,17 @@ class Expressions:
     def shift_count(self, node, right, kind):
         count = self.constant(right)
         if count is not None and not 0 <= count < BITS[kind]:
-            refuse(node, f'a number is shifted by 0 to {BITS[kind] - 1}')
+            refuse(node, f'expected a shift by 0 to {BITS[kind] - 1}, found `{count}`')
         return count
 
     def shift_by(self, node, operation, kind, depth, count):
-        """Shifts by a constant, or by what is in the next register."""
+        """Shifts by a constant, or by the number in the next register."""
         if operation == '<<':
             self.double(depth, count)
             if BITS[kind] == 32:
                 self.convert(depth, kind)
         elif kind is Kind.UNSIGNED_LONG:
-            refuse(node, '>> of unsigned long is not in the subset: cast it to int')
+            refuse(node, 'expected no unsigned long, found `>>`; cast the left side to int')
         elif kind is Kind.UNSIGNED:
             self.halve_positive(depth, count)
         else:
@@ -483,5 +484,5 @@ class Expressions:
         return self.kind_of(node) is Kind.CHAR
 
     def is_error_negative(self, node):
-        """Whether a call of the system gives -1, and nothing else below 0."""
+        """Returns true if the only negative result of a system call is -1."""
         return node.name.name not in OWN_RESULTS

@@ -1,4 +1,4 @@
-"""What C's names of the system mean: calls, how many arguments they have, and what to write in place of others."""
+"""The calls that a program can make, the types of their arguments and results, and what to write in place of others."""
 from kinds import Kind
 
 # Calls of which all arguments are numbers, in r1 and so on, and how many there are.
@@ -16,15 +16,15 @@ SPECIAL = {
     'killpg': 2, 'wait': 1,
 }
 ARGUMENTS = {**PLAIN, **SET_CALLS, **OF_TERMINAL, **SPECIAL}
-# All names of functions that are no function of the file.
+# The functions that a file can call without defining them.
 PROVIDED = set(ARGUMENTS)
 
-# Calls whose arguments have no sign, and the types of results that are no int.
+# Calls with unsigned arguments, and the types of results that are not int.
 UNSIGNED_ARGUMENTS = {'setuid', 'seteuid', 'setgid', 'setegid', 'alarm'}
 NEVER_NEGATIVE = {'getuid', 'geteuid', 'getgid', 'getegid', 'alarm'}
 RESULTS = {**dict.fromkeys(NEVER_NEGATIVE, Kind.UNSIGNED), 'read': Kind.LONG, 'write': Kind.LONG,
            'signal': Kind.HANDLER, **dict.fromkeys(('note', 'exit', '_exit'), Kind.VOID)}
-# Results that are no errors, also where they are below 0.
+# Calls whose results below 0 are not errors.
 OWN_RESULTS = NEVER_NEGATIVE | {'atoi', 'note', 'exit', '_exit', 'memset'}
 
 # What to write in place of names that are often written.

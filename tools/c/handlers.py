@@ -1,5 +1,7 @@
-"""Which handlers handle which signals, and what follows: a handler has its variables once, so it must not be entered
-while it runs, and what siginfo_t says has to be known.
+"""The signals that each handler handles, and two checks that need them.
+
+A handler has one copy of its variables in memory, so it must not be entered again while it runs. And a member of its
+siginfo_t must have a value that the machine knows.
 """
 from dataclasses import dataclass
 
@@ -16,7 +18,7 @@ LOOPS = (c_ast.While, c_ast.DoWhile, c_ast.For, c_ast.Switch)
 
 @dataclass(frozen=True)
 class Installed:
-    """A handler that is set, or that may be, for a signal where that is a constant."""
+    """A handler that the file sets or may set. The signal is None if it is not a constant."""
     function: Function
     signal: int
     node: c_ast.Node
@@ -24,18 +26,18 @@ class Installed:
 
 @dataclass(frozen=True)
 class Old:
-    """The handlers that a signal had: what sigaction stores at &old."""
+    """The earlier handlers of a signal: what sigaction stores at &old."""
     signal: int
 
 
 def installed(unit):
-    """All handlers that a file may set."""
+    """Returns all handlers that a file may set."""
     flow = Flow(unit)
     for function in unit.functions.values():
         flow.state = {}
         flow.walk(function.node.body)
     found, before = set(flow.installed), None
-    while found != before:                      # what was old is set again
+    while found != before:                      # an old handler may be set again
         before = set(found)
         for it in before:
             if isinstance(it.function, Old):
@@ -45,21 +47,21 @@ def installed(unit):
 
 
 class Flow:
-    """Follows a function from statement to statement, and keeps what the handlers of its variables can be. What is
-    global can have all that it is ever given."""
+    """Walks a function, statement by statement, and keeps the handlers that each local variable may hold. A global or
+    static variable may hold every handler that the file ever assigns to it."""
 
     def __init__(self, unit):
         self.meaning = unit.meaning
-        self.state = {}                         # by a local variable
-        self.at_cases = {}                      # what that is at each case of a switch
-        self.given = {}                         # by a variable all that it is ever given, other variables too
+        self.state = {}                         # by local variable, the handlers that it may hold
+        self.at_cases = {}                      # the state from which a switch jumps to its cases
+        self.given = {}                         # by variable, all that is ever assigned to it, also variables
         self.installed = []
         for node in unit.source.tree.ext:
             for variable, value in self.assignments(node):
                 self.given.setdefault(variable, set()).update(self.named(value))
 
     def action_of(self, node):
-        """The struct sigaction that a node is, or of which it is the handler."""
+        """Returns the struct sigaction of a node, which is its name, its address or its handler; None for others."""
         if isinstance(node, c_ast.UnaryOp) and node.op == '&':
             node = node.expr
         if isinstance(node, c_ast.StructRef) and node.field.name in ('sa_handler', 'sa_sigaction'):
@@ -68,7 +70,7 @@ class Flow:
         return variable if isinstance(variable, Variable) and variable.kind is Kind.ACTION else None
 
     def assignment(self, node):
-        """The variable whose handler a node changes, and its value."""
+        """Returns the struct sigaction whose handler a node changes, and the node of the new value; otherwise None."""
         if isinstance(node, c_ast.Assignment) and self.action_of(node.lvalue):
             return self.action_of(node.lvalue), node.rvalue
         if isinstance(node, c_ast.Decl) and node.init is not None and self.action_of(node):
@@ -82,7 +84,7 @@ class Flow:
         return ([found] if found else []) + [it for _, child in node.children() for it in self.assignments(child)]
 
     def named(self, value):
-        """The functions and variables that a value names."""
+        """Returns the functions and variables that a value names."""
         if is_call(value, 'sigaction'):
             return {Old(constant(value.args.exprs[0], self.meaning))}
         action = self.action_of(value)
@@ -93,7 +95,7 @@ class Flow:
             *(self.named(child) for _, child in value.children()))
 
     def values(self, names):
-        """What variables among names can have here."""
+        """Returns the functions among some names, and the handlers that the variables among them may hold here."""
         found = set()
         for it in names:
             is_local = isinstance(it, Variable) and not (it.is_global or it.is_static)
@@ -101,7 +103,7 @@ class Flow:
         return found
 
     def ever(self, name, seen=()):
-        """All that a variable is ever given."""
+        """Returns every handler that is ever assigned to a variable, directly or by other variables."""
         if not isinstance(name, Variable):
             return {name}
         return set().union(*(self.ever(it, (*seen, name)) for it in self.given.get(name, ()) if it not in seen))
@@ -136,7 +138,7 @@ class Flow:
                       for variable in {*self.state, *state}}
 
     def join(self, *branches):
-        """After one of two branches, of which one may be empty."""
+        """Walks two branches, of which one may be None, and keeps what may hold after either."""
         before, after = self.state, []
         for branch in branches:
             self.state = dict(before)
@@ -146,7 +148,7 @@ class Flow:
         self.add(after[0])
 
     def walk_loop(self, node):
-        """In a loop or a switch a variable can have all that it is ever given, if it is given something there."""
+        """Walks a loop or a switch. A variable that is assigned there may hold all that is ever assigned to it."""
         self.add({variable: self.ever(variable) for variable, _ in self.assignments(node)})
         around, before = self.at_cases, self.state
         self.at_cases = before
@@ -161,10 +163,11 @@ def is_call(node, name):
             and len(node.args.exprs) >= 2)
 
 
-# a handler that is entered while it runs
+# handlers that are entered again while they run
 
 def refuse_entered_again(unit, contexts):
-    """Refuses a handler that can be entered while it runs, where it has words of memory: it has them once."""
+    """Refuses a handler that can be entered again while it runs, if it or a function that it calls has variables in
+    memory: there is one copy of them."""
     changer = next((context.root for context in contexts if changes_mask(unit, context)), None)
     is_at_once = may_be_entered_at_once(unit)
     for context in contexts:
@@ -185,13 +188,12 @@ def refuse_again(unit, handler, changer, is_at_once):
         again = f'can be interrupted by {changer.name}, which changes the mask'
     if again:
         last = max(its, key=lambda it: (it.node.coord.line, it.node.coord.column), default=None)
-        refuse(last.node if last else handler.node, f'{handler.name} {again}, so it can be entered while it runs, and '
-               'its variables have one place: write a handler for each signal, or keep what it has to at most two '
-               'variables')
+        refuse(last.node if last else handler.node, 'expected a handler that is not entered again while it runs, found '
+               f'`{handler.name}`, which {again}; write a handler for each signal, or use at most two variables in it')
 
 
 def changes_mask(unit, context):
-    """Whether a handler can unblock a signal."""
+    """Returns true if a handler can unblock a signal."""
     for call in (call for function in context.instances for call in function.system_calls):
         if call.name.name == 'sigsuspend':
             return True
@@ -201,16 +203,16 @@ def changes_mask(unit, context):
 
 
 def may_be_entered_at_once(unit):
-    """Whether a flag that is set is SA_NODEFER."""
+    """Returns true if the file sets SA_NODEFER anywhere."""
     return any(bits & SA_NODEFER for node in unit.source.tree.ext for bits in flags_set(node, unit))
 
 
 def flags_set(node, unit):
-    """The values that become flags. Others than those that the machine has, or that aren't known, are refused: it fails
-    with EINVAL where Linux takes what it doesn't know."""
+    """Yields the values that the file assigns to sa_flags. Refuses values that are not constant, and flags that the
+    machine does not have: with these its sigaction fails with EINVAL, but Linux ignores them."""
     if isinstance(node, c_ast.Assignment) and is_flags(node.lvalue) and node.op != '&=':
         if node.op not in ('=', '|=', '^='):
-            refuse(node, f'expected =, |=, ^= or &= behind sa_flags, found `{node.op}`')
+            refuse(node, f'expected =, |=, ^= or &= after sa_flags, found `{node.op}`')
         yield from known_flags(node.rvalue, unit)
     elif isinstance(node, c_ast.NamedInitializer) and getattr(node.name[0], 'name', None) == 'sa_flags':
         yield from known_flags(node.expr, unit)
@@ -221,7 +223,7 @@ def flags_set(node, unit):
 def known_flags(node, unit):
     values = values_of(node, unit)
     if any(bits is None or bits & ~FLAGS & BELOW_32 for bits in values):
-        refuse(node, 'expected constant flags, of SA_NOCLDSTOP, SA_NOCLDWAIT, SA_SIGINFO, SA_RESTART, SA_NODEFER and '
+        refuse(node, 'expected constant flags: SA_NOCLDSTOP, SA_NOCLDWAIT, SA_SIGINFO, SA_RESTART, SA_NODEFER or '
                'SA_RESETHAND')
     return values
 
@@ -234,16 +236,16 @@ def values_of(node, unit):
     return [constant(node, unit.meaning)]
 
 
-# what a handler is told
+# the siginfo_t of a handler
 
 def tells_of_children(unit, handler):
-    """Whether a handler handles SIGCHLD alone: then its siginfo_t is of a child."""
+    """Returns true if a handler handles only SIGCHLD: then its siginfo_t describes a child."""
     return {it.signal for it in unit.installed if it.function is handler} == {CHLD}
 
 
 def refuse_unknown_members(unit, units):
-    """Refuses what isn't known in the siginfo_t of a handler: where a child tells of itself its status word is known,
-    and else a value. Who sends SIGCHLD otherwise tells neither."""
+    """Refuses a member of a handler's siginfo_t that the machine does not know. If a status change caused SIGCHLD, the
+    machine knows the child's wait status; of other signals it knows the value; of a SIGCHLD that is sent, neither."""
     for node in unit.members:
         variable, member = unit.meaning.get(id(node.name)), node.field.name
         if not isinstance(variable, Variable) or not variable.is_pointer or member == 'si_pid':
@@ -254,12 +256,12 @@ def refuse_unknown_members(unit, units):
             continue
         if signals == {CHLD}:
             if any(sends_chld(other) for other in units):
-                refuse(node, f'{member} is that of a child where no program sends SIGCHLD, or a signal that is no '
-                       'constant, by kill: send another signal')
+                refuse(node, f'expected the {member} of a child, but a program sends SIGCHLD, or a signal that is not '
+                       'constant; send another signal')
         elif member in ('si_code', 'si_status'):
-            refuse(node, f'{member} is known in a handler of SIGCHLD alone: write a handler of its own for SIGCHLD')
+            refuse(node, f'expected a handler of only SIGCHLD, because it reads {member}; write one for SIGCHLD alone')
         elif CHLD in signals or None in signals:
-            refuse(node, f'{member} is known in a handler of other signals than SIGCHLD: write a handler for each '
+            refuse(node, f'expected a handler without SIGCHLD, because it reads {member}; write a handler for each '
                    'signal')
 
 

@@ -1,4 +1,4 @@
-"""The types of the subset: their sizes, their members, and what C converts numbers to."""
+"""The types of the subset: their sizes, their members, and the conversions between numbers."""
 import enum
 from dataclasses import dataclass, field
 
@@ -22,23 +22,23 @@ class Kind(enum.Enum):
     VOID = 'void'
 
 
-# The bits of a number. Of two numbers the later of `RANKS` is the type of their sum.
+# The size of each type of numbers in bits. The sum of two numbers has the type that comes later in `RANKS`.
 BITS = {Kind.CHAR: 8, Kind.INT: 32, Kind.UNSIGNED: 32, Kind.LONG: 64, Kind.UNSIGNED_LONG: 64}
 RANKS = [Kind.INT, Kind.UNSIGNED, Kind.LONG, Kind.UNSIGNED_LONG]
 UNSIGNED = {Kind.UNSIGNED, Kind.UNSIGNED_LONG}
 NUMBERS = set(BITS)
 
-# Of siginfo_t si_status, si_value and si_int are one word, as in Linux.
+# In siginfo_t, si_status, si_value and si_int share one word, as in Linux.
 WORDS = {Kind.ACTION: 3, Kind.INFO: 3, Kind.ARGUMENTS: 2}
 MEMBERS = {
     Kind.ACTION: {'sa_handler': 0, 'sa_sigaction': 0, 'sa_mask': 1, 'sa_flags': 2},
     Kind.INFO: {'si_pid': 0, 'si_code': 1, 'si_status': 2, 'si_value': 2, 'si_int': 2},
     Kind.VALUE: {'sival_int': 0},
 }
-# The flags are kept as the bits that the machine takes, so without a sign.
+# sa_flags has the bits that the machine takes, in an unsigned number.
 MEMBER_KINDS = {'sa_handler': Kind.HANDLER, 'sa_sigaction': Kind.HANDLER, 'sa_mask': Kind.SET,
                 'sa_flags': Kind.UNSIGNED, 'si_value': Kind.VALUE}
-# By the words of a type without `int` and `signed`, in the order of the alphabet.
+# By the sorted words of a type, without `int` and `signed`.
 NAMES = {
     '': Kind.INT, 'unsigned': Kind.UNSIGNED, 'long': Kind.LONG, 'long unsigned': Kind.UNSIGNED_LONG, 'char': Kind.CHAR,
     'pid_t': Kind.INT, 'sig_atomic_t': Kind.INT, 'uid_t': Kind.UNSIGNED, 'gid_t': Kind.UNSIGNED, 'ssize_t': Kind.LONG,
@@ -54,10 +54,10 @@ class Variable:
     node: c_ast.Node
     length: int = None              # of an array
     is_global: bool = False
-    is_static: bool = False         # a local one that stays
+    is_static: bool = False         # a static local variable
     is_pointer: bool = False        # a parameter of main or of a handler
     uses: int = 0                   # how often it is named
-    weight: int = 0                 # the same, 8 times more in a loop
+    weight: int = 0                 # the uses, where each loop around one counts 8 times
 
     @property
     def words(self):
@@ -80,7 +80,7 @@ class Function:
 
 
 def kind_of_words(words):
-    """The kind that words such as `unsigned int` name, or None. `char` with a sign is another type."""
+    """Returns the kind that words such as `unsigned int` name, or None. `signed char` and `unsigned char` have none."""
     if 'char' in words and len(words) > 1:
         return None
     return NAMES.get(' '.join(sorted(word for word in words if word not in ('int', 'signed'))))
@@ -91,7 +91,7 @@ def promoted(kind):
 
 
 def common(left, right):
-    """The type in which two values are added or compared."""
+    """Returns the type in which two values are added or compared."""
     return max(promoted(left), promoted(right), key=RANKS.index)
 
 
@@ -100,6 +100,6 @@ def holds(kind, value):
 
 
 def wrapped(value, kind):
-    """A number as a type has it: what C defines without a sign, and gcc with one."""
+    """Returns a number modulo 2 to the bits of a type. C defines this for unsigned types, and gcc for signed ones."""
     value %= 1 << BITS[kind]
     return value - (1 << BITS[kind]) if kind not in UNSIGNED and value >> (BITS[kind] - 1) else value

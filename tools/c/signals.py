@@ -1,22 +1,22 @@
-"""Code for sets of signals, and for what a siginfo_t says of a child."""
+"""Code for signal sets, and for the members of siginfo_t that describe a child."""
 from expressions import SCRATCH, r
 from kinds import MEMBERS, Kind
 from refusal import refuse
 
-INTERNAL = (32, 33)                 # signals that the C library keeps for itself
-ALL = ~(1 << 31 | 1 << 32)          # the set of all others
+INTERNAL = (32, 33)                 # signals that the C library reserves
+ALL = ~(1 << 31 | 1 << 32)          # the set of all other signals
 SIGCONT, CONTINUED = 18, 65535
 
 
 class Signals:
-    """Writes what concerns signals in one function; a part of Writer."""
+    """Writes code for signals in one function; a part of Writer."""
 
     # sets of signals
 
     def call_set(self, name, arguments, wanted):
         place = self.variable_at(arguments[0], Kind.SET, '&set')
         if place is None:
-            refuse(arguments[0], 'the address of a set stands here: &set')
+            refuse(arguments[0], 'expected the address of a sigset_t; write &set')
         done = self.new_label('done')
         if name in ('sigemptyset', 'sigfillset'):
             self.set(0, 0 if name == 'sigemptyset' else ALL)
@@ -31,11 +31,11 @@ class Signals:
         self.put(done)
 
     def signal_in(self, name, node, done, wanted):
-        """The set of one signal, into r0."""
+        """Puts the set of one signal into r0."""
         signal = self.constant(node)
         if signal is not None:
             if name != 'sigismember' and signal in INTERNAL:
-                refuse(node, f'{signal} is a signal that the C library keeps for itself')
+                refuse(node, f'expected a signal other than 32 and 33, found `{signal}`; the C library reserves these')
             self.set(0, self.bit(node, signal))
             return
         self.value_as(node, 1, Kind.INT)
@@ -49,11 +49,11 @@ class Signals:
     @staticmethod
     def bit(node, signal):
         if not 1 <= signal <= 64:
-            refuse(node, 'a signal is 1 to 64')
+            refuse(node, f'expected a signal from 1 to 64, found `{signal}`')
         return 1 << signal - 1
 
     def bit_of(self, signal, result, invalid):
-        """The set of the signal in a register goes to the register before."""
+        """Puts the set of the signal in a register into the register before it."""
         self.with_number('sub', signal, 1)
         self.emit('jlt', r(signal), invalid)
         self.set(result, 63)
@@ -63,7 +63,7 @@ class Signals:
         self.double(result, None)
 
     def change_set(self, name):
-        """The set is in r1, its address in r5, and that of one signal in r0."""
+        """Changes or tests the set in r1, whose address is in r5, by the set of one signal in r0."""
         if name == 'sigaddset':
             self.emit('or', r(1), r(0))
         elif name == 'sigdelset':
@@ -82,8 +82,8 @@ class Signals:
     # siginfo_t
 
     def store_change(self, word, child, free, info):
-        """What the status word in a register says goes to a siginfo_t, as far as the file asks: si_code, which is 0
-        where no child is told of, and si_status."""
+        """Stores si_code and si_status, if the file uses them, by the wait status in a register. si_code is 0 if no
+        child is reported."""
         if self.unit.uses_member('si_code'):
             none = self.new_label('code')
             self.move(free, child)
@@ -97,7 +97,7 @@ class Signals:
             self.store(word, info + MEMBERS[Kind.INFO]['si_status'])
 
     def status_of_word(self, register):
-        """What si_status is of a status word: the exit code, or the signal."""
+        """Replaces a wait status by its si_status: the exit code or the signal."""
         self.choose_by_word(register, lambda: self.set(register, SIGCONT),
                             lambda: self.with_number('div', register, 256), lambda: None)
 

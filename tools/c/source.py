@@ -1,7 +1,7 @@
-"""From a C file to its syntax tree: gcc preprocesses it, and pycparser parses what gcc leaves.
+"""From a C file to its syntax tree: gcc preprocesses the file, and pycparser parses the output of gcc.
 
-With -fdebug-cpp gcc says of each token where it stands. The parser gets each token on a line of its own, so that the
-number of a line is that of a token, and each node of the tree gets the token's place in the file.
+With -fdebug-cpp gcc prints the place of each token. The parser gets each token on its own line, so a line number is the
+number of a token. Afterwards each node of the tree gets the place of its token in the file.
 """
 import os
 import re
@@ -12,7 +12,7 @@ from pycparser import c_ast, c_parser
 
 from refusal import Place, Refused
 
-# In the place of the system's headers and of jobk.h.
+# The headers that replace those of the system, and jobk.h.
 HEADERS = os.path.join(os.path.dirname(os.path.realpath(__file__)), 'include')
 GCC = ['gcc', '-E', '-dU', '-fdebug-cpp', '-Werror=undef', '-fdiagnostics-color=never', '-nostdinc', '-I', '.']
 TOKEN = re.compile(r'\{P:([^;{}]*);F:[^;{}]*;L:(\d+);C:(\d+);S:\d+;M:[^;{}]*;E:\d+,LOC:\d+,R:\d+\}')
@@ -28,12 +28,12 @@ SYNTAX = {'at end of input': 'the file ends within a function or a statement: wr
 
 
 class NoGcc(Exception):
-    """The gcc that is found doesn't do what is needed."""
+    """The gcc of this machine can't preprocess in the way that this module needs."""
 
 
 @dataclass
 class Source:
-    """A C file: its lines as they were written, and its tree."""
+    """A C file: its lines as written, and its tree."""
     path: str
     lines: list
     tree: c_ast.FileAST = None
@@ -53,7 +53,7 @@ def read_source(path):
 
 
 def parse_source(path, raw):
-    """The tree of a text, of which each letter is a byte."""
+    """Returns the source of a text, in which each character is a byte, with its tree."""
     source = Source(path, [shown_line(line) for line in raw.split('\n')])
     refuse_places(source, raw)
     preprocessed = preprocess(source, raw)
@@ -63,9 +63,9 @@ def parse_source(path, raw):
 
 
 def refuse_places(source, raw):
-    """Refuses what gcc makes of where a file stands, and what would move the places of messages."""
+    """Refuses names that mean a path, a file or the time, and directives that move the places of messages."""
     if re.search(r'^[ \t]*#[ \t]*(line\b|\d)', raw, re.M):
-        refuse_directive(source, raw, r'(line\b|\d)', '#line changes where a message points: leave it out')
+        refuse_directive(source, raw, r'(line\b|\d)', '#line moves the places of messages: leave it out')
     found = OF_PLACE.search(raw)
     if found:
         line = raw.count('\n', 0, found.start()) + 1
@@ -78,14 +78,14 @@ def shown_line(line):
 
 
 def column(line, count):
-    """The column behind so many bytes of a line, where a tab goes to the next column of 8."""
+    """Returns the column after so many bytes of a line. A tab goes to the next multiple of 8."""
     return len(shown_line(line[:count])) + 1
 
 
 # the preprocessor
 
 def preprocess(source, raw):
-    """What gcc leaves of a file."""
+    """Returns a file as gcc preprocesses it."""
     command = GCC if INCLUDES.search(raw) else [*GCC, '-include', 'jobk.h']
     environment = {name: value for name, value in os.environ.items() if name not in ('CPATH', 'C_INCLUDE_PATH')}
     done = subprocess.run([*command, '-'], input=raw.encode('latin-1'), cwd=HEADERS, capture_output=True,
@@ -96,7 +96,8 @@ def preprocess(source, raw):
 
 
 def preprocessor_error(source, said):
-    """What gcc says first, at the place in the file, which it tells after the place in a macro of a header."""
+    """Returns the first error of gcc at its place in the file. If the error is in a macro of a header, gcc prints the
+    place in the header first, and the place in the file after it."""
     found = re.search(r'^\S*: (?:fatal )?error: (.*)', said, re.M)
     place = found and re.compile(rf'^{USER}:(\d+):(\d+):', re.M).search(said, found.start())
     if not place:
@@ -115,7 +116,7 @@ def not_defined(name):
 
 
 def refuse_directive(source, raw, words, what):
-    """Refuses the first directive that begins with words, or the first line where none does."""
+    """Refuses the first directive that begins with some words, or the first line if no directive does."""
     found = re.search(rf'^[ \t]*(#[ \t]*{words}|_Pragma)', raw, re.M)
     line = raw.count('\n', 0, found.start()) + 1 if found else 1
     at = column(raw.split('\n')[line - 1], found.start(1) - found.start()) if found else 1
@@ -123,19 +124,19 @@ def refuse_directive(source, raw, words, what):
 
 
 class Tokens:
-    """Reads the tokens that gcc leaves of a file, and where they stand."""
+    """Reads the tokens of a preprocessed file, and their places."""
 
     def __init__(self, source, raw):
         self.source = source
         self.raw = raw
         self.lines = raw.split('\n')
-        # Of a macro gcc says where it is defined: then the place is that of its name, behind the token before.
+        # gcc gives a token of a macro the place of the definition. Here it gets that of the name in the text.
         self.defined_at = {number for found in DIRECTIVE.finditer(raw)
                            for number in range(raw.count('\n', 0, found.start()) + 1,
                                                raw.count('\n', 0, found.end()) + 2)}
-        self.file, self.line = USER, 1          # of what gcc prints
+        self.file, self.line = USER, 1          # the place of what gcc prints
         self.behind = (0, 0)                    # a line, and where its last token ends
-        self.macro = None                       # where the last macro stands
+        self.macro = None                       # the place of the last macro
         self.tokens, self.places = [], []
 
     def read(self, text):
@@ -147,7 +148,7 @@ class Tokens:
         return self.tokens, self.places
 
     def part(self, file, line, first, text):
-        """A token and the lines behind it, of which some are directives that are left."""
+        """Takes a token and the lines after it, some of which are directives that gcc keeps."""
         for number, piece in enumerate(text.split('\n')):
             self.line += number > 0
             marker = LINE.match(piece)
@@ -166,7 +167,7 @@ class Tokens:
                 self.token(file, line, first, piece.strip())
 
     def refuse_undefined(self, name):
-        """What the system's headers define beyond those here isn't known, so no name may be missing."""
+        """Refuses a condition on a name that isn't defined here: the headers of the system may define it."""
         if name != 'JOBK_H':
             words = rf'(ifdef|ifndef|if|elif)\b.*\b{name}\b'
             refuse_directive(self.source, self.raw, words, not_defined(name))
@@ -183,7 +184,7 @@ class Tokens:
         self.places.append(place)
 
     def place_of_macro(self):
-        """The place of the name, which stands behind the last token, if that isn't one of the macro's arguments."""
+        """Returns the place of the macro's name. It follows the last token, unless that is an argument of the macro."""
         line, end = self.behind
         text, end = self.lines[self.line - 1], end if line == self.line else 0
         end += len(re.match(r'(\s|/\*.*?\*/)*', text[end:])[0])
@@ -194,8 +195,8 @@ class Tokens:
 
 
 def without_escapes(token, place):
-    """A string or a letter with three octal digits for each byte that isn't a plain character: the parser puts strings
-    together as they are written."""
+    """Returns a string or a character constant in which each byte that isn't a plain character has three octal digits:
+    the parser joins strings as they are written, so digits that follow would lengthen a shorter escape."""
     quote = token[0] if token[0] in '"\'' else None
     if quote is None:
         if re.match(r'\w+["\']', token):
@@ -214,7 +215,7 @@ def without_escapes(token, place):
         elif escape in LETTERS:
             values.append(LETTERS[escape])
         else:
-            raise Refused(place.file, place.line, place.column, f'no letter is \\{escape}')
+            raise Refused(place.file, place.line, place.column, f'expected an escape of C, found `\\{escape}`')
     letters = (chr(it) if 32 <= it < 127 and chr(it) not in '"\'\\' else f'\\{it:03o}' for it in values)
     return quote + ''.join(letters) + quote
 
@@ -232,7 +233,7 @@ def parse(source, tokens, places):
 
 
 def locate(node, places):
-    """Puts places in the file in the place of numbers of tokens. Declarations of one line share nodes."""
+    """Replaces the number of a token in each node by the place of the token. Declarations in one line share nodes."""
     if node.coord is not None and not isinstance(node.coord, Place):
         node.coord = places[node.coord.line - 1]
     for _, child in node.children():
@@ -245,7 +246,7 @@ def syntax_error(source, tokens, places, parser, message):
         line, what = int(found[1]), found[2]
     else:
         line, what = number_of_next(parser, places), message.rpartition(': ')[2]
-    if what == 'Invalid expression' and 0 < line <= len(tokens):        # so later versions; earlier ones name the token
+    if what == 'Invalid expression' and 0 < line <= len(tokens):        # later versions; earlier ones name the token
         what = f'before: {tokens[line - 1].strip()}'
     if what.startswith('before: '):
         what = f'this is no C from here on: {what[len("before: "):]}'

@@ -22,10 +22,10 @@ class Unit:
     variables: list = field(default_factory=list)       # the global ones, and static ones
     functions: dict = field(default_factory=dict)
     handlers: list = field(default_factory=list)        # functions that are named other than in a call
-    installed: list = field(default_factory=list)       # which of them for which signals
+    installed: list = field(default_factory=list)       # the handlers that the file sets, with their signals
     errno: Variable = None
     saved_errno: dict = field(default_factory=dict)     # how often errno is set to a variable, or that begins as errno
-    members: list = field(default_factory=list)         # members that are named: nodes
+    members: list = field(default_factory=list)         # nodes that name a member
 
     @property
     def keeps_errno(self):
@@ -45,7 +45,7 @@ class Resolver:
     def __init__(self, source):
         self.unit = Unit(source)
         self.scopes = [{}]
-        self.tags = [{}]                # the kinds of enums
+        self.tags = [{}]                # by tag, the kinds of enums
         self.function = None
         self.loops = 0
 
@@ -74,12 +74,12 @@ class Resolver:
         self.unit.functions[name] = Function(name, node, None)
 
     def declare_function(self, node):
-        """A declaration of a function of the file, which can be called from here on."""
+        """Declares a function of the file, which can be called from here on."""
         function = self.unit.functions[node.name]
         result = node.type.type
         function.gives = self.kind(result, result) if isinstance(result, c_ast.TypeDecl) else None
         if function.gives not in (*RANKS, Kind.VOID):
-            refuse(node, f'{node.name} gives int or nothing: write int {node.name}(..) or void {node.name}(..)')
+            refuse(node, f'expected a function that returns a number or void; write int {node.name}(..)')
         self.scopes[-1][node.name] = function
         return function
 
@@ -130,10 +130,10 @@ class Resolver:
         return refuse(place, 'this type is not in the subset: write int')
 
     def kind_of_enum(self, node):
-        """An enum has a sign where one of its constants is below 0, as gcc has it."""
+        """An enum is signed if one of its constants is below 0, as in gcc."""
         if node.values is None:
             found = next((tags[node.name] for tags in reversed(self.tags) if node.name in tags), None)
-            return found or refuse(node, f'no enum is {node.name}: define it above')
+            return found or refuse(node, f'expected an enum that is defined above, found `{node.name}`')
         values = self.declare_constants(node)
         kind = Kind.INT if any(value < 0 for value in values) else Kind.UNSIGNED
         self.tags[-1][node.name] = kind
@@ -146,7 +146,7 @@ class Resolver:
                 self.walk(item.value)
             value = value + 1 if item.value is None else self.needed_constant(item.value)
             if not holds(Kind.INT, value):
-                refuse(item, f'expected a value that int holds, found `{value}`')
+                refuse(item, f'expected a value that fits in int, found `{value}`')
             self.scopes[-1][item.name] = value
             values.append(value)
         return values
@@ -179,13 +179,14 @@ class Resolver:
                 self.save_errno(variable)
 
     def require_fixed(self, node):
-        """What is there from the start begins with what is known then."""
+        """Refuses a value of a static or global variable that is not known before the program runs."""
         if isinstance(node, (c_ast.InitList, c_ast.NamedInitializer)):
             for part in node.exprs if isinstance(node, c_ast.InitList) else [node.expr]:
                 self.require_fixed(part)
         elif not (is_string(node) or is_null(node, self.unit.meaning) or constant(node, self.unit.meaning) is not None
                   or isinstance(node, (c_ast.ID, c_ast.Cast)) and kind_of(node, self.unit.meaning) is Kind.HANDLER):
-            refuse(node, 'what is static or global begins with a constant: assign it in a function')
+            refuse(node, 'expected a constant as the first value of a static or global variable; assign it in a '
+                   'function')
 
     def variable(self, node, is_parameter=False):
         refused = {'extern', 'register', 'auto', '_Thread_local'} & set(node.storage or ())
@@ -396,6 +397,6 @@ def is_errno(node):
 
 
 def macros():
-    """The names of the system's macros."""
+    """Returns the names of the system's macros."""
     with open(os.path.join(HEADERS, 'jobk.h'), encoding='ascii') as file:
         return re.findall(r'^#define ([A-Za-z]\w*)', file.read(), re.M)
