@@ -79,7 +79,8 @@ class Resolver:
         result = node.type.type
         function.gives = self.kind(result, result) if isinstance(result, c_ast.TypeDecl) else None
         if function.gives not in (*RANKS, Kind.VOID):
-            refuse(node, f'expected a function that returns a number or void; write int {node.name}(..)')
+            refuse(node, f'expected a function that returns int, long, an unsigned type or void; write int {node.name}'
+                   '(..)')
         self.scopes[-1][node.name] = function
         return function
 
