@@ -176,7 +176,7 @@ class Calls:
         self.emit('jmp', back)
 
     def invalid(self, back, wanted):
-        """Returns a label that fails with EINVAL without making the call."""
+        """Returns a label where the call is not made, but fails with EINVAL."""
         label = self.new_label('invalid')
 
         def write():

@@ -25,14 +25,14 @@ INSTRUCTIONS = {'+': 'add', '-': 'sub', '*': 'mul', '/': 'div', '%': 'rem', '&':
 USED = {Kind.SET: 'write sigismember(&set, SIGCHLD)', Kind.ARGUMENTS: 'write atoi(argv[1])',
         Kind.CONTEXT: 'leave it out'}
 NO_VALUES = {
-    'Constant': 'expected a string only in write and execl; write an array of char',
-    'CompoundLiteral': 'expected a struct literal only as the value of sigqueue; write a variable',
-    'InitList': 'expected braces only for an array or a struct; write the value alone',
+    'Constant': 'expected a number, found a string; use it in write, in execl or for an array of char',
+    'CompoundLiteral': 'expected a number, found a struct literal; use it only as the value of sigqueue',
+    'InitList': 'expected a number, found braces; use them only for an array or a struct',
     'StructRef': 'expected a member of struct sigaction, siginfo_t or union sigval',
     'Cast': 'expected a cast to a number or to void; write the value alone',
 }
 NO_OPERATORS = {'*': 'there are no pointers: write an array and an index',
-                '&': 'expected an address only as an argument of a system call, as &status'}
+                '&': 'expected a number, found an address; use it only in a system call, as &status'}
 
 
 def r(number):
@@ -334,7 +334,7 @@ class Expressions:
     def operate(self, node, operation, kind, register, right):
         """Does an operation on two registers in a type."""
         if kind is Kind.UNSIGNED_LONG and operation in '/%':
-            refuse(node, f'expected no unsigned long, found `{operation}`; cast both sides to int')
+            refuse(node, f'expected `{operation}` of another type than unsigned long; cast both sides to int')
         self.emit(INSTRUCTIONS[operation], r(register), r(right))
         if operation in '+-*':
             self.keep_bits(register, kind)
@@ -379,7 +379,7 @@ class Expressions:
             if BITS[kind] == 32:
                 self.convert(depth, kind)
         elif kind is Kind.UNSIGNED_LONG:
-            refuse(node, 'expected no unsigned long, found `>>`; cast the left side to int')
+            refuse(node, 'expected `>>` of another type than unsigned long; cast the left side to int')
         elif kind is Kind.UNSIGNED:
             self.halve_positive(depth, count)
         else:

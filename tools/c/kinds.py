@@ -100,6 +100,6 @@ def holds(kind, value):
 
 
 def wrapped(value, kind):
-    """Returns a number modulo 2 to the bits of a type. C defines this for unsigned types, and gcc for signed ones."""
+    """Returns a number reduced to the bits of a type. C defines this for unsigned types, and gcc for signed ones."""
     value %= 1 << BITS[kind]
     return value - (1 << BITS[kind]) if kind not in UNSIGNED and value >> (BITS[kind] - 1) else value

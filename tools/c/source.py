@@ -12,7 +12,7 @@ from pycparser import c_ast, c_parser
 
 from refusal import Place, Refused
 
-# The headers that replace those of the system, and jobk.h.
+# The headers that replace jobk.h and those of the system.
 HEADERS = os.path.join(os.path.dirname(os.path.realpath(__file__)), 'include')
 GCC = ['gcc', '-E', '-dU', '-fdebug-cpp', '-Werror=undef', '-fdiagnostics-color=never', '-nostdinc', '-I', '.']
 TOKEN = re.compile(r'\{P:([^;{}]*);F:[^;{}]*;L:(\d+);C:(\d+);S:\d+;M:[^;{}]*;E:\d+,LOC:\d+,R:\d+\}')
