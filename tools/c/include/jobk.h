@@ -1,5 +1,5 @@
-/* What tools/cworld reads in the place of jobk.h and the headers of the system: the names that it knows, as the system's
- * headers have them. What is a macro there is one here, so that #if and #ifdef say the same.
+/* tools/cworld reads this in place of jobk.h and the system's headers. It has the names that tools/cworld knows, as the
+ * system's headers define them: a name that is a macro there is a macro here, so #if and #ifdef do the same.
  */
 #ifndef JOBK_H
 #define JOBK_H
@@ -86,7 +86,7 @@ typedef unsigned long size_t;
 #define STDERR_FILENO 2
 #define PR_SET_CHILD_SUBREAPER 36
 
-/* Constants that #if doesn't know. */
+/* Constants that #if can't use. */
 enum { P_ALL, P_PID, P_PGID };
 enum { CLD_EXITED = 1, CLD_KILLED = 2, CLD_STOPPED = 5, CLD_CONTINUED = 6 };
 enum { SIGRTMIN = 34, SIGRTMAX = 64 };
@@ -98,7 +98,7 @@ enum { SIGRTMIN = 34, SIGRTMAX = 64 };
 #define SIGRTMAX SIGRTMAX
 #define errno errno
 
-/* What a status word says. */
+/* The macros for a wait status. */
 #define WEXITSTATUS(status) (((status) & 0xff00) / 256)
 #define WTERMSIG(status) ((status) & 0x7f)
 #define WSTOPSIG(status) WEXITSTATUS(status)
