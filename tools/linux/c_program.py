@@ -80,9 +80,10 @@ def state(process):
 
 
 class Run:
-    """A program that runs."""
+    """A program that runs. On a busy machine, more patience waits as many times longer before it takes a process to rest."""
 
-    def __init__(self, path):
+    def __init__(self, path, patience=1):
+        self.patience = patience
         self.master, slave = os.openpty()
         modes = termios.tcgetattr(slave)
         modes[3] &= ~termios.ECHO
@@ -100,7 +101,7 @@ class Run:
 
     def type_keys(self, keys):
         """Types keys, and waits until a process notices: the kernel hands them on as it finds time."""
-        before, until = self.states(), time.monotonic() + NOTICED
+        before, until = self.states(), time.monotonic() + NOTICED * self.patience
         os.write(self.master, keys)
         while self.states() == before and self.process.poll() is None and time.monotonic() < until:
             time.sleep(POLL)
@@ -112,7 +113,7 @@ class Run:
     def wait_for_calm(self, calm=CALM):
         """Waits until nothing acts, or the program has ended."""
         before, same = None, 0
-        while same < calm and self.process.poll() is None and time.monotonic() < self.ends:
+        while same < calm * self.patience and self.process.poll() is None and time.monotonic() < self.ends:
             now = self.states()
             is_calm = len(now) > 0 and all(letter in 'STtZ' for _, letter, _ in now)
             same = same + 1 if is_calm and now == before else 0
@@ -155,8 +156,8 @@ def outcome(text, status):
     return tuple(sorted((process, tuple(values)) for process, values in notes.items())), status
 
 
-def run(path, events):
-    running = Run(path)
+def run(path, events, patience=1):
+    running = Run(path, patience)
     for event in events:
         running.take(event)
     return outcome(*running.finish())
