@@ -1,4 +1,7 @@
 //! An arena that several owners share.
+//!
+//! `Shared` is an allocator if what it shares is one (`allocate`, `deallocate`, proved by hand), and a clone is of the
+//! same one. So a vector over an `Arena` has the contracts of any vector.
 #![tactic(auto)]
 
 ghost use Rattle.std.specs.Prelude.{◌≡◌, ◌≤◌, IfOk, OnOk, vec_capacity};

@@ -123,7 +123,7 @@ heard_before text number rest a h =
     let s = said h.texts h.knows.lines h.knows.say in
     record { lines = h.knows.lines; rest = rest; is = h.is ∙ ap (λ (x : List ℕ). x ++ rest) s.0; forms = s.1; laws = h.knows.laws; counted = omega (arith, h.counted, s.2) }
 
--- the next line is the birth of a number that was never born before
+-- the next line is the birth of a process with a number that no process had before
 pub new_birth : (text : List ℕ) (number : ℕ) (rest line later : List ℕ) (a : AuditView) → HasHeard text number rest a → IsCut rest line later
     → ((texts : List (List ℕ)) (k : Knows texts a) → (l : Line) × Says line l × IsNewBirth (kept_of k.lines) l) → IsNewBirthAt text number
 unfolding heard_before

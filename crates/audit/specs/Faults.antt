@@ -13,7 +13,7 @@ number_of OtherStatus = 6
 number_of OutOfPlace = 7
 number_of Memory = 8
 
--- the law that the line breaks, in words
+-- the law that the line breaks, in words; or that there was no memory
 abbrev pub law_of : AuditFault → List ℕ
 law_of NoLine = codes "no line of a trace, or a falling event"
 law_of BornWhileLiving = codes "a living number is born"

@@ -27,7 +27,7 @@ pub record IsLawfulBefore (text : List ℕ) (number : ℕ) : Type 0 where
   pub laws : Laws lines
   pub counted : number ≡ length lines + 1
 
--- The line with this number is the birth of a number that was never born before.
+-- The line with this number is the birth of a process with a number that no process had before.
 pub record IsNewBirthAt (text : List ℕ) (number : ℕ) : Type 0 where
   pub before : IsLawfulBefore text number
   pub line : List ℕ

@@ -57,6 +57,8 @@ impl Audit {
     /// Ok, or [`AuditFault::Memory`], where the laws of a trace hold of the lines so far and this one. That fault comes
     /// at the birth of a number alone that was never born before, and all stays as it was. Any other fault is the first
     /// test that the line fails; no lawful trace goes on so, and the fault is the answer to each line from then on.
+    /// Memory is taken only for a new process ID, after all tests and before any change. So the line of fault 8 can be
+    /// given again. After any other fault it is unknown which processes live, so that fault is final.
     pub fn line(&mut self, line: &[u8]) -> Result<(), AuditFault>
         ensures ok { OnOk result ((texts : List (List ℕ)) → Knows texts self.old → Knows (texts ++ line.now ∷ []) self.new) }
         ensures memory { result ≡ Err Memory → StaysWith self.old.fault self.old self.new × ((texts : List (List ℕ)) → Knows texts self.old → AreLawful (texts ++ line.now ∷ [])) }

@@ -45,7 +45,8 @@ impl AuditFault {
         }
     }
 
-    /// Returns the law that the line breaks, in words.
+    /// Returns the law that the line breaks, in words; or that there was no memory. It is short, so that a line with it
+    /// fits a buffer of fixed size.
     pub fn law(self) -> &'static str
         ensures words { result.now ≡ law_of self }
         ensures short { length result.now ≤ 50 }

@@ -18,6 +18,8 @@ use std::marker::Model;
 
 /// What is known of each number: a record of the newest life of each that was ever born. They are found by a hash with
 /// random keys, so that nobody can choose numbers that are slow to find.
+/// A `BTreeMap` took 1.7 times as long for births and terminations; `Numbered` items would move all others for births
+/// in falling order; with a fixed hash, 130,000 chosen IDs took 12 seconds.
 #[derive(Drop)]
 pub(crate) struct Known {
     records: Records,

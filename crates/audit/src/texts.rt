@@ -27,10 +27,10 @@ pub struct TraceFault {
 ///
 /// Ok where the text is the print of lines of which the laws of a trace hold, as the empty text is. The error is the
 /// first line that an [`Audit`] refuses, and why: the lines before it are lawful, and no lawful text begins with these
-/// lines and that one. What follows the last line feed, if anything, is a line that none
-/// of the forms has, so its fault is [`AuditFault::NoLine`]. Where memory is refused, the fault is
-/// [`AuditFault::Memory`], and the lines before are lawful. That line is the birth of a number that was never born
-/// before; at line 1 memory may be refused before that is read.
+/// lines and that one. What follows the last line feed, if anything, is a line that none of the forms has, so its fault
+/// is [`AuditFault::NoLine`]. If there is no memory, the fault is [`AuditFault::Memory`], and the lines before its line
+/// are lawful. Its line is the birth of a process with a number that no process had before. At line 1 there may be no
+/// memory before the line is read.
 pub fn audit_text(alloc: Global, keys: RandomState, text: &[u8]) -> Result<(), TraceFault>
     ensures ok { OnOk result (IsLawful text.now) }
     ensures memory { (fault : TraceFault) → result ≡ Err fault → fault.fault ≡ Memory → IsLawfulBefore text.now fault.line }

@@ -157,6 +157,8 @@ fn act_by_default<K: ProcessTable>(
 }
 
 /// A pending signal of a process that is there and no zombie is taken out, and its action done (XSH 2.4.1, 2.4.3).
+/// Requires a process that is no zombie, because a stop would let a zombie live again. A process in the run queue is
+/// none, so callers know it.
 #[tactic(auto, unfolding(posix::specs::Delivery::deliver))]
 pub fn deliver<K: ProcessTable>(machine: &mut Machine<K>, pid: Pid, sig: Sig, entries: &mut Entries)
     requires placed { IsPlaced machine.old.state.processes pid }

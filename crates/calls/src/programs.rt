@@ -13,6 +13,7 @@ use proctable::ProcessTable;
 
 /// Runs the program in r1 in place of the caller's own. The pc doesn't move on: it is where the program begins. ENOENT
 /// where the world has no program with that number (XSH exec).
+/// Prints a line although it does not return: otherwise no trace would show where the new program begins.
 #[tactic(auto, unfolding(posix::specs::Attempts::attempt, posix::specs::Programs::exec))]
 pub fn exec<K: ProcessTable>(machine: &mut Machine<K>, pid: Pid, entries: &mut Entries) -> Attempt
     requires there { IsSome (process machine.old.state pid) }

@@ -167,6 +167,8 @@ pub fn asks_for_mark(own: &OwnPart) -> bool
 }
 
 /// What a call of a process, with this of its own, gives, that changes the process alone.
+/// A call that changes only its process has a `Reply` in the definitions, a value and one change of the record: one
+/// loan and one lemma serve twelve calls.
 #[tactic(auto, unfolding(posix::specs::Attempts::attempt, posix::specs::SignalCalls::give_credentials))]
 fn reply(own: &mut OwnPart, pid: Pid, call: Call) -> i64
     requires { changes_caller_alone call ≡ true }

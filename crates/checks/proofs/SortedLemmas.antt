@@ -1,4 +1,4 @@
--- Processes in rising order of their numbers, in a vector.
+-- Processes in a vector, in rising order of their numbers.
 use Rattle.std.proofs.Common.{◌≡◌, ℕ, zero, suc, ◌<◌, true, false, cond, not, refl, ap, sym, ◌∙◌, arith, subst, List, [], ◌∷◌, length, filter, insert, remove, slice_get, slice_index_or, slice_set, Some, None, option_map, ◌==◌, nat_lt}
 use Rattle.std.proofs.lemmas.Bool.{eqb-true, eq-eqb}
 use Rattle.std.proofs.lemmas.Option.{slice_get-map}
@@ -19,12 +19,12 @@ unfolding IsRising Rises
 rising_in [] up = tt
 rising_in (r ∷ rs) up = (above_pids r.pid rs up.0, rising_in rs up.1)
 
--- a process that is read where its number stands
+-- the process that is read at the place of its number
 pub read_in : (p i : ℕ) (r : Process) (rs : List Process) → Rises (pids rs) → IsNumberAt (pids rs) p i → r ≡ slice_index_or rs i r → lookup p rs ≡ Some r
 unfolding lookup
 read_in p i r rs up at e = find_at (λ (r : Process). r.pid) rs up p i at ∙ read_at (λ (r : Process). r.pid) rs p i r at e
 
--- a number that stands there is somebody's
+-- a number that is at some place is the number of a process
 pub present_in : (p i : ℕ) (rs : List Process) → Rises (pids rs) → IsNumberAt (pids rs) p i → lookup p rs ≡ None → ⊥
 unfolding lookup
 present_in p i rs up at none =
@@ -32,7 +32,7 @@ present_in p i rs up at none =
     let no : None ≡ Some p = sym (slice_get-map (λ (r : Process). r.pid) rs i ∙ ap (option_map (λ (r : Process). r.pid)) nobody) ∙ at in
     cc
 
--- nobody has a number that would go in
+-- no process has a number that has a place to be inserted at
 pub absent_in : (p i : ℕ) (rs : List Process) → Rises (pids rs) → IsInsertionPoint (pids rs) p i → lookup p rs ≡ None
 unfolding lookup
 absent_in p i rs up point = find_point (λ (r : Process). r.pid) rs up p i point
@@ -45,7 +45,7 @@ pub next_in : (p : ℕ) (rs : List Process) → next_above p rs ≡ option_map (
 unfolding next_above
 next_in p rs = first_read (above p rs)
 
--- ---- what is written
+-- ---- what is changed
 
 pub inserted_in : (new : Process) (i : ℕ) (rs : List Process) → IsInsertionPoint (pids rs) new.pid i → inserted new rs ≡ insert rs i new
 unfolding inserted inserted_in_order
@@ -67,7 +67,7 @@ removed_in p i rs up at = others_at (λ (r : Process). r.pid) rs up p i at
 pub rises_taken : (p i : ℕ) (rs : List Process) → Rises (pids rs) → IsNumberAt (pids rs) p i → Rises (pids (remove rs i))
 rises_taken p i rs up at = subst (λ l. Rises (pids l)) (others_at (λ (r : Process). r.pid) rs up p i at) (rises_passing (λ (r : Process). r.pid) (λ n. not (n == p)) rs up)
 
--- a change of a process is one at its place
+-- changing a process changes the list at the place of its number
 pub changed_in : (p i : ℕ) (f : Process → Process) (r : Process) (rs : List Process) → Rises (pids rs) → IsNumberAt (pids rs) p i → r ≡ slice_index_or rs i r → changed p f rs ≡ slice_set rs i (f r)
 unfolding changed Rises
 changed_in p i f r [] up at e = absurd (cc)
@@ -76,13 +76,13 @@ changed_in p zero f r (x ∷ xs) up at e =
     grind (arith, e, here, eq-eqb x.pid p here, changed_above p f xs (subst (λ n. Above n xs) here (above_pids x.pid xs up.0)))
 changed_in p (suc i) f r (x ∷ xs) up at e = grind (arith, above_get x.pid (pids xs) up.0 i p at, changed_in p i f r xs up.1 at e, eqb-true x.pid p)
 
--- the order stays where a process keeps its number
+-- the numbers keep rising if a changed process keeps its number
 pub rises_set : (p i : ℕ) (f : Process → Process) (r : Process) (rs : List Process) → ((r : Process) → (f r).pid ≡ r.pid) → Rises (pids rs) → IsNumberAt (pids rs) p i → r ≡ slice_index_or rs i r → Rises (pids (slice_set rs i (f r)))
 rises_set p i f r rs keeps up at e =
     let here : p ≡ (f r).pid = sym (keeps r ∙ pid_looked p rs r (read_in p i r rs up at e)) in
     subst Rises (sym (numbers_set (λ (r : Process). r.pid) rs i (f r) (at ∙ ap Some here))) up
 
--- ---- what the calls ask
+-- ---- the rules that the methods of the table use
 
 pub ruleset get_rules = (rising_in, absent_in, read_in)
 

@@ -1,4 +1,4 @@
--- What a table in a vector is worth.
+-- The view of a table of processes in a vector.
 use Rattle.std.specs.Prelude.{ℕ, List}
 use Rattle.posix.specs.Common.{Process}
 use Rattle.proctable.specs.declared.records.Record.{Record}

@@ -8,10 +8,10 @@ use kernel::Sink;
 use std::alloc::Global;
 use text::{EventReader, TextFault};
 
-/// How many bytes a piece has.
+/// The length of a piece, in bytes.
 const PIECE: usize = 7;
 
-/// Tells what the reader answers.
+/// Reports what the reader returned.
 fn tell_answer<O: Sink>(answer: Result<(), TextFault>, out: &mut O) {
     match answer {
         Ok(()) => tell("ok", out),
@@ -19,8 +19,9 @@ fn tell_answer<O: Sink>(answer: Result<(), TextFault>, out: &mut O) {
     }
 }
 
-/// Feeds an event text for a world of two consoles to a reader in pieces of seven bytes, also after a fault. It tells what
-/// each piece is answered, and at the end how many events there are, or the fault.
+/// Feeds an event text for a world of two consoles to a reader, in pieces of seven bytes. Goes on after a fault,
+/// because the reader must return it again. Reports what each piece returned, and at the end the number of events, or
+/// the fault.
 fn feed<O: Sink>(alloc: Global, text: &[u8], out: &mut O) {
     let mut reader = EventReader::new(alloc, 2);
     for piece in text.chunks(PIECE) {
@@ -32,7 +33,7 @@ fn feed<O: Sink>(alloc: Global, text: &[u8], out: &mut O) {
     }
 }
 
-/// Feeds the one file that the words name, and gives the status of the program.
+/// Feeds the file that the arguments name to a reader. Returns the exit status.
 pub fn serve_feed<'a, F: ReadFiles, O: Sink, E: Sink>(
     alloc: Global,
     words: &'a [&'a str],

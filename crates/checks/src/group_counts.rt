@@ -1,4 +1,4 @@
-//! The counts of a process group, which are read without a slot of the table.
+//! Counts of the members of a process group, for which no slot of the table is read.
 
 use jobs::IndexedTable;
 use posix::{Life, Pid, Status};
@@ -9,10 +9,10 @@ use std::test::Fail;
 
 type Jobs = IndexedTable<SlabTable>;
 
-/// The leader of the process group that is asked.
+/// The leader of the process group whose members are counted.
 const LEADER: u32 = 298;
 
-/// Returns the table with process 1 alone.
+/// Returns a table of process 1 only.
 #[tactic(auto, using(jobs::proofs::NumberLemmas::nobody_there))]
 fn first(alloc: Global) -> Result<Jobs, AllocError> {
     let mut jobs = Jobs::empty(alloc);
@@ -22,7 +22,8 @@ fn first(alloc: Global) -> Result<Jobs, AllocError> {
     Ok(jobs)
 }
 
-/// Inserts a child in the process group of its parent. Returns false if its number is taken, or the parent isn't there.
+/// Inserts a child into the process group of its parent. Returns false if the child's number is 0 or taken, or if there
+/// is no such parent.
 fn bear(jobs: &mut Jobs, parent: Pid, child: Pid) -> Result<bool, AllocError> {
     if child == Pid::NONE || jobs.get(child).is_some() {
         return Ok(false);
@@ -36,28 +37,29 @@ fn bear(jobs: &mut Jobs, parent: Pid, child: Pid) -> Result<bool, AllocError> {
     Ok(true)
 }
 
-/// A process that is there leads a process group of its own.
+/// Makes a process the leader of a process group of its own. Does nothing if there is no such process.
 fn lead(jobs: &mut Jobs, pid: Pid) {
     if jobs.get(pid).is_some() {
         jobs.change_seen(pid, |fields| fields.group = pid);
     }
 }
 
-/// A process that is there stops, continues or ends.
+/// Makes a process stop, continue or terminate. Does nothing if there is no such process.
 fn become_life(jobs: &mut Jobs, pid: Pid, life: Life) {
     if jobs.get(pid).is_some() {
         jobs.change_seen(pid, |fields| fields.life = life);
     }
 }
 
-/// Process 1 becomes the parent of the children of another.
+/// Makes process 1 the parent of the children of another process.
 fn orphan(jobs: &mut Jobs, pid: Pid) {
     if pid != Pid::INIT && jobs.get(Pid::INIT).is_some() && jobs.get(pid).is_some() {
         jobs.adopt(pid, Pid::INIT);
     }
 }
 
-/// Returns true if the process group has these counts, and no slot is read for them.
+/// Returns true if the process group has these counts, is orphaned exactly if it has no anchors, and no slot is read
+/// for that.
 fn has_counts(jobs: &Jobs, group: Pid, anchors: usize, stopped: usize) -> bool {
     let before = jobs.visits();
     jobs.anchors(group) == anchors
@@ -66,7 +68,7 @@ fn has_counts(jobs: &Jobs, group: Pid, anchors: usize, stopped: usize) -> bool {
         && jobs.visits() == before
 }
 
-/// Returns how many of the first ten members there are, and how many slots it takes to read them.
+/// Reads the members of a process group, at most ten. Returns how many they are, and how many slots were read.
 fn read_members(jobs: &mut Jobs, group: Pid) -> (usize, u128) {
     let before = jobs.visits();
     let mut count: usize = 0;
@@ -82,7 +84,8 @@ fn read_members(jobs: &mut Jobs, group: Pid) -> (usize, u128) {
     (count, jobs.visits().wrapping_sub(before))
 }
 
-/// Returns the table with 300 processes: 298 leads a process group, and its children 299 and 300 are the other members.
+/// Returns a table of 300 processes. Process 298 leads a process group, and its children 299 and 300 are the other
+/// members.
 fn three_beside_many(alloc: Global) -> Result<Option<Jobs>, AllocError> {
     let mut jobs = first(alloc)?;
     for number in 2..=300_u32 {
@@ -106,7 +109,7 @@ fn counts_of_a_group_read_no_slot(rt: HostRuntime) -> Result<(), Fail> {
     let leader = Pid::new(LEADER).expect(&rt, "a number");
     let second = Pid::new(299).expect(&rt, "a number");
     let third = Pid::new(300).expect(&rt, "a number");
-    // The parent of the two others is in their group.
+    // Only the leader is an anchor, because the parent of the two others is in their group.
     assert!(rt; has_counts(&jobs, leader, 1, 0) && has_counts(&jobs, Pid::INIT, 0, 0));
     orphan(&mut jobs, leader);
     assert!(rt; has_counts(&jobs, leader, 3, 0));

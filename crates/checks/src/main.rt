@@ -1,5 +1,12 @@
-//! Tests that no bytes of `jobk` can show: slots that are read, texts in pieces, refused growths. The program runs worlds
-//! over another table of processes than `jobk`, and feeds an event text to its reader in pieces, for tests over files.
+//! Tests of what the output of `jobk` can't show: reads of slots, texts in pieces, failed allocations. The program is
+//! for tests over files: it runs a world on another table of processes than `jobk`, or feeds an event text to its
+//! reader in pieces.
+//!
+//! `SortedTable`, a vector of records in rising order, has the contracts of `ProcessTable`. It counts no slots, and
+//! keeps no memory of removed processes, so a child's reused memory is compared with fresh memory. `RefusingTable`
+//! fails at a chosen count, because `Global` has no state and cannot be made to refuse. A test has one assertion, of a
+//! conjunction or in a loop: each is a branch that carries all that is known, so proof time grows faster than their
+//! number.
 #![tactic(auto)]
 
 #[cfg(test)]
@@ -27,7 +34,7 @@ use std::process::ExitCode;
 
 const USAGE: &[u8] = b"usage: checks run WORLD EVENTS | checks feed EVENTS\n";
 
-/// Does what the words ask for, and gives the status of the program.
+/// Does what the arguments ask for. Returns the exit status.
 fn serve<F: ReadFiles, O: Sink, E: Sink>(
     alloc: Global,
     words: &[&str],
@@ -42,7 +49,8 @@ fn serve<F: ReadFiles, O: Sink, E: Sink>(
     }
 }
 
-/// Does what the words of the command line ask for.
+/// Does what the command line asks for. Returns the exit status, or an error if the arguments aren't text, or there is
+/// no memory for them.
 fn serve_host(rt: &HostRuntime) -> Result<u8, WordsFault> {
     let words = read_words(rt)?;
     let texts = as_texts(rt.alloc(), words.as_slice())?;

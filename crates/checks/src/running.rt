@@ -1,4 +1,4 @@
-//! Runs over a table in a vector.
+//! Runs on a table of processes in a vector.
 
 use crate::USAGE;
 use crate::sorted_table::SortedTable;
@@ -6,7 +6,7 @@ use inputs::{FileFailure, ReadFiles, named_world_and_events, read_inputs, tell};
 use kernel::{Sink, run_read};
 use std::alloc::Global;
 
-/// Runs the two files that the words name, as `jobk run` does, and gives the status of the program.
+/// Runs the two files that the arguments name, as `jobk run` does. Returns the exit status.
 pub fn serve_run<'a, F: ReadFiles, O: Sink, E: Sink>(
     alloc: Global,
     words: &'a [&'a str],

@@ -14,7 +14,7 @@ use proctable::{GrantedPools, ProcessTable, Record, Snapshot, Spare};
 use std::alloc::{AllocError, Global};
 use std::marker::Model;
 
-/// A process with its number and its parent's.
+/// A process with its own number and its parent's.
 #[derive(Drop)]
 struct Row {
     pid: Pid,
@@ -41,7 +41,7 @@ impl Numbered for Row {
 }
 
 impl Row {
-    /// A process of these parts.
+    /// Returns the process that has these parts.
     fn new(pid: Pid, parent: Pid, fields: Record) -> Row
         ensures { result ≡ process_of pid parent fields }
     {
@@ -52,28 +52,28 @@ impl Row {
         }
     }
 
-    /// Its number.
+    /// Returns the process ID.
     fn pid(&self) -> Pid
         ensures { result ≡ self.now.pid }
     {
         self.pid
     }
 
-    /// Its small fields.
+    /// Returns the fields that a reader gets by value.
     fn snapshot(&self) -> Snapshot
         ensures { result ≡ snapshot_of self.now }
     {
         self.fields.snapshot(self.pid, self.parent)
     }
 
-    /// It has another parent from now on.
+    /// Sets the parent.
     fn set_parent(&mut self, parent: Pid)
         ensures { self.new ≡ with_parent parent self.old }
     {
         self.parent = parent;
     }
 
-    /// All of it but the numbers.
+    /// Returns the fields that a caller may change: all except the two numbers.
     #[tactic(auto, unfolding(proctable::specs::Records::give_record))]
     fn record_mut(&mut self) -> &mut Record
         ensures* lends { sem 𝓛 (Lends row_row record_row self.entry result (λ b. give_record b self.old)) }
@@ -83,8 +83,8 @@ impl Row {
     }
 }
 
-/// A table whose processes stand in a vector, in rising order of their numbers. It counts no slots that are read, and keeps
-/// nothing of what a process leaves: so each child gets memory of its own.
+/// A table of processes in a vector, in rising order of their numbers. It doesn't count how many slots are read. It
+/// keeps no memory of a removed process, so each child takes new memory.
 #[derive(Drop)]
 pub struct SortedTable {
     rows: Vec<Row>,

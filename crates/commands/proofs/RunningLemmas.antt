@@ -24,7 +24,7 @@ run_fails world events old new before after error.Write h = (world, events, (ref
 
 -- ---- how an audit ends
 
--- a fact of any error
+-- what holds in any case holds at an error
 pub any_error : {T E P : Type 0} (r : Result T E) → P → OnErr r P
 any_error (Ok done) p = tt
 any_error (Err why) p = p
@@ -39,7 +39,7 @@ pub same_known : (known : Option (List ℕ)) (a b : List ℕ) → a ≡ b → If
 same_known None a b e h = tt
 same_known (Some k) a b e h = e ∙ h
 
--- the text is one of others, too
+-- an audit of a trace with P is one of a trace with Q, if P implies Q
 pub audit_weaker : {S : Type 0} (tells_law : Bool) (P Q : List ℕ → Type 0) (old new : S) (before after : Seen) (done : Result (Unit {0}) Failure) → ((t : List ℕ) → P t → Q t)
     → EndsAudit tells_law P old new before after done → EndsAudit tells_law Q old new before after done
 audit_weaker tells_law P Q old new before after (Ok done) f h = (h.0, f h.0 h.1, h.2)

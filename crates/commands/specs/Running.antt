@@ -56,7 +56,7 @@ OfTexts Asks P = (world : List ℕ) × (events : List ℕ) × Asks world events 
 abbrev pub OfTrace : (List ℕ → Type 0) → (List ℕ → Type 0) → Type 0
 OfTrace Asks P = (trace : List ℕ) × Asks trace × P trace
 
--- ---- what an audit answers
+-- ---- the answer of an audit
 
 abbrev pub ok_answer : List ℕ
 ok_answer = codes "ok" ++ 10 ∷ []
@@ -68,23 +68,23 @@ fault_answer why = (((codes "line " ++ decimal why.line) ++ codes ": fault ") ++
 abbrev pub law_answer : AuditFault → List ℕ
 law_answer fault = (codes "   " ++ law_of fault) ++ 10 ∷ []
 
--- the faulty line, and behind it the law that it breaks
+-- the faulty line, and after it a line with the law that it breaks
 abbrev pub line_and_law : List ℕ → TraceFault → List ℕ
 line_and_law trace why = unwrap_or (line_of why.line trace) [] ++ law_answer why.fault
 
--- these are told behind the fault where it is asked to
+-- the fault, and after it, if laws are asked for, the faulty line and the law
 abbrev pub faulty_answer : Bool → List ℕ → TraceFault → List ℕ
 faulty_answer tells_law trace why = fault_answer why ++ (if tells_law then line_and_law trace why else [])
 
--- The laws of a trace hold of this text, and that was answered.
+-- The laws of a trace hold of this text, and the output took `ok`.
 abbrev pub IsAccepted : Seen → Seen → List ℕ → Type 0
 IsAccepted before after trace = IsLawful trace × TakesAll before after ok_answer
 
--- The laws of a trace don't hold of this text, and its first fault was answered.
+-- The laws of a trace don't hold of this text, and the output took the answer for its first fault.
 abbrev pub IsFaulty : Bool → Seen → Seen → List ℕ → Type 0
 IsFaulty tells_law before after trace = (IsLawful trace → ⊥) × ((why : TraceFault) × IsFirstFault trace why × TakesAll before after (faulty_answer tells_law trace why))
 
--- A beginning of the answer was put.
+-- A beginning of the answer was put, and then a put failed.
 abbrev pub IsCutOff : Bool → Seen → Seen → List ℕ → Type 0
 IsCutOff tells_law before after trace = (IsLawful trace × BreaksOff before after ok_answer)
     ⊎ ((why : TraceFault) × IsFirstFault trace why × BreaksOff before after (faulty_answer tells_law trace why))
@@ -126,7 +126,7 @@ abbrev pub MeansOfRun : {A S : Type 0} → (List ℕ → List ℕ → Type 0) �
 MeansOfRun Asks asked old new before after status = MeansOf (OfTexts Asks (IsTraced before after)) (OfTexts Asks IsRefused × (new ≡ old))
     (OfTexts Asks (λ world events. CutsShort world events before after)) asked old new status
 
--- and of an audit: 3 that nothing was put, or a beginning of the answer
+-- What a status means of an audit: 3 that nothing was put, or a beginning of the answer.
 abbrev pub MeansOfAudit : {A S : Type 0} → Bool → (List ℕ → Type 0) → Option A → S → S → Seen → Seen → ℕ → Type 0
 MeansOfAudit tells_law Audits asked old new before after status =
     MeansOf (OfTrace Audits (IsAccepted before after)) (OfTrace Audits (IsFaulty tells_law before after)) (OfTrace Audits (IsCutOff tells_law before after)) asked old new status

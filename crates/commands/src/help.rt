@@ -1,41 +1,42 @@
-//! What the program says of itself.
+//! The texts of `--help` and `--version`.
 
-/// What `--help` tells.
+/// The text that `--help` prints.
+/// `--help` and `--version` return 0, as scripts expect; any other unknown word returns 2 with the usage line.
 pub const HELP: &[u8] =
-    b"jobk: processes, signals and job control of a Unix kernel, as an exact reference
+    b"jobk: an exact reference of processes, signals and job control in a Unix kernel
 
-    jobk run WORLD EVENTS      prints the trace of a world over its events
-    jobk audit TRACE           says ok, or the first line at which a trace breaks a law
-    jobk explain TRACE         prints a trace, and behind each line what its numbers say
+    jobk run WORLD EVENTS      print the trace of a world
+    jobk audit TRACE           print ok, or the first line that breaks a law of traces
+    jobk explain TRACE         print a trace, with the meaning of its numbers after each line
     jobk explain TRACE WORLD EVENTS
-                               prints the trace of a world, and what each line did, if TRACE is just that
+                               check that TRACE is the trace of this world, and print what each line did
     jobk explain --audit TRACE
-                               audits it, and tells in words the line at fault, and the law that it breaks
-    jobk lanes TRACE [--svg]   draws a trace, with a lane for each process
-    jobk explore WORLD EVENTS  runs all schedules: the events with a few ticks put in; no other choice is varied
-        --ticks K              at most K of them, 0 to 1000000; 2 if not named
-        --upto N               before the first N events alone
-        --states N             keeps up to N states before one event; 50000 if not named
-        --anywhere EVENT       puts in EVENT once, as key 1 1A or hangup 1, anywhere before these
-        --find TEXT            counts the schedules that have a line with these words, as stop * SIGTSTP
-        --must-halt            status 4 where a schedule doesn't halt
-        --all                  runs each by itself, also more than 10000000
-        --outcomes             status 2 where there are too many to tell of outcomes
-        --write WHICH          prints the events of one schedule alone: rest, going, find, or an outcome's number
-    jobk show WORLD EVENTS     shows the state after the last event
-        --at E                 after event E
-        --calls                each event up to it, and what it did
-        --trace                the trace up to it, and what each line did
-        --process P            of process P alone
-        --step                 goes through the run, at a terminal
+                               audit a trace, and print the line and the law that it breaks
+    jobk lanes TRACE [--svg]   draw a trace, with a lane for each process
+    jobk explore WORLD EVENTS  run every schedule: every way to insert ticks into EVENTS
+        --ticks K              insert at most K ticks, 0 to 1000000 (default: 2)
+        --upto N               insert only before the first N events (default: all)
+        --states N             keep at most N states before each event (default: 50000)
+        --anywhere EVENT       also insert EVENT once, such as key 1 1A or hangup 1
+        --find TEXT            count the schedules that have a line with these words, such as stop * SIGTSTP
+        --must-halt            exit with 4 if a schedule does not halt
+        --all                  run every schedule separately, even more than 10000000
+        --outcomes             exit with 2 if there are too many schedules to list outcomes
+        --write WHICH          print only the events of one schedule: rest, going, find, or the number of an outcome
+    jobk show WORLD EVENTS     print the state after the last event
+        --at E                 print the state after event E
+        --calls                print what each event did, up to that event
+        --trace                print the trace up to that event, and what each line did
+        --process P            print only process P
+        --step                 step through the run, at a terminal
     jobk run --names FILES, jobk explore --names FILES .., jobk show --names FILES ..
-                               read names, as SIGTERM or ^C; FILES are WORLD EVENTS or FOLDER [EVENTS]
-    jobk names TEXT            prints a world or events with numbers for names, as SIGTERM or ^C
-    jobk                       prints the trace of a small world of its own
+                               accept names such as SIGTERM and ^C; FILES is WORLD EVENTS or FOLDER [EVENTS]
+    jobk names TEXT            print a world or events with numbers in place of names
+    jobk                       run a small built-in world
 
-Status: 0 done, 1 a text is refused or a trace faulty, 2 other words, 3 a device or memory fails,
-4 explore found a TEXT, or a schedule that doesn't halt.
+Exit status: 0 success, 1 rejected input or faulty trace, 2 usage error, 3 I/O error or out of memory,
+4 explore found TEXT, or a schedule that does not halt.
 ";
 
-/// What `--version` tells.
+/// The line that `--version` prints.
 pub const VERSION: &[u8] = b"jobk 1.0\n";

@@ -8,7 +8,9 @@ ghost use Rattle.commands.specs.Words.{audit_asked, run_asked};
 
 use arrayvec::ArrayString;
 use audit::{AuditFault, TraceFault, audit_text};
-use inputs::{FileFailure, ReadFault, ReadFiles, named_file, named_world_and_events, tell};
+use inputs::{
+    FileFailure, ReadFault, ReadFiles, named_file, named_world_and_events, put_both, tell,
+};
 use itoa::Buffer;
 use judging::line_at;
 use kernel::{RunError, Sink, SinkFault, put_all, run};
@@ -89,7 +91,7 @@ fn put_answer<'a, O: Sink>(answer: &[u8], out: &mut O) -> Result<(), Failure<'a>
     put_all(out, answer).map_err(|_| Failure::Run(RunError::Write))
 }
 
-/// Returns the answer to the first fault of a trace: its line, and its number.
+/// Returns the answer for a fault of a trace: the number of its line, and the number of the fault.
 fn fault_line(why: TraceFault) -> ArrayString<64>
     ensures { result.bytes ≡ fault_answer why }
 {
@@ -102,7 +104,7 @@ fn fault_line(why: TraceFault) -> ArrayString<64>
     text
 }
 
-/// Returns the line with the law that a faulty line breaks.
+/// Returns a line with the law that a faulty line of a trace breaks.
 fn law_line(fault: AuditFault) -> ArrayString<64>
     ensures { result.bytes ≡ law_answer fault }
 {
@@ -113,16 +115,6 @@ fn law_line(fault: AuditFault) -> ArrayString<64>
     text
 }
 
-/// Puts two texts, one behind the other.
-fn put_both<'a, O: Sink>(first: &[u8], second: &[u8], out: &mut O) -> Result<(), Failure<'a>>
-    ensures ok { OnOk result (TakesAll (O.seen out.old) (O.seen out.new) (first.now ++ second.now)) }
-    ensures err { IfErr result (λ why. why ≡ Failure.Run RunError.Write) }
-    ensures cut { OnErr result (BreaksOff (O.seen out.old) (O.seen out.new) (first.now ++ second.now)) }
-{
-    put_answer(first, out)?;
-    put_answer(second, out)
-}
-
 /// Puts the first faulty line of a trace, and the law that it breaks.
 fn put_law<'a, O: Sink>(why: TraceFault, trace: &[u8], out: &mut O) -> Result<(), Failure<'a>>
     ensures ok { OnOk result (TakesAll (O.seen out.old) (O.seen out.new) (line_and_law trace.now why)) }
@@ -130,10 +122,12 @@ fn put_law<'a, O: Sink>(why: TraceFault, trace: &[u8], out: &mut O) -> Result<()
     ensures cut { OnErr result (BreaksOff (O.seen out.old) (O.seen out.new) (line_and_law trace.now why)) }
 {
     let line = line_at(trace, why.line).unwrap_or(&[]);
-    put_both(line, law_line(why.fault).as_str().as_bytes(), out)
+    put_both(out, line, law_line(why.fault).as_str().as_bytes()).map_err(|_| Failure::Run(
+        RunError::Write,
+    ))
 }
 
-/// Puts the answer to the first fault of a trace, with the line and the law where it is asked to.
+/// Puts the answer for the first fault of a trace, and after it the line and the law if `tells_law` is true.
 fn put_fault<'a, O: Sink>(
     why: TraceFault,
     trace: &[u8],
@@ -152,7 +146,7 @@ fn put_fault<'a, O: Sink>(
     }
 }
 
-/// Audits a trace. Where it is asked to, it tells the law that is broken first, too.
+/// Audits a trace. If `tells_law` is true, puts the first faulty line and the law that it breaks, too.
 fn audit_trace<'a, O: Sink>(
     alloc: Global,
     keys: Option<RandomState>,
@@ -176,7 +170,7 @@ fn audit_trace<'a, O: Sink>(
     }
 }
 
-/// Audits a file. Where it is asked to, it tells the law that is broken first, too.
+/// Audits a file. If `tells_law` is true, puts the first faulty line and the law that it breaks, too.
 fn audit_file<'a, F: ReadFiles, O: Sink>(
     alloc: Global,
     files: &F,
@@ -252,10 +246,11 @@ pub fn serve_run<'a, F: ReadFiles, O: Sink, E: Sink>(
     }
 }
 
-/// Audits the one file that the words behind `audit` name, and gives the status of the program: 0 where the laws of a trace
-/// hold, 1 for a faulty trace, 2 for other words, 3 for a device or memory, or where the host has no random bytes, its
-/// `keys`. Where it is asked to, as behind `explain --audit`, it tells behind a fault the line, and the law that it breaks,
-/// in words. The answer goes to `out` and messages to `err`; a failing `err` changes no status.
+/// Audits the file that the arguments after `audit` name. If `tells_law` is true, as for `explain --audit`, the answer
+/// for a fault also has the faulty line and the law that it breaks. The answer goes to `out` and messages to `err`.
+///
+/// Returns the exit status: 0 if the laws of a trace hold, 1 for a faulty trace, 2 for a usage error. It is 3 if a
+/// device fails, there is no memory, or the host has no random bytes for `keys`. A failing `err` changes no status.
 pub fn serve_audit<'a, F: ReadFiles, O: Sink, E: Sink>(
     alloc: Global,
     words: &'a [&'a str],

@@ -146,6 +146,8 @@ fn named_in<'a>(words: &'a [&'a str]) -> Option<(&'a str, &'a [&'a str])>
 /// Does what the words of the command line ask for, without the program's name, and gives the status of the program.
 /// `run`, `explore` and `show` with `--names` behind them are served as [`serve_named`] says, all other words as
 /// [`serve_command`] does. Words that are no text in UTF-8 have the status 2; where there was no memory for them it is 3.
+/// `words` is a `Result`, because words that are not UTF-8 are a usage error, and want of memory for them is reported
+/// as such.
 pub fn serve<'a, F: ReadFiles, O: Sink, E: Sink, P: Progress + Ask>(
     alloc: Global,
     words: Result<&'a [&'a str], WordsFault>,

@@ -1,5 +1,5 @@
--- Texts that are looked for: patterns of the words of a line.
-use Rattle.std.specs.Prelude.{ℕ, ◌==◌, ◌||◌, ◌&&◌, Bool, true, false, List, [], ◌∷◌, length, codes, ℤ, unsigned_abs, Option, Some, None}
+-- Patterns of words, which `jobk explore --find` looks for in the lines of a trace.
+use Rattle.std.specs.Prelude.{ℕ, ◌==◌, ◌||◌, ◌&&◌, Bool, false, List, [], ◌∷◌, length, codes, ℤ, unsigned_abs, Option, Some, None}
 use Rattle.std.specs.List.{join_with_byte}
 use Rattle.std.specs.Str.{bytes_eq}
 use Rattle.posix.specs.declared.entry.Entry.{Entry}
@@ -8,68 +8,64 @@ use Rattle.posix.specs.declared.waits.WaitCall.TheVariants.{Waitpid, Waitid}
 use Rattle.posix.specs.Common.{decimal_value, words_of}
 use Rattle.trace.specs.Words.{behind, word}
 use Rattle.wording.specs.declared.table.Kind.{Kind}
-use Rattle.wording.specs.declared.table.Kind.TheVariants.{Signal, Errno, WaitOption, Children, Handler, Flag, How}
-use Rattle.wording.specs.ShortNames.{number_named}
-use Rattle.counting.specs.declared.pattern.Named.{Named}
-use Rattle.counting.specs.declared.pattern.Named.TheVariants as named
+use Rattle.wording.specs.declared.table.Kind.TheVariants.{Signal, Errno}
+use Rattle.wording.specs.Names.{number_named}
 
--- what stands in a line behind the number of the event and the space
+-- a line without the event number and the space after it
 abbrev pub shown : Entry → List ℕ
 shown entry = join_with_byte 32 (words_of entry)
 
--- what each of these words can be called by
-abbrev pub kinds_of : Entry → List Named
-kinds_of (Noted pid value) = named.Nothing ∷ named.Nothing ∷ named.Nothing ∷ []
-kinds_of (Called pid call result) = named.Nothing ∷ named.Nothing ∷ named.Nothing ∷ named.Nothing ∷ named.Result ∷ []
-kinds_of (Moved pid call bytes) = named.Nothing ∷ named.Nothing ∷ named.Nothing ∷ named.Nothing ∷ named.Nothing ∷ named.Nothing ∷ named.Nothing ∷ []
-kinds_of (Reported pid Waitpid child status) = named.Nothing ∷ named.Nothing ∷ named.Nothing ∷ named.Nothing ∷ named.Nothing ∷ named.Nothing ∷ named.Nothing ∷ []
-kinds_of (Reported pid Waitid child status) = named.Nothing ∷ named.Nothing ∷ named.Nothing ∷ named.Nothing ∷ named.Nothing ∷ named.Nothing ∷ named.Nothing ∷ named.Nothing ∷ named.Nothing ∷ []
-kinds_of (Looked pid child status) = named.Nothing ∷ named.Nothing ∷ named.Nothing ∷ named.Nothing ∷ named.Nothing ∷ named.Nothing ∷ named.Nothing ∷ named.Nothing ∷ named.Nothing ∷ []
-kinds_of (NoMemory pid call) = named.Nothing ∷ named.Nothing ∷ named.Nothing ∷ named.Nothing ∷ named.Result ∷ named.Nothing ∷ []
-kinds_of (Marked pid mark) = named.Nothing ∷ named.Nothing ∷ named.Nothing ∷ named.Nothing ∷ named.Nothing ∷ named.Nothing ∷ named.Nothing ∷ []
-kinds_of (Handled pid sig value sender) = named.Nothing ∷ named.Nothing ∷ named.Signal ∷ named.Nothing ∷ named.Nothing ∷ []
-kinds_of (Discarded pid sig) = named.Nothing ∷ named.Nothing ∷ named.Signal ∷ []
-kinds_of (Stopped pid sig) = named.Nothing ∷ named.Nothing ∷ named.Signal ∷ []
-kinds_of (Returned pid) = named.Nothing ∷ named.Nothing ∷ []
-kinds_of (Ended pid status) = named.Nothing ∷ named.Nothing ∷ named.Nothing ∷ []
-kinds_of Halted = named.Nothing ∷ []
+-- for each word of the line, which names can match it: those of signals, those of errors, or none
+abbrev pub kinds_of : Entry → List (Option Kind)
+kinds_of (Noted pid value) = None ∷ None ∷ None ∷ []
+kinds_of (Called pid call result) = None ∷ None ∷ None ∷ None ∷ Some Errno ∷ []
+kinds_of (Moved pid call bytes) = None ∷ None ∷ None ∷ None ∷ None ∷ None ∷ None ∷ []
+kinds_of (Reported pid Waitpid child status) = None ∷ None ∷ None ∷ None ∷ None ∷ None ∷ None ∷ []
+kinds_of (Reported pid Waitid child status) = None ∷ None ∷ None ∷ None ∷ None ∷ None ∷ None ∷ None ∷ None ∷ []
+kinds_of (Looked pid child status) = None ∷ None ∷ None ∷ None ∷ None ∷ None ∷ None ∷ None ∷ None ∷ []
+kinds_of (NoMemory pid call) = None ∷ None ∷ None ∷ None ∷ Some Errno ∷ None ∷ []
+kinds_of (Marked pid mark) = None ∷ None ∷ None ∷ None ∷ None ∷ None ∷ None ∷ []
+kinds_of (Handled pid sig value sender) = None ∷ None ∷ Some Signal ∷ None ∷ None ∷ []
+kinds_of (Discarded pid sig) = None ∷ None ∷ Some Signal ∷ []
+kinds_of (Stopped pid sig) = None ∷ None ∷ Some Signal ∷ []
+kinds_of (Returned pid) = None ∷ None ∷ []
+kinds_of (Ended pid status) = None ∷ None ∷ None ∷ []
+kinds_of Halted = None ∷ []
 
 -- ---- a word of a pattern
 
--- the digits of this number
+-- The decimal value of the word is the absolute value of this number.
 abbrev pub is_number : List ℕ → ℤ → Bool
 is_number w z = decimal_value w == unsigned_abs z
 
--- behind a `-`
-abbrev pub is_negative : List ℕ → ℤ → Bool
-is_negative [] z = false
-is_negative (b ∷ digits) z = b == 45 && is_number digits z
+-- The digits are those of the number of this kind that a name stands for.
+abbrev pub is_named : Kind → Option (Kind × ℤ) → List ℕ → Bool
+is_named Signal (Some (Signal, z)) digits = is_number digits z
+is_named Errno (Some (Errno, z)) digits = is_number digits z
+is_named _ _ digits = false
 
--- The word is the number that a name stands for: of a signal where the word is one, and of an error, the negative one, where it is a result.
-abbrev pub is_named : Named → Option (Kind × ℤ) → List ℕ → Bool
-is_named named.Signal (Some (Signal, z)) w = is_number w z
-is_named named.Result (Some (Errno, z)) w = is_negative w z
-is_named _ _ w = false
+-- A signal name matches its number if the word is a signal. An error name matches its negative number if the word is a result.
+abbrev pub is_number_of : List ℕ → Option Kind → List ℕ → Bool
+is_number_of name (Some Signal) w = is_named Signal (number_named name) w
+is_number_of name (Some Errno) (b ∷ digits) = b == 45 && is_named Errno (number_named name) digits
+is_number_of name _ w = false
 
-abbrev pub is_number_of : List ℕ → Named → List ℕ → Bool
-is_number_of name kind w = is_named kind (number_named name) w
+-- A word of a pattern matches itself, `*` matches any word, and a name matches its number.
+abbrev pub matches_word : List ℕ → Option Kind → List ℕ → Bool
+matches_word sought kind w = bytes_eq sought (codes "*") || bytes_eq sought w || is_number_of sought kind w
 
--- A word of a pattern stands for itself, `*` for any word, and a name for its number.
-abbrev pub fits_word : List ℕ → Named → List ℕ → Bool
-fits_word sought kind w = bytes_eq sought (codes "*") || bytes_eq sought w || is_number_of sought kind w
+-- ---- all words of a pattern
 
--- ---- all words of it
+-- The words of the pattern match the first words of the line.
+unfoldable pub matches_front : List ℕ → List (Option Kind) → List ℕ → Bool
+matches_front pattern [] line = length pattern == 0
+matches_front pattern (kind ∷ kinds) line = length pattern == 0 || (matches_word (word pattern) kind (word line) && matches_front (behind pattern) kinds (behind line))
 
--- they stand for the first words of a line
-unfoldable pub fits : List ℕ → List Named → List ℕ → Bool
-fits pattern [] line = length pattern == 0
-fits pattern (kind ∷ kinds) line = length pattern == 0 || (fits_word (word pattern) kind (word line) && fits (behind pattern) kinds (behind line))
+-- The words of the pattern match consecutive words of the line.
+unfoldable pub matches_from : List ℕ → List (Option Kind) → List ℕ → Bool
+matches_from pattern [] line = matches_front pattern [] line
+matches_from pattern (kind ∷ kinds) line = matches_front pattern (kind ∷ kinds) line || matches_from pattern kinds (behind line)
 
--- they stand for words of it, one after another
-unfoldable pub has_from : List ℕ → List Named → List ℕ → Bool
-has_from pattern [] line = fits pattern [] line
-has_from pattern (kind ∷ kinds) line = fits pattern (kind ∷ kinds) line || has_from pattern kinds (behind line)
-
--- the line has the words of the pattern, one after another, behind the number of its event
+-- The words of the pattern match consecutive words of the line, after its event number.
 unfoldable pub has_pattern : List ℕ → Entry → Bool
-has_pattern pattern entry = has_from pattern (kinds_of entry) (shown entry)
+has_pattern pattern entry = matches_from pattern (kinds_of entry) (shown entry)

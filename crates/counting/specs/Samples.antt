@@ -1,5 +1,5 @@
--- Whether a line can have the words of a pattern: they are put into sample lines.
-use Rattle.std.specs.Prelude.{◌≡◌, ◌<◌, ◌==◌, ℕ, zero, suc, Bool, true, false, List, [], ◌∷◌, ◌++◌, length, map, codes, ℤ, Option, Some, None, if◌then◌else◌}
+-- Whether a line of a trace can match a pattern: the words of the pattern replace words of sample lines.
+use Rattle.std.specs.Prelude.{◌≡◌, ◌<◌, ◌==◌, ℕ, ◌*◌, zero, suc, true, false, List, [], ◌∷◌, ◌++◌, length, codes, replicate, ℤ, Option, Some, None, if◌then◌else◌}
 use Rattle.std.specs.List.{All}
 use Rattle.std.specs.Str.{bytes_eq}
 use Rattle.std.specs.Fmt.{signed_decimal}
@@ -8,38 +8,61 @@ use Rattle.posix.specs.Common.{Line}
 use Rattle.laws.specs.TraceLines.{Says, is_entry}
 use Rattle.trace.specs.Words.{behind, word}
 use Rattle.wording.specs.declared.table.Kind.{Kind}
-use Rattle.wording.specs.declared.table.Kind.TheVariants.{Signal, Errno, WaitOption, Children, Handler, Flag, How}
-use Rattle.wording.specs.ShortNames.{number_named}
-use Rattle.counting.specs.declared.samples.TheConstants.{SAMPLES}
+use Rattle.wording.specs.declared.table.Kind.TheVariants.{Errno}
+use Rattle.wording.specs.Names.{number_named}
 use Rattle.counting.specs.Patterns.{has_pattern}
 
--- a line of one of the forms of a trace has the words of the pattern
+-- A line that a trace can have matches the pattern.
 abbrev pub CanBeShown : List ℕ → Type 0
 CanBeShown pattern = (entry : Entry) × (is_entry entry ≡ true) × (has_pattern pattern entry ≡ true)
 
--- the text is no line that has them
+-- If the text is a line of a trace, the line doesn't match the pattern.
 abbrev pub IsWithout : List ℕ → List ℕ → Type 0
 IsWithout pattern text = (l : Line) → Says text l → has_pattern pattern l.entry ≡ false
 
--- a number in place of a name
+-- a number in place of a name; for an error, the negative number
 abbrev pub as_number : List ℕ → Option (Kind × ℤ) → List ℕ
 as_number sought (Some (Errno, z)) = 45 ∷ signed_decimal z
 as_number sought (Some (kind, z)) = signed_decimal z
 as_number sought None = sought
 
--- what is put in place of a word of a sample
+-- what replaces a word of a sample
 abbrev pub filled : List ℕ → List ℕ → List ℕ
 filled sought own = if bytes_eq sought (codes "*") then own else as_number sought (number_named sought)
 
--- the words of a sample, each behind a space, with those of a pattern in their places behind the first so many
+-- The words of a sample, each after a space. The words of the pattern, while any are left, replace those after the first `skipped`.
 unfoldable pub with_pattern : List ℕ → ℕ → List (List ℕ) → List ℕ
 with_pattern pattern skipped [] = []
 with_pattern pattern zero (own ∷ words) = if length pattern == 0 then 32 ∷ own ++ with_pattern pattern zero words else 32 ∷ filled (word pattern) own ++ with_pattern (behind pattern) zero words
 with_pattern pattern (suc skipped) (own ∷ words) = 32 ∷ own ++ with_pattern pattern skipped words
 
--- No sample with the words of the pattern in place of its own, from any of them on, is a line that has them.
+-- Wherever in the sample the words of the pattern begin, the result isn't a line that matches the pattern.
 abbrev pub IsWithoutIn : List ℕ → List (List ℕ) → Type 0
 IsWithoutIn pattern words = (k : ℕ) → k < length words → IsWithout pattern (codes "1" ++ with_pattern pattern k words)
 
+-- a `read` of so many bytes, whose number is written so
+abbrev pub read_of : List ℕ → ℕ → List (List ℕ)
+read_of digits n = codes "call" ∷ codes "1" ∷ codes "read" ∷ codes "=" ∷ digits ∷ codes "bytes" ∷ replicate (n * 2) 48 ∷ []
+
+-- lines of each form, without the event number; where one word depends on another, a line for each case
+unfoldable pub samples : List (List (List ℕ))
+samples =
+    (codes "halt" ∷ []) ∷
+    (codes "note" ∷ codes "1" ∷ codes "0" ∷ []) ∷
+    (codes "call" ∷ codes "1" ∷ codes "kill" ∷ codes "=" ∷ codes "0" ∷ []) ∷
+    (codes "call" ∷ codes "1" ∷ codes "waitpid" ∷ codes "=" ∷ codes "2" ∷ codes "status" ∷ codes "0" ∷ []) ∷
+    (codes "call" ∷ codes "1" ∷ codes "waitid" ∷ codes "=" ∷ codes "0" ∷ codes "take" ∷ codes "2" ∷ codes "status" ∷ codes "0" ∷ []) ∷
+    (codes "call" ∷ codes "1" ∷ codes "waitid" ∷ codes "=" ∷ codes "0" ∷ codes "look" ∷ codes "2" ∷ codes "status" ∷ codes "0" ∷ []) ∷
+    (codes "call" ∷ codes "1" ∷ codes "subreaper" ∷ codes "=" ∷ codes "0" ∷ codes "mark" ∷ codes "1" ∷ []) ∷
+    (codes "call" ∷ codes "1" ∷ codes "fork" ∷ codes "=" ∷ codes "-11" ∷ codes "memory" ∷ []) ∷
+    (codes "handle" ∷ codes "1" ∷ codes "10" ∷ codes "0" ∷ codes "0" ∷ []) ∷
+    (codes "discard" ∷ codes "1" ∷ codes "17" ∷ []) ∷
+    (codes "stop" ∷ codes "1" ∷ codes "19" ∷ []) ∷
+    (codes "return" ∷ codes "1" ∷ []) ∷
+    (codes "end" ∷ codes "1" ∷ codes "0" ∷ []) ∷
+    read_of (codes "1") 1 ∷ read_of (codes "2") 2 ∷ read_of (codes "3") 3 ∷ read_of (codes "4") 4 ∷ read_of (codes "5") 5 ∷ read_of (codes "6") 6 ∷ read_of (codes "7") 7 ∷ read_of (codes "8") 8 ∷
+    read_of (codes "9") 9 ∷ read_of (codes "10") 10 ∷ read_of (codes "11") 11 ∷ read_of (codes "12") 12 ∷ read_of (codes "13") 13 ∷ read_of (codes "14") 14 ∷ read_of (codes "15") 15 ∷ read_of (codes "16") 16 ∷ []
+
+-- In no sample.
 abbrev pub IsShownByNone : List ℕ → Type 0
-IsShownByNone pattern = All (IsWithoutIn pattern) (map (λ s. map (λ w. w.now) s.now) SAMPLES)
+IsShownByNone pattern = All (IsWithoutIn pattern) samples

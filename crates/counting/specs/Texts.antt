@@ -1,5 +1,5 @@
 -- Texts that are looked for in the lines of a trace.
-use Rattle.std.specs.Prelude.{ℕ, ◌||◌, Bool, true, false, List, [], ◌∷◌, map, if◌then◌else◌}
+use Rattle.std.specs.Prelude.{ℕ, ◌||◌, Bool, false, List, [], ◌∷◌, map, if◌then◌else◌}
 use Rattle.std.specs.List.{list_any}
 use Rattle.posix.specs.declared.entry.Entry.{Entry}
 use Rattle.posix.specs.Common.{Line}
@@ -7,7 +7,7 @@ use Rattle.schedules.specs.Families.{Spots}
 use Rattle.counting.specs.Patterns.{has_pattern}
 use Rattle.counting.specs.Tallies.{TallyView, both, with_schedule_if}
 
--- one of the lines has the words of the text, behind the number of its event
+-- One of the lines matches the text, which is a pattern.
 abbrev pub have_text : List ℕ → List Line → Bool
 have_text text lines = list_any (λ l. has_pattern text l.entry) lines
 

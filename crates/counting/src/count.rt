@@ -8,6 +8,7 @@ use std::alloc::{AllocError, Global};
 use std::marker::Model;
 
 /// A number of any size.
+/// Decimal digits, because a count is only added and printed.
 #[derive(Drop)]
 pub struct Count {
     alloc: Global,

@@ -29,7 +29,7 @@ impl<'a> Model for Find<'a> {
     ghost view = { λ f. record { text = f.text.now; is_there = f.is_there; tally = f.tally } };
 }
 
-/// Whether one of the lines has a text.
+/// Returns true if one of the lines matches a text.
 fn is_in_any(text: &str, lines: &[Line]) -> bool
     ensures { result ≡ have_text text.now lines.now }
 {

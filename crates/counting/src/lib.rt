@@ -1,5 +1,11 @@
-//! What is counted of the schedules of a family: how they end, and which have lines with the words of a text. They are run one after
-//! another.
+//! Counts the schedules of a family by how they end, and by the patterns that their lines match. The schedules are run
+//! one after another.
+//!
+//! `run_schedule` returns the lines of a run of the schedule's events with all memory granted, and how its last state
+//! ends; otherwise an error. `explore` counts how many schedules halt, come to rest or go on, and how many have a line
+//! with each text (`has_pattern`), with the first of each kind (`book_over`). `can_be_shown`: a line of a form has the
+//! words, or no sample line has (`IsShownByNone`). No clause: that the samples are enough. `by_count`: outcomes count
+//! all schedules. `Count` adds and prints exactly.
 #![tactic(auto)]
 
 pub mod book;

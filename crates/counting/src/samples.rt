@@ -1,15 +1,15 @@
-//! Whether a line can have the words of a pattern: they are put into sample lines.
+//! Whether a line of a trace can match a pattern: the words of the pattern replace words of sample lines.
 
 ghost use Rattle.std.specs.Prelude.{◌≡◌, ◌++◌, All, IfOk, OnOk, false, map, true};
 ghost use Rattle.counting.specs.Samples.{CanBeShown, IsShownByNone, IsWithout, IsWithoutIn, filled as filled_of, with_pattern};
 
-use crate::pattern::{has_pattern, split_word};
+use crate::pattern::has_pattern;
 use std::alloc::{AllocError, Global};
-use trace::read_line;
+use trace::{read_line, split_word};
 use wording::{Kind, number_named};
 
-/// Lines of each form. Where words bear on each other there is one for each way: so many bytes are shown by twice as
-/// many digits.
+/// Lines of each form, without event numbers. Some words depend on each other: N bytes are shown by 2N digits. So there
+/// is a sample for each N.
 static SAMPLES: [&[&str]; 29] = [
     &["halt"],
     &["note", "1", "0"],
@@ -98,7 +98,7 @@ static SAMPLES: [&[&str]; 29] = [
     ],
 ];
 
-/// Adds the word of a sample, or the word of a pattern that is put in its place.
+/// Adds the word that replaces a word of a sample: for `*` the sample's own word, for a name its number.
 fn put_word(text: &mut Vec<u8>, sought: &[u8], own: &str) -> Result<(), AllocError>
     ensures { OnOk result (text.new.items ≡ text.old.items ++ filled_of sought.now own.now) }
 {
@@ -115,7 +115,7 @@ fn put_word(text: &mut Vec<u8>, sought: &[u8], own: &str) -> Result<(), AllocErr
     text.extend_from_slice(digits.format(number).as_bytes())
 }
 
-/// Adds the words of a sample, the first so many as they are, and then the words of a pattern in their places.
+/// Adds the words of a sample. The words of the pattern, while any are left, replace those after the first `skipped`.
 #[tactic(auto, unfolding(crate::specs::Samples::with_pattern))]
 fn put_words(
     text: &mut Vec<u8>,
@@ -138,7 +138,7 @@ fn put_words(
     put_words(text, pattern, 0, words)
 }
 
-/// Whether a text is a line that has the words of a pattern.
+/// Returns true if a text is a line of a trace that matches a pattern.
 fn is_line_with(text: &[u8], pattern: &str) -> bool
     ensures shown { result ≡ true → CanBeShown pattern.now }
     ensures without { result ≡ false → IsWithout pattern.now text.now }
@@ -149,7 +149,7 @@ fn is_line_with(text: &[u8], pattern: &str) -> bool
     }
 }
 
-/// Whether the words of a sample, with those of a pattern in their places, are a line that has these.
+/// Returns true if the words of a pattern can replace words of a sample so that the line matches the pattern.
 fn can_be_put_into(text: &mut Vec<u8>, pattern: &str, words: &[&str]) -> Result<bool, AllocError>
     ensures shown { IfOk result (λ can. can ≡ true → CanBeShown pattern.now) }
     ensures without { IfOk result (λ can. can ≡ false → IsWithoutIn pattern.now (map (λ w. w.now) words.now)) }
@@ -165,7 +165,7 @@ fn can_be_put_into(text: &mut Vec<u8>, pattern: &str, words: &[&str]) -> Result<
     Ok(false)
 }
 
-/// Whether the words of a pattern can be put into one of these samples.
+/// Returns true if one of the samples can be made to match a pattern.
 fn can_be_put_into_one(
     alloc: Global,
     pattern: &str,
@@ -183,7 +183,7 @@ fn can_be_put_into_one(
     Ok(false)
 }
 
-/// Whether a line can have the words of a pattern.
+/// Returns true if a line of a trace can match a pattern. Otherwise no sample can be made to match it.
 pub fn can_be_shown(alloc: Global, pattern: &str) -> Result<bool, AllocError>
     ensures shown { IfOk result (λ can. can ≡ true → CanBeShown pattern.now) }
     ensures without { IfOk result (λ can. can ≡ false → IsShownByNone pattern.now) }

@@ -15,18 +15,18 @@ answer_of (Err why) = status_of why
 
 -- ---- what a status means
 
--- P holds of a text that is the trace in a file with what is said of its lines; beside a world it is the trace of a run.
+-- P holds of a text that is the trace in a file with explanations. If a world is named, it is the trace of a run.
 abbrev pub OfAsked : Contents → (List ℕ → Type 0) → Asked → Type 0
 OfAsked contents P (OfTrace name) = (trace : List ℕ) × IfSome (contents name) (λ known. trace ≡ known) × OfExplained trace P
 OfAsked contents P (OfRun names) = OfSame contents names P
 
--- It isn't, or a text of the world is refused, and nothing was put.
+-- The trace is not the one of a run, or the world or its events are rejected; and nothing was put.
 abbrev pub IsRefused : {S : Type 0} → Contents → S → S → Asked → Type 0
 IsRefused contents old new (OfTrace name) = ⊥
 IsRefused contents old new (OfRun names) = IsOther contents names × (new ≡ old)
 
--- What a status means, with what is asked for, if something is, the files, and the output from the call to the return: all
--- of such a text was put, nothing, or a beginning of it.
+-- What a status means: all of such a text was put, or nothing, or a beginning of it. The arguments are the files, what
+-- is asked for, if something is, and the output at the call and at the return.
 abbrev pub Means : {S : Type 0} → Contents → Option Asked → S → S → Seen → Seen → ℕ → Type 0
 Means contents asked old new before after status =
     MeansOf (IsSomeAnd asked (OfAsked contents (TakesAll before after))) (IsSomeAnd asked (IsRefused contents old new)) (IsSomeAnd asked (OfAsked contents (IsCutShort before after))) asked old new status

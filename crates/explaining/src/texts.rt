@@ -1,4 +1,4 @@
-//! What the lines of a trace say.
+//! Explains the lines of a trace by what their numbers mean.
 
 ghost use Rattle.showing.specs.Explanations.{Explains};
 
@@ -19,10 +19,10 @@ impl Explain for Known {
     }
 }
 
-/// Puts a trace, and after each line what its numbers say, if that is more than they show. A line that isn't of a trace
-/// stays as it is.
+/// Puts a trace, and after each line what its numbers mean, if that is more than the line shows. A line that has no
+/// form of a trace line is put unchanged.
 ///
-/// At an error a beginning of such a text was put.
+/// At an error the output took a beginning of such a text.
 pub fn explain_trace<'a, O: Sink>(
     alloc: Global,
     trace: &[u8],

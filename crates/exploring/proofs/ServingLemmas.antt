@@ -11,7 +11,7 @@ use Rattle.counting.specs.Samples.{CanBeShown, IsShownByNone}
 use Rattle.trace.specs.Sinks.{BreaksOff, Seen, TakesAll}
 use Rattle.exploring.specs.declared.words.Written.{Written}
 use Rattle.exploring.specs.Reports.{IsAsFor}
-use Rattle.exploring.specs.Serving.{IsExplored, IsOneUnshown, Means, answer_of, book_asked, is_told, schedules_of, status_of}
+use Rattle.exploring.specs.Serving.{IsExplored, OneIsUnmatchable, Means, answer_of, book_asked, is_told, schedules_of, status_of}
 use Rattle.exploring.specs.Words.{Asked, Parted, Put, are_run, asked_by_parts, can_be_put, family_asked, loose_asked, states_asked, ticks_asked, upto_asked, written_asked}
 
 pub means_explored : {S : Type 0} (contents : Contents) (a : Asked) (old new : S) (before after : Seen) (told : Bool) → IsExplored contents a told (TakesAll before after)
@@ -81,22 +81,22 @@ means_refused contents a old before after world events (Err f) e A h read none (
       cut_short = λ e. absurd (omega (arith, e, is));
     }
 
--- ---- texts that no line can have
+-- ---- texts that no line can match
 
 is_there : (texts : List (Bor (List ℕ))) (i : ℕ) (d : Bor (List ℕ)) → i < length texts → slice_get (map (λ t. t.now) texts) i ≡ Some (get_or texts i d).now
 is_there [] i d l = absurd (omega (arith, l))
 is_there (t ∷ texts) zero d l = refl
 is_there (t ∷ texts) (suc i) d l = is_there texts i d (omega (arith, l))
 
-pub unshown_here : (texts : List (Bor (List ℕ))) (i : ℕ) (d : Bor (List ℕ)) → i < length texts → IsShownByNone (get_or texts i d).now → IsOneUnshown (map (λ t. t.now) texts)
-unshown_here texts i d l none = (i, (get_or texts i d).now, is_there texts i d l, none)
+pub unmatchable_here : (texts : List (Bor (List ℕ))) (i : ℕ) (d : Bor (List ℕ)) → i < length texts → IsShownByNone (get_or texts i d).now → OneIsUnmatchable (map (λ t. t.now) texts)
+unmatchable_here texts i d l none = (i, (get_or texts i d).now, is_there texts i d l, none)
 
--- one of them is refused, or memory was
-pub means_unshown : {S : Type 0} (contents : Contents) (a : Asked) (old : S) (before after : Seen) (r : Result Bool Failure) (e : Failure) → IsErrAnd r (λ why. why ≡ e)
-    → (status_of e ≡ 3) ⊎ ((status_of e ≡ 2) × IsOneUnshown a.finds) → Means contents (Some a) old old before after (answer_of r)
-means_unshown contents a old before after (Ok told) e h why = absurd h
-means_unshown contents a old before after (Err f) e h (inl three) = means_cut_short contents (Some a) old old before after (status_of f) (ap status_of h ∙ three) (inl refl)
-means_unshown contents a old before after (Err f) e h (inr two) = by (status_of f) (ap status_of h ∙ two.0)
+-- One of the texts was rejected, or memory ran out.
+pub means_unmatchable : {S : Type 0} (contents : Contents) (a : Asked) (old : S) (before after : Seen) (r : Result Bool Failure) (e : Failure) → IsErrAnd r (λ why. why ≡ e)
+    → (status_of e ≡ 3) ⊎ ((status_of e ≡ 2) × OneIsUnmatchable a.finds) → Means contents (Some a) old old before after (answer_of r)
+means_unmatchable contents a old before after (Ok told) e h why = absurd h
+means_unmatchable contents a old before after (Err f) e h (inl three) = means_cut_short contents (Some a) old old before after (status_of f) (ap status_of h ∙ three) (inl refl)
+means_unmatchable contents a old before after (Err f) e h (inr two) = by (status_of f) (ap status_of h ∙ two.0)
   where
     by : (status : ℕ) → status ≡ 2 → Means contents (Some a) old old before after status
     by status is = record {

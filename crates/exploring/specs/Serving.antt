@@ -12,7 +12,7 @@ use Rattle.inputs.specs.declared.words.NoRequest.TheVariants as no_request
 use Rattle.merging.specs.declared.search.Stop.{Stop}
 use Rattle.merging.specs.declared.search.Stop.TheVariants as stop
 use Rattle.exploring.specs.declared.serving.Failure.{Failure}
-use Rattle.exploring.specs.declared.serving.Failure.TheVariants.{Usage, Ticks, Upto, States, UptoAbove, NotOneEvent, TooManyAnywhere, NoEventBehind, AllAnywhere, OutcomesAnywhere, Which, Unshown, TooManyOutcomes, TooManyForAll, TooManyEvents, ManyStates, Input, Memory, Write}
+use Rattle.exploring.specs.declared.serving.Failure.TheVariants.{Usage, Ticks, Upto, States, UptoAbove, NotOneEvent, TooManyAnywhere, NoEventBehind, AllAnywhere, OutcomesAnywhere, Which, Unmatchable, TooManyOutcomes, TooManyForAll, TooManyEvents, ManyStates, Input, Memory, Write}
 use Rattle.counting.specs.Books.{BookView}
 use Rattle.counting.specs.Counts.{book_over}
 use Rattle.counting.specs.Samples.{CanBeShown, IsShownByNone}
@@ -36,7 +36,7 @@ status_of NoEventBehind = 2
 status_of AllAnywhere = 2
 status_of OutcomesAnywhere = 2
 status_of Which = 2
-status_of (Unshown why) = 2
+status_of (Unmatchable why) = 2
 status_of (TooManyOutcomes schedules given) = 2
 status_of (TooManyForAll most) = 2
 status_of (TooManyEvents longest most) = 2
@@ -78,12 +78,12 @@ schedules_of p = family p.upto p.ticks (length p.loose)
 abbrev pub book_asked : World → List Event → List Text → Put → BookView
 book_asked world events texts p = book_over world p.loose events texts (schedules_of p)
 
--- One of the texts can be in no line.
-abbrev pub IsOneUnshown : List Text → Type 0
-IsOneUnshown texts = (i : ℕ) × (t : Text) × (slice_get texts i ≡ Some t) × IsShownByNone t
+-- For one of the texts, no sample line can be made to match it.
+abbrev pub OneIsUnmatchable : List Text → Type 0
+OneIsUnmatchable texts = (i : ℕ) × (t : Text) × (slice_get texts i ≡ Some t) × IsShownByNone t
 
--- What is asked for was explored, with this answer: the files are a world and events for it, all schedules of the family were counted, and a text
--- that tells of them was put, or in its place one that stands for the schedule that is to be written. A line can have each text that is looked for.
+-- The request was explored, with this answer. The files are a world and events for it, and all schedules of the family were counted. The text for
+-- the output is the report, or the schedule that `--write` asks for. For each text of `--find`, a line can match it.
 pub record IsExplored (contents : Contents) (a : Asked) (told : Bool) (IsPut : List ℕ → Type 0) : Type 0 where
   pub world : World
   pub events : List Event
@@ -98,10 +98,10 @@ pub record IsExplored (contents : Contents) (a : Asked) (told : Bool) (IsPut : L
   pub is_as_asked : IsAsFor written put_in.loose events put_in.upto put_in.ticks (book_asked world events a.finds put_in) text
   pub put : IsPut text
 
--- A number that is asked for is out of range, a word isn't an event or a schedule, no line can have a text that is looked for, or there are too many
+-- A number is out of range, a word isn't an event or a schedule, no sample line can be made to match a text of `--find`, or there are too many
 -- schedules.
 abbrev pub IsOutOfRange : Contents → Asked → Type 0
-IsOutOfRange contents a = (ticks_asked a.ticks ≡ None) ⊎ ((written_asked a.write ≡ None) ⊎ (IsOneUnshown a.finds
+IsOutOfRange contents a = (ticks_asked a.ticks ≡ None) ⊎ ((written_asked a.write ≡ None) ⊎ (OneIsUnmatchable a.finds
     ⊎ ((world : World) × (events : List Event) × AreRead contents (a.world, a.events) world events × (family_asked a world.consoles (length events) ≡ None))))
 
 -- ---- what a status means

@@ -1,12 +1,17 @@
 //! What `explore` does: all schedules of a family are counted, by how they end and by texts that their lines have, and a
 //! text tells of them. The program adds the host alone.
+//!
+//! `serve` says what an exit status means (`Means`), by what the arguments ask for (`request_of_words`). All schedules
+//! of the family were counted with status 0 or 4; the output has their counts and the first of each kind (`Reports`),
+//! or what `--write` names (`IsAsFor`). Of outcomes no clause says more than that `--write` names a schedule of the
+//! family.
 #![tactic(auto)]
 
 mod apart;
-mod finding;
 mod report;
 mod serving;
 mod turns;
+mod unmatchable;
 mod words;
 mod written;
 

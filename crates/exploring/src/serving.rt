@@ -11,10 +11,10 @@ ghost use Rattle.schedules.specs.Families.{family as family_of};
 ghost use Rattle.counting.specs.Counts.{book_over};
 ghost use Rattle.counting.specs.Samples.{CanBeShown};
 ghost use Rattle.exploring.specs.Reports.{bytes_put};
-ghost use Rattle.exploring.specs.Serving.{IsOneUnshown, Means, answer_of, is_found as has_found, all_halt as have_halted, is_told as told_by, status_of};
+ghost use Rattle.exploring.specs.Serving.{OneIsUnmatchable, Means, answer_of, is_found as has_found, all_halt as have_halted, is_told as told_by, status_of};
 ghost use Rattle.exploring.specs.Words.{are_run, are_run_each as each_is_run, asked_by_parts, can_be_put, loose_asked, only, parted_as, request_of_words, run_each, said, states_asked, ticks_asked, upto_asked, written_asked};
 
-use crate::finding::{Unshown, find_unshown};
+use crate::unmatchable::{Unmatchable, find_unmatchable};
 use crate::words::{Parts, Request, Written, parts_of, requested};
 use crate::written::text_of;
 use counting::{Book, Family, Progress, event_at, explore};
@@ -53,7 +53,7 @@ enum Failure<'a> {
     #[error("jobk: --write takes rest, going, find, or the number of an outcome")]
     Which,
     #[error("jobk: --find: {0}")]
-    Unshown(Unshown<'a>),
+    Unmatchable(Unmatchable<'a>),
     #[error("jobk: --outcomes tells of up to {0} schedules and {1} events in all: say fewer by --ticks or --upto")]
     TooManyOutcomes(u64, u64),
     #[error("jobk: --outcomes tells of up to {0} schedules with --all: say fewer by --ticks or --upto")]
@@ -161,7 +161,7 @@ impl Failure<'_> {
             | Failure::AllAnywhere
             | Failure::OutcomesAnywhere
             | Failure::Which
-            | Failure::Unshown(_)
+            | Failure::Unmatchable(_)
             | Failure::TooManyOutcomes(_, _)
             | Failure::TooManyForAll(_)
             | Failure::TooManyEvents(_, _) => 2,
@@ -219,15 +219,15 @@ fn written_of<'a>(word: Option<&str>) -> Result<Written, Failure<'a>>
     Written::named(word).ok_or(Failure::Which)
 }
 
-/// Refuses texts of which one can be in no line.
-fn find_well<'a>(alloc: Global, texts: &[&'a str]) -> Result<(), Failure<'a>>
+/// Rejects a text that no line can match, because a search for it would find nothing.
+fn check_finds<'a>(alloc: Global, texts: &[&'a str]) -> Result<(), Failure<'a>>
     ensures { MatchResult result
         (λ _. All CanBeShown (map (λ t. t.now) texts.now))
-        (λ why. (status_of why ≡ 3) ⊎ ((status_of why ≡ 2) × IsOneUnshown (map (λ t. t.now) texts.now))) }
+        (λ why. (status_of why ≡ 3) ⊎ ((status_of why ≡ 2) × OneIsUnmatchable (map (λ t. t.now) texts.now))) }
 {
-    match find_unshown(alloc, texts) {
+    match find_unmatchable(alloc, texts) {
         Ok(None) => Ok(()),
-        Ok(Some(why)) => Err(Failure::Unshown(why)),
+        Ok(Some(why)) => Err(Failure::Unmatchable(why)),
         Err(_) => Err(Failure::Memory),
     }
 }
@@ -453,7 +453,7 @@ fn serve_request<'a, 'w, F: ReadFiles, O: Sink, E: Sink, P: Progress>(
 {
     let ticks = ticks_of(request.ticks)?;
     let written = written_of(request.write)?;
-    find_well(alloc, request.finds)?;
+    check_finds(alloc, request.finds)?;
     let inputs = read_inputs(alloc, files, request.world, request.events)?;
     let upto = upto_of(request.upto, inputs.events.len())?;
     let states = states_of(request.states)?;

@@ -152,6 +152,7 @@ impl<'a> Parts<'a> {
 }
 
 /// Tells the texts behind `--find` and `--anywhere` apart from the other words.
+/// Before clap sees the words, because clap's definitions have no options whose values begin with a hyphen.
 pub fn parts_of<'a>(alloc: Global, words: &[&'a str]) -> Result<Parts<'a>, AllocError>
     ensures { IfOk result (λ parts. parted_as parts ≡ parted (map (λ w. w.now) words.now)) }
 {

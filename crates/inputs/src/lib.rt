@@ -1,5 +1,11 @@
 //! What the commands are given: words of the command line, files of the host, a world and its events by the names of
 //! their files, and numbers.
+//!
+//! `as_texts` returns the arguments in their order. `command`, `value_of`, `words_behind`, `is_used`, `named_file`,
+//! `named_files` follow clap's definition of a command line. `read_inputs` returns the world and events that two files
+//! stand for. `ReadFiles::read_file` returns the bytes of a file, or why not (`IsReadFault`); it may say `Memory` of
+//! any file, although `ReadFault::of`, which the host's uses, distinguishes it. `FileFailure::end`: message and status.
+//! No clause: `read_words`, and the function `tell`.
 #![tactic(auto)]
 
 pub mod command_line;

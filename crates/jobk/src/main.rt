@@ -1,5 +1,9 @@
 //! `jobk`: runs a world of small programs over a list of events, and prints the trace; audits and explains a trace;
 //! explores all schedules; shows the state at an event.
+//!
+//! No clause: that `main` hands the host's arguments, files and outputs to `serve`, and exits with its answer. Every
+//! case of `tests/run` tests it. Branches that lend different things cannot meet again, so `main` calls `serve_host` in
+//! three places.
 #![tactic(auto)]
 
 mod person;

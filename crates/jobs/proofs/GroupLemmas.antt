@@ -31,18 +31,18 @@ some_anchor group rs b next up numbers h i = some_member (is_anchor rs) (anchor_
 pub some_stopped : (group : ℕ) (rs : List Process) (b : Indexes) (next : Option ℕ) → IsRising rs → AreNumbers rs → AreIndexes rs b → IsNextPair group 0 b.stopped.pairs next → is_some next ≡ list_any (λ r. is_stopped r.life) (members_in group rs)
 some_stopped group rs b next up numbers h i = some_member (λ r. is_stopped r.life) stopped_key (λ r. refl) group rs b.stopped.pairs next up numbers h.stopped.index i
 
--- ---- how many they are
+-- ---- how many members there are
 
--- who stands under a key
+-- the processes with this key
 abbrev pub under : (Process → Option ℕ) → ℕ → List Process → List Process
 under key k rs = filter (λ r. is_key k (key r)) rs
 
--- a walk over these has counted all but those that are left
+-- A walk over the processes with this key has counted all but those that are left, of which this is the next.
 pub record IsCount (key : Process → Option ℕ) (k : ℕ) (rs : List Process) (count : ℕ) (next : Option ℕ) : Type 0 where
   pub begins : first_pid (left_of next (under key k rs)) ≡ next
   pub counted : count + length (left_of next (under key k rs)) ≡ length (under key k rs)
 
--- at the start none
+-- at the start no process is counted
 pub count_begins : (key : Process → Option ℕ) (k : ℕ) (rs : List Process) (pairs : List Pair) (next : Option ℕ) → IsRising rs → AreNumbers rs → IsIndex key rs pairs → IsNextPair k 0 pairs next → IsCount key k rs 0 next
 count_begins key k rs pairs next up numbers h i =
     let is = next_pair key rs pairs k 0 next up h i in
@@ -51,7 +51,7 @@ count_begins key k rs pairs next up numbers h i =
       counted = let all = ap length (all_left (under key k rs) next (rising_filter _ rs up) (passing_above _ rs up numbers) is) in omega (arith, all);
     }
 
--- behind p, which comes next, one more, and one less is left
+-- after p, which is next, one more is counted, and fewer are left
 pub count_goes_on : (key : Process → Option ℕ) (k p : ℕ) (rs : List Process) (pairs : List Pair) (count : ℕ) (next after : Option ℕ) → IsRising rs → IsIndex key rs pairs → next ≡ Some p → IsNextPair k p pairs after → IsCount key k rs count next
     → IsCount key k rs (count + 1) after × (length (left_of after (under key k rs)) < length (left_of next (under key k rs)))
 count_goes_on key k p rs pairs count next after up h comes i c =
@@ -61,11 +61,11 @@ count_goes_on key k p rs pairs count next after up h comes i c =
     let all = c.counted in
     (record { begins = next_begins p (under key k rs) after is; counted = omega (arith, less, all) }, omega (arith, less))
 
--- there are few
+-- the count doesn't overflow
 pub few_counted : (key : Process → Option ℕ) (k : ℕ) (rs : List Process) (count : ℕ) (next : Option ℕ) → IsRising rs → AreNumbers rs → IsCount key k rs count next → count + 1 < 2 ^ 64
 few_counted key k rs count next up numbers c = let all = c.counted in omega (arith, all, filter_at_most (λ r. is_key k (key r)) rs, size_of rs up numbers)
 
--- where none is left, all of the process group are counted that pass the test
+-- when none is left, all members of the process group that pass the test are counted
 pub all_counted : (t : Process → Bool) (key : Process → Option ℕ) → ((r : Process) → key r ≡ cond (t r) (Some r.group) None) → (group : ℕ) (rs : List Process) (count : ℕ) (next : Option ℕ) → next ≡ None → IsCount key group rs count next → count ≡ length (filter t (members_in group rs))
 all_counted t key is group rs count next none c =
     let all = c.counted in

@@ -1,5 +1,5 @@
-//! Process groups: who their members are, one after another, how many of them are stopped, and how many keep the
-//! group from being orphaned (XBD 3).
+//! Process groups: their members, one after another; how many members are stopped; and how many keep the group from
+//! being orphaned (XBD 3).
 
 ghost use Rattle.std.specs.Prelude.{◌≡◌, false};
 ghost use Rattle.std.specs.Option.{option_map_or};
@@ -69,8 +69,8 @@ impl<K: ProcessTable> IndexedTable<K> {
         self.indexes.stopped.next(key(group), Pid::NONE).is_some()
     }
 
-    /// Returns how many members keep a process group from being orphaned: those that live, and whose parent is in another
-    /// group of the same session (XBD 3 Orphaned Process Group). No slot is read.
+    /// Returns how many members keep a process group from being orphaned. Each of them is alive, and its parent is in
+    /// another group of the same session (XBD 3 Orphaned Process Group). Reads no slot.
     pub fn anchors(&self, group: Pid) -> usize
         ensures { result ≡ anchors_in group self.now.processes }
     {
@@ -83,7 +83,7 @@ impl<K: ProcessTable> IndexedTable<K> {
         count
     }
 
-    /// Returns how many members of a process group are stopped (XSH 2.4.3). No slot is read.
+    /// Returns how many members of a process group are stopped (XSH 2.4.3). Reads no slot.
     pub fn stopped_in(&self, group: Pid) -> usize
         ensures { result ≡ stopped_members group self.now.processes }
     {

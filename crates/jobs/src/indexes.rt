@@ -53,6 +53,8 @@ enum Sort {
 }
 
 /// The indexes.
+/// `insert` and `remove` change all of these, `change_seen` all but `children`, `adopt` `anchors`, `reporting` and
+/// `children`, and `change` only `alarmed`.
 #[derive(Drop)]
 pub struct Indexes {
     /// The processes by their parents, zombies included; one without a parent stands in no list.
@@ -164,6 +166,7 @@ fn sort_to_report(it: &IndexedFields) -> Option<Sort>
 
 /// The key of the children of a process that report this sort. Ends have the least, since the least keys stand where
 /// little is moved.
+/// One index with kinds costs no more at a birth than one without; an adoption moves three keys.
 #[inline(always)]
 fn sorted_key(parent: Pid, sort: Sort) -> u64
     ensures { result ≡ sorted parent sort }

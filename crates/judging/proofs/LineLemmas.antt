@@ -4,7 +4,7 @@ use Rattle.std.specs.Prelude.{nat_lt, if◌then◌else◌}
 use Rattle.text.specs.Words.{line_words}
 use Rattle.judging.specs.Lines.{last_worded}
 
--- one line more is looked at
+-- one more line is examined
 pub one_more : (left number : ℕ) (found next : Option ℕ) (line : List ℕ) (lines all : List (List ℕ)) → 0 < left → all ≡ line ∷ lines
     → next ≡ (if nat_lt 0 (length (line_words line)) then Some number else found) → last_worded (left - 1) (number + 1) next lines ≡ last_worded left number found all
 one_more zero number found next line lines all some is is_next = absurd (omega (arith, some))

@@ -1,5 +1,8 @@
 //! What is wrong with a text that is refused: the line and the word, by the rules of docs/FORMATS.md; tables of what others
 //! call it; and names that are near to a word.
+//!
+//! Line by line, words are cut as in `text` (`line_at`, `Line`). Tested, together with `refusing`: the place of a
+//! fault, the line of a name that is not known, which other faults are reported, all words.
 #![tactic(auto)]
 
 mod events;

@@ -15,7 +15,7 @@ pub fn line_at(text: &[u8], number: u64) -> Option<&[u8]>
     Lines(text).nth(number.saturating_sub(1) as usize)
 }
 
-/// The number of the last line before another one that has words; none where none has.
+/// Returns the number of the last line that has words before the line with number `before`; `None` if there is none.
 pub fn last_with_words(text: &[u8], before: u64) -> Option<u64>
     ensures { result ≡ last_with_words_of before text.now }
 {

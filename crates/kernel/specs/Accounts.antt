@@ -16,8 +16,8 @@ pub record LinesTell (before last : ℕ) (old new : State) (lines : List Line) :
   pub forms : list_all is_line lines ≡ true
   pub agrees : (earlier : List Line) → Agree earlier before old → Agree (earlier ++ lines) last new
 
--- The run whose printed trace was taken has lines that each have a form, with all numbers within their ranges, and that keep
--- the laws of a trace; and its births are the living, the zombies, the ends that were reported and the dropped.
+-- A run whose printed trace was taken. Each of its lines has a form, with all numbers within their ranges, and the
+-- lines keep the laws of a trace. Its births are the living, the zombies, the reported and the dropped.
 pub record Accounts (world_bytes event_bytes : List ℕ) (before after : Seen) (summary : Summary) : Type 0 where
   pub trace : Traces world_bytes event_bytes before after summary
   pub forms : list_all is_line trace.lines ≡ true

@@ -12,6 +12,6 @@ pub record KernelView : Type 0 where
 abbrev pub looked : (ℕ → ℕ) → KernelView → KernelView
 looked more k = record k { visits = more k.visits }
 
--- at most one birth more than events, and at most as many ticks as events
+-- there is at most one birth more than events, and there are at most as many ticks as events
 abbrev pub IsWithinEvents : KernelView → Type 0
 IsWithinEvents k = (k.state.births ≤ k.events + 1) × (k.state.ticks ≤ k.events)

@@ -173,9 +173,9 @@ impl<K: ProcessTable> KernelOn<K> {
     /// real-time signal, which show where it was refused; so there is no error. After a halt the state stays, nothing is
     /// shown, and the event is counted.
     ///
-    /// At most one process more than events was born, and at most as many ticks as events have passed, as at the boot.
-    /// Nothing is left to settle after an event, as at the boot, so no wake-up is lost (`laws::no_wake_is_lost`), and
-    /// the law of refused calls (`laws::refusals_change_little`) holds of the event that comes next.
+    /// There is at most one birth more than events, and there are at most as many ticks as events. Both hold at boot,
+    /// too. Nothing is left to settle after an event, as at the boot, so no wake-up is lost (`laws::no_wake_is_lost`),
+    /// and the law of refused calls (`laws::refusals_change_little`) holds of the event that comes next.
     ///
     /// Lines that agree with the state before agree, with those of the event, with the state after it, so what
     /// is shown from the boot on keeps the laws of a trace (`laws::traces_keep_laws`). Each line has its form. Who is
@@ -285,8 +285,8 @@ impl<K: ProcessTable> KernelOn<K> {
         }
     }
 
-    /// Does nothing. The caller then knows what holds of each kernel: its state is regular, with at most one birth more than
-    /// events and at most as many ticks as events, and nothing is left to settle.
+    /// Does nothing, but lets the caller know what holds of each kernel. Its state is regular, and nothing is left to
+    /// settle. There is at most one birth more than events, and there are at most as many ticks as events.
     pub fn regular_holds(&self)
         ensures within_events { IsWithinEvents self.now }
         ensures regular { IsRegular self.now.state }

@@ -29,6 +29,8 @@ fn neighbour<K: ProcessTable>(machine: &Machine<K>, pid: Pid, last: Option<Pid>)
 
 /// Whether a process that is there, with this snapshot, needn't wait: it is in no call, or its call can be
 /// completed, or a signal is chosen for it.
+/// The neighbour is tried first, because a parent and the child that lets it run are usually on the list together. No
+/// law depends on this hint, and a wrong one costs one slot. To record which child changed would be one more index.
 #[tactic(auto, using(posix::proofs::SeeLemmas::block_read), unfolding(posix::specs::Attempts::attempt_again))]
 #[inline(always)]
 fn is_awake<K: ProcessTable>(

@@ -337,6 +337,9 @@ pub fn is_followed_by_step(before: u64, last: u64, trap: &Trap) -> bool
 }
 
 /// The current process acts behind a burst. What the burst read of it isn't read again.
+/// A call that ends a burst begins at once: by its contract the next step is this call (`ComesTo`), so the process is
+/// not looked up, nor its instruction fetched, again. For a process in a call or with a signal, what the burst read is
+/// passed on; for a machine fault it is read again.
 fn act_behind<K: ProcessTable>(machine: &mut Machine<K>, end: BurstEnd, entries: &mut Entries)
     requires regular { IsRegular machine.old.state }
     requires call { (call : CallValue) → end.trap ≡ Trap.Call call → ComesTo machine.old.state end.pid call }

@@ -66,6 +66,8 @@ fn run_kernel<K: ProcessTable, S: Sink>(
 }
 
 /// [`run_on`], of a world and events that are read.
+/// One function makes the kernel and lends it to `run_kernel`, which does the work; otherwise each exit writes out the
+/// drop of all its parts.
 pub fn run_read<K: ProcessTable, S: Sink>(
     alloc: Global,
     world: &World,
@@ -89,8 +91,8 @@ pub fn run_read<K: ProcessTable, S: Sink>(
 /// Both texts are read whole before the first byte is put, the world text first. Lines are put in
 /// pieces of 8 KiB or more, but for the last. After a put that failed nothing is put.
 ///
-/// At `Ok`, of the very run whose printed trace was put: each line has its form, the lines keep the laws of a trace
-/// (`laws::traces_keep_laws`), and the births of the summary are its living, zombies, reported and dropped.
+/// At `Ok` this holds of the run whose printed trace was put. Each line has its form, and the lines keep the laws of a
+/// trace (`laws::traces_keep_laws`). The births of the summary are its living, zombies, reported and dropped.
 pub fn run_on<K: ProcessTable, S: Sink>(
     alloc: Global,
     world: &[u8],

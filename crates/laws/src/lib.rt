@@ -1,4 +1,9 @@
 //! Laws of the definitions, each the contract of a function that does nothing.
+//!
+//! The comment of each law states it in full, and docs/PROVED.md in short. No law says that a termination, a stop or a
+//! continue is ever reported, or that a child is dropped. A terminated process may have no record left: it was
+//! reported, or dropped, which no line shows. Worked runs and texts (`Rows`, `AgreeRows`) are computed from the
+//! definitions.
 #![tactic(auto)]
 
 ghost use Rattle.std.specs.Prelude.{length, ◌++◌, ◌<◌, ℕ, ◌+◌, ◌≤◌, ◌≡◌, ◌≢◌, Bool, true, false, List, Option, [], ◌∷◌, Contains, Some, None, negsuc, IsSomeAnd, ◌/◌, ◌||◌, count_by};

@@ -76,6 +76,8 @@ impl<K: ProcessTable> Machine<K> {
 
     /// The time goes on by one tick: each alarm that is due rings. One slot is read for each of these, and none where
     /// no process has an alarm. Where nobody was to be rechecked, a signal is chosen for each process that then is.
+    /// Alarms ring before the time passes, with the same result, because no signal depends on the time. A set alarm is
+    /// due later than now, so those that ring are those under the new tick.
     pub fn pass_time(&mut self)
         requires { self.old.state.ticks + 1 < 2 ^ 64 }
         ensures state { self.new.state ≡ passing_time self.old.state }

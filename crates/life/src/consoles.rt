@@ -265,6 +265,7 @@ impl<K: ProcessTable> Machine<K> {
     }
 
     /// Whoever waits to read from a session's terminal is to be rechecked, and isn't known any more.
+    /// A walk over all processes instead would read a slot of each, at each line.
     fn recheck_readers(&mut self, session: Pid)
         ensures rest { self.new ≡ record (self.old) { to_recheck = self.new.to_recheck; readers = self.new.readers } }
         ensures to_recheck { AreReaders self.new.state session self.new.to_recheck }
@@ -472,6 +473,9 @@ impl<K: ProcessTable> Machine<K> {
     /// foreground process group gets HUP, and the terminal is nobody's any more (XSH _exit). No slot is read where no
     /// session with the number of the process has a terminal; where it hangs a terminal up, one is for the process,
     /// and one for each member.
+    /// Releases the console before it signals the foreground process group. The definition does both at once, with the
+    /// same result, because no signal depends on a console. So what is known of blocked readers holds as they are
+    /// rechecked. A call of its own, before `Machine::end`, so that the contract of `end` holds for any heir.
     pub fn hang_up(&mut self, pid: Pid)
         requires { IsThere pid self.old }
         ensures state { IfThere pid self.old (λ me. self.new.state ≡ hanging_up self.old.state me) }

@@ -291,6 +291,8 @@ impl<K: ProcessTable> Machine<K> {
     // ---- one process
 
     /// Lends what a process that is there may change of itself. Nothing else changes.
+    /// Lends only what the shape of a machine does not depend on. The blocked call is lent, too: no invariant reads it,
+    /// and code that leaves a call changes it together with the processor or the signals.
     pub fn own(&mut self, pid: Pid) -> &mut OwnPart
         requires { IsThere pid self.old }
         ensures* lends { sem 𝓛 (Lends (machine_row K.row K.ProcessTable) own_row self.entry result (lent K.one_more self.old pid)) }
@@ -388,6 +390,7 @@ impl<K: ProcessTable> Machine<K> {
     }
 
     /// A process that can't act, and doesn't read, loses its place, if it has one, and isn't to be rechecked for it.
+    /// For a process that has just looked and must wait, so that settling does not look again.
     pub fn sleep(&mut self, pid: Pid)
         requires rests { IfThere pid self.old (λ r. can_act self.old.state r ≡ false) }
         requires unread { IfThere pid self.old (λ r. is_in_read r.blocked ≡ false) }

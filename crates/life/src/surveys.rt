@@ -86,6 +86,8 @@ impl<K: ProcessTable> Machine<K> {
     }
 
     /// The survey of the processes that a target means, before a real-time signal is sent to them. Nothing changes.
+    /// A real-time send goes over its receivers twice, because it is known only after all of them that none is full. A
+    /// standard signal goes over them once.
     pub(crate) fn survey(&mut self, me: &Caller, sig: Sig, target: &Target) -> Survey
         ensures finds { Finds (1 + 3 * length (filter (is_candidate (process_like me.now) target.now) self.old.state.processes)) self.old self.new (result ≡ survey_of (process_like me.now) sig (targets (process_like me.now) target.now self.old.state.processes)) }
         ensures visits { is_one target.now ≡ true → self.new.visits ≤ self.old.visits + 2 }

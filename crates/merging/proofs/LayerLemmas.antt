@@ -100,7 +100,7 @@ pub joined_nodes : (search : Search) (place least : ℕ) (olds ns : List Node) (
 joined_nodes search place least olds ns i joined all is ps =
     All-set (IsNode search place least) ns i joined is (all_still (StandsAt search place least) olds ns all ps)
 
--- it was and is one of them
+-- What is true of all nodes is true of the node at this index.
 pub one_of_these : (search : Search) (place least : ℕ) (olds ns : List Node) (i : ℕ) (here : Node) → AreSameNodes olds ns → slice_get ns i ≡ Some here → All (IsNode search place least) olds → IsNode search place least here
 one_of_these search place least olds ns i here all e ps =
     subst (IsNode search place least) (get_or_from_slice_get ns i here here e) (all_still (StandsAt search place least) olds ns all ps i here (slice_get_within ns i here e))

@@ -7,7 +7,7 @@ use Rattle.posix.specs.Common.{World, boot}
 use Rattle.schedules.specs.Families.{family, kinds_of}
 use Rattle.counting.specs.Books.{empty_book}
 use Rattle.counting.specs.Counts.{book_over}
-use Rattle.counting.specs.Tallies.{TallyView, both}
+use Rattle.counting.specs.Tallies.{both}
 use Rattle.counting.specs.Texts.{unmarked}
 use Rattle.merging.specs.declared.node.Node.{Node}
 use Rattle.merging.specs.declared.search.Search.{Search}

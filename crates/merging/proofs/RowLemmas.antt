@@ -54,7 +54,7 @@ one_longer old new row is = ap length is ∙ length-append old (row ∷ [])
 nodes_more : (rows : List Layer) (row : Layer) → nodes_in (rows ++ row ∷ []) ≡ nodes_in rows ++ row.nodes.items
 nodes_more rows row = flat_map-append (λ (r : Layer). r.nodes.items) rows (row ∷ []) ∙ ap (λ ns. nodes_in rows ++ ns) (append-nil row.nodes.items)
 
--- so many nodes at least are in these rows
+-- These rows have at least as many nodes as were counted.
 pub count_more : (rows : List Layer) (i : ℕ) (row : Layer) (states new : ℕ) → i < length rows → row ≡ get_or rows i row → states ≤ length (nodes_in (take i rows)) → new ≤ states + length row.nodes.items
     → new ≤ length (nodes_in (take (i + 1) rows))
 count_more rows i row states new within is was more =

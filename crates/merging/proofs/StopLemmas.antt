@@ -1,8 +1,8 @@
--- Why a search stops, and of which schedules.
+-- Why a search stops, and for which schedules.
 use Rattle.std.proofs.Common.{◌≡◌, ◌∙◌, ℕ, ◌+◌, ◌<◌, ◌≤◌, List, ◌++◌, length, refl, ap, sym, subst}
 use Rattle.std.specs.Prelude.{Result, Ok, Err, IfErr, IsErrAnd}
 use Rattle.std.specs.List.{All}
-use Rattle.counting.specs.Tallies.{TallyView, both}
+use Rattle.counting.specs.Tallies.{TallyView, both, no_schedules}
 use Rattle.merging.specs.declared.layer.Layer.{Layer}
 use Rattle.merging.specs.declared.node.Node.{Node}
 use Rattle.merging.specs.declared.search.Search.{Search}
@@ -10,9 +10,9 @@ use Rattle.merging.specs.declared.search.Stop.{Stop}
 use Rattle.merging.specs.declared.search.Stop.TheVariants as stop
 use Rattle.merging.specs.Merging.{IsNode, IsStop, Property, most_of, nodes_in, nodes_tally, outlook_of, tally_of_all}
 use Rattle.merging.proofs.LayerLemmas.{nodes_joined}
-use Rattle.merging.proofs.TallyLemmas.{both_regrouped, both_swapped}
+use Rattle.merging.proofs.TallyLemmas.{and_none, both_regrouped, both_swapped}
 
--- of more schedules
+-- A reason to stop for some schedules is a reason to stop for more.
 pub stop_among : (s : Search) (whole wider rest : Property → TallyView) (why : Stop) → ((has : Property) → wider has ≡ both (whole has) (rest has)) → IsStop s whole why → IsStop s wider why
 stop_among s whole wider rest stop.Memory is h = tt
 stop_among s whole wider rest (stop.States most place) is h = (
@@ -29,39 +29,29 @@ stop_among s whole wider rest (stop.States most place) is h = (
   },
 )
 
--- of the same
+-- It is a reason to stop for equal tallies.
 pub stop_same : (s : Search) (whole wider : Property → TallyView) (why : Stop) → ((has : Property) → wider has ≡ whole has) → IsStop s whole why → IsStop s wider why
-stop_same s whole wider stop.Memory is h = tt
-stop_same s whole wider (stop.States most place) is h = (
-  h.0,
-  h.1,
-  h.2,
-  record {
-    stand = h.3.stand;
-    more = h.3.more;
-    some = λ has. ((h.3.some has).0, is has ∙ (h.3.some has).1);
-  },
-)
+stop_same s whole wider why is = stop_among s whole wider (λ has. no_schedules) why (λ has. is has ∙ sym (and_none (whole has)))
 
--- an error that is passed on
+-- An error that is passed on stays a reason to stop.
 pub stops_too : {A : Type 0} (s : Search) (whole wider : Property → TallyView) (r : Result A Stop) (e : Stop) → IsErrAnd r (λ why. why ≡ e) → ((has : Property) → wider has ≡ whole has) → IsStop s whole e
     → IfErr r (IsStop s wider)
 stops_too s whole wider (Ok a) e h is why = absurd h
 stops_too s whole wider (Err f) e h is why = subst (IsStop s wider) (sym h) (stop_same s whole wider e is why)
 
--- want of memory
+-- Any search may stop if memory runs out.
 pub stopped_by_memory : {A : Type 0} (s : Search) (whole : Property → TallyView) (r : Result A Stop) → IsErrAnd r (λ why. why ≡ stop.Memory) → IfErr r (IsStop s whole)
 stopped_by_memory s whole (Ok a) h = absurd h
 stopped_by_memory s whole (Err why) h = subst (IsStop s whole) (sym h) tt
 
--- too many nodes stand there
+-- A search stops if too many nodes are before one event.
 pub too_many : (s : Search) (place : ℕ) (whole others : Property → TallyView) (nodes : List Node) → place ≤ s.family.now.upto → s.family.now.states < length nodes → All (IsNode s place 0) nodes
     → ((has : Property) → whole has ≡ both (nodes_tally has s place nodes) (others has)) → IsStop s whole (stop.States s.family.now.states place)
 too_many s place whole others nodes within more stand is = (refl, within, nodes, record { stand = stand; more = more; some = λ has. (others has, is has) })
 
--- ---- which schedules are meant
+-- ---- the schedules for which a search stops
 
--- Of the rows the first was taken, and a row before it.
+-- If the first of the old rows was removed, the tally is that of this row and the row in hand, and of all other rows.
 pub of_rows : (has : Property) (s : Search) (place : ℕ) (row above : List Node) (old rows next : List Layer) → nodes_in old ≡ above ++ nodes_in rows
     → tally_of_all has s place row old next
     ≡ both (both (nodes_tally has s place above) (nodes_tally has s place row)) (both (nodes_tally has s place (nodes_in rows)) (nodes_tally has s (place + 1) (nodes_in next)))

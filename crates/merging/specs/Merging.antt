@@ -128,7 +128,7 @@ nodes_in rows = flat_map (λ row. row.nodes.items) rows
 pub record SeenNode : Type 0 where
   pub state : State
   pub events : ℕ
-  pub count : ℕ  -- of beginnings
+  pub count : ℕ  -- how many beginnings of schedules lead to it
   pub spots : Spots
   pub left : List ℕ
   pub given : List Event
@@ -137,9 +137,9 @@ pub record SeenNode : Type 0 where
 abbrev pub seen : Node → SeenNode
 seen n = record { state = n.kernel.state; events = n.kernel.events; count = n.count; spots = n.spots; left = n.left.items; given = n.given; marks = n.marks.items }
 
--- A node stands before the event with this place: it was given all events before it, and what it put in, at so many spots at least. Its events
--- lead to its state in the world of the search. Its kernel was given no more than these, there is a mark for each text, what is left can still be
--- put in, and one schedule at least begins so.
+-- A node is before the event with this place: it was given all events before that one, and the events that it inserted, at so many spots at least.
+-- Its events lead to its state in the world of the search. Its kernel was given no more than these. There is a mark for each text, what is left can
+-- still be inserted, and at least one schedule begins with these events.
 pub record StandsAt (s : Search) (place fewest : ℕ) (n : SeenNode) : Type 0 where
   pub reached : n.state ≡ (course_from 1 (boot (world_of s)) n.given).last
   pub regular : IsRegular n.state
@@ -240,22 +240,22 @@ loose_tally has s place n = over_kinds (kind_tally has s place n) (length n.left
 
 -- ---- why a search stops
 
--- all schedules of the search
+-- the tally of all schedules of the search
 abbrev pub from_start : Property → Search → TallyView
 from_start has s = outlook_of has s 0 (most_of s) (kinds_of (length (loose_of s))) (boot (world_of s)) (unmarked (texts_of s))
 
--- More nodes than states are kept stand before the event with this place, and of these schedules theirs are some.
+-- More nodes are before the event with this place than the search may keep. Their schedules are some of these schedules.
 pub record AreTooMany (s : Search) (place : ℕ) (whole : Property → TallyView) (nodes : List Node) : Type 0 where
   pub stand : All (IsNode s place 0) nodes
   pub more : s.family.now.states < length nodes
   pub some : (has : Property) → (others : TallyView) × (whole has ≡ both (nodes_tally has s place nodes) others)
 
--- Of these schedules no more are gone on with, as there is no memory, or as too many nodes stand behind so many events.
+-- The search of these schedules stops because memory ran out, or because too many nodes are before the event with this place.
 abbrev pub IsStop : Search → (Property → TallyView) → Stop → Type 0
 IsStop s whole stop.Memory = Unit {0}
 IsStop s whole (stop.States most place) = (most ≡ s.family.now.states) × (place ≤ s.family.now.upto) × (nodes : List Node) × AreTooMany s place whole nodes
 
--- of all schedules
+-- the same for all schedules of the search
 abbrev pub IsStopOf : Search → Stop → Type 0
 IsStopOf s why = IsStop s (λ has. from_start has s) why
 

@@ -88,6 +88,8 @@ fn give(
 
 /// Whether two machines are in one state of a world, as far as is seen. States in which the machine has halted are one, as
 /// nothing more happens in them.
+/// The clock is compared, too: after as many spots it is the same until the machine halts, so to forget it would merge
+/// no more. A world at rest therefore has a state for each number of ticks.
 fn are_one(kernel: &mut Kernel, other: &mut Kernel) -> bool
     requires world { kernel.old.state.world ≡ other.old.state.world }
     ensures one { result ≡ true → AreOneState kernel.old.state other.old.state }
@@ -183,6 +185,7 @@ impl Node {
     }
 
     /// The same beginnings, with a kernel of their own.
+    /// A kernel is booted and given the events of the first schedule again: to copy one would fill as many tables.
     fn rerun(&self, alloc: Global, world: &World, lines: &mut Vec<Line>) -> Result<Node, AllocError>
         requires few { length self.now.given ≤ most_events }
         requires left { length self.now.left.items ≤ MOST_LOOSE }

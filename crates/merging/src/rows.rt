@@ -31,7 +31,7 @@ pub fn push_row(rows: &mut VecDeque<Layer>, row: Layer) -> Result<(), AllocError
     Ok(())
 }
 
-/// How many states these are, or the greatest usize.
+/// Returns how many states these rows have, at most `usize::MAX`.
 pub fn count_states(rows: &VecDeque<Layer>) -> usize
     ensures { result ≤ length (nodes_in rows.now.items) }
 {
@@ -45,8 +45,8 @@ pub fn count_states(rows: &VecDeque<Layer>) -> usize
     states
 }
 
-/// A row goes on from before the event with this place: behind it to the last of the rows there, and with one more spot
-/// to the first of the other rows, which comes back.
+/// Advances a row from before the event with this place. The nodes after the event become the last row of `next`. The
+/// nodes with one more spot are added to the first of the other rows, which is returned.
 fn row_behind(
     row: Layer,
     rows: &mut VecDeque<Layer>,

@@ -8,7 +8,7 @@ use std::alloc::{AllocError, Global};
 pub enum Stop {
     /// There is no memory.
     Memory,
-    /// There are more than so many states behind so many events.
+    /// There are more states than the first number after as many events as the second number.
     States(usize, u64),
 }
 

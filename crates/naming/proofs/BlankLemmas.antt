@@ -1,4 +1,4 @@
--- Names without the blanks beside each `|`.
+-- Names without the blanks around each `|`.
 use Rattle.std.proofs.Common.{◌≡◌, ℕ, ◌-◌, suc, true, false, List, [], ◌∷◌, ◌++◌, length, refl, ap, sym, ◌∙◌, append-nil, arith, get_or}
 use Rattle.std.specs.Prelude.{Option, None, Some}
 use Rattle.std.specs.Option.{option_to_list}
@@ -12,14 +12,14 @@ trimmed_blank (x ∷ xs) b h = ap (and_trimmed x) (trimmed_blank xs b h)
 last_is : (xs : List ℕ) (b : ℕ) → get_or (xs ++ b ∷ []) (length (xs ++ b ∷ []) - 1) 0 ≡ b
 last_is xs b = grind (arith, common_steps)
 
--- a blank at the end was taken away
+-- One blank at the end was removed.
 pub popped : (old new : List ℕ) (last : Option ℕ) → old ≡ new ++ option_to_list last → is_blank (get_or old (length old - 1) 0) ≡ true → trimmed new ≡ trimmed old
 popped old new None e h = ap trimmed (sym (e ∙ append-nil new))
 popped old new (Some b) e h =
     let blank : is_blank b ≡ true = rw (last_is new b) at (rw e at h) in
     sym (ap trimmed e ∙ trimmed_blank new b blank)
 
--- without a blank at the end all stays
+-- A text that doesn't end with a blank stays.
 pub trimmed_all : (xs : List ℕ) → is_blank (get_or xs (length xs - 1) 0) ≡ false → trimmed xs ≡ xs
 trimmed_all [] h = refl
 trimmed_all (b ∷ []) h = rw h refl

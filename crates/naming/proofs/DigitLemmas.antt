@@ -27,6 +27,6 @@ glyph : (n : ℕ) (t : Bool) → nat_lt n 10 ≡ t → digit_glyph true n ≢ 10
 glyph n true h = λ e. let is : digit_glyph true n ≡ 48 + n = rw h refl in omega (arith, sym is ∙ e)
 glyph n false h = λ e. let is : digit_glyph true n ≡ 55 + n = rw h refl in omega (arith, sym is ∙ e)
 
--- nor in the two digits of a byte
+-- no line feed is in the two digits of a byte
 pub digits_one_line : (byte : ℕ) → IsOneLine (two_digits byte)
 digits_one_line byte = two_one_line _ _ (glyph (byte / 16) (nat_lt (byte / 16) 10) refl) (glyph (byte % 16) (nat_lt (byte % 16) 10) refl)

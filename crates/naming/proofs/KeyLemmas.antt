@@ -1,5 +1,5 @@
--- The words of a line, with the bytes of its keys.
-use Rattle.std.proofs.Common.{◌≡◌, ℕ, ◌-◌, suc, Bool, true, false, List, [], ◌∷◌, ◌++◌, drop, length, take, refl, ap, sym, ◌∙◌, append_assoc, append-nil, length-append, subst, arith}
+-- The words of a line, in which a byte replaces each key.
+use Rattle.std.proofs.Common.{◌≡◌, ℕ, ◌-◌, suc, Bool, true, false, List, [], ◌∷◌, ◌++◌, drop, length, take, refl, ap, sym, ◌∙◌, append_assoc, append-nil, length-append, arith}
 use Rattle.std.specs.Prelude.{not}
 use Rattle.std.specs.List.{position_or_len}
 use Rattle.std.proofs.Math.Seq.{drop-append_seam, take-append_seam}
@@ -8,9 +8,9 @@ use Rattle.text.specs.Words.{before_comment, behind_word, first_word, from_word,
 use Rattle.naming.specs.Keys.{key_named, keys_from, keys_named}
 use Rattle.naming.specs.Sets.{behind_second}
 
--- ---- what stands before the first word
+-- ---- what is before the first word
 
--- A text is what stands before its first word, and what begins there.
+-- The separators at the front of a text are all that is before its first word.
 pub before_word : (text seps : List ℕ) → text ≡ seps ++ (first_word text ++ behind_word text) → seps ≡ take (length text - length (from_word text)) text
 before_word text seps e =
     let whole : first_word text ++ behind_word text ≡ from_word text = take-append-drop (position_or_len is_separator (from_word text)) (from_word text) in
@@ -64,7 +64,7 @@ unfolding key_named
 taken begun [] = rw (append-nil begun) (sym (append-nil (key_named begun)))
 taken begun (b ∷ bs) = take_more begun b bs (is_separator b) refl (taken (begun ++ b ∷ []) bs)
 
--- separators, a word and what is behind it
+-- separators, a word and what follows it
 pub keys_step : (text seps : List ℕ) → text ≡ seps ++ (first_word text ++ behind_word text) → keys_from [] text ≡ seps ++ (key_named (first_word text) ++ keys_from [] (behind_word text))
 keys_step text seps e =
     let h = is_skipped text in
@@ -72,7 +72,7 @@ keys_step text seps e =
     let same : h.front ≡ seps = append_cancel_right h.front seps (from_word text) (sym h.is ∙ e ∙ ap (λ (x : List ℕ). seps ++ x) whole) in
     h.keys ∙ ap (λ (x : List ℕ). x ++ keys_from [] (from_word text)) same ∙ ap (λ (x : List ℕ). seps ++ x) (taken [] (from_word text))
 
--- separators alone
+-- only separators
 pub keys_none : (text : List ℕ) → length (from_word text) ≡ 0 → keys_from [] text ≡ text
 unfolding key_named
 keys_none text none =
@@ -82,7 +82,7 @@ keys_none text none =
 
 -- ---- a whole line
 
--- the line up to the keys
+-- the line before its keys
 abbrev pub front_of : List ℕ → List ℕ
 front_of line = take (length (before_comment line) - length (behind_second (before_comment line))) (before_comment line)
 

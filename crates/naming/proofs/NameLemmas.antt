@@ -1,11 +1,11 @@
--- Names that are divided.
+-- Names with dividers between them.
 use Rattle.std.proofs.Common.{◌≡◌, ◌-◌, ◌≤◌, length, ℕ, suc, Bool, true, false, List, [], ◌∷◌, ◌++◌, drop, take, refl, ap, sym, ◌∙◌, append_assoc, append-nil, arith}
 use Rattle.std.proofs.lemmas.Grind.{common_steps}
 use Rattle.std.specs.List.{position_or_len}
 use Rattle.naming.specs.Names.{divides, names_from, names_in}
 use Rattle.naming.specs.declared.number.Form.{Form}
 
--- a name, and those behind the divider that follows it, if one does
+-- a name, and the names after its divider, if a divider follows it
 abbrev pub cut : Form → List ℕ → List ℕ → List (List ℕ)
 cut form name [] = name ∷ []
 cut form name (b ∷ bs) = name ∷ names_from form [] bs

@@ -1,5 +1,5 @@
 -- Texts of which some lines were named.
-use Rattle.std.proofs.Common.{◌≡◌, ℕ, Bool, true, false, List, [], ◌∷◌, ◌++◌, ◌==◌, not, ap, refl, subst, sym, ◌∙◌, append_assoc, append-nil}
+use Rattle.std.proofs.Common.{◌≡◌, ℕ, Bool, true, false, List, [], ◌∷◌, ◌++◌, ◌==◌, not, ap, refl, sym, ◌∙◌, append_assoc, append-nil}
 use Rattle.std.specs.Prelude.{All, flat_map, ◌||◌}
 use Rattle.std.proofs.lemmas.Bool.{and_parts, or_parts}
 use Rattle.std.proofs.lemmas.Grind.{flat_map-append}
@@ -14,7 +14,7 @@ use Rattle.naming.specs.Texts.{AddsLine, IsNamed, IsNamedLine, NamedLine, is_ref
 
 -- ---- one line
 
--- a line was added, and nothing was told of it, or something
+-- A line was added, and its faults, if any, were reported.
 pub adds_line : (line named text text_then told told_then : List ℕ) → text_then ≡ text ++ named → Grows told told_then → IsOneLine line → IsOneLine named → named ≡ (renamed line).text
     → ((renamed line).is_refused ≡ false → told_then ≡ told) → AddsLine line text text_then told told_then
 adds_line line named text text_then told told_then put (more, grown) given one is quiet =

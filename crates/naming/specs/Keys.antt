@@ -1,5 +1,5 @@
--- Lines `key C ^Z ..`: keys that are pressed with Ctrl, and bytes in digits.
-use Rattle.std.specs.Prelude.{ℕ, ◌-◌, ◌==◌, ◌&&◌, not, nat_le, Bool, List, [], ◌∷◌, ◌++◌, Option, None, Some, drop, get_or, length, take, if◌then◌else◌}
+-- Lines `key C ^Z ..`: keys pressed with Ctrl, and bytes in hexadecimal.
+use Rattle.std.specs.Prelude.{ℕ, ◌-◌, ◌==◌, ◌&&◌, nat_le, Bool, List, [], ◌∷◌, ◌++◌, Option, None, Some, drop, get_or, length, take, if◌then◌else◌}
 use Rattle.std.specs.Char.{to_ascii_uppercase}
 use Rattle.std.specs.List.{list_any}
 use Rattle.std.specs.Option.{is_none, option_map_or}
@@ -17,20 +17,20 @@ abbrev pub control : List ℕ → Option ℕ
 control (c ∷ b ∷ []) = if c == 94 then byte_with_control (to_ascii_uppercase b) else None
 control _ = None
 
--- The byte of a key stands for it, and any other word for itself.
+-- The byte of a key replaces it. Any other word stays.
 unfoldable pub key_named : List ℕ → List ℕ
 key_named word = option_map_or two_digits (control word) word
 
--- it begins with `^`, and is no key
+-- The word begins with `^`, but isn't a key.
 unfoldable pub is_no_key : List ℕ → Bool
 is_no_key word = (get_or word 0 0 == 94) && is_none (control word)
 
--- the same for each word of a text, of whose first one some bytes have come
+-- a text in which bytes replace keys; `begun` is the part of its first word that was read
 abbrev pub keys_from : List ℕ → List ℕ → List ℕ
 keys_from begun [] = key_named begun
 keys_from begun (b ∷ bs) = if is_separator b then key_named begun ++ b ∷ keys_from [] bs else keys_from (begun ++ b ∷ []) bs
 
--- what stands for a line `key`: its keys are behind its second word
+-- the line that replaces a line `key`, whose keys follow its second word
 unfoldable pub keys_named : List ℕ → Renamed
 keys_named line =
     let code = before_comment line in

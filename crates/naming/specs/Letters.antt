@@ -1,5 +1,5 @@
--- Lines `type C "TEXT"`, and the letters of a text that is typed.
-use Rattle.std.specs.Prelude.{◌≡◌, ◌<◌, ℕ, ◌-◌, ◌==◌, ◌&&◌, ◌||◌, not, nat_le, Bool, List, [], ◌∷◌, ◌++◌, Option, None, Some, codes, drop, get_or, length, option_map, take, if◌then◌else◌}
+-- Lines `type C "TEXT"`, and the letters of a typed text.
+use Rattle.std.specs.Prelude.{◌<◌, ℕ, ◌-◌, ◌==◌, ◌&&◌, ◌||◌, not, nat_le, Bool, List, [], ◌∷◌, ◌++◌, Option, None, Some, codes, drop, get_or, length, take, if◌then◌else◌}
 use Rattle.std.specs.Char.{is_ascii_hexdigit}
 use Rattle.std.specs.List.{list_any}
 use Rattle.std.specs.Option.{option_and_then}
@@ -11,23 +11,23 @@ use Rattle.naming.specs.declared.type_line.Letter.TheVariants.{Byte, Digits, End
 
 -- ---- letters
 
--- the byte that a letter behind `\` stands for
+-- the byte that a letter after `\` stands for
 abbrev pub unescaped : ℕ → Option ℕ
 unescaped b = if b == 110 then Some 10 else if b == 116 then Some 9 else if b == 114 then Some 13
     else if (b == 92) || (b == 34) then Some b else None
 
--- what has come of a letter
+-- how much of a letter was read
 pub data Begun : Type 0 where
   Nothing : Begun
   Backslash : Begun
   Hex : Begun  -- `\x`
   HexDigit : ℕ → Begun
 
--- bytes in digits, with a blank between two
+-- bytes in hexadecimal, with a blank between two
 abbrev pub with_digits : List ℕ → List ℕ → List ℕ
 with_digits bytes digits = (if length bytes == 0 then bytes else bytes ++ 32 ∷ []) ++ digits
 
--- The bytes of the letters up to `"`, behind those that have come, and what follows it; none where one is no letter, or the text doesn't end.
+-- The bytes of all letters before `"`, after the bytes read so far, and what follows the `"`. `None` if an escape is invalid or the `"` is missing.
 abbrev pub letters_from : List ℕ → Begun → List ℕ → Option (List ℕ × List ℕ)
 letters_from bytes begun [] = None
 letters_from bytes Nothing (b ∷ bs) = if b == 34 then Some (bytes, bs)
@@ -38,7 +38,7 @@ letters_from bytes Backslash (b ∷ bs) = if b == 120 then letters_from bytes He
 letters_from bytes Hex (b ∷ bs) = if is_ascii_hexdigit b then letters_from bytes (HexDigit b) bs else None
 letters_from bytes (HexDigit high) (b ∷ bs) = if is_ascii_hexdigit b then letters_from (with_digits bytes (high ∷ b ∷ [])) Nothing bs else None
 
--- the same behind a letter that comes first
+-- the same if this letter is first
 abbrev pub letters_behind : List ℕ → Letter → Option (List ℕ × List ℕ)
 letters_behind bytes (Byte byte rest) = letters_from (with_digits bytes (two_digits byte)) Nothing rest.now
 letters_behind bytes (Digits digits rest) = letters_from (with_digits bytes digits) Nothing rest.now
@@ -58,7 +58,7 @@ IsOneLineLetter (End rest) = IsOneLine rest.now
 
 -- ---- the line
 
--- A text has a byte, and `#`, a blank, a comma or nothing behind it.
+-- A text has a byte, and `#`, a separator or nothing follows its `"`.
 abbrev pub is_whole : List ℕ → List ℕ → Bool
 is_whole bytes [] = not (length bytes == 0)
 is_whole bytes (b ∷ bs) = not (length bytes == 0) && ((b == 35) || is_separator b)
@@ -67,12 +67,12 @@ is_whole bytes (b ∷ bs) = not (length bytes == 0) && ((b == 35) || is_separato
 abbrev pub if_short : List ℕ → Option (List ℕ)
 if_short line = if nat_le (length line) 200 then Some line else None
 
--- of what stands before the word `type`, what stands between it and the text, and that behind its `"`
+-- the line `key`, from the part before the word `type`, the part between that word and the text, and what follows the first `"`
 abbrev pub typed_from : List ℕ → List ℕ → List ℕ → Option (List ℕ)
 typed_from indent console text = option_and_then (λ ended. if is_whole ended.0 ended.1 then if_short (indent ++ (codes "key" ++ (console ++ (ended.0 ++ ended.1)))) else None)
     (letters_from [] Nothing text)
 
--- the same for a line that has a console without `"` and `#`, a blank and then `"`
+-- the same for a line whose console has neither `"` nor `#`, and whose text begins with `"`
 abbrev pub typed : List ℕ → Option (List ℕ)
 typed line =
     let behind_type = behind_word line in
@@ -81,6 +81,6 @@ typed line =
     then typed_from (take (length line - length (from_word line)) line) (take (length behind_type - length behind) behind_type) (drop 1 behind)
     else None
 
--- what stands for a line `type`
+-- the line that replaces a line `type`
 unfoldable pub type_named : List ℕ → Renamed
 type_named line = renamed_as line (typed line)

@@ -1,5 +1,5 @@
 -- What becomes of a line.
-use Rattle.std.specs.Prelude.{◌≡◌, ◌≢◌, ℕ, ◌==◌, ◌||◌, not, Bool, true, false, List, [], All, Option, None, Some, codes, length, if◌then◌else◌}
+use Rattle.std.specs.Prelude.{◌≡◌, ◌≢◌, ℕ, ◌==◌, ◌||◌, not, Bool, true, false, List, All, Option, None, Some, codes, length, if◌then◌else◌}
 use Rattle.std.specs.Char.{is_ascii_uppercase}
 use Rattle.std.specs.List.{list_any}
 use Rattle.std.specs.Str.{bytes_eq}
@@ -34,14 +34,14 @@ begins_name b = is_ascii_uppercase b || b == 123 || b == 94 || b == 34
 abbrev pub is_plain : List ℕ → Bool
 is_plain line = not (list_any begins_name (before_comment line))
 
--- ---- what stands for a line
+-- ---- the line that replaces a line
 
--- the line that stands for a line, and whether something in that is refused
+-- the line that replaces a line, and whether something in the old line is rejected
 pub record Renamed : Type 0 where
   pub text : List ℕ
   pub is_refused : Bool
 
--- a line that has no names, and one in which something is refused, stay
+-- A line without names stays. If a name in a line `set`, or the text of a line `type`, is rejected, the line stays.
 abbrev pub kept : List ℕ → Renamed
 kept line = record { text = line; is_refused = false }
 
@@ -57,7 +57,7 @@ said line Same = kept line
 said line (Named text) = record { text = text.items; is_refused = false }
 said line Refused = refused line
 
--- what is told of it, behind what was told before
+-- Only a rejected line may add to the faults that were reported before.
 abbrev pub IsTold : Outcome → List ℕ → List ℕ → Type 0
 IsTold Same old new = new ≡ old
 IsTold (Named text) old new = new ≡ old

@@ -1,6 +1,5 @@
 -- What names stand for: one name, or several that are joined.
-use Rattle.std.specs.Prelude.{ℕ, ℤ, pos, ◌+◌, ◌-◌, ◌*◌, ◌==◌, ◌&&◌, ◌||◌, nat_le, Bool, true, false, List, [], ◌∷◌, ◌++◌, Option, None, Some, bit_or, codes, drop, take, length, option_map, if◌then◌else◌}
-use Rattle.std.specs.Char.{is_ascii_digit}
+use Rattle.std.specs.Prelude.{ℕ, ℤ, pos, ◌==◌, ◌||◌, Bool, true, false, List, [], ◌∷◌, ◌++◌, Option, None, Some, bit_or, codes, drop, take, length, option_map, if◌then◌else◌}
 use Rattle.std.specs.Int.{cast_signed, cast_unsigned, int_wrapping_sub, w64}
 use Rattle.std.specs.Option.{option_and_then, option_map_or, option_or}
 use Rattle.std.specs.Str.{bytes_eq}
@@ -8,6 +7,7 @@ use Rattle.posix.specs.Common.{signal_in}
 use Rattle.posix.specs.SignalSets.{just}
 use Rattle.text.specs.Words.{is_separator}
 use Rattle.wording.specs.Names.{named_as}
+use Rattle.wording.specs.Names as wording
 use Rattle.wording.specs.declared.table.Kind.{Kind}
 use Rattle.wording.specs.declared.table.Kind.TheVariants.{Signal, Errno, WaitOption, Children, Handler, Flag, How}
 use Rattle.naming.specs.declared.number.Form.{Form}
@@ -17,18 +17,11 @@ use Rattle.naming.specs.declared.number.Sum.{Sum}
 
 -- ---- one name
 
--- 0 to 30, without a zero at its front
-abbrev pub up_to_30 : List ℕ → Option ℕ
-up_to_30 [] = None
-up_to_30 (d ∷ []) = if is_ascii_digit d then Some (d - 48) else None
-up_to_30 (t ∷ d ∷ []) = if (nat_le 49 t && nat_le t 50) && is_ascii_digit d then Some ((t - 48) * 10 + (d - 48)) else if (t == 51) && (d == 48) then Some 30 else None
-up_to_30 (a ∷ b ∷ c ∷ more) = None
-
 -- SIGRTMIN+0 to SIGRTMIN+30 are 34 to 64.
 unfoldable pub realtime : List ℕ → Option ℤ
-realtime name = if bytes_eq (take 9 name) (codes "SIGRTMIN+") then option_map (λ n. pos (34 + n)) (up_to_30 (drop 9 name)) else None
+realtime name = if bytes_eq (take 3 name) (codes "SIG") then wording.realtime (drop 3 name) else None
 
--- an error stands for its negative number
+-- The name of an error stands for its negative number.
 abbrev pub signed : Kind → ℤ → ℤ
 signed Errno number = int_wrapping_sub w64 (pos 0) number
 signed Signal number = number
@@ -38,13 +31,13 @@ signed Handler number = number
 signed Flag number = number
 signed How number = number
 
--- the kind and the number that a name stands for, by the table of names, or as a real-time signal
+-- the kind and the number of a name, which is in the table or is a real-time signal
 unfoldable pub meaning_of : List ℕ → Option Meaning
 meaning_of name = option_or (option_map (λ m. record { kind = m.0; number = signed m.0 m.1 }) (named_as name)) (option_map (λ n. record { kind = Signal; number = n }) (realtime name))
 
 -- ---- several names
 
--- Signals stand for their set, options and flags for their bits; no others are joined.
+-- Only signals, wait options and flags can be joined: signals become a set, the others bits.
 abbrev pub can_join : Kind → Bool
 can_join Signal = true
 can_join Errno = false
@@ -75,7 +68,7 @@ place_of How = 6
 abbrev pub is_same : Kind → Kind → Bool
 is_same a b = place_of a == place_of b
 
--- All names are of the first one's kind.
+-- All names have the kind of the first name.
 abbrev pub add_by : Option Meaning → Sum → Meaning → Option Sum
 add_by None sum known = Some (record { first = Some known; is_one = true; bits = bit_or sum.bits (bits_of known.kind known.number) })
 add_by (Some first) sum known =
@@ -84,12 +77,12 @@ add_by (Some first) sum known =
 abbrev pub add : Sum → Meaning → Option Sum
 add sum known = add_by sum.first sum known
 
--- In braces are signals.
+-- Only signals may be in braces.
 abbrev pub fits : Form → Kind → Bool
 fits Joined kind = true
 fits Set kind = is_same kind Signal
 
--- Between two dividers is a name, or in braces nothing.
+-- Only in braces may a name be missing between two dividers.
 abbrev pub add_nothing : Form → Sum → Option Sum
 add_nothing Joined sum = None
 add_nothing Set sum = Some sum
@@ -102,12 +95,12 @@ abbrev pub add_names : Form → Sum → List (List ℕ) → Option Sum
 add_names form sum [] = Some sum
 add_names form sum (name ∷ more) = option_and_then (λ s. add_names form s more) (add_name form sum name)
 
--- `|` divides names, and in braces a blank or a comma does, too
+-- `|` divides names. In braces, a separator divides names, too.
 abbrev pub divides : Form → ℕ → Bool
 divides Joined b = b == 124
 divides Set b = (b == 124) || is_separator b
 
--- the names of a text, of whose first one some bytes have come
+-- the names of a text; `begun` is the part of its first name that was read
 abbrev pub names_from : Form → List ℕ → List ℕ → List (List ℕ)
 names_from form begun [] = begun ∷ []
 names_from form begun (b ∷ bs) = if divides form b then begun ∷ names_from form [] bs else names_from form (begun ++ b ∷ []) bs
@@ -118,7 +111,7 @@ names_in form text = names_from form [] text
 abbrev pub nothing : Sum
 nothing = record { first = None; is_one = false; bits = 0 }
 
--- One name stands for its number, several for their set or their bits.
+-- One name outside braces stands for its number. Other names stand for their bits.
 abbrev pub number_by : Form → Option Meaning → Sum → Option ℤ
 number_by form None sum = Some (cast_signed w64 sum.bits)
 number_by Joined (Some first) sum = if sum.is_one then Some first.number else if can_join first.kind then Some (cast_signed w64 sum.bits) else None
@@ -127,6 +120,6 @@ number_by Set (Some first) sum = if can_join first.kind then Some (cast_signed w
 abbrev pub sum_number : Form → Sum → Option ℤ
 sum_number form sum = number_by form sum.first sum
 
--- the number that names stand for, if they do
+-- the number that names stand for; `None` if a name is rejected
 unfoldable pub number_of : Form → List ℕ → Option ℤ
 number_of form text = option_and_then (λ sum. sum_number form sum) (add_names form nothing (names_in form text))

@@ -9,7 +9,7 @@ use Rattle.naming.specs.declared.line.Sort.TheVariants.{Set, Key, Typed, Other}
 
 -- ---- a line
 
--- A line `type` has a text.
+-- A line `type` without a text is rejected. Other lines without names stay.
 abbrev pub plain_renamed : Sort → List ℕ → Renamed
 plain_renamed Set line = kept line
 plain_renamed Key line = kept line
@@ -22,13 +22,13 @@ renamed_by Key line = keys_named line
 renamed_by Typed line = type_named line
 renamed_by Other line = kept line
 
--- what stands for a line
+-- the line that replaces a line
 unfoldable pub renamed : List ℕ → Renamed
 renamed line = if is_plain line then plain_renamed (sort_of line) line else renamed_by (sort_of line) line
 
 -- ---- a text
 
--- the rest of a text, of whose first line some bytes have come, with each line that stands for one
+-- a text in which lines replace lines; `begun` is the part of its first line that was read
 abbrev pub named_from : List ℕ → List ℕ → List ℕ
 named_from begun [] = (renamed begun).text
 named_from begun (b ∷ bs) = if b == 10 then (renamed begun).text ++ b ∷ named_from [] bs else named_from (begun ++ b ∷ []) bs
@@ -37,7 +37,7 @@ named_from begun (b ∷ bs) = if b == 10 then (renamed begun).text ++ b ∷ name
 unfoldable pub named_text : List ℕ → List ℕ
 named_text text = named_from [] text
 
--- whether something in it is refused
+-- True if something in the text is rejected.
 abbrev pub refused_from : List ℕ → List ℕ → Bool
 refused_from begun [] = (renamed begun).is_refused
 refused_from begun (b ∷ bs) = if b == 10 then (renamed begun).is_refused || refused_from [] bs else refused_from (begun ++ b ∷ []) bs
@@ -45,15 +45,15 @@ refused_from begun (b ∷ bs) = if b == 10 then (renamed begun).is_refused || re
 unfoldable pub is_refused : List ℕ → Bool
 is_refused text = refused_from [] text
 
--- ---- how it is found
+-- ---- the lines of a text
 
--- a line, the one that stands for it, and what is told of it
+-- a line, the line that replaces it, and the faults that are reported for it
 pub record NamedLine : Type 0 where
   pub line : List ℕ
   pub named : List ℕ
   pub told : List ℕ
 
--- One line stands for one line. Nothing is told of it where nothing in it is refused.
+-- One line replaces one line. If nothing in it is rejected, no fault is reported.
 pub record IsNamedLine (l : NamedLine) : Type 0 where
   pub given : IsOneLine l.line
   pub one_line : IsOneLine l.named
@@ -69,7 +69,7 @@ StandsFor line named told told_then =
 abbrev pub AddsLine : List ℕ → List ℕ → List ℕ → List ℕ → List ℕ → Type 0
 AddsLine line text text_then told told_then = (named : List ℕ) × (text_then ≡ text ++ named) × StandsFor line named told told_then
 
--- The named text, by its lines: those that are ended, and the last one, which isn't. Nothing is told where nothing is refused.
+-- The named text, by its lines: a line feed ends each but the last. If nothing is rejected, no fault is reported.
 pub record IsNamed (text named told : List ℕ) : Type 0 where
   pub is : named ≡ named_text text
   pub quiet : is_refused text ≡ false → told ≡ []

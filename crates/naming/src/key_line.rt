@@ -48,7 +48,7 @@ pub fn push_byte(text: &mut Vec<u8>, byte: u8) -> Result<(), AllocError>
     Ok(())
 }
 
-/// Adds a word: its byte if it is a key. A word that begins as a key, and is none, is told.
+/// Adds a word, or its byte if the word is a key. Reports a word that begins with `^` but isn't a key.
 #[tactic(auto, unfolding(crate::specs::Keys::is_no_key, crate::specs::Keys::key_named))]
 fn push_word(
     text: &mut Vec<u8>,

@@ -1,4 +1,9 @@
 //! Texts with names in place of numbers: a world or a list of events with numbers for the names.
+//!
+//! `name_text` returns the `named_text`: each name is replaced by its number, each key by its byte, each typed text by
+//! its bytes (`Names`, `Sets`, `Keys`, `Letters`); a rejected name or key stays. Nothing is reported if nothing is
+//! rejected. `serve`: with status 0 or 1 the output is this text, and the status is 1 exactly if something is reported.
+//! No clause: that each rejected name is reported. Tested: the messages.
 #![tactic(auto)]
 
 mod fault;

@@ -19,19 +19,19 @@ pub enum Sort {
     Other,
 }
 
-/// What stands for a line.
+/// The line that replaces a line.
 #[derive(Drop)]
 pub enum Outcome {
-    /// The line itself: it has no names.
+    /// The line itself, because it has no names.
     Same,
-    /// This line.
+    /// This line, in which numbers replace names, keys or letters.
     Named(Vec<u8>),
-    /// The line itself: something in it is refused, which is told.
+    /// The line itself, because something in it is rejected, which is reported.
     Refused,
 }
 
 impl Outcome {
-    /// Returns the line that stands for a line.
+    /// Returns the line that replaces a line: the line itself, unless there is another.
     pub fn text<'t>(&'t self, line: &'t [u8]) -> &'t [u8]
         ensures { result.now ≡ (said line.entry.now self.entry.now).text }
     {
@@ -86,14 +86,14 @@ pub fn is_plain(line: &[u8]) -> bool
     !has_beginning(code)
 }
 
-/// Returns what follows the second word of a line, nothing if it has no two words.
+/// Returns what follows the second word of a line; nothing if the line has fewer words.
 pub fn behind_second(line: &[u8]) -> &[u8]
     ensures { result.now ≡ behind_second_word line.now }
 {
     behind_first(behind_first(line))
 }
 
-/// Returns what follows the first word of a line, nothing if it has none.
+/// Returns what follows the first word of a line; nothing if the line has no word.
 fn behind_first(line: &[u8]) -> &[u8]
     ensures { result.now ≡ behind_word line.now }
 {

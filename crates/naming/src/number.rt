@@ -2,12 +2,12 @@
 
 ghost use Rattle.std.specs.Prelude.{◌≡◌, ◌<◌, ◌≤◌, ◌∷◌, [], IfSome, MatchOption, MatchResult, None, OnErr, OnOk, Some, false, length, option_map, true};
 ghost use Rattle.std.specs.List.{position_or_len};
-ghost use Rattle.naming.specs.Names.{add, add_name as added, add_names as added_all, bits_of as bits_meant, can_join as can_be_joined, divides as divides_names, is_same, meaning_of, names_in, number_of as number_meant, realtime as realtime_number, sum_number, up_to_30 as small_number};
+ghost use Rattle.naming.specs.Names.{add, add_name as added, add_names as added_all, bits_of as bits_meant, can_join as can_be_joined, divides as divides_names, is_same, meaning_of, names_in, number_of as number_meant, realtime as realtime_number, sum_number};
 
 use crate::fault::Fault;
 use posix::SigSet;
 use text::is_separator;
-use wording::{Kind, SIGRTMIN, named, signal_in};
+use wording::{Kind, named, realtime as realtime_from, signal_in};
 
 /// How names stand together.
 #[derive(Clone, Copy, PartialEq, Eq)]
@@ -30,25 +30,12 @@ impl Form {
     }
 }
 
-/// Returns a number of at most 30, in digits without a zero at its front.
-fn up_to_30(digits: &[u8]) -> Option<u8>
-    ensures { result ≡ small_number digits.now }
-{
-    match digits {
-        [digit @ b'0'..=b'9'] => Some(*digit - b'0'),
-        [tens @ b'1'..=b'2', digit @ b'0'..=b'9'] => Some((*tens - b'0') * 10 + (*digit - b'0')),
-        [b'3', b'0'] => Some(30),
-        _ => None,
-    }
-}
-
-/// Returns the number of a real-time signal by its distance from the first one.
+/// Returns the number of a real-time signal by its name, `SIGRTMIN+0` to `SIGRTMIN+30`.
 #[tactic(auto, unfolding(crate::specs::Names::realtime))]
 fn realtime(name: &[u8]) -> Option<i64>
     ensures { result ≡ realtime_number name.now }
 {
-    let behind = up_to_30(name.strip_prefix(b"SIGRTMIN+")?)?;
-    Some(i64::from(SIGRTMIN) + i64::from(behind))
+    realtime_from(name.strip_prefix(b"SIG")?)
 }
 
 /// What a name stands for.
@@ -59,7 +46,7 @@ pub struct Meaning {
 }
 
 impl Meaning {
-    /// Returns its bits: of a signal the set of this signal.
+    /// Returns the bits of the number; for a signal, the set of that one signal.
     fn bits(self) -> u64
         ensures { result ≡ bits_meant self.kind self.number }
     {
@@ -73,7 +60,7 @@ impl Meaning {
     }
 }
 
-/// Returns what a name stands for, of an error the negative number; `None` if no number has the name.
+/// Returns what a name stands for: for an error, the negative number, because a call that fails returns that number.
 #[tactic(auto, unfolding(crate::specs::Names::meaning_of))]
 fn known_as(word: &[u8]) -> Option<Meaning>
     ensures { result ≡ meaning_of word.now }
@@ -109,7 +96,7 @@ impl Sum {
         bits: 0,
     };
 
-    /// Adds a name, unless it is of another kind. Returns true if it is of the same.
+    /// Adds a name and returns true, unless the names before it are of another kind.
     fn add(&mut self, known: Meaning) -> bool
         ensures added { result ≡ true → add self.old known ≡ Some self.new }
         ensures refused { result ≡ false → add self.old known ≡ None }
@@ -130,7 +117,7 @@ impl Sum {
         true
     }
 
-    /// Returns the number that the names stand for; `None` if one of them can only stand alone.
+    /// Returns the number that the names stand for; `None` if names of their kind can't be joined.
     fn number(&self, form: Form) -> Option<i64>
         ensures { result ≡ sum_number form self.now }
     {
@@ -142,7 +129,7 @@ impl Sum {
     }
 }
 
-/// Adds a name to others, of which this is the first. In braces there may be none.
+/// Adds a name. In braces a name may be missing. `first` is the first of all names, and is reported if kinds differ.
 fn add_name<'a>(sum: &mut Sum, form: Form, first: &'a [u8], name: &'a [u8]) -> Result<(), Fault<'a>>
     ensures ok { OnOk result (added form sum.old name.now ≡ Some sum.new) }
     ensures err { OnErr result (added form sum.old name.now ≡ None) }
@@ -166,7 +153,7 @@ fn add_name<'a>(sum: &mut Sum, form: Form, first: &'a [u8], name: &'a [u8]) -> R
     }
 }
 
-/// Returns how many bytes are before the first divider.
+/// Returns the length of the first name, which ends at a divider or at the end.
 fn name_len(form: Form, names: &[u8]) -> usize
     ensures len { result ≡ position_or_len (divides_names form) names.now }
     ensures within { result ≤ length names.now }

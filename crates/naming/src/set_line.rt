@@ -22,7 +22,7 @@ fn is_blank(byte: u8) -> bool
     byte == b' ' || byte == b'\t'
 }
 
-/// Returns true if a blank is at the end.
+/// Returns true if a text ends with a blank.
 fn ends_blank(text: &[u8]) -> bool
     ensures { result ≡ is_blank_byte (get_or text.now (length text.now - 1) 0) }
 {
@@ -32,7 +32,7 @@ fn ends_blank(text: &[u8]) -> bool
     }
 }
 
-/// Returns true if a `|` is at the end.
+/// Returns true if a text ends with a `|`.
 fn ends_joined(text: &[u8]) -> bool
     ensures { result ≡ (get_or text.now (length text.now - 1) 0 == 124) }
 {
@@ -85,7 +85,7 @@ fn is_in_names(byte: u8) -> bool
     byte.is_ascii_uppercase() || byte.is_ascii_digit() || matches!(byte, b'_' | b'|' | b'+')
 }
 
-/// Returns how many bytes are before the first that isn't in names.
+/// Returns how many bytes at the front of a text can be in names.
 fn names_len(text: &[u8]) -> usize
     ensures len { result ≡ position_or_len (λ b. not (is_in_names_of b)) text.now }
     ensures within { result ≤ length text.now }
@@ -95,7 +95,7 @@ fn names_len(text: &[u8]) -> usize
         .unwrap_or(text.len())
 }
 
-/// Returns where a set in braces ends.
+/// Returns the index of the `}` that ends a set.
 fn end_of_set(text: &[u8]) -> Option<usize>
     ensures end { result ≡ position (λ b. b == 125) text.now }
     ensures within { IfSome result (λ end. end < length text.now) }
@@ -103,7 +103,7 @@ fn end_of_set(text: &[u8]) -> Option<usize>
     text.iter().position(|b| *b == b'}')
 }
 
-/// Returns true if nothing follows names directly.
+/// Returns true if a separator or nothing follows names.
 fn is_ended(behind: &[u8]) -> bool
     ensures { result ≡ are_ended behind.now }
 {
@@ -113,7 +113,7 @@ fn is_ended(behind: &[u8]) -> bool
     }
 }
 
-/// Returns the number of names, if a blank or nothing is behind them.
+/// Returns the number that names stand for, if a separator or nothing follows them.
 fn number_before<'a>(form: Form, names: &'a [u8], behind: &'a [u8]) -> Result<i64, Fault<'a>>
     ensures { MatchResult result (λ number. number_of_names form names.entry.now behind.entry.now ≡ Some number) (λ fault. number_of_names form names.entry.now behind.entry.now ≡ None) }
 {
@@ -127,7 +127,7 @@ fn number_before<'a>(form: Form, names: &'a [u8], behind: &'a [u8]) -> Result<i6
     }
 }
 
-/// Returns what is within braces.
+/// Returns the names between braces.
 fn inside(names: &[u8]) -> &[u8]
     ensures { result.now ≡ within Set names.now }
 {
@@ -155,7 +155,7 @@ impl Around<'_> {
         joined(alloc, &[self.before, digits, behind, self.comment])
     }
 
-    /// What stands for the line: that with the number of names, unless one is refused.
+    /// Returns what replaces the line: the line with the number of its names, unless a name is rejected.
     fn with_names(
         self,
         alloc: Global,
@@ -181,7 +181,7 @@ impl Around<'_> {
     }
 }
 
-/// What stands for a line `set`, the `number`-th of its text: the line with a number in place of the names.
+/// Returns what replaces a line `set`, the `number`-th of its text: the line with a number in place of its names.
 #[tactic(auto, unfolding(crate::specs::Sets::set_named))]
 pub fn set_line(
     alloc: Global,
@@ -204,7 +204,7 @@ pub fn set_line(
     }
 }
 
-/// Returns how names stand together, by what they begin with; `None` if no names begin so.
+/// Returns the form of names, by their first byte; `None` if no names begin with that byte.
 fn form_of(operand: &[u8]) -> Option<Form>
     ensures { result ≡ form_by operand.now }
 {
@@ -215,7 +215,7 @@ fn form_of(operand: &[u8]) -> Option<Form>
     }
 }
 
-/// What stands for the line of a set in braces.
+/// Returns what replaces the line of a set in braces.
 fn set_in_braces(
     alloc: Global,
     number: u64,
@@ -236,7 +236,7 @@ fn set_in_braces(
     }
 }
 
-/// What stands for the line of names that are joined, or of one.
+/// Returns what replaces the line of one name, or of several that are joined.
 fn set_of_names(
     alloc: Global,
     number: u64,

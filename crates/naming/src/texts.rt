@@ -22,7 +22,8 @@ pub struct Named {
     pub told: Vec<u8>,
 }
 
-/// What stands for a line without names, the `number`-th of its text. One that is to have a text has none, which is told.
+/// Returns what replaces a line without names, the `number`-th of its text. Reports a line `type`, because it lacks its
+/// text.
 fn plain_line(number: u64, sort: Sort, told: &mut Prose) -> Outcome
     ensures is { (line : List ℕ) → said line result ≡ plain_renamed sort line }
     ensures told { IsTold result told.old.text told.new.text }
@@ -37,7 +38,7 @@ fn plain_line(number: u64, sort: Sort, told: &mut Prose) -> Outcome
     }
 }
 
-/// What stands for a line of a text, the `number`-th.
+/// Returns what replaces the `number`-th line of a text.
 #[tactic(auto, unfolding(crate::specs::Texts::renamed))]
 fn named_line(
     alloc: Global,

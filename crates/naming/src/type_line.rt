@@ -107,7 +107,7 @@ fn push_letters<'a>(
     }
 }
 
-/// Returns why a text with these bytes and this behind it is refused; `None` if it isn't.
+/// Returns why a text is rejected: it has no bytes, or other bytes follow its `"` directly. Otherwise `None`.
 fn fault_of<'a>(bytes: &[u8], behind: &[u8]) -> Option<Fault<'a>>
     ensures { is_none result ≡ is_whole bytes.now behind.now }
 {
@@ -131,7 +131,7 @@ struct TypeLine<'a> {
     text: &'a [u8],
 }
 
-/// Returns true if a text or a comment begins within a word.
+/// Returns true if a text or a comment begins in a word.
 fn has_text(word: &[u8]) -> bool
     ensures { result ≡ list_any (λ b. (b == 34) || (b == 35)) word.now }
 {
@@ -173,7 +173,7 @@ fn key_line_of<'a>(alloc: Global, line: &'a [u8]) -> Result<Result<Vec<u8>, Faul
 }
 
 impl<'a> TypeLine<'a> {
-    /// The line `key`, or what is wrong with the text.
+    /// Returns the line `key`, or what is wrong with the text.
     fn key_line(self, alloc: Global) -> Result<Result<Vec<u8>, Fault<'a>>, AllocError>
         ensures is { IfOk result (λ r. MatchResult r (λ v. typed_from self.entry.indent.now self.entry.console.now self.entry.text.now ≡ Some v.items) (λ fault. typed_from self.entry.indent.now self.entry.console.now self.entry.text.now ≡ None)) }
         ensures one_line { IsOneLine self.entry.indent.now → IsOneLine self.entry.console.now → IsOneLine self.entry.text.now → IfOk result (λ r. IfOk r (λ v. IsOneLine v.items)) }
@@ -195,7 +195,7 @@ impl<'a> TypeLine<'a> {
     }
 }
 
-/// What stands for a line `type`, the `number`-th of its text: a line `key` with a byte for each letter.
+/// Returns what replaces a line `type`, the `number`-th of its text: a line `key` with a byte for each letter.
 #[tactic(auto, unfolding(crate::specs::Letters::type_named))]
 pub fn type_line(
     alloc: Global,

@@ -1,4 +1,8 @@
 //! What a page calls: the commands of the program, over texts in memory.
+//!
+//! The export serves the same commands as the program, over texts in memory (`answer`): one export with command lines
+//! has the contracts of all commands. `run` and `audit` say what a status means of these two. The caller's buffer gets
+//! the output and its length; it is unchanged if the output does not fit (`IsGiven`).
 #![tactic(auto)]
 
 mod answers;

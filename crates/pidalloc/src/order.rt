@@ -182,6 +182,7 @@ impl Order {
     }
 
     /// A process that has a place gets the last one. For the current one the ring is turned.
+    /// In a ring, the next process becomes the first, and no node changes.
     #[inline]
     pub fn go_last(&mut self, pid: Pid)
         requires { is_in pid self.old.pids ≡ true }

@@ -16,6 +16,7 @@ use std::marker::Model;
 ///
 /// The rows are in pages of 1,024 numbers, so the size follows the numbers that are borne. Memory is taken in
 /// [`PidTable::reserve`] alone.
+/// In one sorted list of IDs a removal would move 16 MB.
 #[derive(Drop)]
 pub struct PidTable {
     pidmax: u32,
@@ -172,6 +173,7 @@ impl PidTable {
 
     /// Whether the page of a number can go: nobody bears any of the 1,024 numbers on it, and the one given last isn't
     /// on it, so that the next one given may not be either.
+    /// The page of the last ID given stays, so that births and terminations on one page do not make it again and again.
     #[inline]
     pub fn can_give_up_page(&self, pid: Pid) -> bool
         ensures free { result ≡ true → (q : ℕ) → q / 1024 ≡ pid / 1024 → is_free_in self.now.rows q ≡ true }

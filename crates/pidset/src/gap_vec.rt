@@ -10,6 +10,8 @@ use std::marker::Model;
 /// Items behind a gap. Where the first is taken out the gap grows, and nothing moves. Else those behind an item that is
 /// put in or taken out do, and all where no other room is left than that of the gap. It takes memory in
 /// [`GapVec::reserve`] and [`GapVec::reserve_exact`] alone.
+/// When all processes are killed and reaped, each list loses its first item again and again; with the gap nothing
+/// moves.
 #[derive(Drop)]
 pub(crate) struct GapVec<T: Copy> {
     items: Vec<T>,

@@ -10,6 +10,7 @@ use std::alloc::{AllocError, Global};
 use std::marker::Model;
 
 /// A process under a key.
+/// 16 bytes, because the key of an alarm is a tick.
 #[derive(Clone, Copy)]
 pub struct Pair {
     /// The key.

@@ -1,4 +1,8 @@
 //! Sets of process numbers, indexes of processes by keys, and items that have numbers.
+//!
+//! `search` and `next_above` find items in rising order of their numbers. `Pages` has a value for each number. `PidSet`
+//! is a set. `Index` has pairs of a key and a process, `Lists` each process in at most one list, and `Rows` a row for
+//! each number, in pages that can be freed. Within reserved room none of them takes memory.
 #![tactic(auto)]
 
 mod gap_vec;

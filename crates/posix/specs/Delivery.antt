@@ -85,6 +85,7 @@ deliver s r n = act_on (change s r.pid (take_out n)) r (record { sig = n; carrie
 
 -- A machine fault enters the handler, if there is one and it isn't blocked; else the process ends, also
 -- process 1 (own).
+-- A blocked or ignored machine fault terminates the process, because the instruction could never continue.
 abbrev pub fault_with : State → Process → ℕ → Handler → Outcome
 fault_with s r n (handler.At address) =
     if has r.signals.mask n then end_process s r (killed n)

@@ -14,6 +14,9 @@ abbrev pub most_processes : ℕ
 most_processes = 2147483647
 
 -- From q upwards, among so many, the first other than p that is marked; process 1, where none is.
+-- The bound makes the walk end whatever the records are, and the test against p makes p never its own heir. Neither is
+-- ever reached, because a parent is born before its children. A law of that would be one more part of every regular
+-- state, and of what the lines say.
 unfoldable pub nearest_marked : (ℕ → Option Forebear) → ℕ → ℕ → ℕ → ℕ
 nearest_marked living p zero q = 1
 nearest_marked living p (suc n) q = option_map_or (λ f. if f.is_marked && not (q == p) then q else nearest_marked living p n f.parent) (living q) 1

@@ -45,6 +45,8 @@ sending_found me s [] = found.NobodyFound
 sending_found me s (r ∷ rs) = sending_permitted (permitted me s (r ∷ rs))
 
 -- whom a signal finds
+-- Targets and permission are those of the state before the first signal. SIGCHLD of a child that SIGCONT continues may
+-- reach a later target, or the sender; but no signal changes IDs, groups or sessions.
 unfoldable pub sending : Process → Target → Option ℕ → List Process → Sending
 sending me target s rs = sending_found me s (targets me target rs)
 

@@ -7,6 +7,8 @@ use Rattle.posix.specs.Outcomes.{Attempted, Done, finished}
 use Rattle.posix.specs.Terminals.{is_nonzero}
 
 -- its call gives 0, and it has the mark or doesn't
+-- The mark of process 1 is kept and shown although it changes nothing, so that the call has no exception: process 1 is
+-- the last heir anyway.
 unfoldable pub marked_as : Bool → Process → Process
 marked_as mark r = finished ((0, pos 0) ∷ []) (record r { is_subreaper = mark })
 

@@ -67,6 +67,8 @@ has_option options option = bit_and options option == option
 -- ---- what a wait asks
 
 -- A waitpid asks for ends whatever its options, as in Linux: WUNTRACED is the WSTOPPED of waitid.
+-- waitpid is the waitid that also asks for terminations and reaps, so both calls share one definition. All errors of
+-- waitid but ECHILD are EINVAL, and come first, so no trace shows their order.
 abbrev pub asked_by_waitpid : Target → ℕ → Option Asked
 asked_by_waitpid target options =
     if are_known waitpid_options options then Some (record { target = target; options = record { 0 = bit_or options WEXITED } }) else None

@@ -2,6 +2,11 @@
 //!
 //! The definitions stand in `specs/`: signals, status words, the record of a process, the state of
 //! the machine, one instruction, one event, whole runs, and how a trace is printed.
+//!
+//! `new` of `Pid`, `Uid`, `Gid`, `Register` and `Sig` says which numbers exist. The tables of `Errno`, `Sig`, `Status`
+//! and `Call::{name, named}`, and the bits of options and flags, are exact. `How`, `Target`, `Span` and
+//! `WaitCall::asks` say what a call means by its numbers. `decimal_value` returns the number that digits stand for, or
+//! the largest u64 if it is larger.
 #![tactic(auto)]
 
 pub mod bytes;

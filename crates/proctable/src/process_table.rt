@@ -19,6 +19,8 @@ use std::alloc::{AllocError, Global};
 /// Methods that take a `&mut`, but `spare`, ensure that this order rises in the table that they are given.
 /// Those that only read leave the processes and the room unchanged. No method makes the number of slots that have been
 /// read less.
+/// Methods that read a slot take `&mut self`, because a table may count its reads. `one_more` is what a count is after
+/// one more read: a count that saturates does not always rise.
 pub trait ProcessTable: Drop {
     /// The processes.
     ghost contents: { Self → List Process };
@@ -51,6 +53,7 @@ pub trait ProcessTable: Drop {
 
     /// Makes so many pools wait for the queues of real-time signals, where fewer do. At an error the host has no memory
     /// for them, and none is gone. The processes and the room are unchanged.
+    /// Here, although a table has nothing to do with pools, because a test refuses memory here (`RefusingTable`).
     fn reserve_pools(
         &mut self,
         granted_pools: &mut GrantedPools,
@@ -85,6 +88,7 @@ pub trait ProcessTable: Drop {
 
     /// All of a process that is there but its number and its parent's, for the caller to change. The
     /// other processes and the room are unchanged.
+    /// The `Record` lent has no process ID and no parent, so no caller can break the order or the links.
     fn update(&mut self, pid: Pid) -> &mut Record
         requires { IsSome (lookup pid (contents self.old)) }
         ensures* lends { sem 𝓛 (Lends Self.row record_row self.entry result (put self.old pid)) }

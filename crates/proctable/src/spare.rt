@@ -16,6 +16,8 @@ pub struct Spare {
 }
 
 /// What processes have left that were taken out, until those that are born ask for it.
+/// An arena frees nothing before the machine is dropped, so the table keeps the memory of removed processes, and a
+/// child is filled in there first.
 #[derive(Drop)]
 pub(crate) struct Spares {
     kept: Vec<Spare>,

@@ -1,4 +1,4 @@
--- The faults of a text, one behind the other.
+-- The faults of a text, one after another.
 use Rattle.std.proofs.Common.{◌≡◌, ℕ, ◌-◌, ◌<◌, zero, suc, List, ◌++◌, Option, inl, inr, arith}
 use Rattle.inputs.specs.Reads.{Text}
 use Rattle.naming.specs.Texts.{IsNamed}
@@ -7,14 +7,14 @@ use Rattle.refusing.specs.Faults.{HasFault, Tells, without_line}
 use Rattle.refusing.specs.Telling.{IsToldOf, ShowsLine}
 use Rattle.refusing.specs.declared.telling.Shown.{Shown}
 
--- the first is told alone
+-- only the first fault is reported
 pub alone : (others : ℕ) (consoles : Option ℕ) (name : Text) (given named : List ℕ) (why : TextFault) (shown : Shown) (out : List ℕ) → IsToldOf name given named why shown out
     → Tells others consoles name given named why out
 unfolding Tells
 alone zero consoles name given named why shown out h = (shown, h)
 alone (suc others) consoles name given named why shown out h = inl (shown, h)
 
--- and others after it
+-- further faults are reported after the first
 pub behind : (others : ℕ) (consoles : Option ℕ) (name : Text) (given of_given : List ℕ) (why : TextFault) (shown : Shown) (out : List ℕ) (number : ℕ) (left_name : Text)
     (left named told : List ℕ) (next : TextFault) (first rest bytes : List ℕ) → 0 < others → IsToldOf name given of_given why shown first → ShowsLine shown number → left_name ≡ name
     → left ≡ without_line number given → IsNamed left named told → HasFault consoles named next → Tells (others - 1) consoles left_name left named next rest → out ≡ first ++ bytes

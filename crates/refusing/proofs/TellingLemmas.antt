@@ -4,7 +4,7 @@ use Rattle.text.specs.declared.fault.Reason.{Reason}
 use Rattle.text.specs.declared.fault.Reason.TheVariants.{UnknownWord, BadNumber, OutOfRange, NameUnknown, NameTwice, LineTooLong, EndMissing, NoProgram, Memory}
 use Rattle.refusing.specs.Telling.{EndsEarly, IsNumber}
 
--- that of the fault, unless the text ends too early
+-- it is the line of the fault, unless the text ends too early
 pub own_line : (reason : Reason) (line : ℕ) (named : List ℕ) → EndsEarly reason ⊎ IsNumber reason line named line
 own_line UnknownWord line named = inr refl
 own_line BadNumber line named = inr refl

@@ -1,4 +1,4 @@
--- The faults of a text, one behind the other.
+-- The faults of a text, one after another.
 use Rattle.std.specs.Prelude.{◌≡◌, ◌≢◌, ◌⊎◌, ◌++◌, ◌==◌, ◌-◌, ℕ, zero, suc, List, [], ◌∷◌, Option, None, Some, Ok, Err, if◌then◌else◌}
 use Rattle.inputs.specs.Reads.{Text}
 use Rattle.naming.specs.Texts.{IsNamed}
@@ -30,8 +30,9 @@ lines_without number (line ∷ more) = (if number == 1 then [] else line) ++ 10 
 abbrev pub without_line : ℕ → List ℕ → List ℕ
 without_line number text = lines_without number (all_lines text)
 
--- What is told of a text in a file with this name, and of the second with numbers for its names, which has this fault first,
--- and of so many others at most: each is the first fault of the text in which the line is left out that was shown before.
+-- What is printed of a text in a file with this name, whose first fault this is. `given` is the text as the user wrote
+-- it, and `named` has numbers for its names. At most so many further faults follow. Each is the first fault of the text
+-- in which the line that was shown before is empty.
 unfoldable pub Tells : ℕ → Option ℕ → Text → List ℕ → List ℕ → TextFault → List ℕ → Type 0
 Tells zero consoles name given named why out = (shown : Shown) × IsToldOf name given named why shown out
 Tells (suc others) consoles name given named why out = ((shown : Shown) × IsToldOf name given named why shown out)

@@ -14,8 +14,9 @@ use Rattle.refusing.specs.declared.telling.Shown.TheVariants.{File, FirstLine, L
 abbrev pub EndsEarly : Reason → Type 0
 EndsEarly reason = (reason ≡ EndMissing) ⊎ (reason ≡ NoProgram)
 
--- The number of the line that is shown is that of the fault: but the mistake after which a name isn't known may be in another
--- line, and if the text, with numbers for its names, ends too early, the last line before the fault is shown that has words.
+-- The number of the line that is shown. It is the line of the fault, with two exceptions. A name may be unknown because
+-- of a mistake in another line. If the text ends too early, it is the last line with words before the line of the
+-- fault. `named` is the text with numbers for its names.
 abbrev pub IsNumber : Reason → ℕ → List ℕ → ℕ → Type 0
 IsNumber NameUnknown line named number = Unit {0}
 IsNumber EndMissing line named number = last_with_words line named ≡ Some number
@@ -31,23 +32,25 @@ IsNumber Memory line named number = number ≡ line
 abbrev pub line_or_empty : ℕ → List ℕ → List ℕ
 line_or_empty number text = unwrap_or (line_of number text) []
 
--- The line with a number is shown, which is refused for this reason, and is the second line with numbers for names; or there
--- is none.
+-- The line with this number is shown, and is rejected for this reason; or the text has no such line. `line` is that
+-- line with numbers for names.
 abbrev pub IsLineShown : Reason → ℕ → List ℕ → List ℕ → Shown → Type 0
 IsLineShown reason number text line File = line_of number text ≡ None
 IsLineShown reason number text line FirstLine = ⊥
 IsLineShown reason number text line (Line n s) =
     (n ≡ number) × ((given : List ℕ) × (line_of number text ≡ Some given) × IsSight reason line (without_return given) s)
 
--- What is shown of a text, and of the second with numbers for its names, that has a fault: that it is no text, if its first
--- line has the fault; or a line of it, unless the text ends too early, and no line of it has words.
+-- What is shown of a text with this fault. `text` is as the user wrote it, and `named` has numbers for its names. Only
+-- the number of the first line is shown, which must have the fault. Or no line is shown: the text ends too early and no
+-- line before the fault has words, or the text has no line with the number. Otherwise a line is shown.
 abbrev pub IsShownOf : TextFault → List ℕ → List ℕ → Shown → Type 0
 IsShownOf why text named FirstLine = why.line ≡ 1
 IsShownOf why text named File = (EndsEarly why.reason × (last_with_words why.line named ≡ None)) ⊎ ((number : ℕ) × IsNumber why.reason why.line named number × (line_of number text ≡ None))
 IsShownOf why text named (Line number s) =
     IsNumber why.reason why.line named number × IsLineShown why.reason number text (line_or_empty number named) (Line number s)
 
--- This is printed of the text in a file with this name, and of the second with numbers for its names, which has this fault.
+-- This is printed of a text in a file with this name, which has this fault. `text` is as the user wrote it, and `named`
+-- has numbers for its names.
 abbrev pub IsToldOf : List ℕ → List ℕ → List ℕ → TextFault → Shown → List ℕ → Type 0
 IsToldOf name text named why shown out =
     (sentence note : List ℕ) × (section : Section) × IsShownOf why text named shown × (out ≡ told_lines name sentence shown note section)

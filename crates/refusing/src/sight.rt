@@ -42,7 +42,7 @@ fn behind_words(text: &[u8], count: usize) -> &[u8]
     rest
 }
 
-/// How many bytes there are to the end of the last word.
+/// Returns how many bytes the line has up to the end of its last word.
 fn words_len(line: &[u8]) -> usize
     ensures is { result ≡ words_len_of line.now }
     ensures within { result ≤ length line.now }
@@ -52,7 +52,8 @@ fn words_len(line: &[u8]) -> usize
     code.len() - behind_words(code, count).len()
 }
 
-/// What is before a word that is missing: the line to the end of its last word, and one byte more, if there is one.
+/// Returns what is before a missing word: the line up to the end of its last word, and the byte after that, if there is
+/// one. Returns nothing if the line has no words.
 fn before_missing(line: &[u8]) -> &[u8]
     ensures { result.now ≡ before_missing_of line.now }
 {
@@ -75,7 +76,7 @@ pub fn without_return(line: &[u8]) -> &[u8]
 }
 
 impl<'a> Sight<'a> {
-    /// The sight of a line in which a word is missing.
+    /// Returns the sight of a line in which a word is missing after the last one.
     pub fn of_missing(line: &'a [u8]) -> Sight<'a>
         ensures { view_of result ≡ missing_in line.entry.now }
     {
@@ -86,7 +87,7 @@ impl<'a> Sight<'a> {
         }
     }
 
-    /// The sight of some words of a line.
+    /// Returns the sight of some words of a line. If the first of them is missing, the mark shows that.
     pub fn of_words(line: &'a [u8], words: Words) -> Sight<'a>
         ensures { view_of result ≡ marked_in line.entry.now words }
     {
@@ -105,7 +106,7 @@ impl<'a> Sight<'a> {
         }
     }
 
-    /// The sight of the beginning of a line that is too long, or of the first word of a line that isn't.
+    /// Returns the sight of the beginning of a line that is too long to be shown whole; otherwise of its first word.
     pub fn of_beginning(line: &'a [u8]) -> Sight<'a>
         ensures { view_of result ≡ beginning_of line.entry.now }
     {
@@ -121,7 +122,8 @@ impl<'a> Sight<'a> {
     }
 }
 
-/// The words of a line, as the user wrote it, that stand for one word of the line with numbers for names.
+/// Returns the words that a user wrote for the word at this place of a line. `line` has numbers for names, and `given`
+/// is as the user wrote it.
 pub fn words_at(line: &[u8], given: &[u8], place: usize) -> Words
     ensures { result ≡ words_at_of line.now given.now place }
 {

@@ -105,12 +105,14 @@ pub struct Told<'a> {
     pub why: Vec<u8>,
     pub note: Vec<u8>,
     pub section: Section,
-    /// Whether the text's other faults are told: not if those may come of this one.
+    /// True if further faults of the text are reported, too. They are not if this fault may be their cause.
     pub has_others: bool,
 }
 
 impl Told<'_> {
-    /// The line to leave out, so that the text's other faults are told: the one that is shown.
+    /// Returns the number of the line that is shown, which is then emptied to find the next fault. Returns `None` if no
+    /// line is shown, or if no further fault is reported.
+    /// `None` after a fault that causes others, such as one of the header.
     pub fn left_out(&self) -> Option<u64>
         ensures { IfSome result (ShowsLine self.now.shown) }
     {
@@ -134,7 +136,8 @@ fn told_of_file<'a>(alloc: Global, what: &str, section: Section) -> Result<Told<
     })
 }
 
-/// The sight of the word at a place of a line, as the user wrote the line, which is refused for this reason.
+/// Returns what is shown of a line that is rejected for this reason. `line` has numbers for names, `given` is as the
+/// user wrote it, and `place` is the place of the wrong word in `line`.
 fn sight_of<'a>(reason: Reason, line: &[u8], given: &'a [u8], place: usize) -> Sight<'a>
     ensures { view_of result ≡ view_at reason line.now given.entry.now place }
 {
@@ -145,8 +148,8 @@ fn sight_of<'a>(reason: Reason, line: &[u8], given: &'a [u8], place: usize) -> S
     }
 }
 
-/// What is shown of the line with a number, which has this text with numbers for names: the word at a place; nothing if
-/// there is no such line.
+/// Returns what is shown of the line with this number. `line` is that line with numbers for names, and `place` is the
+/// place of its wrong word. Returns [`Shown::File`] if there is no such line.
 fn shown_of<'a>(refused: &Refused<'a>, number: Option<u64>, line: &[u8], place: usize) -> Shown<'a>
     ensures { MatchOption number (result ≡ Shown.File) (λ n. IsLineShown refused.now.fault.reason n refused.now.given.now line.now result) }
 {
@@ -163,7 +166,7 @@ fn shown_of<'a>(refused: &Refused<'a>, number: Option<u64>, line: &[u8], place: 
     }
 }
 
-/// The line with a number; empty where there is none.
+/// Returns the line with this number; an empty one if there is no such line.
 fn line_or_empty(text: &[u8], number: u64) -> &[u8]
     ensures { result.now ≡ line_or_empty_of number text.now }
 {
@@ -203,7 +206,8 @@ fn no_text_of(refused: &Refused<'_>) -> Option<&'static str>
     }
 }
 
-/// The line that is shown of a mistake in this line: the last one that has words, if the text ends too early.
+/// Returns the number of the line to show: the line of the mistake. If the text ends too early, it is the last line
+/// with words before the fault, if there is one, because what is missing belongs after this line.
 fn number_of(refused: &Refused<'_>, mistake: u64) -> Option<u64>
     requires { EndsEarly refused.now.fault.reason ⊎ IsNumber refused.now.fault.reason refused.now.fault.line refused.now.named.now mistake }
     ensures { MatchOption result (EndsEarly refused.now.fault.reason × (last_with_words_of refused.now.fault.line refused.now.named.now ≡ None)) (IsNumber refused.now.fault.reason refused.now.fault.line refused.now.named.now) }
@@ -217,7 +221,7 @@ fn number_of(refused: &Refused<'_>, mistake: u64) -> Option<u64>
     }
 }
 
-/// What is told of a line of events.
+/// Returns what is reported of the fault of an event text.
 #[tactic(auto, using(crate::proofs::TellingLemmas::own_line))]
 pub fn told_of_events<'a>(
     alloc: Global,
@@ -248,7 +252,7 @@ pub fn told_of_events<'a>(
     })
 }
 
-/// The mistake behind a fault of a world. It stands in the line of the fault, unless a name isn't known.
+/// Returns the mistake that caused a fault of a world. It is in the line of the fault, unless a name is unknown.
 fn mistake_in<'a>(
     alloc: Global,
     refused: &Refused<'a>,
@@ -306,7 +310,8 @@ fn note_of(alloc: Global, note: Option<Note<'_>>) -> Result<Vec<u8>, AllocError>
     told.finish()
 }
 
-/// Whether a mistake is in a line of a program, and that line isn't the definition that another line may lack.
+/// Returns true if the mistake is in a program line, and this line can't be the definition that another line lacks.
+/// Such a definition may be the cause of further faults.
 fn has_others(fault: TextFault, mistake: &Mistake<'_>, section: Section) -> bool {
     let is_own = fault.reason != Reason::NameUnknown || mistake.line == fault.line;
     let is_between = matches!(
@@ -319,7 +324,7 @@ fn has_others(fault: TextFault, mistake: &Mistake<'_>, section: Section) -> bool
     matches!(section, Section::ProgramLines) && (is_own || is_between)
 }
 
-/// What is told of a line of a world.
+/// Returns what is reported of the fault of a world.
 pub fn told_of_world<'a>(alloc: Global, refused: &Refused<'a>) -> Result<Told<'a>, AllocError>
     ensures { IfOk result (λ told. IsShownOf refused.now.fault refused.now.given.now refused.now.named.now told.shown) }
 {

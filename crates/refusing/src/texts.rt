@@ -73,8 +73,8 @@ impl<'a> Input<'a> {
         Vec::from_slice(alloc, self.named.text.as_slice()).map_err(|_| ReadFault::Memory)
     }
 
-    /// What is told of the text's first fault, and the line to leave out for the others: of events for a world of so many
-    /// consoles, or else of a world.
+    /// Returns what is reported of this first fault, and the number of the line to empty for the next one, if one is
+    /// reported. The text is of events for a world of so many consoles, or of a world if that is `None`.
     fn told_first(
         &self,
         alloc: Global,
@@ -111,8 +111,8 @@ impl<'a> Input<'a> {
         })
     }
 
-    /// What is told of the text, which has this fault first, and so many others at most: each behind a line that is left
-    /// out.
+    /// Returns what is reported of the text, whose first fault this is. At most so many further faults follow, each
+    /// found after the line that was shown before is emptied.
     fn told(
         &self,
         alloc: Global,

@@ -242,6 +242,7 @@ fn put_run(
 /// comment with the keys as they are typed, as ^C. Before an event that has a remark it has a comment, and the event in a
 /// line of its own; the places of the remarks rise strictly, and a remark out
 /// of this order is left out. Without memory a part of the text may have been added.
+/// Scheduling notes and typed keys are comments, so one text serves with and without `--names`.
 pub fn write_events(
     text: &mut String,
     events: &EventList,

@@ -1,5 +1,10 @@
 //! Schedules: the ways to put ticks and loose events into a list of events, which ones there are, and each in turn; and
 //! lists of events as texts, with comments.
+//!
+//! `Schedule::{first, next}` go through a family without loose events. `family_size` is exact, or `None` above the
+//! limit. `families_are_whole`: with n places, k ticks and m loose events there are C(n+m+k, k) * n * (n+1) * .. *
+//! (n+m-1) schedules, each once. `write_events` writes a text that stands for at most 10^12 events in each world with
+//! the consoles of its keys and hangups.
 #![tactic(auto)]
 
 ghost use Rattle.std.specs.Prelude.{◌≡◌, ◌≢◌, ◌+◌, ◌*◌, ◌≤◌, ◌↔◌, ℕ, List, length, map, All, AllPairs, Contains};

@@ -1,4 +1,4 @@
--- A trace is put line by line, with what is said of it.
+-- A trace is put line by line, with explanations.
 use Rattle.std.proofs.Common.{◌≡◌, ℕ, ◌==◌, true, false, List, [], ◌∷◌, ◌++◌, flat_map, inl, inr, refl, ap, sym, ◌∙◌, subst, append_assoc, Result, Ok, Err}
 use Rattle.std.specs.Prelude.{IsErrAnd}
 use Rattle.std.specs.List.{AllByRecursion}
@@ -14,11 +14,11 @@ use Rattle.inputs.specs.declared.failure.FileFailure.TheVariants.{Usage, Unread,
 
 -- ---- texts
 
--- what follows the last line feed stands alone
+-- what follows the last line feed has no explanation
 pub last_line : (last : List ℕ) → is_one_line last ≡ true → IsExplained last last
 last_line last one = record { lines = []; last = last; trace_is = refl; text_is = refl; one = tt; last_one = one }
 
--- a line, and words behind it, before the others
+-- one more line and its explanation, before the others
 pub one_more : (line words rest text : List ℕ) → is_one_line line ≡ true → is_one_line words ≡ true → IsExplained rest text
     → IsExplained (line ++ 10 ∷ rest) (told_line line words ++ text)
 one_more line words rest text one clean e =
@@ -32,7 +32,7 @@ one_more line words rest text one clean e =
       last_one = e.last_one;
     }
 
--- a byte before the first line
+-- one more byte, which is no line feed, before the first line
 longer : (b : ℕ) (lines : List Told) (last rest text : List ℕ) → (b == 10) ≡ false → rest ≡ flat_map (λ t. t.line ++ 10 ∷ []) lines ++ last
     → text ≡ flat_map (λ t. told_line t.line t.words) lines ++ last → AllByRecursion AreOneLine lines → is_one_line last ≡ true → IsExplained (b ∷ rest) (b ∷ text)
 longer b [] last rest text h trace_is text_is one last_one = record {
@@ -52,7 +52,7 @@ longer b (t ∷ ts) last rest text h trace_is text_is one last_one = record {
   last_one = last_one;
 }
 
--- a trace as it is
+-- a trace without explanations
 pub as_it_is : (trace : List ℕ) → IsExplained trace trace
 as_it_is [] = last_line [] refl
 as_it_is (b ∷ bs) = let e = as_it_is bs in elim (cases_Bool (b == 10)) [
@@ -62,7 +62,8 @@ as_it_is (b ∷ bs) = let e = as_it_is bs in elim (cases_Bool (b == 10)) [
 
 -- ---- what is put
 
--- So far a text is told of the lines before the rest; what of it wasn't taken waits.
+-- The text has the lines before the rest, with explanations. The output took a beginning of the text, and the other
+-- bytes are in the buffer.
 pub record HasTold (before : Seen) (trace rest : List ℕ) (now : Seen) (waiting : List ℕ) : Type 0 where
   pub text : List ℕ
   pub goes_on : (more : List ℕ) → IsExplained rest more → IsExplained trace (text ++ more)
@@ -75,13 +76,13 @@ nothing_told s trace = record {
   gathers = record { front = []; split = refl; taken = Appends-nil s.taken; no_failure = refl };
 }
 
--- the rest goes on behind a line and its words
+-- the text goes on with a line, its explanation, and more
 told_on : (before now : Seen) (trace rest line after words waiting more : List ℕ) (h : HasTold before trace rest now waiting) → IsCut rest line after
     → is_one_line words ≡ true → IsExplained after more → IsExplained trace (h.text ++ (told_line line words ++ more))
 told_on before now trace rest line after words waiting more h cut clean e =
     h.goes_on (told_line line words ++ more) (subst (λ (r : List ℕ). IsExplained r (told_line line words ++ more)) (sym cut.is) (one_more line words after more cut.one clean e))
 
--- one more line is told
+-- one more line was added
 pub told_more : (before now next : Seen) (trace rest line after waiting wait said : List ℕ) → HasTold before trace rest now waiting → IsCut rest line after
     → is_one_line said ≡ true → Gathers now waiting next wait (told_line line said) → HasTold before trace after next wait
 told_more before now next trace rest line after waiting wait said h cut clean g = record {
@@ -91,7 +92,7 @@ told_more before now next trace rest line after waiting wait said h cut clean g 
   gathers = gathers_then before now next [] waiting wait h.text (told_line line said) h.gathers g;
 }
 
--- all that waits is put, and the last line
+-- the buffer is put, and what follows the last line feed
 pub told_all : (before now next : Seen) (trace rest waiting : List ℕ) → HasTold before trace rest now waiting → is_one_line rest ≡ true
     → TakesAll now next (waiting ++ rest) → OfExplained trace (TakesAll before next)
 told_all before now next trace rest waiting h one t =
@@ -104,7 +105,7 @@ told_all before now next trace rest waiting h one t =
       },
     )
 
--- or a put of these fails
+-- or a put of these bytes fails
 pub told_in_part : (before now next : Seen) (trace rest waiting : List ℕ) → HasTold before trace rest now waiting → is_one_line rest ≡ true
     → BreaksOff now next (waiting ++ rest) → OfExplained trace (BreaksOff before next)
 told_in_part before now next trace rest waiting h one b =
@@ -124,7 +125,7 @@ begun before now trace rest waiting h = (
   },
 )
 
--- a line isn't told
+-- a line could not be added
 pub told_no_more : {S : Type 0} (seen : S → Seen) (before : Seen) (old new : S) (trace rest line after waiting said : List ℕ) (why : FileFailure)
     → HasTold before trace rest (seen old) waiting → IsCut rest line after → is_one_line said ≡ true
     → Stops why old new (seen old) (seen new) (waiting ++ told_line line said) → Explains before (seen new) trace (Err why)
@@ -139,11 +140,11 @@ told_no_more seen before old new trace rest line after waiting said Write h cut 
       (break_on before (seen new) (h.text ++ told_line line said) after (gathers_break before (seen old) (seen new) [] waiting h.text (told_line line said) h.gathers stops)),
 )
 
--- nothing is told
+-- nothing is put
 pub untold : (s : Seen) (trace : List ℕ) → Explains s s trace (Err Memory)
 untold s trace = begun s s trace trace [] (nothing_told s trace)
 
--- what `?` hands on
+-- an error that `?` returns
 pub explains_by : (r : Result (Unit {0}) FileFailure) (why : FileFailure) (before after : Seen) (trace : List ℕ) → IsErrAnd r (λ e. e ≡ why) → Explains before after trace (Err why)
     → Explains before after trace r
 explains_by (Ok done) why before after trace is h = absurd is

@@ -9,7 +9,7 @@ use Rattle.trace.specs.Sinks.{Seen}
 use Rattle.showing.specs.Comparing.{IsTraceBeside, Means, Named}
 use Rattle.showing.specs.Explanations.{Explains}
 
--- a beginning of a trace was put, with what is said of its lines
+-- explaining a trace failed after a beginning of the text was put
 pub means_failed : {S : Type 0} (contents : Contents) (names : Named) (old new : S) (before after : Seen) (trace : List ℕ) (why : FileFailure) (status : ℕ) → status ≡ status_of why
     → IsTraceBeside contents names trace None → Explains before after trace (Err why) → Means contents names old new before after status
 means_failed contents names old new before after trace Usage status is beside h = absurd h

@@ -18,17 +18,17 @@ pub record Named : Type 0 where
 abbrev pub said : DeclaredNamed → Named
 said n = record { trace = n.trace.now; world = n.world.now; events = n.events.now }
 
--- This trace can be that in its file, as far as it is known what that holds. It is the printed trace of a run of the
--- machine on the two texts; or it isn't, and this line is the first that differs.
+-- This trace is what its file holds, if that is known. Without a line number, it is the printed trace of a run of the
+-- machine on the two texts. With one, it isn't, and the line with this number is the first that differs.
 abbrev pub IsTraceBeside : Contents → Named → List ℕ → Option ℕ → Type 0
 IsTraceBeside contents names trace number =
     IfSome (contents names.trace) (λ known. trace ≡ known) × OfRun contents (names.world, names.events) (λ printed. Compares trace printed number)
 
--- So is the trace in a file.
+-- This comparison holds of some trace.
 abbrev pub IsCompared : Contents → Named → Option ℕ → Type 0
 IsCompared contents names number = (trace : List ℕ) × IsTraceBeside contents names trace number
 
--- It is that of a run, and P holds of a text that is this trace with what is said of its lines.
+-- Some trace is the printed trace of such a run, and P holds of a text that is this trace with explanations.
 abbrev pub OfSame : Contents → Named → (List ℕ → Type 0) → Type 0
 OfSame contents names P = (trace : List ℕ) × IsTraceBeside contents names trace None × OfExplained trace P
 
@@ -40,7 +40,7 @@ IsUnread contents names why = status_of why ≡ 1 → AreRefused contents (names
 abbrev pub IsOther : Contents → Named → Type 0
 IsOther contents names = AreRefused contents (names.world, names.events) ⊎ ((number : ℕ) × IsCompared contents names (Some number))
 
--- What a status means, and what was put.
+-- What a status means, and what the output took.
 abbrev pub Means : {S : Type 0} → Contents → Named → S → S → Seen → Seen → ℕ → Type 0
 Means contents names old new before after status =
     MeansOf (OfSame contents names (TakesAll before after)) (IsOther contents names × (new ≡ old)) (OfSame contents names (IsCutShort before after)) (Some names) old new status

@@ -1,5 +1,5 @@
-//! What `explain TRACE WORLD EVENTS` does: a trace beside the one that the world writes; where they are the same, what each
-//! event did, and what in the world is surely not meant.
+//! What `explain TRACE WORLD EVENTS` does. It compares a trace with the one that the world writes. If they are the
+//! same, it explains what each event did, and reports probable mistakes in the world.
 
 ghost use Rattle.std.specs.Prelude.{◌≡◌, ◌≤◌, IfOk, MatchResult, length};
 ghost use Rattle.inputs.specs.Failures.{status_of as status_of_failure};
@@ -10,7 +10,7 @@ ghost use Rattle.showing.specs.Explanations.{Explains};
 
 use crate::comparison::first_difference;
 use crate::lines::explain_text;
-use crate::told_run::ToldRun;
+use crate::run_explainer::RunExplainer;
 use inputs::{FileFailure, InputFault, Inputs, ReadFiles, read_inputs, tell};
 use std::alloc::Global;
 use telling::View;
@@ -26,17 +26,17 @@ pub struct Named<'a> {
     pub events: &'a str,
 }
 
-/// What three files hold.
+/// The contents of the three files, and how the trace compares with the run.
 #[derive(Drop)]
 struct Compared {
     trace: Vec<u8>,
     inputs: Inputs,
-    /// The number of the first line in which the trace isn't the one that the world writes over the events, if there is
-    /// one.
+    /// The number of the first line in which the trace differs from the one that the world writes over the events, if
+    /// they differ.
     other: Option<u64>,
 }
 
-/// Reads the three files, and compares the trace.
+/// Reads the three files, and compares the trace with the one that the world writes over the events.
 fn compare<'a, F: ReadFiles>(
     alloc: Global,
     files: &F,
@@ -57,7 +57,7 @@ fn compare<'a, F: ReadFiles>(
     }
 }
 
-/// Puts a trace, and after the first line of each event what the event did in the run of a world.
+/// Puts a trace, and after the first line of each event what that event did in a run of the world.
 fn explain_run<'a, O: Sink>(
     alloc: Global,
     inputs: &Inputs,
@@ -75,14 +75,14 @@ fn explain_run<'a, O: Sink>(
         traced: true,
         only: &[],
     };
-    let mut run = ToldRun::new(view, &inputs.world, &inputs.events)?;
+    let mut run = RunExplainer::new(view, &inputs.world, &inputs.events)?;
     let done = explain_text(alloc, &mut run, trace, out);
     drop(run);
     done
 }
 
-/// Puts the trace as [`explain_run`] does, and tells what in the world is surely not meant. Nothing is put if there is no
-/// memory for that.
+/// Puts the trace as [`explain_run`] does, and then reports probable mistakes in the world. Puts nothing if there is no
+/// memory for the report.
 fn serve_same<'a, O: Sink, E: Sink>(
     alloc: Global,
     inputs: &Inputs,
@@ -106,7 +106,7 @@ fn serve_same<'a, O: Sink, E: Sink>(
     Ok(())
 }
 
-/// The status of a program that ends so. It is told.
+/// Reports a failure to read the inputs, and returns its exit status.
 fn ended<E: Sink>(why: InputFault<'_>, err: &mut E) -> u8
     ensures { result ≡ status_of why.entry }
 {
@@ -114,9 +114,9 @@ fn ended<E: Sink>(why: InputFault<'_>, err: &mut E) -> u8
     why.status()
 }
 
-/// Compares a trace with what a world writes over its events. Where they are the same it is put with what each event did,
-/// and what in the world is surely not meant is told in `err`. The status of the program: 0, or 1 where they differ, or a
-/// text is refused, and 3 for a device or memory. A failing `err` changes no status.
+/// Compares a trace with what a world writes over its events. If they are the same, puts the trace with what each event
+/// did, and reports probable mistakes in the world to `err`. Returns the exit status: 0; 1 if they differ, or a text is
+/// rejected; 3 if a device fails, or there is no memory. A failing `err` changes no status.
 pub fn serve_beside<'a, F: ReadFiles, O: Sink, E: Sink>(
     alloc: Global,
     named: Named<'a>,

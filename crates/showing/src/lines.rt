@@ -1,4 +1,4 @@
-//! A trace, and after each line what is said of it.
+//! Puts a trace with explanations after its lines.
 
 ghost use Rattle.std.specs.Prelude.{◌≡◌, ℕ, ◌++◌, List, [], true, IfErr, OnErr, OnOk};
 ghost use Rattle.trace.specs.Sinks.{BreaksOff, Gathers};
@@ -10,17 +10,17 @@ use std::alloc::{AllocError, Global};
 use trace::{Sink, SinkFault, next_line, put_all};
 use wording::Prose;
 
-/// Explains the lines of a trace, which it is given in their order.
+/// Explains the lines of a trace. It gets each line once, in the order of the trace.
 pub trait Explain {
-    /// Adds what a line says to words, of which there are none yet.
+    /// Writes the explanation of a line. `words` is empty before the call, and stays empty if there is none.
     fn explain(&mut self, line: &[u8], words: &mut Prose) -> Result<(), AllocError>;
 }
 
-/// At least so many bytes are put at once, but for the last ones: a put may be a system call, which costs more than a
-/// line.
+/// The least number of bytes that are put at once, except at the end. A put may be a system call, which costs more than
+/// a line.
 pub const PIECE: usize = 8192;
 
-/// Adds words to what waits, after three spaces; nothing if there are no words.
+/// Appends an explanation to the buffer, after three spaces. Appends nothing if there are no words.
 fn write_words(waiting: &mut Vec<u8>, words: &[u8]) -> Result<(), AllocError>
     ensures { OnOk result (waiting.new.items ≡ waiting.old.items ++ behind words.now) }
 {
@@ -31,7 +31,7 @@ fn write_words(waiting: &mut Vec<u8>, words: &[u8]) -> Result<(), AllocError>
     waiting.extend_from_slice(words)
 }
 
-/// Adds a line to what waits, and words after it.
+/// Appends a line and its explanation to the buffer.
 fn write_line(waiting: &mut Vec<u8>, line: &[u8], words: &[u8]) -> Result<(), AllocError>
     ensures { OnOk result (waiting.new.items ≡ waiting.old.items ++ told_line line.now words.now) }
 {
@@ -40,7 +40,7 @@ fn write_line(waiting: &mut Vec<u8>, line: &[u8], words: &[u8]) -> Result<(), Al
     waiting.extend_from_slice(b"\n")
 }
 
-/// Puts what waits once it is 8 KiB or more.
+/// Puts and clears the buffer if it holds 8 KiB or more.
 fn put_if_full<O: Sink>(waiting: &mut Vec<u8>, out: &mut O) -> Result<(), SinkFault>
     ensures ok { OnOk result (Gathers (O.seen out.old) waiting.old.items (O.seen out.new) waiting.new.items []) }
     ensures err { OnErr result (BreaksOff (O.seen out.old) (O.seen out.new) waiting.old.items) }
@@ -53,7 +53,7 @@ fn put_if_full<O: Sink>(waiting: &mut Vec<u8>, out: &mut O) -> Result<(), SinkFa
     Ok(())
 }
 
-/// Adds a line to what waits, and words after it. All that waits is put once it is 8 KiB or more.
+/// Appends a line and its explanation to the buffer. Then puts and clears the buffer if it holds 8 KiB or more.
 fn tell_line<'a, O: Sink>(
     waiting: &mut Vec<u8>,
     line: &[u8],
@@ -68,7 +68,7 @@ fn tell_line<'a, O: Sink>(
     Ok(())
 }
 
-/// The words themselves, if no line feed is in them; otherwise none.
+/// Returns the words, or none if a line feed is in them, because an explanation must not add a line to the trace.
 fn one_line(words: &[u8]) -> &[u8]
     ensures { is_one_line result.now ≡ true }
 {
@@ -78,7 +78,7 @@ fn one_line(words: &[u8]) -> &[u8]
     }
 }
 
-/// Tells a line, and what it says.
+/// Explains a line, and appends both to the buffer, which is put and cleared if it holds 8 KiB or more.
 fn explain_line<'a, X: Explain, O: Sink>(
     explainer: &mut X,
     words: &mut Prose,
@@ -95,10 +95,10 @@ fn explain_line<'a, X: Explain, O: Sink>(
     tell_line(waiting, line, one_line(said), out)
 }
 
-/// Puts a trace, and after each line, after three spaces, what is said of it. A line of which nothing is said stays as it
-/// is; so does what follows the last line feed, because it may be the beginning of a longer line.
+/// Puts a trace. The explanation of a line follows the line after three spaces. A line without an explanation is put
+/// unchanged. What follows the last line feed is also put unchanged, because it may be the beginning of a longer line.
 ///
-/// At an error a beginning of such a text was put.
+/// At an error the output took a beginning of such a text.
 pub fn explain_text<'a, X: Explain, O: Sink>(
     alloc: Global,
     explainer: &mut X,

@@ -152,6 +152,8 @@ fn give_many<H: Observer>(
 
 /// Gives the events behind those that were given, up to the one with number `last`, or to the last one. So the state
 /// is that of a run of the first events, where it was that of a run before. An error where there is no memory.
+/// A loop of its own, because `show` looks at the machine before and after each event: `drive` takes many steps at
+/// once, and gives its observer only what they showed.
 pub fn run_to<H: Observer>(
     replay: &mut Replay,
     events: &EventList,

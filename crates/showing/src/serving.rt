@@ -7,9 +7,9 @@ ghost use Rattle.showing.specs.Statuses.{status_of};
 
 use crate::hearing::Telling;
 use crate::replay::{Replay, past_at, run_to};
+use crate::run_explainer::TOLD_AT_ONCE;
 use crate::state::put_state;
 use crate::stepping::{Ask, Steps, put_text};
-use crate::told_run::TOLD_AT_ONCE;
 use crate::words::{Request, requested};
 use inputs::{
     InputFault, Inputs, NoRequest, NumberFault, ReadFault, ReadFiles, number, number_up_to,

@@ -1,5 +1,11 @@
 //! Of one process its user and group ids, and who may signal whom; and its signals: the signal mask, pending signals,
 //! actions, and the frames of handlers that haven't returned.
+//!
+//! `Creds::{setuid, seteuid, setgid, setegid, on_exec}` set exactly the defined IDs; those that fail change nothing.
+//! `may_signal` and `Signals` are as defined; `queue` requires room and a pool. `LazyTables` are as at boot until
+//! written to. `RealtimePool` is a queue of at most 32; the pending set has bits 34 to 64 exactly for its numbers.
+//! After `GrantedPools::reserve` so many pools wait, or there were fewer (`lack`); none is lost. No clause: that a send
+//! takes no memory while pools wait.
 #![tactic(auto)]
 
 mod action_fields;

@@ -9,6 +9,8 @@ use std::alloc::{AllocError, Global};
 use std::marker::Model;
 
 /// The real-time signals that are queued for one process, the first to come first (XSH 2.4.2).
+/// A vector of one process, not a list in a shared slab: to remove one moves at most 31, and no contract has to mention
+/// the signals of others. Its memory comes with the first queued signal, so a fork needs none.
 #[derive(Drop)]
 pub struct RealtimePool {
     /// With room for 32.
@@ -138,6 +140,7 @@ impl GrantedPools {
 }
 
 /// Where pools for signals come from, and where those go that aren't needed.
+/// Two types, so that one walk serves both kinds of signals: a standard signal (`NoPools`) makes and drops no stock.
 pub trait Pools: Drop {
     /// How many there are.
     ghost pools: { Self → ℕ };

@@ -303,6 +303,8 @@ impl Signals {
     /// that came before, unless nothing is generated for the process, or the signal isn't kept (XSH 2.4.2). Where it
     /// is queued there must be room for it, and a pool for the queue that has none. What comes back is the pool
     /// where it isn't needed.
+    /// The pending set says which numbers are queued (`MarksQueued`), so a process without signals costs a step one
+    /// test.
     #[tactic(auto, unfolding(posix::specs::Generation::generated))]
     pub fn queue(
         &mut self,

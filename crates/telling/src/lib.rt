@@ -1,4 +1,7 @@
 //! What is told of a process, of a console and of an event, in words. It sees what it is given, and no machine.
+//!
+//! It sees what it is given, and no machine, so that nothing it prints can change one. Tested, together with `showing`:
+//! all words, of which event, and since when a process waits or is stopped.
 #![tactic(auto)]
 
 mod console;

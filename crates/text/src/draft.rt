@@ -268,6 +268,7 @@ impl Draft {
 
     /// The fault of a text that has this fault behind the lines so far: it, or the first name of theirs
     /// that they don't define. `Memory` stays as it is.
+    /// If memory was refused, no name is looked up: a name that the rest of the text defines would be called unknown.
     #[tactic(auto, unfolding(crate::specs::WorldTexts::world_of))]
     pub fn refused(&self, fault: TextFault) -> TextFault
         ensures answer { IsFaultOf (world_of self.now (Some fault)) result }

@@ -64,6 +64,8 @@ fn bytes_within(room: u64, line: &[u8]) -> Result<ArrayVec<u8, MAX_KEYS>, Reason
 /// behind the first word: a key for each of one or more bytes B. A word too few is `UnknownWord`; a C that
 /// is no number and a B that is no byte is `BadNumber`; another C, and a B that is one event more than a
 /// text may have, is `OutOfRange`. After an error the list is unchanged.
+/// All bytes are gathered, and room is made for all, before the first becomes an event. So a line is read whole or not
+/// at all, also if memory is refused.
 #[tactic(auto, unfolding(crate::specs::EventTexts::keys))]
 fn add_keys(list: &mut EventList, consoles: u8, line: &[u8]) -> Result<(), Reason>
     requires events { length list.old ≤ most_events }

@@ -57,6 +57,8 @@ impl Name {
     }
 
     /// A number that no other name has.
+    /// In a list, 80,000 labels of one program took ten seconds; a `HashMap` has a known seed, so names could be chosen
+    /// to collide.
     fn key(&self) -> u128
         ensures value { result ≡ key_of self.now }
         ensures name { is_name_of self.now ≡ true }

@@ -6,6 +6,11 @@
 //! What a line says is guessed from its words at their places. The guess stands where it has one of the
 //! forms of a line and printing it gives the text back; so no rule is needed for leading zeros, for two
 //! spaces or for a word too many.
+//!
+//! `write_entry`, `write_note` and `print_entry` print exactly the line. `read_line` returns the line that a text says,
+//! and `None` exactly if it says none. `put_all` and `LineBuffer` lose and repeat no byte, however much a put takes,
+//! and put nothing after a failure. A `Sink` has one ghost member, `seen`; it records whether the last put failed, so
+//! that contracts can say that nothing is put after a failure.
 #![tactic(auto)]
 
 mod forms;
@@ -24,3 +29,4 @@ pub use notes::{NoteWords, write_note};
 pub use print::{print_entry, write_entry};
 pub use reading::read_line;
 pub use sinks::{Sink, SinkFault, WriteSink, put_all};
+pub use words::split_word;

@@ -11,6 +11,7 @@ use std::marker::Model;
 
 /// The words of the notes of one process up to the value: ` note `, the number of the process, and a
 /// space. They are 8 to 17 of the 32 bytes.
+/// Made once for all notes of a burst.
 #[derive(Drop)]
 pub struct NoteWords {
     bytes: [u8; 32],

@@ -13,6 +13,8 @@ pub struct SinkFault;
 /// What takes bytes.
 ///
 /// A put fails at an `Err`, and at `Ok(0)` for a slice that isn't empty.
+/// `seen` is the one ghost member. It records whether the last put failed, so that a contract can say that nothing is
+/// put after a failure.
 pub trait Sink {
     // The bytes that it took, the puts that failed, and whether the last one did.
     ghost seen: { Self → Seen };

@@ -156,6 +156,8 @@ impl Console {
     /// Its line is lost: all input is discarded, and the console is hung up, where it is a session's terminal, until it is
     /// acquired again. The session that is to be told, if there is one. Nothing happens where it is hung up already
     /// (XBD 11.1.10; own).
+    /// A console stays hung up until the next setctty, also after its leader terminates, because a terminal must be
+    /// opened again.
     #[tactic(auto, unfolding(posix::specs::Consoles::disconnected, posix::specs::Consoles::flushed))]
     pub fn hang_up(&mut self) -> Option<Pid>
         ensures console { self.new ≡ disconnected self.old }

@@ -1,5 +1,9 @@
 //! The user machine: worlds and their programs, a processor with its memory, and the run of one
 //! instruction.
+//!
+//! `Cpu::exec_one` runs every instruction as the definitions do; a call and a machine fault leave the processor
+//! unchanged. `Cpu::run_until` runs at most so many plain instructions, and returns how the one after them came out.
+//! The types `Program` and `World` keep each number within its range.
 #![tactic(auto)]
 
 pub mod cpu;

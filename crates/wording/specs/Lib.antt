@@ -1,4 +1,3 @@
 pub mod Counted
 pub mod Names
 pub mod Proses
-pub mod ShortNames

@@ -1,12 +1,14 @@
--- What names are of: signals (signal(7), x86), errors (errno(3), x86), options of a wait (waitpid(2)), children (waitid), actions and flags
--- (sigaction(2)), and what sigprocmask does.
-use Rattle.std.specs.Prelude.{ℕ, ℤ, pos, List, [], ◌∷◌, Option, codes, find, map, option_map}
+-- The table of names: signals (signal(7), x86), errors (errno(3), x86), wait options and ID types (waitid(2)), actions and flags (sigaction(2)), and
+-- operations of sigprocmask(2).
+use Rattle.std.specs.Prelude.{ℕ, ℤ, pos, ◌+◌, ◌-◌, ◌*◌, ◌==◌, ◌&&◌, nat_le, Bool, false, List, [], ◌∷◌, Option, None, Some, codes, drop, find, option_map, take, if◌then◌else◌}
 use Rattle.std.specs.Borrow.{Bor}
+use Rattle.std.specs.Char.{is_ascii_digit}
+use Rattle.std.specs.Option.{option_or}
 use Rattle.std.specs.Str.{bytes_eq}
 use Rattle.wording.specs.declared.table.Kind.{Kind}
 use Rattle.wording.specs.declared.table.Kind.TheVariants.{Signal, Errno, WaitOption, Children, Handler, Flag, How}
 
--- a name, what it is one of, and its number
+-- the kind of a name, the name, and its number
 abbrev pub Entry : Type 0
 Entry = Kind × List ℕ × ℤ
 
@@ -40,3 +42,39 @@ said e = (e.0, e.1.now, e.2)
 
 unfoldable pub named_as : List ℕ → Option (Kind × ℤ)
 named_as word = named_among names word
+
+-- ---- real-time signals
+
+-- 0 to 30, without a leading zero
+abbrev pub up_to_30 : List ℕ → Option ℕ
+up_to_30 [] = None
+up_to_30 (d ∷ []) = if is_ascii_digit d then Some (d - 48) else None
+up_to_30 (t ∷ d ∷ []) = if (nat_le 49 t && nat_le t 50) && is_ascii_digit d then Some ((t - 48) * 10 + (d - 48)) else if (t == 51) && (d == 48) then Some 30 else None
+up_to_30 (a ∷ b ∷ c ∷ more) = None
+
+-- RTMIN+0 to RTMIN+30 are 34 to 64.
+unfoldable pub realtime : List ℕ → Option ℤ
+realtime short = if bytes_eq (take 6 short) (codes "RTMIN+") then option_map (λ n. pos (34 + n)) (up_to_30 (drop 6 short)) else None
+
+-- ---- signals and errors; the `SIG` of a signal name may be left out
+
+abbrev pub without_sig : List ℕ → List ℕ
+without_sig (a ∷ b ∷ c ∷ name) = if bytes_eq (a ∷ b ∷ c ∷ []) (codes "SIG") then name else a ∷ b ∷ c ∷ name
+without_sig name = name
+
+abbrev pub is_called : List ℕ → Kind → List ℕ → Bool
+is_called word Signal name = bytes_eq (without_sig name) (without_sig word)
+is_called word Errno name = bytes_eq name word
+is_called word WaitOption name = false
+is_called word Children name = false
+is_called word Handler name = false
+is_called word Flag name = false
+is_called word How name = false
+
+-- the kind and the number of the first entry that a word names
+abbrev pub called_among : List Entry → List ℕ → Option (Kind × ℤ)
+called_among entries word = option_map (λ e. (e.0, e.2)) (find (λ e. is_called word e.0 e.1) entries)
+
+-- the kind and the number of a signal or an error by its name
+unfoldable pub number_named : List ℕ → Option (Kind × ℤ)
+number_named word = option_or (called_among names word) (option_map (λ n. (Signal, n)) (realtime (without_sig word)))

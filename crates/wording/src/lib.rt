@@ -1,5 +1,11 @@
 //! What a world and its machine are told by: names of signals, sets, errors, statuses and options, calls with their
 //! arguments, the lines and labels of a world's text, and the text that is written; and the name that a word is near to.
+//!
+//! A `Prose` has exactly the pieces added (`Adds`), or `finish` fails: it records its own failure, because a call with
+//! `?` costs three times as much to prove as one that returns nothing. `place_of` returns the instruction of a code
+//! address. `signal_in` returns a signal only if the word is its number, `process_in` a process exactly from 1 to
+//! 2,147,483,647, and `asked` what the definitions say. `named` is exactly the table in `Names`. Tested: other names,
+//! lines of a world.
 #![tactic(auto)]
 
 mod arguments;
@@ -21,4 +27,4 @@ pub use names::{
 };
 pub use nearest::{distance, meant, nearest_name};
 pub use prose::Prose;
-pub use table::{Kind, SIGRTMIN, name_of, named, number_named};
+pub use table::{Kind, name_of, named, number_named, realtime};

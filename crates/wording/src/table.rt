@@ -1,10 +1,7 @@
 //! The names of numbers.
 
-ghost use Rattle.std.specs.Prelude.{◌≡◌, map};
-ghost use Rattle.wording.specs.Names.{named_among as first_named, named_as, said};
-ghost use Rattle.wording.specs.ShortNames.{first_called as first_called_of, is_called as is_called_of, number_named as number_named_of, realtime as realtime_of, without_sig as without_sig_of};
-
-use text::integer;
+ghost use Rattle.std.specs.Prelude.{◌≡◌, map, option_map};
+ghost use Rattle.wording.specs.Names.{called_among as first_called, is_called as is_called_of, named_among as first_named, named_as, number_named as number_named_of, realtime as realtime_of, said, up_to_30 as small_number, without_sig as without_sig_of};
 
 /// What a name is one of.
 #[derive(Clone, Copy, PartialEq, Eq)]
@@ -107,7 +104,7 @@ pub fn named(word: &[u8]) -> Option<(Kind, i64)>
     named_among(&NAMES, word)
 }
 
-/// The kind and the number of the first entry of a table with this name.
+/// Returns the kind and the number of the first entry with this name.
 fn named_among(entries: &[(Kind, &str, i64)], word: &[u8]) -> Option<(Kind, i64)>
     ensures { result ≡ first_named (map said entries.now) word.now }
 {
@@ -127,7 +124,7 @@ pub fn name_of(kind: Kind, number: i64) -> Option<&'static str> {
     Some(*name)
 }
 
-/// The name of a signal without its `SIG`.
+/// Returns a name without its `SIG`, if it has one.
 fn without_sig(word: &[u8]) -> &[u8]
     ensures { result.now ≡ without_sig_of word.now }
 {
@@ -137,7 +134,7 @@ fn without_sig(word: &[u8]) -> &[u8]
     }
 }
 
-/// Whether a word is the name of a signal or an error; that of a signal may lack its `SIG`.
+/// Returns true if a word is this name of a signal or an error. The `SIG` of a signal name may be left out.
 fn is_called(kind: Kind, name: &str, word: &[u8]) -> bool
     ensures { result ≡ is_called_of word.now kind name.now }
 {
@@ -148,38 +145,49 @@ fn is_called(kind: Kind, name: &str, word: &[u8]) -> bool
     }
 }
 
-/// The number of a real-time signal behind the first one.
-fn realtime(word: &[u8]) -> Option<i64>
-    ensures { result ≡ realtime_of word.now }
+/// Returns a number of at most 30 that is written without a leading zero.
+fn up_to_30(digits: &[u8]) -> Option<u8>
+    ensures { result ≡ small_number digits.now }
 {
-    match without_sig(word) {
-        [b'R', b'T', b'M', b'I', b'N', b'+', digits @ ..] => match integer(digits) {
-            Ok(number @ 0..=30) => Some(i64::from(SIGRTMIN) + number),
-            _ => None,
-        },
+    match digits {
+        [digit @ b'0'..=b'9'] => Some(*digit - b'0'),
+        [tens @ b'1'..=b'2', digit @ b'0'..=b'9'] => Some((*tens - b'0') * 10 + (*digit - b'0')),
+        [b'3', b'0'] => Some(30),
         _ => None,
     }
 }
 
-/// The first number in some rows of the table that is called so.
-#[tactic(auto, unfolding(crate::specs::ShortNames::first_called))]
-fn first_called(rows: &[(Kind, &str, i64)], word: &[u8]) -> Option<(Kind, i64)>
-    ensures { result ≡ first_called_of (map (λ r. (r.0, r.1.now, r.2)) rows.now) word.now }
+/// Returns the number of a real-time signal by its name without `SIG`, `RTMIN+0` to `RTMIN+30`.
+#[tactic(auto, unfolding(crate::specs::Names::realtime))]
+pub fn realtime(name: &[u8]) -> Option<i64>
+    ensures { result ≡ realtime_of name.now }
 {
-    let ((kind, name, number), rows) = rows.split_first()?;
-    if is_called(*kind, name, word) {
-        return Some((*kind, *number));
-    }
-    first_called(rows, word)
+    let distance = up_to_30(name.strip_prefix(b"RTMIN+")?)?;
+    Some(i64::from(SIGRTMIN) + i64::from(distance))
 }
 
-/// The number of a signal or an error, by its name; the name of a signal may lack its `SIG`.
-#[tactic(auto, unfolding(crate::specs::ShortNames::number_named))]
+/// Returns the kind and the number of the first entry of a table that a word names.
+fn called_among(entries: &[(Kind, &str, i64)], word: &[u8]) -> Option<(Kind, i64)>
+    ensures { result ≡ first_called (map said entries.now) word.now }
+{
+    for (kind, name, number) in entries {
+        if is_called(*kind, name, word) {
+            return Some((*kind, *number));
+        }
+    }
+    None
+}
+
+/// Returns the real-time signal that a word names, with or without `SIG`.
+fn realtime_named(word: &[u8]) -> Option<(Kind, i64)>
+    ensures { result ≡ option_map (λ n. (Kind.Signal, n)) (realtime_of (without_sig_of word.now)) }
+{
+    Some((Kind::Signal, realtime(without_sig(word))?))
+}
+
+/// Returns the kind and the number of a signal or an error by its name. The `SIG` of a signal name may be left out.
 pub fn number_named(word: &[u8]) -> Option<(Kind, i64)>
     ensures { result ≡ number_named_of word.now }
 {
-    if let Some(found) = first_called(&NAMES, word) {
-        return Some(found);
-    }
-    Some((Kind::Signal, realtime(word)?))
+    called_among(&NAMES, word).or(realtime_named(word))
 }

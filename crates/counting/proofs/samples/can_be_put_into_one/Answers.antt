@@ -1,5 +1,4 @@
 use Rattle.std.proofs.Common.{Bor, List, ℕ, ◌<◌, ◌≤◌, arith, length, map, sym, take}
-use Rattle.std.specs.List.{All}
 use Rattle.std.proofs.lemmas.List.{take_all}
 use Rattle.std.proofs.lemmas.List.Elements.{All-map, All-more, All-same}
 use Rattle.counting.specs.Samples.{IsWithoutIn}

@@ -5,16 +5,16 @@ use Rattle.exploring.specs.Reports.{bytes_put}
 use Rattle.exploring.specs.Serving.{is_told}
 use Rattle.exploring.specs.Words.{Put, said}
 use Rattle.exploring.proofs.FirstLemmas.{of_family}
-use Rattle.exploring.proofs.ServingLemmas.{explored, means_explored, means_memory, means_refused, means_unshown, means_unwritten, no_event, no_place, too_many}
+use Rattle.exploring.proofs.ServingLemmas.{explored, means_explored, means_memory, means_refused, means_unmatchable, means_unwritten, no_event, no_place, too_many}
 use Rattle.exploring.proofs.serving.serve_request.Goals as goal
 
 pub text_of-made-requires : goal.text_of-made-requires
 text_of-made-requires g c =
     of_family c.in_ok-inputs.inputs.world c.as_slice-loose.result.now c.in_ok-inputs.inputs.events (said c.args.request.now).finds c.in_ok-upto.upto c.in_ok-ticks.ticks c.in_ok-book.book c.in_ok-book.ensures
 
-pub returns-in_err-find_well : goal.returns-in_err-find_well
-returns-in_err-find_well g c =
-    means_unshown _ (said c.args.request.now) _ _ _ c.from_residual-in_err-find_well.result c.in_err-find_well.field-0.0 c.from_residual-in_err-find_well.ensures.1 c.in_err-find_well.ensures
+pub returns-in_err-check_finds : goal.returns-in_err-check_finds
+returns-in_err-check_finds g c =
+    means_unmatchable _ (said c.args.request.now) _ _ _ c.from_residual-in_err-check_finds.result c.in_err-check_finds.field-0.0 c.from_residual-in_err-check_finds.ensures.1 c.in_err-check_finds.ensures
 
 pub returns-in_err-put_in : goal.returns-in_err-put_in
 returns-in_err-put_in g c =
@@ -55,7 +55,7 @@ returns-in_err-put_text g c =
     let p : Put = record { upto = c.in_ok-upto.upto; ticks = c.in_ok-ticks.ticks; loose = c.in_ok-put_in.put_in.items } in
     means_unwritten _ a _ _ _ _ told c.from_residual-in_err-put_text.result c.from_residual-in_err-put_text.ensures.1
     (explored _ a inputs.world inputs.events p c.in_ok-states.states c.in_ok-written.written c.in_ok-book.book told (bytes_put (option_map string_bytes c.in_ok-text.text)) _
-    c.in_ok-inputs.ensures.reads c.in_ok-find_well.ensures c.in_ok-ticks.ensures.1 (rw c.len.ensures at c.in_ok-upto.ensures.1) c.in_ok-states.ensures (rw c.consoles.ensures.value at c.in_ok-put_in.ensures)
+    c.in_ok-inputs.ensures.reads c.in_ok-check_finds.ensures c.in_ok-ticks.ensures.1 (rw c.len.ensures at c.in_ok-upto.ensures.1) c.in_ok-states.ensures (rw c.consoles.ensures.value at c.in_ok-put_in.ensures)
     (rw c.as_slice-loose.ensures.value at c.in_ok-fit_in.ensures.fit) (rw (c.len-2.ensures, c.as_slice-loose.ensures.value) at c.in_ok-size.ensures.size.1)
     (rw c.as_slice-loose.ensures.value at c.in_ok-book.ensures) refl c.in_ok-written.ensures
     (rw c.as_slice-loose.ensures.value at c.in_ok-text.ensures) c.in_err-put_text.ensures.err)
@@ -67,7 +67,7 @@ returns g c =
     let p : Put = record { upto = c.in_ok-upto.upto; ticks = c.in_ok-ticks.ticks; loose = c.in_ok-put_in.put_in.items } in
     means_explored _ a _ _ _ _ c.is_told-is_told.result
     (explored _ a inputs.world inputs.events p c.in_ok-states.states c.in_ok-written.written c.in_ok-book.book c.is_told-is_told.result (bytes_put (option_map string_bytes c.in_ok-text.text)) _
-    c.in_ok-inputs.ensures.reads c.in_ok-find_well.ensures c.in_ok-ticks.ensures.1 (rw c.len.ensures at c.in_ok-upto.ensures.1) c.in_ok-states.ensures (rw c.consoles.ensures.value at c.in_ok-put_in.ensures)
+    c.in_ok-inputs.ensures.reads c.in_ok-check_finds.ensures c.in_ok-ticks.ensures.1 (rw c.len.ensures at c.in_ok-upto.ensures.1) c.in_ok-states.ensures (rw c.consoles.ensures.value at c.in_ok-put_in.ensures)
     (rw c.as_slice-loose.ensures.value at c.in_ok-fit_in.ensures.fit) (rw (c.len-2.ensures, c.as_slice-loose.ensures.value) at c.in_ok-size.ensures.size.1)
     (rw c.as_slice-loose.ensures.value at c.in_ok-book.ensures) c.is_told-is_told.ensures c.in_ok-written.ensures
     (rw c.as_slice-loose.ensures.value at c.in_ok-text.ensures) c.in_ok-put_text.ensures.ok)

@@ -1,8 +1,8 @@
-use Rattle.std.proofs.Common.{◌≡◌, ◌≢◌, ◌-◌, ◌∙◌, ◌++◌, ◌∷◌, [], false, List, ℕ, ap, append-nil, length, refl, subst, sym, take}
+use Rattle.std.proofs.Common.{◌≡◌, ◌≢◌, ◌-◌, ◌∙◌, ◌++◌, [], List, ℕ, ap, append-nil, length, refl, subst, sym, take}
 use Rattle.std.specs.List.{list_any}
 use Rattle.std.proofs.lemmas.Bool.{or_parts}
 use Rattle.std.proofs.lemmas.List.Elements.{All-take}
-use Rattle.text.specs.Words.{before_comment, words}
+use Rattle.text.specs.Words.{words}
 use Rattle.naming.specs.Keys.{is_no_key, key_named, keys_from, keys_named}
 use Rattle.naming.specs.Lines.{IsOneLine}
 use Rattle.naming.specs.Sets.{behind_second}

@@ -1,4 +1,4 @@
-use Rattle.std.proofs.Common.{◌≡◌, ◌∙◌, ap, arith, List, ◌∷◌, sym}
+use Rattle.std.proofs.Common.{◌≡◌, ◌∙◌, arith}
 use Rattle.naming.specs.Names.{names_in}
 use Rattle.naming.proofs.NameLemmas.{cut, cut_last, cut_more, names_cut}
 use Rattle.naming.proofs.number.first_name.Goals as goal

@@ -8,7 +8,7 @@ use Rattle.naming.specs.Sets.{behind_second, form_of, set_as, set_named}
 use Rattle.naming.proofs.LineLemmas.{behind_second_one_line, from_word_one_line, front_one_line, rest_one_line}
 use Rattle.naming.proofs.set_line.set_line.Goals as goal
 
--- what stands for a line, by its parts
+-- the line that replaces a line, by its parts
 by_parts : (line code comment operand before : List ℕ) → code ≡ before_comment line → line ≡ code ++ comment → operand ≡ from_word (behind_second code) → before ≡ take (length code - length operand) code
     → set_named line ≡ set_as (form_of operand) line before comment operand
 unfolding set_named

@@ -5,7 +5,7 @@ use Rattle.naming.specs.Lines.{said}
 use Rattle.naming.proofs.TextLemmas.{adds_line, said_one_line}
 use Rattle.naming.proofs.texts.push_line.Goals as goal
 
--- where all was added
+-- If the call succeeded, all bytes were added.
 added : {T E : Type 0} (r : Result T E) (new whole old : List ℕ) → new ≡ (if is_ok r then whole else old) → OnOk r (new ≡ whole)
 added (Ok x) new whole old h = h
 added (Err e) new whole old h = tt

@@ -10,7 +10,7 @@ use Rattle.naming.proofs.KeyLemmas.{before_word}
 use Rattle.naming.proofs.LineLemmas.{from_word_one_line, parts_one_line, range_one_line}
 use Rattle.naming.proofs.type_line.parts_of.Goals as goal
 
--- what stands for a line, by its parts
+-- the line that replaces a line, by its parts
 by_parts : (line behind_type behind indent console text : List ℕ) → behind_type ≡ behind_word line → behind ≡ from_word (behind_word behind_type) → get_or behind 0 0 ≡ 34
     → list_any (λ b. (b == 34) || (b == 35)) (first_word behind_type) ≡ false → indent ≡ take (length line - length (from_word line)) line
     → console ≡ take (length behind_type - length behind) behind_type → text ≡ drop 1 behind → typed line ≡ typed_from indent console text

@@ -1,5 +1,4 @@
-use Rattle.std.proofs.Common.{◌∙◌, ap, refl}
-use Rattle.wording.specs.Names.{named_among, named_as, names}
+use Rattle.wording.specs.Names.{named_as, names}
 use Rattle.wording.proofs.table.named.Goals as goal
 
 pub returns : goal.returns

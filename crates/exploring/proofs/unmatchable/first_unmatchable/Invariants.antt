@@ -1,8 +1,8 @@
-use Rattle.std.proofs.Common.{map, take}
+use Rattle.std.proofs.Common.{take}
 use Rattle.std.specs.List.{All}
 use Rattle.counting.specs.Samples.{CanBeShown}
-use Rattle.exploring.proofs.finding.first_unshown.Given as goal
+use Rattle.exploring.proofs.unmatchable.first_unmatchable.Given as goal
 
--- so far each can be shown
+-- So far a line can match each text.
 abbrev pub invariant-loop-text : goal.invariant-loop-text
 invariant-loop-text l = All (λ t. CanBeShown t.now) (take l.text-index l.texts)

@@ -1,4 +1,4 @@
-//! What each event of a run did, after the lines of its trace.
+//! Explains a trace by a run of its world: what each event did.
 
 ghost use Rattle.std.specs.Prelude.{◌≤◌, length};
 ghost use Rattle.text.specs.EventTexts.{most_events};
@@ -12,30 +12,31 @@ use text::{EventList, World};
 use trace::next_line;
 use wording::Prose;
 
-/// So many events are told before their lines are put.
+/// How many events are run before their lines are put or read, so that these lines take little memory.
 pub const TOLD_AT_ONCE: u64 = 1_000;
 
-/// The run of a world, which explains the lines of its trace: after the first line of an event is what the event did.
+/// A run of a world that explains the lines of its trace. What an event did is the explanation of the event's first
+/// line.
 #[derive(Drop)]
-pub struct ToldRun<'l, 't> {
+pub struct RunExplainer<'l, 't> {
     replay: Replay,
     telling: Telling<'l, 't>,
     events: &'t EventList,
-    /// How many bytes of the lines that were told last are read.
+    /// How many bytes of the teller's text have been read.
     read: usize,
     ghost few: { length events.now ≤ most_events },
 }
 
-impl<'l, 't> ToldRun<'l, 't> {
-    /// A run of which no event is told yet. The view shows traces.
+impl<'l, 't> RunExplainer<'l, 't> {
+    /// Returns the run before its first event. The view must show traces, because `explain` looks for their lines.
     pub fn new(
         view: View<'l, 't>,
         world: &'t World,
         events: &'t EventList,
-    ) -> Result<ToldRun<'l, 't>, AllocError>
+    ) -> Result<RunExplainer<'l, 't>, AllocError>
         requires { length events.now ≤ most_events }
     {
-        Ok(ToldRun {
+        Ok(RunExplainer {
             replay: past_at(view.alloc, world, events, 0)?,
             telling: Telling::new(Teller::new(view, world.programs())),
             events,
@@ -43,7 +44,7 @@ impl<'l, 't> ToldRun<'l, 't> {
         })
     }
 
-    /// Tells events until one shows a line, if the lines that were told are all read.
+    /// Runs more events until there is a line to read, or no event is left. Does nothing if a line is still unread.
     fn read_on(&mut self) -> Result<(), AllocError> {
         for _ in 0..=self.events.len() / TOLD_AT_ONCE {
             if self.read < self.telling.teller.text.len() {
@@ -58,7 +59,7 @@ impl<'l, 't> ToldRun<'l, 't> {
     }
 }
 
-impl Explain for ToldRun<'_, '_> {
+impl Explain for RunExplainer<'_, '_> {
     fn explain(&mut self, line: &[u8], words: &mut Prose) -> Result<(), AllocError> {
         self.read_on()?;
         let text = self.telling.teller.text.as_bytes()?;
@@ -66,7 +67,7 @@ impl Explain for ToldRun<'_, '_> {
             return Ok(());
         };
         self.read = text.len() - more.len();
-        // Where memory was refused, this run may show other lines.
+        // If a call of the run that was compared found no memory, this run may have other lines.
         if let Some([b' ', b' ', b' ', said @ ..]) = told.strip_prefix(line) {
             words.push_bytes(said);
         }

@@ -1,10 +1,9 @@
-use Rattle.std.proofs.Common.{Bor, List, ℕ, ◌<◌, ◌≤◌, arith, length, map, sym, take}
-use Rattle.std.specs.List.{All}
+use Rattle.std.proofs.Common.{Bor, List, ℕ, ◌<◌, ◌≤◌, arith, length, sym, take}
 use Rattle.std.proofs.lemmas.List.{take_all}
 use Rattle.std.proofs.lemmas.List.Elements.{All-map, All-more, All-same}
 use Rattle.counting.specs.Samples.{CanBeShown}
-use Rattle.exploring.proofs.ServingLemmas.{unshown_here}
-use Rattle.exploring.proofs.finding.first_unshown.Goals as goal
+use Rattle.exploring.proofs.ServingLemmas.{unmatchable_here}
+use Rattle.exploring.proofs.unmatchable.first_unmatchable.Goals as goal
 
 pub loop-text-preserved : goal.loop-text-preserved
 loop-text-preserved c =
@@ -22,4 +21,4 @@ returns-clause-none c = λ none.
 pub returns-then-not-branch-clause-some : goal.returns-then-not-branch-clause-some
 returns-then-not-branch-clause-some c =
     let within : c.loop-text.text-index < length c.args.texts.now = omega (arith, c.loop-text-test.true) in
-    unshown_here c.args.texts.now c.loop-text.text-index _ within (c.in_ok-can_be_shown.ensures.without c.if-not-branch.true)
+    unmatchable_here c.args.texts.now c.loop-text.text-index _ within (c.in_ok-can_be_shown.ensures.without c.if-not-branch.true)

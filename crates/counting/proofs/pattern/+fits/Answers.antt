@@ -1,6 +1,0 @@
-use Rattle.std.proofs.Common.{sym, ◌∙◌}
-use Rattle.counting.proofs.PatternLemmas.{fits_none}
-use Rattle.counting.proofs.pattern.+fits.Goals as goal
-
-pub returns-then-is_empty : goal.returns-then-is_empty
-returns-then-is_empty t c = fits_none c.args.pattern.now c.args.kinds.now c.args.line.now (sym c.is_empty.ensures ∙ c.if-is_empty.true)
