@@ -1,4 +1,4 @@
-// The audit of a trace, of whatever kernel it is.
+// The audit of a trace, which may come from any kernel.
 
 import { $ } from './dom.js';
 

@@ -1,4 +1,4 @@
-// Elements: found by their id, and made. Texts enter as text alone.
+// Finds elements by their IDs, and makes elements. Texts are inserted only as text, never as HTML.
 
 export const $ = id => document.getElementById(id);
 
@@ -17,5 +17,5 @@ export function makeSvg(name, of = {}, text = '') {
   return it;
 }
 
-// How many pixels a unit of the pictures has: one, where the letters have 14.
+// The pixels in one unit of the pictures: 1 if the font size is 14 pixels.
 export const pixelsOfUnit = () => parseFloat(getComputedStyle(document.documentElement).fontSize) / 14;

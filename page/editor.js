@@ -1,4 +1,4 @@
-// A text that is edited: numbered lines, signs beside them, marks behind them, and files that it is saved to and opened from.
+// A text editor: numbered lines, signs in the margin, marked lines, and files to save and open.
 
 import { make } from './dom.js';
 import { signOf } from './signs.js';
@@ -6,8 +6,8 @@ import { signOf } from './signs.js';
 const pauseOfTyping = 150;    // milliseconds
 
 export class Editor {
-  // `signsOf` gives what stands beside a line. `onInput` is told the text that was typed, `onOpen` that of a file, and
-  // `onPlace` the line of the cursor.
+  // `signsOf` returns the signs of a line. `onInput` gets the text after typing, `onOpen` the text of an opened file,
+  // and `onPlace` the line of the cursor after a click.
   constructor(section, { name, signsOf, onInput, onOpen, onPlace }) {
     this.name = name;
     this.area = section.querySelector('textarea');
@@ -33,7 +33,7 @@ export class Editor {
     new ResizeObserver(() => this.show()).observe(this.area);
   }
 
-  // Tells what was typed, unless it was told.
+  // Reports the typed text, unless it was already reported.
   tellInput() {
     if (!this.pause) return;
     clearTimeout(this.pause);
@@ -48,7 +48,8 @@ export class Editor {
     this.show();
   }
 
-  // Marks a line, from 1, with a kind of mark, or none with 0, and brings it into sight.
+  // Moves a mark of this kind to a line, counted from 1; 0 removes the mark. Scrolls to the line unless
+  // the text is being edited.
   mark(kind, line) {
     this.lines[kind] = line;
     if (line && document.activeElement !== this.area) this.bringIntoSight(line);
@@ -62,7 +63,7 @@ export class Editor {
     if (at < area.scrollTop || at > area.scrollTop + area.clientHeight - 2 * row) area.scrollTop = at - area.clientHeight / 3;
   }
 
-  // Draws what stands beside and behind the lines in sight.
+  // Draws the numbers, signs and marks of the visible lines.
   show() {
     const { area, row } = this;
     if (!area.clientHeight) return;
@@ -90,7 +91,7 @@ export class Editor {
   }
 }
 
-// The signs of the processes at their lines, of which three have room.
+// The signs of the processes at a line; at most three fit.
 export function signsOfProcesses(state, line) {
   return (state?.processes ?? []).filter(it => it.line === line).slice(0, 3).map(it => signOf(it.pid));
 }

@@ -1,4 +1,4 @@
-// The editors of the world and of the events, beside what the session says of them.
+// The editors of the world and the events, connected to the session.
 
 import { $, make } from './dom.js';
 import { Editor, signsOfProcesses } from './editor.js';
@@ -12,7 +12,7 @@ function signsOfEvents(kinds, line) {
   return sign ? [make('span', { className: `kind ${name}`, textContent: sign })] : [];
 }
 
-// A refusal in words: the text, the line, the reason, what the reason means, and the word that is wrong.
+// An error message: the text, the line, the reason, the meaning of the reason, and the wrong word.
 function wordsOf({ name, line, reason, told }, remedies) {
   const means = remedies[reason];
   const words = `✗ ${name ? `${name}, line ${line}: ` : ''}${reason}${means ? `\n${means}` : ''}`;
@@ -54,7 +54,7 @@ export function showEditors(session, remedies) {
     events.mark('chosen', lineOf(session.texts.events, session.at) + 1);
     world.mark('chosen', session.calls[session.at - 1]?.line ?? 0);
   });
-  // where no line is chosen, one where a process stands is brought into sight
+  // if no line is chosen, scrolls to the line of a process
   session.on('state', () => {
     const line = session.state.processes.find(it => it.line)?.line;
     if (line && !world.lines.chosen) world.bringIntoSight(line);

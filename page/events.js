@@ -1,6 +1,6 @@
-// The text of events: which line has which events, and lines that are put in at a place.
+// The list of events as a text: the events of each line, and inserted lines.
 
-// The lines that have events, with their first event and their words. Lines that the program refuses count none.
+// The lines that have events, each with its first event, the count of its events, and its words.
 export function outline(text) {
   const lines = [];
   let before = 0;
@@ -21,32 +21,33 @@ function entryOf(line) {
   return { words, count: words[0] === 'type' ? letters(line).length : 0 };
 }
 
-// The bytes between the quotes of a line, as they are written; those of a letter beyond ASCII by their numbers.
+// The bytes between the quotes of a line, as they are written; the bytes of a non-ASCII letter as \xNN.
 function letters(line) {
   const text = /"((?:\\.|[^"\\])*)"/.exec(line)?.[1] ?? '';
   const bytes = it => [...new TextEncoder().encode(it)].map(byte => `\\x${byte.toString(16).toUpperCase()}`);
   return (text.match(/\\x[0-9A-Fa-f]{2}|\\.|[^\\]/gu) ?? []).flatMap(it => /[^\0-\x7F]/.test(it) ? bytes(it) : it);
 }
 
-// The line, from 0, that has an event; -1 where none has it.
+// The line of an event, counted from 0; -1 if no line has this event.
 export function lineOf(text, event) {
   return outline(text).lines.find(it => event >= it.first && event < it.first + it.count)?.at ?? -1;
 }
 
-// The blanks and the comment at the end of a line.
+// The spaces and the comment at the end of a line.
 function commentOf(line, kind) {
   const behind = kind === 'type' ? line.replace(/^[^"]*"(\\.|[^"\\])*"/, '') : line.replace(/^[^#]*?(?=\s*(#|$))/, '');
   return /\s*(#.*)?$/.exec(behind)[0];
 }
 
-// So many events of a line from one on, without its comment.
+// `count` events of a line, starting at event `from` of the line, without the comment.
 function part(line, { kind, words }, from, count) {
   if (kind === 'key') return `key ${words[1]} ${words.slice(2 + from, 2 + from + count).join(' ')}`;
   if (kind === 'type') return `type ${words[1]} "${letters(line).slice(from, from + count).join('')}"`;
   return `${kind} ${count}`;
 }
 
-// The text with a line of its own behind an event; at 0 before the first. A line that is divided keeps its comment.
+// The text with another line after an event, or before the first event if `event` is 0. If a line must be split, its
+// first part keeps the comment.
 export function insertBehind(text, event, added) {
   const lines = text.split('\n');
   const all = outline(text).lines;

@@ -1,4 +1,4 @@
-// The list of examples. Those that have no world are traces, which are audited.
+// The list of examples. Examples without a world are traces, which are audited.
 
 import { $, make } from './dom.js';
 import { showTrace } from './audit_pane.js';
@@ -27,7 +27,7 @@ export class Examples {
     else this.session.change({ world: it.world, events: it.events, at: null });
   }
 
-  // The world names the example, whatever its events are.
+  // The world determines the name of the example; its events may be changed.
   show() {
     const { world } = this.session.texts;
     const it = [...this.byName.values()].find(it => it.world === world);

@@ -1,10 +1,10 @@
-/* The heap of jobk in a page: what its WebAssembly calls of a C library. Nothing proves this file; `tests/page` runs all
-   cases with it. */
+/* The heap of jobk in a page: the C library functions that its WebAssembly calls. This file is not proved; `tests/page`
+   runs all cases with it. */
 typedef unsigned long u64;
 typedef struct { u64 ok; void *p; } tried;
 
-/* A block has 2^k or 3 * 2^k bytes, from 16 on, and before it 16 bytes that hold its class. Freed blocks wait in a list
-   for each class. The memory grows by a quarter, as a run takes it, and goes with the run's instance. */
+/* A block has 2^k or 3 * 2^k bytes, at least 16. The 16 bytes before it hold its class. Each class has a list of freed
+   blocks. The memory grows by a quarter, or by what a block needs. It is released with the instance of the run. */
 enum { CLASSES = 96 };
 extern unsigned char __heap_base;
 static void *freed[CLASSES];
@@ -21,7 +21,7 @@ static u64 class_of(u64 n, u64 *size)
 
 static int grow_by(u64 pages)
 {
-    /* -1 of 32 bits, too, as another tool may make memories of 32 bits of these */
+    /* compares 32 bits, because wasm-opt also lowers this module to 32-bit memories */
     if ((unsigned)__builtin_wasm_memory_grow(0, pages) == -1u) return 0;
     end += pages << 16;
     return 1;
@@ -77,5 +77,5 @@ tried rattle_realloc(void *p, u64 kept, u64 n, u64 align)
     return (tried){ 1, to };
 }
 
-/* Where the page can put bytes; 0 where there is no memory. */
+/* Returns room for n bytes that the page writes, or 0 if there is no memory. */
 void *room(u64 n) { return block(n); }

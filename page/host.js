@@ -1,4 +1,4 @@
-// One run of the unproved program, and what it calls of its host: words, files that the page holds, two outputs.
+// One run of the unproved program, and its host: the arguments, the files that the page holds, and two outputs.
 
 class Pieces {
   constructor() {
@@ -33,14 +33,14 @@ class Host {
 
   bytes(at, count) { return new Uint8Array(this.memory.buffer, Number(at), Number(count)); }
 
-  // Copies what fits, and answers the length; -2 where not all fits.
+  // Copies as many bytes as fit. Returns the length, or -2 if not all bytes fit.
   copy(from, to, room) {
     const fits = from.subarray(0, Number(room));
     this.bytes(to, fits.length).set(fits);
     return BigInt(fits.length === from.length ? from.length : -2);
   }
 
-  // The number of an opened file, from 3 on; -1 where there is none of that name.
+  // Opens a file. Returns its descriptor, 3 or larger, or -1 if no file has this name.
   open(name) {
     const all = new Uint8Array(this.memory.buffer, Number(name));
     const bytes = this.files.get(new TextDecoder().decode(all.slice(0, all.indexOf(0))));

@@ -1,4 +1,4 @@
-// What the page asks of jobk. Two workers: one for what is shown at each change, one for what may last.
+// The requests of the page to jobk. There are two workers: one for short runs after each change, one for long runs.
 
 import { Runner } from './runner.js';
 import { parseCalls, parseState } from './state.js';
@@ -14,7 +14,7 @@ export class Jobk {
     this.aside = new Runner(makeWorker, module);
   }
 
-  // The texts with numbers in place of names, or the fault of one of them; null where a run is stopped.
+  // Returns the texts with numbers in place of names, or the error in one of them; null if a run is stopped.
   async plain(texts) {
     const files = {};
     for (const name of ['world', 'events']) {
@@ -27,24 +27,24 @@ export class Jobk {
     return { files };
   }
 
-  // The first fault, with the line of a refused text, a mark below the word that is wrong, and what was probably meant.
+  // Returns the first error, with the rejected line, a mark below the wrong word, and a hint.
   async told(texts, fault) {
     const ran = fault.line ? await this.quick.run(['run', '--names', 'world', 'events'], texts) : null;
     return { ...fault, told: ran?.status === 1 ? ran.err.split(/\n {2}see /, 1)[0].split('\n').slice(2).join('\n') : '' };
   }
 
-  // The lines of the trace, each with what it says in words, or the fault of a text; null where the run is stopped.
+  // Returns the lines of the trace, each with its explanation, or the error in a text; null if the run is stopped.
   async trace(texts) {
     const { files, fault } = await this.plain(texts) ?? {};
     if (!files) return fault ? { fault: await this.told(texts, fault) } : null;
     const ran = await this.quick.run(['run', 'world', 'events'], files);
     if (!ran) return null;
-    if (ran.status !== 0) return { fault: await this.told(texts, faultOf(ran.err || `the run ended with status ${ran.status}`)) };
+    if (ran.status !== 0) return { fault: await this.told(texts, faultOf(ran.err || `the run exited with status ${ran.status}`)) };
     const lines = await this.explained(ran.out);
     return lines && { files, ms: ran.ms, trace: ran.out, lines };
   }
 
-  // Behind each line stand three blanks and what it says, where it says more than it shows.
+  // Returns the lines of a trace with their explanations. `explain` appends three spaces and the explanation to a line.
   async explained(trace) {
     const ran = await this.quick.run(['explain', 'trace'], { trace });
     return ran && ran.out.split('\n').slice(0, -1).map(line => {
@@ -54,7 +54,7 @@ export class Jobk {
     });
   }
 
-  // What each event does.
+  // Returns the effects of each event.
   async calls(files) {
     const ran = await this.quick.run(['show', 'world', 'events', '--calls'], files);
     return ran && parseCalls(ran.out);
@@ -65,7 +65,7 @@ export class Jobk {
     return ran?.status === 0 ? parseState(ran.out) : null;
   }
 
-  // All schedules of at most so many ticks before the first events, as they are printed.
+  // Runs `explore` with at most `ticks` ticks, each before one of the first `upto` events.
   schedules(files, ticks, upto, find) {
     const words = ['explore', 'world', 'events', '--ticks', `${ticks}`, '--upto', `${upto}`];
     return this.aside.run(find ? [...words, `--find=${find}`] : words, files);
@@ -73,6 +73,6 @@ export class Jobk {
 
   audit(trace) { return this.aside.run(['audit', 'trace'], { trace }); }
 
-  // Ends what may last.
+  // Stops the long run.
   stop() { this.aside.stop(); }
 }

@@ -1,4 +1,4 @@
-// The page by keys alone, where no text is edited and no button or list takes the key.
+// Keyboard control of the page, if no editor, list or button uses the key.
 
 import { $ } from './dom.js';
 
@@ -6,7 +6,7 @@ const moves = { ArrowDown: 'line-on', ArrowUp: 'line-back', ArrowRight: 'on', Ar
 
 const takesKeys = it => it.matches('textarea, select, input:not([type=range])');
 
-// Whether the browser itself does something with this key at this element.
+// Returns true if the browser itself handles this key at this element.
 function isTaken(event) {
   const it = event.target;
   if (takesKeys(it)) return true;

@@ -1,5 +1,6 @@
-// A picture of a run, laid out: a lane for each process, a row for each line of the trace, for each tick,
-// and for each event that reaches another process, wires for lives, arrows for births, reports, handlers, signals and adoptions.
+// Computes the layout of a picture of a run. Each process has a lane. Each trace line, each tick and each event that
+// affects another process has a row. Wires show the states of processes. Arrows show forks, reports, handlers, signals
+// and new parents.
 
 export const outside = 'outside';    // the lane of keys and ticks
 
@@ -20,7 +21,7 @@ class Lanes {
   has(pid) { return this.indexOf.has(pid); }
 }
 
-// What a lane shows from row to row: that its process lives, is stopped, or has ended and isn't collected.
+// The wires of the lanes: a process lives, is stopped, or is a zombie.
 class Wires {
   constructor() {
     this.all = [];
@@ -48,7 +49,7 @@ function wordsOf({ text, said }) {
   return form === 'end' ? `end: ${said}` : `${form} ${said.replace('process ', '')}`;
 }
 
-// What the line of a trace shows of another process: the arrow to it or from it.
+// The arrow of a trace line, to or from another process.
 function arrowOfLine(text) {
   const [, form, , ...rest] = text.split(' ');
   if (form === 'call' && rest[0] === 'fork' && rest[2] > 0) return { kind: 'birth', other: rest[2] };
@@ -57,7 +58,7 @@ function arrowOfLine(text) {
   return form === 'handle' && rest[2] !== '0' ? { kind: 'from', other: rest[2] } : null;
 }
 
-// What an event makes of other processes, as `show --calls` tells behind its call.
+// The arrow of an effect on another process, which `show --calls` prints after the call.
 function arrowOfEffect(effect) {
   const [, signal, to, more = ''] = /^sends (\S+) to (\d+)(?:, (.*))?$/.exec(effect) ?? [];
   if (signal) return { kind: 'sends', other: to, words: more ? `${signal}, ${more}` : signal };
@@ -67,7 +68,7 @@ function arrowOfEffect(effect) {
 
 const keyOf = does => /\(([^)]*)\)$/.exec(does)?.[1] ?? does;
 
-// The events that have rows: the lines of each, and its call.
+// The events that have rows, each with its trace lines and its call.
 function eventsOf(lines, calls) {
   const events = new Map();
   const of = event => {
@@ -90,7 +91,7 @@ function rowsOf({ event, lines, call }) {
   return rows;
 }
 
-// What a row does to the wires: of its own process, and of those that it names.
+// Updates the wires after a row: those of its own process and of the processes that it names.
 function wire(row, wires, lanes) {
   const { at, lane } = row;
   if (row.form === 'end') wires.become(lane, 'ended', at);

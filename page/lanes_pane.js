@@ -1,4 +1,4 @@
-// Draws the lanes. The heading is a picture of its own, which stays in sight.
+// Draws the lanes. The heading is a separate picture, which stays visible.
 
 import { $, makeSvg, pixelsOfUnit } from './dom.js';
 import { layOut, outside } from './lanes.js';
@@ -10,7 +10,7 @@ const rowHeight = 22, letter = 7.3, smallLetter = 6.7, gap = 34, margin = 56;
 const y = row => rowHeight * (row + 0.5);
 const colour = pid => pid === outside ? 'var(--key)' : colourOf(pid);
 
-// The places of the lanes, and the width of all.
+// Sets the positions of the lanes, and returns the width of the picture.
 function place(lanes) {
   let left = margin;
   for (const it of lanes) {
@@ -27,13 +27,14 @@ function wireOf({ lane, from, to, kind }, lanes) {
   return makeSvg('line', { class: `wire ${kind}`, x1: x, x2: x, y1: y(from), y2: y(to), stroke: colour(pid) });
 }
 
-// An arrow joins the words of a row with another lane: to it, but for a report, a look and a sender, which come from it.
+// An arrow joins the words of a row and another lane. It points to that lane, or from it for reports, looks and
+// senders.
 function arrowOf(arrow, row, lanes) {
   const { x } = lanes[row.lane], far = lanes[arrow.lane].x, at = y(row.at), way = far > x ? 1 : -1;
   const near = way > 0 ? x + 14 + letter * row.words.length : x - 6;
   const isFrom = ['report', 'look', 'from'].includes(arrow.kind);
   const tip = isFrom ? near : far - 5 * way, back = isFrom ? 7 * way : -7 * way;
-  // words at an arrow that comes from the right stand between it and its tip
+  // the words of an arrow to the left are between its line and its tip
   const room = way < 0 && arrow.words ? 14 + smallLetter * arrow.words.length : 0;
   const parts = [
     makeSvg('line', { class: `arrow ${arrow.kind}`, x1: near, x2: far - 5 * way + room, y1: at, y2: at }),

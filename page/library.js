@@ -3,8 +3,9 @@
 //     serve(words: &[u8], trace: &[u8], world: &[u8], events: &[u8], key0: u64, key1: u64,
 //           out: &mut [u8], out_count: &mut u64, told: &mut [u8], told_count: &mut u64) -> u8
 //
-// where a zero byte ends each word, the keys are random, `out` is standard output and `told` error output. Where one of
-// them wants more room than it has, it takes nothing, its count says how much it wants, and the library is asked again.
+// A zero byte terminates each word, the keys are random, `out` is standard output, and `told` is standard error. If an
+// output needs more room than it has, nothing is written to it, and its count is the room that it needs. The library is
+// then called again.
 
 class Memory {
   constructor(instance) {
@@ -14,7 +15,7 @@ class Memory {
 
   bytes(at, length) { return new Uint8Array(this.memory.buffer, Number(at), Number(length)); }
 
-  // A slice of so many bytes: its address and its length.
+  // Returns a new slice of `length` bytes: its address and its length.
   slice(length) {
     const at = this.room(BigInt(Math.max(length, 8)));
     if (at === 0n) throw new Error('no memory');

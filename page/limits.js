@@ -1,5 +1,5 @@
-// How much is shown at most.
+// Limits of the page.
 
-export const mostLines = 5000;      // of a trace, or of events
-export const mostCalls = 20000;     // events that are asked for one by one
-export const longestLink = 100000;  // letters of an address
+export const mostLines = 5000;      // trace lines or events that are shown
+export const mostCalls = 20000;     // events, at most, whose effects are requested
+export const longestLink = 100000;  // characters of an address

@@ -1,4 +1,4 @@
-// Both texts and the place in the fragment of an address: compressed where the browser can, in letters that an address may have.
+// Encodes both texts and the chosen event in the fragment of an address, compressed if the browser can compress.
 
 async function through(stream, bytes) {
   return new Uint8Array(await new Response(new Blob([bytes]).stream().pipeThrough(stream)).arrayBuffer());
@@ -14,14 +14,14 @@ function lettersOf(bytes) {
 
 const bytesOf = letters => Uint8Array.from(atob(letters.replaceAll('-', '+').replaceAll('_', '/')), it => it.charCodeAt(0));
 
-// It begins with 1 where it is compressed, and with 0 where not.
+// The fragment begins with 1 if it is compressed, and with 0 otherwise.
 export async function fragmentOf({ world, events, at }) {
   const bytes = new TextEncoder().encode(JSON.stringify({ world, events, at }));
   const small = await packed(bytes);
   return small ? `#1${lettersOf(small)}` : `#0${lettersOf(bytes)}`;
 }
 
-// What a fragment stands for; null where it is none of ours.
+// Returns the texts in a fragment; null if it holds none.
 export async function textsOf(fragment) {
   if (!/^#[01]./.test(fragment)) return null;
   try {

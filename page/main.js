@@ -1,4 +1,4 @@
-// The page: texts on the left, what comes of them on the right, and one place in time for all.
+// The page: the world and the events on the left, their results on the right; all views show the same chosen event.
 
 import { showAudit } from './audit_pane.js';
 import { $ } from './dom.js';
@@ -20,7 +20,7 @@ import { showTabs } from './tabs.js';
 import { showTimeline } from './timeline.js';
 import { showLists } from './trace_pane.js';
 
-// The address has the texts, unless they are too long for it.
+// Puts the texts into the address, unless they are too long.
 async function remember(session) {
   const { texts, at } = session;
   const fragment = await fragmentOf({ ...texts, at });
@@ -31,7 +31,7 @@ async function remember(session) {
 
 async function copyLink(session) {
   if (!await remember(session)) {
-    $('told').textContent = 'the texts are too long for a link: save them';
+    $('told').textContent = 'the texts are too long for a link; save them as files';
     return;
   }
   const isCopied = await navigator.clipboard?.writeText(location.href).then(() => true, () => false);
@@ -62,8 +62,8 @@ function showLarge(session, redraw) {
 }
 
 function showBuild({ commit, toolchain, date, isProved }) {
-  const what = isProved ? 'Answers come from proved code, which LLVM compiled for WebAssembly; the page that asks and shows is not proved.'
-    : 'Nothing of this build is proved: it serves to try and to test.';
+  const what = isProved ? 'The results come from proved code, compiled to WebAssembly by LLVM; the page that shows them is not proved.'
+    : 'This build is not proved: it is for trying and testing.';
   $('build').textContent = `${what} jobk ${commit}, ${toolchain}, ${date}.`;
 }
 

@@ -1,4 +1,4 @@
-// Plays the events one by one, and stays longer at those that have a line in the trace.
+// Plays the events one by one, and pauses longer at events with a trace line.
 
 import { $ } from './dom.js';
 

@@ -1,4 +1,4 @@
-/* Words, files and outputs of the unproved program, which page/host.js has. The proved library calls none of them. */
+/* Arguments, files and outputs of the unproved program, by page/host.js. The proved library uses none of them. */
 typedef unsigned long u64;
 typedef long i64;
 
@@ -36,7 +36,7 @@ i64 write(int fd, const void *from, u64 count)
     return n;
 }
 
-/* No terminal, no clock, no signal is there. The keys of the audit's tables are the same each time. */
+/* There is no terminal, no clock and no signal. The hash keys of the audit's tables are always the same. */
 int close(int fd) { return 0; }
 i64 lseek(int fd, i64 to, int whence) { error = 29; return -1; }
 int isatty(int fd) { return 0; }

@@ -1,4 +1,4 @@
-// Ticks, keys, typed lines and hangups that are put in behind the place, and taken back.
+// Inserts ticks, keys, typed lines and hangups after the chosen event, and undoes changes.
 
 import { $, make } from './dom.js';
 

@@ -1,4 +1,4 @@
-// What the page is made of: files beside it, or, where it is one file, elements within it, compressed and in letters.
+// The parts of the page: files in its folder, or, if the page is one file, compressed elements in it, in base64.
 
 async function withinPage(letters) {
   const bytes = Uint8Array.from(atob(letters.trim()), it => it.charCodeAt(0));
@@ -16,7 +16,8 @@ export async function bytesOfFile(name) {
 
 export const jsonOfFile = async name => JSON.parse(new TextDecoder().decode(await bytesOfFile(name)));
 
-// What makes workers of a program. A program within the page is no module, as pages of files have no such workers.
+// Returns a function that makes workers of a program. A program within the page is not a module, because browsers start
+// no module workers for a page opened as a file.
 export async function makerOfWorkers(name) {
   if (!document.getElementById(name)) return () => new Worker(new URL(name, import.meta.url), { type: 'module' });
   const address = URL.createObjectURL(new Blob([await bytesOfFile(name)], { type: 'text/javascript' }));

@@ -1,9 +1,9 @@
-// A list of rows, each of an event: a click goes there, a button puts a tick in before it.
+// A list of rows, one for each event: a click goes to the event, a button inserts a tick before it.
 
 import { make } from './dom.js';
 
 export function row(event, ...parts) {
-  const tick = make('button', { className: 'tick', textContent: '+ tick before', title: `puts a tick in before event ${event}`, tabIndex: -1 });
+  const tick = make('button', { className: 'tick', textContent: '+ tick before', title: `insert a tick before event ${event}`, tabIndex: -1 });
   const it = make('li', {}, make('span', { className: 'event', textContent: event }), ...parts, tick);
   it.dataset.event = event;
   return it;
@@ -18,7 +18,7 @@ export function listenToRows(pane, session) {
   });
 }
 
-// Sets off the rows of the place, and what has come so far from what comes.
+// Marks the rows of the chosen event, and the boundary between past and future rows.
 export function markRows(pane, session) {
   for (const it of pane.querySelectorAll('[aria-current]')) it.removeAttribute('aria-current');
   for (const it of pane.querySelectorAll(`[data-event="${session.at}"]:not(.row)`)) it.setAttribute('aria-current', 'true');
@@ -27,7 +27,7 @@ export function markRows(pane, session) {
   if (pane.id === 'trace') pane.querySelectorAll('li')[past - 1]?.classList.add('edge');
 }
 
-// Scrolls to the place.
+// Scrolls to the chosen event.
 export function bringIntoSight(pane) {
   (pane.querySelector('[aria-current]') ?? pane.querySelector('.edge'))?.scrollIntoView({ block: 'nearest' });
 }

@@ -1,4 +1,4 @@
-// A worker that runs jobk, one run after another. To stop a run the worker is ended, and another one takes its place.
+// A worker that runs jobk, one run after another. To stop a run, `stop` terminates the worker and starts another one.
 
 const textOf = bytes => new TextDecoder().decode(bytes);
 
@@ -21,7 +21,7 @@ export class Runner {
     };
   }
 
-  // Status, both outputs as texts, and milliseconds; null where the run is stopped.
+  // Returns the status, both outputs as texts, and the milliseconds; null if the run is stopped.
   run(words, files) {
     return new Promise(answer => {
       this.waiting.set(++this.id, { answer, since: performance.now() });
@@ -35,7 +35,7 @@ export class Runner {
     this.start();
   }
 
-  // Stops runs that take long, and that nobody waits for any more.
+  // Stops the runs if the first one takes longer than `ms`; called when their results are no longer needed.
   stopIfLong(ms = 500) {
     const [first] = this.waiting.values();
     if (first && performance.now() - first.since > ms) this.stop();

@@ -1,11 +1,11 @@
-// What `explore` prints, taken apart: the counts, the schedules that it found, and the outcomes.
+// Parses the output of `explore`: the counts, the schedules that it found, and the outcomes.
 
 const isEvents = line => /^ {4}(#|(step|tick|key|type|hangup) )/.test(line);
 
 const last = '  with the last lines';
 
-// A part of the text: its head, the events of its first schedule with their comments, what sets its trace apart, and the
-// last lines of that.
+// A part of the output: its heading, the events of its first schedule with their comments, the first line that differs,
+// and the last lines of its trace.
 function partOf(text) {
   const [head, ...more] = text.split('\n');
   const middle = more.findIndex(it => /^ {2}\S/.test(it));
@@ -20,7 +20,7 @@ export function parseSchedules(text) {
   return { counts: counts.split('\n').map(it => it.trim()), parts: parts.map(partOf) };
 }
 
-// How many ways there are to put at most so many ticks before the first events.
+// Returns the number of ways to insert at most `ticks` ticks before the first `upto` events.
 export function countSchedules(upto, ticks) {
   let count = 1;
   for (let i = 1; i <= ticks; i++) count = count * (upto + i) / i;

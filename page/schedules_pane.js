@@ -1,11 +1,11 @@
-// All schedules of a few ticks: no tick first, then one more each time, so that what is found is there soon.
+// Tries all schedules: first without ticks, then with one more tick each time, so that results appear early.
 
 import { $, make } from './dom.js';
 import { countSchedules, parseSchedules } from './schedules.js';
 
-// A part of what was found, which a click shows.
+// A part of the results; a click loads its schedule.
 function card({ head, events, others }, session) {
-  const show = make('button', { type: 'button', textContent: 'Show this one' });
+  const show = make('button', { type: 'button', textContent: 'Show this schedule' });
   show.onclick = () => {
     $('tab-lanes').click();
     session.change({ events: `${events.filter(it => !it.startsWith('#')).join('\n')}\n`, at: Infinity });
@@ -25,7 +25,7 @@ export class Explorer {
   constructor(session) {
     this.session = session;
     this.asked = 0;
-    this.pace = 0;    // milliseconds of a schedule
+    this.pace = 0;    // milliseconds per schedule
     $('schedules').querySelector('form').onsubmit = event => {
       event.preventDefault();
       this.explore();
@@ -47,13 +47,13 @@ export class Explorer {
     $('stop').hidden = !isBusy;
   }
 
-  // Says what is tried next, and how long that takes at the pace of what was tried before.
+  // Shows what is tried next, and the time that it will take at the pace of the previous step.
   announce(ticks, most, upto) {
     const count = countSchedules(upto, ticks), seconds = Math.ceil(count * this.pace / 1000);
     this.told(`at most ${ticks} of ${most} ticks: ${count} schedules${seconds > 1 ? `, about ${seconds} s` : ''} …`, true);
   }
 
-  // Shows what at most so many ticks come to; false where that is all.
+  // Tries at most `ticks` ticks, and shows the results. Returns false if the run failed or was stopped.
   async step(ticks, upto) {
     const { session } = this;
     const ran = await session.jobk.schedules(session.files, ticks, upto, $('find').value);

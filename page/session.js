@@ -1,13 +1,13 @@
-// Both texts, what comes of them, and one place in time. Views listen to its events:
+// Both texts, the results of their run, and the chosen event. Views listen to its events:
 //
-//     texts      the texts are others, or what can be taken back
-//     asked      what comes of the texts is asked
-//     busy       a run lasts
-//     refused    a text is refused: `fault` has its name, line and reason, and what is told of it
-//     ran        `lines`, `calls` and `count` are those of the texts
-//     moved      the place is another
-//     shown      another view is shown, or its size is another
-//     state      `state` and `former` are there: those behind the event, and before it
+//     texts      the texts have changed, or what can be undone
+//     asked      a run of the texts begins
+//     busy       the run takes long
+//     refused    a text is rejected: `fault` has its name, line and reason, and the hint (`told`)
+//     ran        `lines`, `calls` and `count` are up to date
+//     moved      another event is chosen
+//     shown      another view is shown, or its size has changed
+//     state      `state` and `former` are up to date: the states after and before the event
 
 import { insertBehind, outline } from './events.js';
 import { mostCalls } from './limits.js';
@@ -32,13 +32,13 @@ export class Session extends EventTarget {
 
   on(names, does) { for (const name of names.split(' ')) this.addEventListener(name, does); }
 
-  // Takes other texts in the place of these, which can be taken back. A place of null is that of the first line.
+  // Replaces the texts; this can be undone. If `at` is null, the event of the first trace line is chosen.
   async change({ world = this.texts.world, events = this.texts.events, at = this.at }) {
     if (this.files || this.fault) this.keep();
     await this.take({ world, events, at });
   }
 
-  // What is typed into one of them; all of it is taken back at once.
+  // Takes text that is typed into an editor; one undo removes all of it.
   async typed(name, text) {
     if (this.typing !== name) this.keep();
     await this.take({ ...this.texts, [name]: text, at: this.at }, name);
@@ -51,7 +51,7 @@ export class Session extends EventTarget {
 
   keep() { this.earlier.push({ ...this.texts, at: this.at }); }
 
-  // Takes texts, of which one may be typed just now.
+  // Takes the texts; `typing` names the one that is being typed.
   async take({ world, events, at }, typing = '') {
     this.texts = { world, events };
     this.at = at;
@@ -60,7 +60,7 @@ export class Session extends EventTarget {
     await this.update();
   }
 
-  // A line of events behind the place.
+  // Inserts a line of events after an event, by default the chosen one.
   putIn(line, behind = this.at) {
     const events = insertBehind(this.texts.events, behind, line);
     const more = outline(events).count - outline(this.texts.events).count;
@@ -90,7 +90,8 @@ export class Session extends EventTarget {
     await this.go(this.at ?? this.lines[0]?.event ?? 0);
   }
 
-  // To another place. While a state is asked for, the place may move on: then the newest is asked for next.
+  // Chooses another event. If the chosen event changes again while its state is requested, the newest is requested
+  // next.
   go(event) {
     this.at = Math.max(0, Math.min(this.count, event));
     this.tell('moved');

@@ -1,4 +1,4 @@
-// The sign of a process: its number, on a colour of its own.
+// The sign of a process: its process ID, on its colour.
 
 import { make } from './dom.js';
 

@@ -1,6 +1,7 @@
-// What `show` prints, taken apart.
+// Parses the output of `show`.
 
-// A process has a line of columns, which two blanks or more part, and lines of four blanks behind it that say more.
+// A process has a line of columns, separated by two or more spaces. More lines about it may follow, indented by four
+// spaces.
 export function parseState(text) {
   const lines = text.split('\n').filter(Boolean);
   const head = (lines.shift() ?? '').replace(/^(after|before) [^:]*: /, '');
@@ -23,7 +24,8 @@ function processOf(line) {
   };
 }
 
-// The lines of `show --calls`: who acts, at which line of the world, what is done, and what that makes of others.
+// Parses the lines of `show --calls`: the process that acts, its line of the world, its call, and the effects on
+// others.
 export function parseCalls(text) {
   return text.split('\n').slice(0, -1).map(line => {
     const [, event, pid = '', of = '', all] = /^ *(\d+) {2}(?:(\d+) \S+ +)?(?:line (\d+) +)?(.*)$/.exec(line);

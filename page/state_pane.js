@@ -1,5 +1,5 @@
-// The state behind the event: what happened, a table of processes, the order of turns, consoles. What the event changed
-// is set off.
+// The state after the event: what happened, a table of processes, the run queue, the consoles. Changes by the event are
+// highlighted.
 
 import { $, make } from './dom.js';
 import { signOf } from './signs.js';
@@ -18,7 +18,7 @@ function happens({ at, calls, lines }) {
   return parts;
 }
 
-// A cell whose text the event changed has a mark and a name for it.
+// Makes a cell. If the event changed its text, the cell is highlighted, and its title has the text from before.
 function cell(text, was) {
   const isNew = text !== was;
   return make('td', isNew ? { className: 'new', title: was === undefined ? 'new' : `before: ${was}` } : {}, text);

@@ -1,4 +1,4 @@
-// One of several panes is shown, which the session tells; arrows go from tab to tab.
+// Shows one of several panes, and has the session announce it; arrow keys move between the tabs.
 
 const tabs = () => [...document.querySelectorAll('[role=tab]')];
 

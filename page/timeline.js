@@ -1,11 +1,12 @@
-// Who acts at which event: a row for each process, strokes for ticks and keys; the slider, and the buttons that move.
+// The process that acts at each event: a row for each process, strokes for ticks and keys; the slider, and the buttons
+// that move.
 
 import { $, make, pixelsOfUnit } from './dom.js';
 import { colourOf } from './signs.js';
 
 const kindOf = call => call.does === 'tick' ? 'tick' : /^(key|hangup) /.test(call.does) ? 'key' : '';
 
-// The colour of a stroke is that of its sign beside the buttons.
+// A stroke has the colour of its sign next to the buttons.
 const colourOfSign = name => getComputedStyle(document.querySelector(`.key .${name}`)).color;
 
 function drawEvent(on, call, { x, wide, row, height, scale, colours }) {
@@ -15,7 +16,7 @@ function drawEvent(on, call, { x, wide, row, height, scale, colours }) {
   } else if (kindOf(call)) {
     on.fillStyle = colours[kindOf(call)];
     on.fillRect(x + wide / 2 - scale, 0, 2 * scale, on.canvas.height);
-    // a tick has a cross at its head, a key a block
+    // the head of a tick is a cross, the head of a key is a block
     const half = kindOf(call) === 'tick' ? 4 : 3, thick = kindOf(call) === 'tick' ? 2 : 6;
     on.fillRect(x + wide / 2 - half * scale, 0, 2 * half * scale, thick * scale);
   }

@@ -1,4 +1,4 @@
-// The trace, and what each event does, as lists.
+// The trace and the effects of each event, as lists.
 
 import { $, make } from './dom.js';
 import { bringIntoSight, listenToRows, markRows, row } from './rows.js';
@@ -15,7 +15,7 @@ function traceRows({ lines }) {
 function callRows({ calls, count }) {
   const rows = calls.slice(0, mostLines).map(({ event, pid, line, all }) =>
     row(event, pid ? signOf(pid) : span('nobody', ''), span('at', line ? `line ${line}` : ''), span('', all)));
-  return count > rows.length ? [...rows, make('li', { textContent: `${count} events are too many to be shown one by one` })] : rows;
+  return count > rows.length ? [...rows, make('li', { textContent: `${count} events are too many to show one by one` })] : rows;
 }
 
 export function showLists(session) {
@@ -29,7 +29,7 @@ export function showLists(session) {
     });
   }
   session.on('ran', () => {
-    const { count, lines } = session, many = lines.length > mostLines ? `, of which the first ${mostLines} are shown` : '';
+    const { count, lines } = session, many = lines.length > mostLines ? `, the first ${mostLines} shown` : '';
     $('summary').textContent = `${count} events, ${lines.length} lines${many}`;
   });
 }

@@ -1,4 +1,4 @@
-/* Arithmetic of 128 bits, which LLVM calls where the machine has none: product, shifts, quotient. */
+/* 128-bit arithmetic, which LLVM calls if the machine has none: product, shifts, quotient. */
 typedef unsigned long u64;
 typedef unsigned __int128 u128;
 typedef union { u128 all; struct { u64 low, high; }; } pair;

@@ -1,4 +1,4 @@
-// Runs jobk beside the page, so that a long run doesn't hold the page up. The first message is the module.
+// Runs jobk in a worker, so that a long run doesn't block the page. The first message is the module.
 
 import { Program } from './program.js';
 

@@ -1,5 +1,5 @@
-"""What tests/cases_planted and tests/linux_planted share. A bug is texts of tools/linux/machine.py, each with another in
-its place.
+"""Bugs that both tests/cases_planted and tests/linux_planted plant. A bug is a list of pairs: a text of
+tools/linux/machine.py, and the text that replaces it.
 """
 import sys
 
@@ -14,12 +14,12 @@ WRITES_FROM_THE_BACKGROUND = ('-EIO * console.is_hung_up or console.tostop and s
 
 
 def plant(path, texts):
-    """Replaces texts of a file, each of which has to stand there once."""
+    """Replaces texts of a file. Each must be in the file exactly once."""
     with open(path, encoding='utf-8') as file:
         text = file.read()
     for old, new in zip(texts[::2], texts[1::2]):
         if text.count(old) != 1:
-            sys.exit(f'tests/planted.py: {path} has {text.count(old)} times {old}')
+            sys.exit(f'tests/planted.py: expected one text in {path}, found {text.count(old)}: {old}')
         text = text.replace(old, new)
     with open(path, 'w', encoding='utf-8') as file:
         file.write(text)

@@ -1,17 +1,17 @@
 /*
  * A host that refuses memory or output. tests/refusals and tests/failing_writes load it into the program by LD_PRELOAD.
- * It sees the calls that come from the program itself, not those that the C library makes for its own use.
- * Numbers in the environment say what is refused; one that is missing refuses nothing.
+ * It sees the calls of the program itself, not those that the C library makes for its own use.
+ * Numbers in the environment say what to refuse. If a number is missing, nothing is refused.
  *
- *     HOST_LOG=FD       a line for each refused allocation, `refused BYTES`, and for each write, `write FD TAKEN`,
- *                       with -1 where the write failed, go to this descriptor
- *     HOST_REFUSES=N    the Nth allocation finds no memory
- *     HOST_AGAIN=1      nor do those right behind it, as long as each asks for less than the one before
- *     HOST_AGAIN=2      nor do all that follow
- *     HOST_FD=FD        the descriptor that the next numbers are about, 1 if not said
+ *     HOST_LOG=FD       log each refused allocation, `refused BYTES`, and each write, `write FD TAKEN`, to this
+ *                       descriptor; TAKEN is -1 if the write failed
+ *     HOST_REFUSES=N    the Nth allocation fails
+ *     HOST_AGAIN=1      so do those right after it, as long as each asks for less than the one before
+ *     HOST_AGAIN=2      so do all after it
+ *     HOST_FD=FD        the descriptor for the next numbers (default: 1)
  *     HOST_TAKES=K      a write takes at most K bytes
  *     HOST_FAILS=N      the Nth write fails
- *     HOST_ERROR=E      with this error number; 0 takes nothing and says so
+ *     HOST_ERROR=E      with this error number; if E is 0, the write returns 0
  */
 #define _GNU_SOURCE
 #include <errno.h>
@@ -60,7 +60,7 @@ __attribute__((constructor)) static void begin(void) {
     dl_iterate_phdr(find_program, NULL);
 }
 
-/* Whether a call with this return address comes from the program. Before `begin` none does. */
+/* Returns true if a call with this return address comes from the program. Before `begin`, none does. */
 static int is_of_program(void *address) {
     return (ElfW(Addr))address >= program_begin && (ElfW(Addr))address < program_end;
 }
@@ -71,7 +71,7 @@ static void tell(const char *what, long first, long second) {
     if (log_fd >= 0) syscall(SYS_write, log_fd, line, length);
 }
 
-/* Whether this allocation finds no memory. */
+/* Returns true if this allocation fails. */
 static int is_refused(size_t bytes, void *caller) {
     if (!is_of_program(caller)) return 0;
     allocations++;

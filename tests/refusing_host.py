@@ -1,4 +1,4 @@
-"""What tests/refusals and tests/failing_writes share: runs of the program on a host that refuses, cases, a count."""
+"""What tests/refusals and tests/failing_writes share: a host that refuses memory and writes, cases, and a count."""
 
 import collections
 import concurrent.futures
@@ -14,13 +14,13 @@ import threading
 TESTS = pathlib.Path(__file__).resolve().parent
 TOP = TESTS.parent
 NO_MEMORY = (3, b'', b'jobk: out of memory\n')
-# What a run said: its status, standard output and standard error; the bytes of each refused allocation; and of each
-# write to the watched descriptor how many bytes it took, with -1 where it failed.
+# What a run printed: its status, standard output and standard error; the size of each refused allocation; and for each
+# write to the watched descriptor, how many bytes it took, or -1 if it failed.
 Answer = collections.namedtuple('Answer', 'said refused writes')
 
 
 class Host:
-    """Runs the program, and refuses it what the numbers say that tests/refusing_host.c names."""
+    """Runs the program, and refuses what the numbers say. tests/refusing_host.c lists the numbers."""
 
     def __init__(self, program, scratch):
         self.program = program
@@ -31,7 +31,7 @@ class Host:
         try:
             subprocess.run([*compiler, '-shared', '-fPIC', '-O1', '-o', self.library, source], check=True)
         except (OSError, subprocess.CalledProcessError) as why:
-            sys.exit(f'{source} is not compiled: {why}; CC names a C compiler')
+            sys.exit(f'cannot compile {source}: {why}; CC names a C compiler')
 
     def run(self, words, folder, stdout=subprocess.PIPE, **numbers):
         with tempfile.TemporaryFile(dir=self.scratch) as log:
@@ -42,7 +42,7 @@ class Host:
                 done = subprocess.run([self.program, *words], cwd=folder, env=environment, stdin=subprocess.DEVNULL,
                                       stdout=stdout, stderr=subprocess.PIPE, pass_fds=[log.fileno()], timeout=60)
             except subprocess.TimeoutExpired:
-                return Answer(('no end in a minute', b'', b''), [], [])
+                return Answer(('still running after a minute', b'', b''), [], [])
             log.seek(0)
             told = [line.split() for line in log]
         refused = [int(line[1]) for line in told if line[0] == b'refused']
@@ -51,8 +51,8 @@ class Host:
 
 
 class Case:
-    """A folder of tests/refused, tests/cases or examples, with the answer that its files say, as in tests/run. Of a
-    case of tests/refused a file that is missing is that of the case in tests/cases which has its name."""
+    """A folder of tests/refused, tests/cases or examples, and the answer that its files expect, as in tests/run. A
+    folder of tests/refused without a world or words takes all files from the case of the same name in tests/cases."""
 
     def __init__(self, name):
         homes = [TESTS / 'refused' / name, TESTS / 'cases' / name, TOP / 'examples' / name]
@@ -70,14 +70,14 @@ class Case:
 
 
 class Made:
-    """A case that isn't a folder of the repository: words, the answer, and the folder where the program runs."""
+    """A case that is no folder of the repository: the arguments, the answer, and the folder where the program runs."""
 
     def __init__(self, name, folder, words, said):
         self.name, self.folder, self.words, self.said = name, folder, words, said
 
 
 def made_world(name, scratch, world, events, trace):
-    """A world that is written to the folder `scratch`, with the trace that is wanted."""
+    """Writes a world to the folder `scratch`, and returns its case with the expected trace."""
     folder = pathlib.Path(scratch) / name
     folder.mkdir()
     (folder / 'world').write_text(world)
@@ -86,7 +86,7 @@ def made_world(name, scratch, world, events, trace):
 
 
 class Tally:
-    """Counts checks, and tells of those that fail, of the first ten with what the program said."""
+    """Counts checks, and prints those that fail; for the first ten, also what the program printed."""
 
     def __init__(self):
         self.passed = self.failed = 0
@@ -107,7 +107,7 @@ class Tally:
 
 
 def find_program(name):
-    """The program that is named on the command line, seen from the top of the repository, or the one that is built."""
+    """Returns the program that the command line names, as a path from the top of the repository, or the built one."""
     if len(sys.argv) > 2:
         sys.exit(f'usage: tests/{name} [PROGRAM]')
     program = TOP / (sys.argv[1] if len(sys.argv) == 2 else 'crates/jobk/out/jobk')
@@ -117,7 +117,7 @@ def find_program(name):
 
 
 def main(name, jobs_of):
-    """Makes the checks of the jobs that `jobs_of` gives for a host and a tally, side by side, and ends the script."""
+    """Runs the jobs that `jobs_of` returns for a host and a tally, in parallel, and exits."""
     signal.signal(signal.SIGTERM, lambda *_: sys.exit(1))
     program = find_program(name)
     tally = Tally()

@@ -1,4 +1,4 @@
-"""Commands whose files have no name that can be imported, as modules."""
+"""Loads commands as modules whose file names can't be imported."""
 import importlib.machinery
 import importlib.util
 import os
@@ -14,5 +14,5 @@ def load(name, path):
 
 
 def load_rt():
-    """The command rt: it knows the crates and the words of a check."""
+    """Returns the command rt as a module, which has the crates and the arguments of a check."""
     return load('rt', os.path.realpath(shutil.which('rt') or sys.exit('install the toolchain, rt')))

@@ -1,4 +1,4 @@
-"""The tests of tools/cworld other than random programs. Each gives how many there are, and what failed."""
+"""The tests of tools/cworld without random programs. Each returns how many checks it makes, and what failed."""
 import concurrent.futures
 import glob
 import os
@@ -35,12 +35,12 @@ def name_of(path):
 
 
 def c_files():
-    """The examples, and the files that make all calls."""
+    """Returns the C files of the examples, and the files that make all calls."""
     return sorted(glob.glob(f'{EXAMPLES}/*.c')) + [f'{HERE}/handler_frames.c'] + sorted(glob.glob(f'{HERE}/calls/*.c'))
 
 
 def first_files():
-    """Those that process 1 runs."""
+    """Returns the C files that process 1 runs."""
     return [path for path in c_files() if name_of(path) not in PROGRAMS]
 
 
@@ -53,7 +53,7 @@ def events_beside(path, otherwise='step 3000'):
 
 
 def refused():
-    """What is refused, beside refused.txt."""
+    """Compares what the compiler refuses, and why, with refused.txt."""
     failures, count = [], 0
     for part in re.split(r'^-- ', read(HERE, 'refused.txt'), flags=re.M)[1:]:
         name, _, rest = part.partition('\n')
@@ -96,7 +96,7 @@ def names_of_the_system():
 
 
 def in_turn(program, planted=None):
-    """Files that note the numbers 1, 2 and so on."""
+    """Runs files that must note the numbers 1, 2 and so on."""
     failures = []
     for name, last in (('left_to_right.c', 36), ('handler_frames.c', 17)):
         with tempfile.TemporaryDirectory() as folder:
@@ -108,13 +108,13 @@ def in_turn(program, planted=None):
 
 
 def without_numbers(trace):
-    """The lines of a trace without the numbers of their events, and without what is noted."""
+    """Returns the lines of a trace without event numbers and without notes."""
     lines = (line.partition(' ')[2] for line in trace.split('\n'))
     return [line for line in lines if not line.startswith('note ')]
 
 
 def by_hand(program):
-    """The examples that are there as worlds by hand, too."""
+    """Compares the examples with the worlds that were written by hand for them."""
     failures, count = [], 0
     places = sorted(glob.glob(f'{HERE}/by_hand/*') + glob.glob(f'{TOP}/races/*'))
     with tempfile.TemporaryDirectory() as folder:
@@ -129,7 +129,7 @@ def by_hand(program):
     return count, failures
 
 
-# What tools print: words, the status, and what stands in standard output or standard error.
+# What tools print: the command line, the exit status, and a text on standard output or standard error.
 FORMS = [
     (['tools/cworld', 'examples/c/exec.c'], 0, 'program tool\n'),
     (['tools/cworld', '--pidmax', '7', '--consoles', '2', 'examples/c/fork.c'], 0, 'pidmax 7\nconsoles 2\n'),
@@ -138,14 +138,14 @@ FORMS = [
     (['tools/jobk', 'examples/c/fork.c'], 0, 'call 1 fork = 2\n'),
     (['tools/jobk', '-x', 'examples/c/exec.c', 'examples/c/tool.c'], 0, 'end 2 1280   exit 5'),
     (['tools/jobk', 'explore', 'examples/c/lost_wakeup.c', '--upto', '80', '--ticks', '1'], 0,
-     '    step 42\n    # takes the turn of process 1 at lost_wakeup.c:21, in main\n    tick 1\n    step 158\n'
+     '    step 42\n    # takes the turn of process 1 at lost_wakeup.c:21, in main\n    tick 1\n    step 158\n'  # english: ok
      '  the first line unlike those of 1\n    50 handle 1 17 768 2\n'
      '  in place of\n    53 call 1 pause = -4   at lost_wakeup.c:22, in main\n'
      '  with the last lines\n    49 end 3 768   at lost_wakeup.c:20, in main\n'),
     (['tools/jobk', 'show', 'examples/c/lost_wakeup.c', '--at', '82'], 0, 'runs, at lost_wakeup.c:21, in main'),
     (['tools/jobk', 'nothing.c'], 3, 'tools/cworld: cannot read nothing.c'),
-    ([sys.executable, '-S', 'tools/cworld', 'examples/c/fork.c'], 3, 'tools/cworld: there is no pycparser: apt-get'),
-    (['env', 'PATH=', sys.executable, 'tools/cworld', 'examples/c/fork.c'], 3, 'tools/cworld: there is no gcc, which'),
+    ([sys.executable, '-S', 'tools/cworld', 'examples/c/fork.c'], 3, 'tools/cworld: expected pycparser, found none'),
+    (['env', 'PATH=', sys.executable, 'tools/cworld', 'examples/c/fork.c'], 3, 'tools/cworld: expected gcc, which'),
 ]
 
 
@@ -159,7 +159,7 @@ def tools(program):
 
 
 def shell_at_any_moment(program):
-    """The shell, with ticks, ^Z, ^C and hangups at any moment: it ends once an end of file was typed often enough."""
+    """Runs the shell with ticks, ^Z, ^C and hangups at any moment. It must exit after enough ends of file."""
     path, failures = os.path.join(EXAMPLES, 'shell.c'), []
     text, events = world_of(path), events_beside(path) + ENDS * 8
     chance = random.Random(SEED)
@@ -175,7 +175,7 @@ def shell_at_any_moment(program):
 
 
 def replayed(program):
-    """The worlds of all files, event by event on real processes, by tests/linux; the shell's is too long for that."""
+    """Replays the worlds of all files on real processes with tests/linux, except the shell's, which is too long."""
     paths = [path for path in first_files() if name_of(path) != 'shell']
     with tempfile.TemporaryDirectory() as folder:
         for path in paths:
@@ -185,7 +185,7 @@ def replayed(program):
     return len(paths), [] if done.returncode == 0 else [f'tests/linux: {done.stdout}{done.stderr}']
 
 
-# A race of examples/c, whether explore finds it, and the words by which it does.
+# An example of examples/c, whether explore must find a race in it, and the options with which it looks.
 TTIN, NO_GROUP, TOO_LATE = 'stop 3 21', 'kill = -3', 'setpgid = -3'
 EXPLORED = [
     ('lost_wakeup', True, ['--must-halt', '--upto', '80']),
@@ -208,7 +208,7 @@ EXPLORED = [
 
 
 def explored(program):
-    """What explore finds in the examples, and doesn't find in those that are mended."""
+    """Checks that explore finds the races of the examples, and none in the fixed ones."""
     failures = []
     with tempfile.TemporaryDirectory() as folder:
         for name, is_found, words in EXPLORED:
@@ -221,18 +221,18 @@ def explored(program):
 
 
 def compile_all(folder):
-    """Compiles each file by gcc, and gives what that says."""
+    """Compiles each file with gcc, and returns its messages."""
     with concurrent.futures.ThreadPoolExecutor(2) as pool:
         return [said for said in pool.map(lambda path: c_program.compile_file(path, folder), c_files()) if said]
 
 
-# Outcomes on Linux alone. The shell comes too late to make a group for a job that has called exec, and the terminal goes to
-# a group that nobody is in, so the job reads EIO (CONFORMANCE, "tcsetpgrp of a process ID").
+# Outcomes only on Linux. The shell makes the job's group too late: the job has called exec. So the shell gives the
+# terminal to a group without processes, and the job's read fails with EIO (CONFORMANCE, "tcsetpgrp of a process ID").
 ON_LINUX_ALONE = {'shell_alone': {(((2, (0,)), (3, (-1,))), 0)}}
 
 
-# A busy machine lets a process wait so long that it seems to rest. A run with another outcome is repeated alone, with so
-# much more patience.
+# A busy machine can let a process wait so long that it seems to be at rest. So a run with another outcome is repeated
+# alone, and waits this many times longer.
 PATIENCE = 20
 
 

@@ -48,7 +48,8 @@ CHILD = """    {{
 
 @dataclass(frozen=True)
 class Expression:
-    """A text, the greatest value that it can have, and what it reads and changes. `*` is all that a call can change."""
+    """A text, its largest possible value, and the names that it reads and changes. `*` is all that a call can
+    change."""
     text: str
     most: int
     reads: frozenset = frozenset()
@@ -59,7 +60,7 @@ class Expression:
 
 
 def meets(some, others):
-    """Whether two sets of names share one; a call shares what is global."""
+    """Returns true if two sets share a name. A call shares each global name."""
     return bool(some & others) or reaches(some, others) or reaches(others, some)
 
 
@@ -73,12 +74,12 @@ def is_global(name):
 
 @dataclass
 class Scope:
-    """The names that a place sees."""
+    """The names in scope at a place."""
     numbers: list = field(default_factory=list)
     letters: list = field(default_factory=list)
     arrays: list = field(default_factory=list)
     functions: dict = field(default_factory=dict)      # a name, and how many parameters
-    counters: tuple = ()                                # variables of loops, which are read alone
+    counters: tuple = ()                                # variables of loops, which are only read
 
     def inner(self):
         return Scope(list(self.numbers), list(self.letters), list(self.arrays), dict(self.functions), self.counters)
@@ -102,7 +103,7 @@ class Program:
 
 
 class Generator:
-    """Makes one program; names end with its number, so that many can stand in one file."""
+    """Makes one program. Names end with its number, so that one file can have many programs."""
 
     def __init__(self, seed, number):
         self.random = Chance(seed * 100003 + number).begin()
@@ -141,7 +142,7 @@ class Generator:
         return Expression(text, most, left.reads | right.reads, left.changes | right.changes)
 
     def two(self, scope, depth):
-        """Two operands whose order doesn't matter."""
+        """Returns two operands whose order does not matter."""
         left, right = self.expression(scope, depth - 1), self.expression(scope, depth - 1)
         if left.conflicts(right):
             right = Expression(str(self.random.randrange(1, 50)), 50)
@@ -187,7 +188,7 @@ class Generator:
         return self.joined(inner, inner, f'({inner.text} >> {count})', inner.most)
 
     def assignment(self, scope, depth):
-        """An assignment within an expression, or a step by one."""
+        """Returns an assignment within an expression, or an increment or decrement."""
         inner = self.expression(scope, depth - 1)
         if not scope.numbers:
             return inner
@@ -195,7 +196,7 @@ class Generator:
         if self.random.random() < 0.4 or Expression('', 0, changes=frozenset([name])).conflicts(inner):
             sign = self.random.choice(['++', '--'])
             text = self.random.choice([f'{sign}{name}', f'{name}{sign}'])
-            # Steps are taken back to small numbers by the statement in which they stand.
+            # The statement around an increment or decrement reduces the variable to small numbers.
             return Expression(f'({text})', 2 * SMALL, frozenset([name]), frozenset([name]))
         return Expression(f'({name} = {inner.text} % {SMALL})', SMALL, inner.reads, inner.changes | {name})
 
@@ -382,7 +383,7 @@ class Generator:
         return lines
 
     def declared(self, scope):
-        """A local variable and a local array, with values."""
+        """Returns a local variable and a local array, with values."""
         number, array = self.new('l'), self.new('la')
         scope.numbers.append(number)
         scope.arrays.append(array)
@@ -426,7 +427,7 @@ class Generator:
         return lines + [f'    for (int i = 0; i < 8; i++) note({name}[i]);' for name in scope.arrays]
 
     def child(self, scope):
-        """Two signals that are blocked for a while, and a child, of whose end is told."""
+        """Returns code that blocks two signals for a while, forks a child, and notes its wait status."""
         value = self.expression(scope, 2)
         end = self.random.choice([f'_exit(({value.text}) & 255);', 'kill(getpid(), SIGKILL);'])
         body = '\n'.join(self.block(scope, 0, 1, ' ' * 12))

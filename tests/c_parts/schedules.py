@@ -1,4 +1,4 @@
-"""Some of the schedules of a world, with what is noted and how process 1 ends in each."""
+"""Some of the schedules of a world, with the notes and the exit status of process 1 in each."""
 import os
 import random
 import re
@@ -10,7 +10,7 @@ SEED, MOST_PLACES, OF_TWO_TICKS, MORE = 1, 120, 40, 4000
 
 
 def write(folder, world, events):
-    """The paths of a world and its events in a folder."""
+    """Writes a world and its events to a folder, and returns their paths."""
     paths = [os.path.join(folder, name) for name in ('world', 'events')]
     for path, text in zip(paths, (world, '\n'.join(events) + '\n')):
         with open(path, 'w', encoding='utf-8') as file:
@@ -19,24 +19,24 @@ def write(folder, world, events):
 
 
 def run(program, folder, world, events):
-    """The trace of a world."""
+    """Runs a world, and returns its trace."""
     done = subprocess.run([program, 'run', *write(folder, world, events)], capture_output=True, text=True)
     return done.stdout + done.stderr
 
 
 def outcome_of(trace):
-    """What is noted, and how process 1 ends, as `outcome` of c_program has it."""
+    """Returns the notes and the exit status of process 1, in the form of c_program's `outcome`."""
     end = re.search(r'^\d+ end 1 (\d+)$', trace, re.M)
     notes = '\n'.join(re.findall(r'note \d+ -?\d+$', trace, re.M))
     return outcome(notes, int(end[1]) // 256 if end else None)
 
 
 def with_events(events, put_in):
-    """A list of events with others put in: pairs of a number, before whose event one is put, and that."""
+    """Returns events with others inserted. Each pair is the number of an event, and the event to insert before it."""
     made, number, left = [], 1, list(put_in)
     for event in events:
         word, *rest = event.split()
-        count = int(rest[0]) if word in ('step', 'tick') else max(len(rest) - 1, 1)      # a hangup is one
+        count = int(rest[0]) if word in ('step', 'tick') else max(len(rest) - 1, 1)      # a hangup is one event
         while left and left[0][0] < number + count:
             place, other = left.pop(0)
             before = place - number if word == 'step' else 0
@@ -53,13 +53,13 @@ def with_events(events, put_in):
 
 
 def places_of(trace):
-    """The numbers of events at which something happens, or shortly before."""
+    """Returns the numbers of the events that add lines to a trace, and of the seven events before each."""
     return sorted({max(1, int(event) - back) for event in re.findall(r'^\d+', trace, re.M) for back in range(8)})
 
 
 def outcomes(program, folder, world, events, wanted):
-    """What can come of a world: with a tick at any place at which something happens, and at some two of them. Where
-    that is not all that is wanted, at more of them, too."""
+    """Returns outcomes of a world: without a tick, with a tick at each place or at MOST_PLACES of them, and with two
+    ticks at some. If an outcome in `wanted` is missing, tries up to five ticks at random places."""
     places = places_of(run(program, folder, world, events))
     chance = random.Random(SEED)
 

@@ -1,4 +1,5 @@
-"""Fork bombs: the small one by bytes, and one in which all processes fork in turn until every number is taken."""
+"""Fork bombs: a small one; a large one in which all processes fork in turn; and a large one in which only process 1
+forks. Both large ones fork until every process ID is in use."""
 
 import collections
 
@@ -6,7 +7,7 @@ from hostile_parts import runs
 
 BOMB = b'pidmax %d\nconsoles 1\nprogram init\nagain:\nsys fork\njmp again\nend\n'
 GREATEST = 32768
-SECONDS = 10            # of processor time, for the large one
+SECONDS = 10            # of processor time, for each bomb
 
 
 def small():
@@ -17,8 +18,8 @@ def small():
 
 
 def in_turn(pidmax, rounds):
-    """The trace of a fork bomb in which a tick comes after two steps of each process, and how many are born. A child
-    begins behind the call and is last in the order. Nobody ends, so numbers go up one by one."""
+    """Returns the trace of a fork bomb with a tick after every two steps, and the number of processes. A child begins
+    after the call, at the end of the run queue. No process exits, so process IDs increase one by one."""
     shown, order, event, births = [], collections.deque([(1, True)]), 0, 1
     for _ in range(rounds):
         process, at_call = order.popleft()
@@ -36,8 +37,8 @@ def in_turn(pidmax, rounds):
 
 
 def large():
-    """Two bombs of 100,000 events or so, in which as many processes are born as there can be. In the second process 1
-    alone forks."""
+    """Yields two bombs of about 100,000 events, in which as many processes are forked as possible. In the second, only
+    process 1 forks."""
     rounds = GREATEST + 1000
     shown, births = in_turn(GREATEST, rounds)
     assert births == GREATEST

@@ -1,4 +1,4 @@
-"""Each call with extreme numbers in r1 to r4. plain_calls says what it gives, and what is left as it was."""
+"""Each call with extreme numbers in r1 to r4. plain_calls.py says what the call returns, and what it changes."""
 
 import collections
 import itertools
@@ -8,17 +8,17 @@ from hostile_parts import plain_calls, runs
 VALUES = (-2**63, -1, 0, 1, 2**63 - 1)
 STEPS = 100
 
-# So many registers, from r1 on, are read by the call; by all others none.
+# How many registers, from r1 on, a call reads. A call that is not named reads none.
 READ = {'getpgid': 1, 'getsid': 1, 'setuid': 1, 'seteuid': 1, 'setgid': 1, 'setegid': 1, 'exit': 1, 'sigsuspend': 1,
         'alarm': 1, 'setctty': 1, 'tcsetpgrp': 1, 'settostop': 1, 'subreaper': 1, 'waitpid': 2, 'kill': 2,
         'sigprocmask': 2, 'setpgid': 2, 'read': 2, 'write': 2, 'exec': 3, 'waitid': 3, 'sigqueue': 3, 'sigaction': 4}
 
-# More values, by the call and the register: with the others alone each waitid would be refused for its options.
+# More values, by the call and the register. With VALUES alone, each waitid would fail because of its options.
 MORE_VALUES = {('waitid', 1): (2, 3), ('waitid', 2): (2,), ('waitid', 3): (2, 5, 9, 16, 2**24 + 1, 2**24 + 5)}
 
-# Who calls: the lines before and behind those of the caller, the events before them, what these show, the number of the
-# caller's first event, and the caller.
-Scene = collections.namedtuple('Scene', 'name before behind events shown first caller')
+# The caller of a call: the lines of the world before and after those of the caller, the events before the caller's, the
+# trace of these events, the number of the caller's first event, and a function that returns the caller's state.
+Scene = collections.namedtuple('Scene', 'name before after events shown first caller')
 ALONE = Scene('process 1 alone', '', '', '', '', 1, lambda: plain_calls.Process(1, 0))
 
 
@@ -37,8 +37,9 @@ OTHERS = (
     Scene('a child of process 1', 'sys fork\njz r0, kid\nsys pause\nkid:\n', '', 'step 4\n',
           '1 call 1 fork = 2\n', 5, lambda: plain_calls.Process(2, 1)))
 
-# What is shown after the call: the registers, the words at 0 and 1, ids, group, session, parent, the action of signal
-# 1, the mask, what is pending, the alarm, the terminal, and whether the effective id can be 0 again.
+# Shows the state after the call: the registers, the words at 0 and 1, the user and group IDs, the process group, the
+# session, the parent, the action of signal 1, the mask, the pending signals, the alarm, the terminal, and whether the
+# effective user ID can be 0 again.
 AFTERWARDS = '''note r0, note r1, note r2, note r3, note r4, ld r6 r7, note r6, set r7 1, ld r6 r7, note r6,
 sys getuid, sys geteuid, sys getgid, sys getegid, set r1 0, sys getpgid, sys getsid, sys getppid,
 set r1 1, set r2 -1, sys sigaction, note r2, note r3, note r4, set r1 0, set r2 0, sys sigprocmask, note r2,
@@ -47,24 +48,25 @@ OTHER_PROGRAM = 'note r0, note r1, note r2, note r3, note r4, note r5, stay'
 
 
 def code(text):
-    """The instructions that a text lists."""
+    """Returns the instructions that a text lists."""
     return [instruction.split() for instruction in text.split(',')]
 
 
 def caller_code(name, values):
-    """What the caller runs. The notes at its beginning tell what an exec of this program hands over."""
+    """Returns the instructions of the caller. The notes at their beginning show the arguments of an exec of this
+    program."""
     sets = ''.join(f'set r{register} {value}, ' for register, value in enumerate(values, 1))
     return code(f'note r1, note r2, set r6 321, st r6 r7, {sets} sys {name}, {AFTERWARDS}')
 
 
 def lines(instructions):
-    """The lines of a world that are these instructions; `stay` goes on for ever."""
+    """Returns these instructions as lines of a world; `stay` loops for ever."""
     return ''.join('stay:\njmp stay\n' if word == 'stay' else f'{word} {", ".join(operands)}\n'
                    for word, *operands in instructions)
 
 
 def trace(p, programs, first, steps):
-    """The lines that so many steps of a process show, which runs the first program from event `first` on."""
+    """Returns the trace of `steps` steps of a process that runs the first program, from event `first` on."""
     shown, instructions, place = [], programs[0], 0
     for event in range(first, first + steps):
         word, *operands = instructions[place]
@@ -89,7 +91,7 @@ def trace(p, programs, first, steps):
 
 
 def finish(p, result):
-    """Gives the call's result, and answers what the trace says of it."""
+    """Sets the call's result in r0, and returns how the trace shows it."""
     if isinstance(result, bytes):
         p.registers[0] = len(result)
         return f'{len(result)} bytes {result.hex()}'
@@ -101,7 +103,7 @@ def finish(p, result):
 
 
 def run_plainly(p, note, word, operands, shown):
-    """Runs an instruction that isn't a call."""
+    """Runs an instruction that is no call."""
     if word == 'stay':
         return
     register = int(operands[0][1])
@@ -116,26 +118,26 @@ def run_plainly(p, note, word, operands, shown):
 
 
 def item(scene, name, values):
-    """A world, events and the trace."""
+    """Returns a name, a world, events and the expected output."""
     programs = [caller_code(name, values), code(OTHER_PROGRAM)]
-    world = (f'pidmax 40\nconsoles 1\nprogram init\n{scene.before}{lines(programs[0])}{scene.behind}end\n'
+    world = (f'pidmax 40\nconsoles 1\nprogram init\n{scene.before}{lines(programs[0])}{scene.after}end\n'
              f'program other\n{lines(programs[1])}end\n')
     steps = STEPS
     if scene.before and name == 'exec' and values[0] == 0:
-        steps = programs[0].index(['sys', name]) + 1        # it would begin before the caller's lines
+        steps = programs[0].index(['sys', name]) + 1        # (the program would begin again before the caller's lines)
     wanted = scene.shown + trace(scene.caller(), programs, scene.first, steps)
     what = f'{name} of {", ".join(map(str, values))} by {scene.name}'
     return what, world.encode(), f'{scene.events}step {steps}\n'.encode(), runs.Answer(0, wanted.encode(), b'')
 
 
 def combinations(name, count):
-    """All values of a call in so many registers."""
+    """Returns all combinations of the values of a call in its first `count` registers."""
     return itertools.product(*(VALUES + MORE_VALUES.get((name, register), ()) for register in range(1, count + 1)))
 
 
 def items():
-    """For process 1 alone all values in all registers; for others all in those that the call reads, and each of the
-    others has one of them in turn."""
+    """Yields the cases. If process 1 is alone, all four registers take all values. Otherwise only the registers that
+    the call reads take all values; each of the others takes one value in turn."""
     for name in plain_calls.RULES:
         for values in combinations(name, 4):
             yield item(ALONE, name, values)
@@ -151,11 +153,11 @@ def judge(item):
 
 
 def by_name():
-    """The least number names no group: neither a kill nor a wait finds anybody."""
+    """Yields a kill and a wait whose target is the lowest number. No process group has it, so both calls fail."""
     world = (b'pidmax 40\nconsoles 1\nprogram init\n'
              b'set r1, -9223372036854775808\nset r2, 9\nsys kill\nsys waitpid\nend\n')
     shown = b'3 call 1 kill = -3\n4 call 1 waitpid = -10\n'
-    yield 'the least number as a target', world, b'step 4\n', runs.Answer(0, shown, b'')
+    yield 'the lowest number as a target', world, b'step 4\n', runs.Answer(0, shown, b'')
 
 
 def check(checks):

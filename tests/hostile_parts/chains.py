@@ -1,11 +1,11 @@
-"""Chains of 1,000 processes, each the child of the one before it, which the last one kills in turn."""
+"""Chains of 1,000 processes, each the child of the one before it. The last one kills the others in turn."""
 
 from hostile_parts import runs
 
 LAST = 1003             # process 1, process 2, and 1,000 below them, before the last one
 SECONDS = 10            # of processor time
-# What r1 of `subreaper` is, and whether process 2 alone calls it.
-MARKS = {'nobody': (0, True), 'process 2': (1, True), 'each': (1, False)}
+# The r1 of `subreaper`, and whether only process 2 calls it.
+MARKS = {'no process': (0, True), 'process 2': (1, True), 'each': (1, False)}
 
 WORLD = '''pidmax {last}
 consoles 0
@@ -38,14 +38,15 @@ end
 
 
 def heir(who, killed, step):
-    """The parent of the last one behind an end: those above it are killed from process 3 on down, or all from below."""
+    """Returns the parent of the last process after another has been killed. With step 1, the processes are killed from
+    process 3 down to the last but one; with step -1, from there up to process 2."""
     if step > 0:
-        return LAST - 1 if killed < LAST - 1 else 1 if who == 'nobody' else 2
-    return {'nobody': 1, 'process 2': 2 if killed > 2 else 1, 'each': killed - 1}[who]
+        return LAST - 1 if killed < LAST - 1 else 1 if who == 'no process' else 2
+    return {'no process': 1, 'process 2': 2 if killed > 2 else 1, 'each': killed - 1}[who]
 
 
 def trace(who, numbers, step):
-    """The events, and the lines that they show."""
+    """Returns the number of events, and the lines of the trace."""
     mark, once = MARKS[who]
     shown = ['3 call 1 fork = 2']
     event = 5
@@ -67,8 +68,8 @@ def trace(who, numbers, step):
 
 
 def parent(who, number, step):
-    """The parent of one that has been killed, behind all ends."""
-    return 2 if step > 0 and (number == 3 or who != 'nobody') else 1
+    """Returns the parent of a killed process after all have been killed."""
+    return 2 if step > 0 and (number == 3 or who != 'no process') else 1
 
 
 def items():
@@ -77,13 +78,13 @@ def items():
             mark, once = MARKS[who]
             event, shown = trace(who, numbers, step)
             world = WORLD.format(last=LAST, births=LAST - 1, mark=mark, once=int(once), first=numbers[0], step=step)
-            name = f'a chain in which {who} is marked, and which ends from {"above" if step > 0 else "below"}'
+            name = f'a chain in which {who} is marked, killed from {"above" if step > 0 else "below"}'
             yield name, 'run', (world, f'step {event}\n'), 0, list(shown)
             shown += [f'{event} call {parent(who, number, step)} waitpid = {number} status 9' for number in numbers]
-            yield f'{name}, with a report of each end', 'audit', ('\n'.join([*shown, '']),), 0, ['ok']
+            yield f'{name}, with a report of each', 'audit', ('\n'.join([*shown, '']),), 0, ['ok']
             shown[-1] = f'{event} call {LAST} waitpid = {numbers[-1]} status 9'
             said = [f'line {len(shown)}: fault 5']
-            yield f'{name}, with a report to another', 'audit', ('\n'.join([*shown, '']),), 1, said
+            yield f'{name}, with a report to the wrong process', 'audit', ('\n'.join([*shown, '']),), 1, said
 
 
 def judge(item):

@@ -1,6 +1,6 @@
-"""Random worlds of deep families, with child subreapers, process groups, sessions and stops, and such with a terminal
-that hangs up, beside the plain machine of tools/linux/machine.py; and traces of families, damaged, beside the plain check
-of traces."""
+"""Random worlds of deep families of processes, compared with the plain machine of tools/linux/machine.py. They have
+child subreapers, process groups, sessions and stops; some have a terminal that hangs up. Then damaged traces of such
+worlds, compared with plain_audit.py."""
 
 import os
 import random
@@ -19,7 +19,8 @@ HANDLED = 1, 17, 17, 17, 18
 
 
 class Maker:
-    """Makes a world. Process 1 has some children, and waits. A child of theirs begins at a block further down."""
+    """Makes a world. Process 1 has some children, and waits for them. A child begins at a later block than the parent
+    that forks it."""
 
     def __init__(self, seed):
         self.random = random.Random(seed)
@@ -65,7 +66,7 @@ class Maker:
         return self.one(*[self.call('exit', self.random.randrange(9))] * 9, ['sys pause'], self.call('sigsuspend', 0))
 
     def lines_of(self, block):
-        """Some calls of a block."""
+        """Returns the lines of one step of a block."""
         kind = self.random.randrange(30)
         if kind < 6:
             return self.fork(block)
@@ -101,7 +102,7 @@ class Maker:
 
 
 class Jobs(Maker):
-    """Makes a world with more of groups, stops and reads, and with hangups."""
+    """Makes a world with more groups, stops and reads, and with hangups."""
 
     def lines_of(self, block):
         return self.one(super().lines_of(block), super().lines_of(block), self.call('read', 0, self.one(4, 4, 0)),
@@ -121,7 +122,7 @@ class Jobs(Maker):
 
 
 def trace(world, events):
-    """What the plain machine shows."""
+    """Returns the trace of the plain machine."""
     plain, lines = machine.Machine(texts.World(world)), []
     for event in texts.read_events(events):
         lines += plain.event(event)
@@ -137,8 +138,8 @@ def judge_run(item):
 
 
 def damaged(seed):
-    """The trace of a world in which a report is by another process, or a mark or an end is changed, or it is told
-    elsewhere. The numbers of events stay."""
+    """Returns the trace of a world with up to three changes: another process makes a report, a mark is flipped or
+    inserted, or a mark or an end moves. The event numbers stay in their places."""
     maker = Maker(seed)
     lines = [line.split(' ', 1) for line in trace(maker.world(), maker.events()).splitlines()] or [['1', 'halt']]
     chance = random.Random(-seed)
@@ -148,7 +149,7 @@ def damaged(seed):
         return chance.choice(places) if places else chance.randrange(len(lines))
 
     def who(place):
-        """One that a line nearby is of."""
+        """Returns the process of this line or of one of the 20 lines before it."""
         words = [line.split() for _, line in lines[max(0, place - 20):place + 1]]
         return chance.choice([word[1] for word in words if len(word) > 1] or ['1'])
 

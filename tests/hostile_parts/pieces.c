@@ -1,4 +1,4 @@
-/* Loaded before the C library: a read gives at most PIECE bytes, and fails where PIECE is 0. */
+/* Preloaded before the C library. A read returns at most PIECE bytes, and fails with EIO if PIECE is 0. */
 #define _GNU_SOURCE
 #include <errno.h>
 #include <stdlib.h>

@@ -1,9 +1,9 @@
-"""A plain check of the laws of traces: what `jobk audit` has to print for a trace.
+"""A plain check of the laws of traces: what `jobk audit` must print for a trace.
 
-It reads docs/RULES.md, "What every trace keeps", clause by clause: a law here has the name of its clause there, looks
-back over the lines of a life, and says in which ways one more line breaks it. Of a life nothing is kept but who began
-it and what its lines told, in their order. Each line is judged by all laws, whatever the others say of it. Which one of
-several faults is told docs/FORMATS.md says, "The auditor", and so does FAULTS.
+Each law here has the name of its clause in docs/RULES.md, "What every trace keeps". A law looks back over the lines of
+a life, and yields the ways in which one more line breaks it. A life keeps what its lines said, in their order, its
+first parent, and the new parent of its children. All laws judge each line independently. If a line has several faults,
+FAULTS says which one is reported, as docs/FORMATS.md does in "The auditor".
 """
 
 import re
@@ -16,7 +16,7 @@ CALLS = ('getpid getppid fork waitpid waitid sched_yield getuid geteuid getgid g
 GREATEST_PROCESS = 2**31 - 1
 CONTINUED = 65535
 
-# ---- the forms of a line, as the index of docs/RULES.md has them: letters stand for numbers, NAME and HEX for words
+# ---- the forms of a line, from the index of docs/RULES.md: letters stand for numbers, NAME and HEX for words
 
 FORMS = [form.split() for form in (
     'E note P V', 'E call P NAME = R', 'E call P waitpid = C status W', 'E call P waitid = 0 take C status W',
@@ -28,14 +28,14 @@ NUMBERS = {'E': (1, 10**12), 'P': (1, GREATEST_PROCESS), 'C': (1, GREATEST_PROCE
 
 
 def number_in(word, least, greatest):
-    """The number that a word is, within its range; or None."""
+    """Returns the number that a word is, or None if it is no number or out of its range."""
     if not re.fullmatch('0|-?[1-9][0-9]{0,18}', word):
         return None
     return int(word) if least <= int(word) <= greatest else None
 
 
 def part_in(place, word):
-    """What a word is at its place in a form, or None where it can't stand there."""
+    """Returns the value of a word at its place in a form, or None if the word does not fit there."""
     if place in NUMBERS:
         return number_in(word, *NUMBERS[place])
     if place == 'NAME':
@@ -46,7 +46,7 @@ def part_in(place, word):
 
 
 def is_end(word):
-    """Whether a status word tells of an exit, or of an end by a signal."""
+    """Returns true if a wait status is that of an exit, or of a termination by a signal."""
     return word % 256 == 0 or word in SIGNALS
 
 
@@ -55,7 +55,8 @@ def is_stop(word):
 
 
 class Line:
-    """A line of one of the forms. Who has it, and what it tells of whom; each is None where it tells no such thing."""
+    """A line of one of the forms: the process that it is of, and what it says. A value that it does not have is
+    None."""
 
     def __init__(self, form, parts):
         said = dict(zip(form, parts))
@@ -69,7 +70,7 @@ class Line:
 
 
 def is_allowed(form, said):
-    """What docs/FORMATS.md says of parts beside their ranges."""
+    """Returns true if the parts of a line satisfy the rules of docs/FORMATS.md that are no ranges."""
     if said.get('S') not in (None, *(STOPS if 'stop' in said else SIGNALS)):
         return False
     if 'end' in said:
@@ -85,7 +86,7 @@ def is_allowed(form, said):
 
 
 def read_line(text):
-    """The line that a text is, or None where it has none of the forms."""
+    """Returns the line that a text is, or None if it has none of the forms."""
     words = text.split(' ')
     for form in FORMS:
         if len(form) == len(words):
@@ -98,13 +99,13 @@ def read_line(text):
 # ---- lives
 
 class Life:
-    """A life of a process: who began it, and what its lines told of it since, as pairs ('mark', 1 or 0), ('stop', S),
-    ('report', W) and ('end', W). A look counts as none."""
+    """A life of a process: its first parent, and what its lines say of it, as pairs ('mark', 1 or 0), ('stop', S),
+    ('report', W) and ('end', W). A look adds no pair."""
 
     def __init__(self, began_by):
-        self.began_by = began_by    # a life, and None for the first of process 1
+        self.began_by = began_by    # the life that forked this one; None for process 1
         self.told = []
-        self.heir = None            # who got its children, once it has ended; nobody those of process 1
+        self.heir = None            # the new parent of its children, after it has ended; None for process 1
 
     def all_told(self, what):
         return [value for kind, value in self.told if kind == what]
@@ -113,7 +114,7 @@ class Life:
         return (self.all_told(what) or [None])[-1]
 
     def since_last_stop(self):
-        """What was reported since it stopped last; of all its time where it never did."""
+        """Returns the statuses that were reported since its last stop, or all if it never stopped."""
         words = []
         for kind, value in reversed(self.told):
             if kind == 'stop':
@@ -125,14 +126,14 @@ class Life:
         return self.last_told('end') is not None
 
     def parent(self):
-        """Who began it, and from that one's end on its heir, and so on."""
+        """Returns its parent: the life that forked it or, if that has ended, the new parent, and so on."""
         parent = self.began_by
         while parent and parent.has_ended():
             parent = parent.heir
         return parent
 
     def forebears(self):
-        """Its parent, the parent of that one, and so on to process 1."""
+        """Yields its parent, its parent's parent, and so on up to process 1."""
         forebear = self.parent()
         while forebear:
             yield forebear
@@ -140,11 +141,11 @@ class Life:
 
 
 class Trace:
-    """Lines that keep the laws."""
+    """The lines so far, which break no law."""
 
     def __init__(self):
         self.first = Life(None)
-        self.newest = {1: self.first}       # the newest life of each number
+        self.newest = {1: self.first}       # the newest life with each process ID
         self.last = None                    # the last line
 
     def is_living(self, number):
@@ -167,13 +168,13 @@ class Trace:
             life.told.append(('end', line.word))
 
 
-# ---- the laws: each yields in which ways a line breaks it
+# ---- the laws: each yields the ways in which a line breaks it
 
 FALLS, PLACE, DEAD, LIVES = 'its event is before', 'halt is here, or is not', 'it does not live', 'it lives'
-NOBODY, NOT_PARENT, NOT_YET = 'nobody was born so', 'another is the parent', 'this has not been'
+NOBODY, NOT_PARENT, NOT_YET = 'no such child was born', 'another is the parent', 'this has not been'
 TWICE, OTHER, NO_STATUS = 'this was reported', 'that was another status', 'this is no status'
 
-# Of several ways the first here is told, with its fault.
+# The fault of each way. If a line breaks laws in several ways, the fault of the first one here is reported.
 FAULTS = {FALLS: 1, PLACE: 7, DEAD: 7, LIVES: 2, NOBODY: 3, NOT_PARENT: 5, NOT_YET: 3, TWICE: 4, OTHER: 6, NO_STATUS: 6}
 
 
@@ -210,7 +211,7 @@ def nobody_is_born_who_lives(trace, line):
 
 
 def told_to_the_parent(trace, line):
-    """Yields why somebody is told who hasn't to be; of no life of the child, too."""
+    """Yields a way if the child of a report does not exist, or if the reporting process is not its parent."""
     if line.child not in trace.newest:
         yield NOBODY
     elif line.process in trace.newest and trace.newest[line.process] is not trace.newest[line.child].parent():
@@ -281,7 +282,7 @@ def what_is_told_is_a_status(trace, line):
         yield NO_STATUS
 
 
-# In the order of docs/RULES.md. That lives are apart says of a line the same as that nobody is born who lives.
+# In the order of docs/RULES.md. The clause lives_are_apart is missing: for one line it is nobody_is_born_who_lives.
 LAWS = [no_end_is_reported_twice, ends_are_reported_to_the_parent, ends_are_looked_at_by_the_parent,
         no_stop_is_reported_twice, no_continue_is_reported_twice, stops_are_told_to_the_parent,
         continues_are_told_to_the_parent, what_is_told_is_a_status, lines_stand_in_lives, nobody_is_born_who_lives,
@@ -291,8 +292,8 @@ SAME_LAW = {'lives_are_apart': 'nobody_is_born_who_lives'}
 
 
 def first_break(texts):
-    """The number of the first line that breaks a law or has no form, and the laws that it breaks, by their names, each
-    with the ways; or None."""
+    """Returns the number of the first line that breaks a law or has no form, and the names of the laws that it breaks,
+    each with the ways; or None."""
     trace = Trace()
     for number, text in enumerate(texts, 1):
         line = read_line(text)
@@ -306,7 +307,7 @@ def first_break(texts):
 
 
 def audit(trace):
-    """What `jobk audit` prints for the bytes of a trace."""
+    """Returns what `jobk audit` must print for the bytes of a trace."""
     *lines, unfinished = trace.decode('latin-1').split('\n')
     found = first_break(lines)
     if found is None:

@@ -1,10 +1,10 @@
-"""The results of calls by plain rules, from docs/FORMATS.md, for one process that acts while others do nothing: a second
-opinion beside tools/linux/machine.py.
+"""The results of calls by plain rules from docs/FORMATS.md, independent of tools/linux/machine.py. One process makes
+calls while the others do nothing.
 
-A rule takes the process and its registers r1 to r4. It answers r0, or the bytes that were moved, or, where r0 is 0,
-what the trace says behind that; and it changes the registers and the process where the call does. ENDS and BLOCKS are
-answered by calls that give no result. Arguments are -2**63, -1, 0, 1 and 2**63 - 1 alone, so the only signal is 1, and
-process 1 the only one that has a number of these; but waitid has some more.
+A rule takes the process and its registers r1 to r4, and changes the process as the call does. It returns r0; or the
+bytes that were moved; or, if r0 is 0, what the trace shows after the 0; or ENDS or BLOCKS if the call does not return.
+The only arguments are -2**63, -1, 0, 1 and 2**63 - 1, and a few more for waitid. So the only signal is 1, and only
+process 1 has one of these process IDs.
 """
 
 PERM, NOENT, SRCH, CHILD, FAULT, INVAL, NOTTY = -1, -2, -3, -10, -14, -22, -25
@@ -15,7 +15,7 @@ FLAGS = 1 | 2 | 4 | 2**28 | 2**30 | 2**31
 
 
 def signed(bits):
-    """A number of 64 bits with its sign."""
+    """Returns a number of 64 bits as a signed number."""
     return (bits + 2**63) % 2**64 - 2**63
 
 
@@ -24,11 +24,11 @@ def set_without_unblockable(word):
 
 
 class Process:
-    """The process that acts. At first all are in group 1 and session 1, which process 1 leads."""
+    """The process that makes the calls. At first all processes are in group 1 and session 1, which process 1 leads."""
 
     def __init__(self, number, parent, child=0, line=b''):
         self.number, self.parent = number, parent
-        self.child = child              # the number of its only child, or 0
+        self.child = child              # the process ID of its only child, or 0
         self.group = self.session = 1
         self.ids = {'user': [0, 0, 0], 'group': [0, 0, 0]}      # real, effective and saved
         self.mask = 0
@@ -36,18 +36,18 @@ class Process:
         self.alarm = 0
         self.has_terminal = False
         self.foreground = 0
-        self.line = line                # what was typed and not read yet
+        self.line = line                # the input that was typed and not yet read
         self.memory = [0] * 256
         self.registers = [0] * 8
-        self.status = None              # its status word, where it ended
-        self.pending = False            # signal 1 is, and will end it
+        self.status = None              # its wait status, after it has terminated
+        self.pending = False            # true if signal 1 is pending, which will kill it
 
     def groups(self):
-        """The groups of its session. In session 1 process 1 stays in group 1."""
+        """Returns the process groups of its session. In session 1, process 1 stays in group 1."""
         return {self.group, 1} if self.session == 1 else {self.group}
 
     def generate(self, signal):
-        """Sends itself a signal. For process 1 without a handler nothing is generated."""
+        """Sends itself a signal. No signal is generated for process 1, because it has no handler."""
         if signal and self.number != 1:
             self.pending = True
 
@@ -56,7 +56,7 @@ def set_ids(p, which, number, all_three):
     real, _, saved = p.ids[which]
     if not 0 <= number <= GREATEST_ID:
         return INVAL
-    if p.ids['user'][1] == 0 and all_three:         # with privilege, which is effective user id 0 for groups, too
+    if p.ids['user'][1] == 0 and all_three:         # privileged: effective user ID 0, for group IDs, too
         p.ids[which] = [number] * 3
     elif p.ids['user'][1] == 0 or number in (real, saved):
         p.ids[which][1] = number
@@ -70,7 +70,7 @@ def group_or_session(p, number, told):
 
 
 def fork(p, *_):
-    return max(p.number, p.child) + 1               # the next number; the child has no turn
+    return max(p.number, p.child) + 1               # the next process ID; the child never runs
 
 
 def exec_program(p, number, *_):
@@ -95,7 +95,7 @@ def waitpid(p, choice, options, *_):
         return INVAL
     if not p.child or choice not in (p.child, -1, 0):       # the child is in the group of its parent
         return CHILD
-    return 0 if options & 1 else BLOCKS             # it has nothing to report
+    return 0 if options & 1 else BLOCKS             # the child has nothing to report
 
 
 def waitid(p, kind, number, options, *_):
@@ -105,23 +105,23 @@ def waitid(p, kind, number, options, *_):
     if kind == 1 and number < 1 or kind == 2 and number < 0:
         return INVAL
     named = kind == 0 or number == (p.child if kind == 1 else 1) or kind == 2 and number == 0
-    if not p.child or not named:                    # the child is in group 1, as its parent is
+    if not p.child or not named:                    # the child is in group 1, like its parent
         return CHILD
     if not bits & 1:
-        return BLOCKS                               # it has nothing to report
+        return BLOCKS                               # the child has nothing to report
     p.registers[1] = p.registers[2] = 0
     return 0
 
 
 def kill(p, target, signal, *_):
-    if signal not in (0, 1):                        # of these values they alone are 0 or a signal
+    if signal not in (0, 1):                        # no other of these values is 0 or a signal
         return INVAL
     if target == 0 or target == p.number:           # its group, or itself
         p.generate(signal)
         return 0
     if target == -1:                                # all but itself and process 1
         return 0 if p.child else SRCH
-    return 0 if target == p.parent else SRCH        # of these values no other names a process, or a group
+    return 0 if target == p.parent else SRCH        # no other of these values names a process or a group
 
 
 def sigqueue(p, target, signal, *_):
@@ -131,7 +131,7 @@ def sigqueue(p, target, signal, *_):
 
 
 def sigaction(p, signal, handler, mask, flags):
-    if signal != 1:                                 # of these values 1 alone is a signal
+    if signal != 1:                                 # no other of these values is a signal
         return INVAL
     if handler != -1 and flags % 2**64 & ~FLAGS:
         return INVAL
@@ -157,14 +157,14 @@ def sigpending(p, *_):
 def alarm(p, ticks, *_):
     if not 0 <= ticks <= 10**9:
         return INVAL
-    left, p.alarm = p.alarm, ticks                  # no tick comes
+    left, p.alarm = p.alarm, ticks                  # no tick occurs
     return left
 
 
 def setpgid(p, number, group, *_):
     if group < 0:
         return INVAL
-    if number not in (0, p.number):                 # of these values none names a child
+    if number not in (0, p.number):                 # none of these values names a child
         return SRCH
     if p.number == p.session:
         return PERM
@@ -207,11 +207,11 @@ def tcsetpgrp(p, group, *_):
 
 
 def settostop(p, *_):
-    return 0 if p.has_terminal else NOTTY           # it is in the foreground
+    return 0 if p.has_terminal else NOTTY           # the process is in the foreground
 
 
 def refusal_of_words(p, address, count):
-    """That of read and of write, or None."""
+    """Returns the error with which read or write fails, or None."""
     if not p.has_terminal:
         return NOTTY
     if not 0 <= count <= 16:
@@ -262,7 +262,7 @@ RULES = {
     'sigpending': sigpending,
     'sigsuspend': lambda p, *_: BLOCKS,
     'pause': lambda p, *_: BLOCKS,
-    'sigreturn': lambda p, *_: end(p, 11),          # no handler is there to return
+    'sigreturn': lambda p, *_: end(p, 11),          # there is no handler to return from
     'alarm': alarm,
     'setpgid': setpgid,
     'setsid': setsid,

@@ -1,7 +1,7 @@
-"""A plain reader of worlds and of lists of events: by docs/FORMATS.md, which fault a text has, if any.
+"""A plain reader of worlds and of events, from docs/FORMATS.md. It says which error an input has, if any.
 
-A fault is a pair of a line and a reason. A reader answers it, or None, and a number: a reader of worlds that of the
-consoles, a reader of events that of the events.
+An error is a pair of a line and a reason. A reader returns the first error, or None, and a number: how many consoles a
+world has, or how many events there are.
 """
 
 import re
@@ -21,7 +21,7 @@ OPERANDS.update({word: 'rr' for word in b'mov add sub mul div rem and or xor ld 
 
 
 class Refused(Exception):
-    """The reason for which a line is refused."""
+    """The reason for which a line is rejected."""
 
 
 class Words:
@@ -63,21 +63,21 @@ def name_in(word):
 
 
 def lines_of(text):
-    """A final line feed begins no other line."""
+    """Returns the lines of an input. A final line feed begins no other line."""
     lines = text.split(b'\n')
     return lines if lines[-1] else lines[:-1]
 
 
 class World:
-    """What the lines so far said."""
+    """What the lines so far define."""
 
     def __init__(self):
-        self.header = 0             # so many lines of the header came
+        self.header = 0             # how many lines of the header have been read
         self.consoles = 0
         self.programs = set()
-        self.labels = None          # those of the program that is open
-        self.instructions = 0       # so many of the program that is open
-        self.uses = []              # line, name, and the set that has to define it in the end
+        self.labels = None          # the labels of the current program
+        self.instructions = 0       # how many instructions the current program has
+        self.uses = []              # for each use of a name: its line, the name, and the set that must define it
 
     def take(self, number, words):
         if not words.words:
@@ -185,7 +185,7 @@ def read_events(text, consoles):
 
 
 def take_events(words, consoles, count):
-    """The number of events after a line."""
+    """Returns the number of events after a line."""
     first = words.next()
     if first in (b'step', b'tick'):
         count = number_in(b'%d' % (count + words.number(1, 1000000)), 1, 10**12)
@@ -208,7 +208,7 @@ def take_events(words, consoles, count):
 
 
 def message(world, events):
-    """What the program has to say to these texts, or None; and the number of events."""
+    """Returns the message that the program must print for a world and events, or None; and the number of events."""
     fault, consoles = read_world(world)
     name, count = 'world', 0
     if fault is None:

@@ -1,5 +1,5 @@
-"""The trace of a small world by plain rules. The world has one program, of `set`, `note`, jumps and `sys exit`, and
-plain_reader accepts it. One process has all turns, and it has no terminal, so ticks, keys and hangups show nothing.
+"""The trace of a small world by plain rules. plain_reader.py must accept the world, which has one program of `set`,
+`note`, jumps and `sys exit`. Its only process has no terminal, so ticks, keys and hangups add no line to the trace.
 """
 
 from hostile_parts.plain_reader import Words, lines_of
@@ -10,7 +10,7 @@ JUMPS = {b'jmp': lambda _: True, b'jz': lambda value: value == 0, b'jnz': lambda
 
 
 def instructions(world):
-    """The instructions of the program, and where each label points."""
+    """Returns the instructions of the program, and the position of each label."""
     code, labels = [], {}
     lines = [words for words in (Words(line).words for line in lines_of(world)) if words]
     for words in lines[3:-1]:
@@ -22,7 +22,8 @@ def instructions(world):
 
 
 def kinds(events):
-    """The kind of each event. A hangup is one event, and its words tell a console."""
+    """Yields the kind of each event. A `step` or a `tick` has a count, and a `key` is an event for each of its bytes; a
+    `hangup` is one event."""
     for words in (Words(line).words for line in lines_of(events)):
         if words:
             count = {b'key': len(words) - 2, b'hangup': 1}.get(words[0])

@@ -1,4 +1,4 @@
-"""Runs the program many times, in as many processes as there are processors, and counts what it answers."""
+"""Runs the program many times, in one process on each processor, and counts which runs pass."""
 
 import collections
 import functools
@@ -7,12 +7,12 @@ import os
 import signal
 import sys
 
-# The exit status, or minus the number of the signal that ended it; what stood on standard output and standard error.
+# The exit status, or minus the number of the signal that killed the program; its standard output and standard error.
 Answer = collections.namedtuple('Answer', 'status out err')
 
-SECONDS = 60        # a run that takes longer is ended, and has failed
+SECONDS = 60        # a run that takes longer is killed, and has failed
 FIRST_TEXT = 50     # the descriptor by which the program reads the first text
-SHOWN = 5           # so many failures of each kind are shown
+SHOWN = 5           # how many failures of each kind are printed
 
 program = None      # its absolute path
 
@@ -23,19 +23,19 @@ def read_file(name):
 
 
 def clip(content, place=0):
-    """The bytes of a text around a place, for people."""
+    """Returns the bytes of a text around a place, for a message."""
     begin = content.rfind(b'\n', 0, max(place, 1) - 1) + 1
     return '..' * (begin > 0) + repr(content[begin:begin + 200]) + '..' * (begin + 200 < len(content))
 
 
 @functools.lru_cache(maxsize=None)
 def memory_file(name):
-    """A file in memory, one of each name."""
+    """Returns the file in memory with this name; there is one for each name."""
     return os.memfd_create(name)
 
 
 def fill(name, pieces=()):
-    """The file in memory of that name, which holds these pieces."""
+    """Writes these pieces to the file in memory with this name, and returns the file."""
     file = memory_file(name)
     os.lseek(file, 0, os.SEEK_SET)
     os.truncate(file, 0)
@@ -46,8 +46,8 @@ def fill(name, pieces=()):
 
 
 def start(word, *texts, stdin=None, environment=None, seconds=SECONDS):
-    """Starts the program with that word and files. A file is given by its content, by pieces of it, or by its name. Its
-    outputs go to the files in memory `out` and `err`. It is ended after so many seconds."""
+    """Starts the program with a subcommand and files. A file is given by its content, by pieces of it, or by its name.
+    The outputs go to the files in memory `out` and `err`. The program is killed after `seconds`."""
     words, actions = [word], [(os.POSIX_SPAWN_OPEN, 0, '/dev/null', os.O_RDONLY, 0)]
     if stdin is not None:
         actions = [(os.POSIX_SPAWN_DUP2, stdin, 0)]
@@ -66,7 +66,7 @@ def start(word, *texts, stdin=None, environment=None, seconds=SECONDS):
 
 
 def finish(child):
-    """The answer of a program that was started, the seconds of a processor that it took, and its peak of memory."""
+    """Waits for a program that was started. Returns its answer, its processor time in seconds, and its peak memory."""
     _, status, used = os.wait4(child, 0)
     signal.alarm(0)
     outputs = [read_file(f'/dev/fd/{memory_file(name)}') for name in ('out', 'err')]
@@ -74,12 +74,12 @@ def finish(child):
 
 
 def answer(word, *texts, environment=None):
-    """What the program answers to that word and files of these contents."""
+    """Runs the program with a subcommand and files of these contents, and returns its answer."""
     return finish(start(word, *texts, environment=environment))[0]
 
 
 def difference(name, wanted, got):
-    """None where the answers are the same, else what differs, for people."""
+    """Returns None if the answers are equal, and otherwise a message on what differs."""
     if wanted == got:
         return None
     place = len(os.path.commonprefix([wanted.out, got.out]))
@@ -88,14 +88,15 @@ def difference(name, wanted, got):
 
 
 def begin_worker():
-    """A process that runs the program leaves signals that end the tests to the first process, which ends it."""
+    """Prepares a worker process. It ignores SIGINT, and lets SIGTERM kill it: the first process handles both, and kills
+    the workers."""
     signal.signal(signal.SIGINT, signal.SIG_IGN)
     signal.signal(signal.SIGTERM, signal.SIG_DFL)
     memory_file.cache_clear()
 
 
 class Checks:
-    """Counts checks, and shows those that fail."""
+    """Counts checks, and prints those that fail."""
 
     def __init__(self):
         self.passed = 0
@@ -103,12 +104,12 @@ class Checks:
         self.not_tried = 0
 
     def judge_each(self, kind, judge, items):
-        """Calls judge, which answers None or what failed, for each item; as many at once as there are processors."""
+        """Calls judge for each item, in one process on each processor. It returns None, or a message on what failed."""
         with multiprocessing.Pool(os.cpu_count(), begin_worker) as pool:
             self.count(kind, pool.imap(judge, items, 32))
 
     def count(self, kind, failures):
-        """Counts answers of a judge."""
+        """Counts what a judge returned for each item, and prints the first failures."""
         passed = failed = 0
         for failure in failures:
             if failure is None:

@@ -1,11 +1,12 @@
-"""Time and memory grow as the text does: ten times the text takes at most twelve times as much of both.
+"""Time and memory grow with the input: ten times the input takes at most twelve times as much of both.
 
-The texts are of 10 and 100 MB, and of 100 MB and 1 GB. Time is that of a processor; a hundredth of a second is left to
-the clock. Memory is the peak, which can't be told apart from that of these tests below 20 MB or so. A text is read
-through a pipe, so that it takes no memory beside that of the program. Where there isn't enough, a line says so.
+The inputs have 10 and 100 MB, and 100 MB and 1 GB. Time is processor time, and may be a hundredth of a second more.
+Memory is the peak; below about 20 MB, it cannot be distinguished from the peak of these tests. The program reads the
+input through a pipe, so the input takes no other memory. If there is too little memory, a line says so.
 
-An audit of births may take thirty times as long for ten times the text. Its machine instructions are ten times as many;
-but what is kept of each number is looked up at places without an order, and of 10 MB it fits into a processor's cache.
+An audit of births may take thirty times as long for ten times the input. It executes ten times as many machine
+instructions; but it looks up what it keeps of each process ID in random order, and only that of 10 MB fits into a
+processor's cache.
 """
 
 import contextlib
@@ -20,11 +21,11 @@ TIMES = 10
 AT_MOST = 12
 AT_MOST_OF_BIRTHS = 30
 TRIES = 4
-SECONDS = 300                   # a run that takes longer is ended, and has failed
+SECONDS = 300                   # a run that takes longer is killed, and has failed
 PIPE_BYTES = 1 << 20
-KEY_BYTES = 8                   # at most so many for a key, beside its text
-SPARE = 500 * 10**6             # so much memory is left to others
-LEAST = 10**8                   # and so much is taken to be there
+KEY_BYTES = 8                   # how many bytes a key may take beside its text
+SPARE = 500 * 10**6             # how much memory is left to other programs
+LEAST = 10**8                   # how much memory is assumed to be available at least
 F_SETPIPE_SZ = 1031
 
 HEADER = b'pidmax 40\nconsoles 1\n'
@@ -35,19 +36,19 @@ KEYS = b'key 1 ' + b' '.join(b'%02x' % (97 + key % 2) for key in range(64)) + b'
 
 
 def repeated(line, megabytes):
-    """Pieces of a text that repeats a line."""
+    """Returns pieces of a text that repeats a line."""
     block = line * (100000 // len(line))
     return itertools.repeat(block, megabytes * 1000000 // len(block))
 
 
 def births(megabytes):
-    """Pieces of a trace in which each process is born by the one before it, of 28 bytes a line or so."""
+    """Yields pieces of a trace in which each process forks the next, with about 28 bytes a line."""
     for first in range(1, megabytes * 1000000 // 28, 1000):
         yield b''.join(b'%d call %d fork = %d\n' % (event, event, event + 1) for event in range(first, first + 1000))
 
 
 def labels(programs):
-    """A world of programs, each of 1,000 jumps and 1,000 labels."""
+    """Yields pieces of a world of programs, each with 1,000 jumps and 1,000 labels."""
     yield HEADER
     for program in range(programs):
         yield b'program p%d\n' % program
@@ -56,14 +57,14 @@ def labels(programs):
 
 
 def labels_of_one(thousands):
-    """A world of a program with so many thousand labels. Their number has no limit."""
+    """Yields pieces of a world of one program with this many thousand labels. Their number has no limit."""
     yield HEADER + b'program init\nsys exit\n'
     yield b''.join(b'l%d:\n' % label for label in range(1000 * thousands))
     yield b'end\n'
 
 
-# What is read; its pieces by size, which is in millions of bytes but where the lesser size stands before them; the words
-# and the other text; and the status.
+# The name of an input; a function that returns its pieces for a size; the subcommand and the other file; and the exit
+# status. The size is in megabytes, except in BOUNDED, where the smaller of both sizes comes before the function.
 EVENTS, A_WORLD, A_TRACE = ('run', WORLD, '/dev/stdin'), ('run', '/dev/stdin', b''), ('audit', '/dev/stdin')
 BOUNDED = (
     ('a world of 30 programs with 1,000 labels each', 3, labels, A_WORLD, 0),
@@ -81,7 +82,7 @@ UNBOUNDED = (
 
 
 def group_memory():
-    """The bytes that the control groups of this process leave it, of each that has a limit."""
+    """Yields the bytes that each control group of this process leaves it, if the group has a limit."""
     for line in runs.read_file('/proc/self/cgroup').decode().splitlines():
         _, names, path = line.split(':', 2)
         folder, limit, used = '/memory', 'memory.limit_in_bytes', 'memory.usage_in_bytes'
@@ -94,7 +95,7 @@ def group_memory():
 
 
 def available():
-    """The bytes of memory that there are for a program, but for some that are left to others."""
+    """Returns how many bytes of memory a program may take, so that enough is left to other programs."""
     lines = dict(line.split(':') for line in runs.read_file('/proc/meminfo').decode().splitlines())
     limit, _ = resource.getrlimit(resource.RLIMIT_AS)
     own = [] if limit == resource.RLIM_INFINITY else [limit]
@@ -102,7 +103,8 @@ def available():
 
 
 def measure(pieces, texts, status):
-    """The seconds and the peak of a run, or a fault where its status is another. It gets the memory that is there."""
+    """Returns the processor time and the peak memory of a run, which may take all available memory. Raises ValueError
+    if its status differs."""
     read_end, write_end = os.pipe()
     fcntl.fcntl(write_end, F_SETPIPE_SZ, PIPE_BYTES)
     child = runs.start(*texts, stdin=read_end, seconds=SECONDS)
@@ -119,15 +121,15 @@ def measure(pieces, texts, status):
 
 
 def growth(name, lesser, pieces, texts, status):
-    """What grows too much as there is more to read, or None; and the bytes by which the peak grew, or None where there
-    isn't the memory: room is asked for by doubling it. Other work of the machine costs time, too, so only what grows
-    too much each time has failed."""
+    """Returns a message if time or memory grow too much with the input, or None; and the bytes by which the peak grew.
+    These are None if there is too little memory: the program doubles its buffers, so it may need twice as much. Other
+    work of the machine costs time, too, so the growth must be too large in each of TRIES tries."""
     at_most = AT_MOST_OF_BIRTHS if pieces is births else AT_MOST
     for _ in range(TRIES):
         try:
             seconds, peak = measure(pieces(lesser), texts, status)
             if 2 * TIMES * peak > available():
-                print('  %s: not tried, as %.1f GB of memory may be needed and %.1f GB are there' % (
+                print('  %s: not tried, because it may need %.1f GB of memory, and %.1f GB are available' % (
                     name, 2 * TIMES * peak / 1e9, available() / 1e9), flush=True)
                 return None, None
             more_seconds, more_peak = measure(pieces(TIMES * lesser), texts, status)
@@ -141,14 +143,14 @@ def growth(name, lesser, pieces, texts, status):
 
 
 def cost_of_a_key(lesser, grown):
-    """None where a key takes few bytes beside its text."""
+    """Returns a message if a key takes too many bytes beside its text, or None."""
     text = (TIMES - 1) * sum(map(len, repeated(KEYS, lesser)))
     each = (grown - text) / (64 * text / len(KEYS))
     return f'a key takes {each:.1f} bytes beside its text, above {KEY_BYTES}' if each > KEY_BYTES + 0.1 else None
 
 
 def check_from(checks, megabytes, bounded=()):
-    """Judges the growth from texts of so many megabytes to those of ten times as many."""
+    """Checks the growth from inputs of this many megabytes to inputs of ten times as many."""
     told = '%s: %d MB and %s' % ('%s', megabytes, '1 GB' if megabytes == 100 else f'{TIMES * megabytes} MB')
     grown = {row[0]: growth(*row) for row in bounded}
     grown.update((name, growth(told % name, megabytes, *row)) for name, *row in UNBOUNDED)

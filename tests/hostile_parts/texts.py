@@ -1,5 +1,5 @@
-"""Malicious texts: their beginnings, also in pieces, faults by name, and each byte at each place. plain_reader says
-which fault a text has, and plain_world what the trace is where there is none."""
+"""Hostile worlds and events: their beginnings, also in pieces, each error by name, and each byte at each position.
+plain_reader.py says which error an input has, and plain_world.py what its trace is if it has none."""
 
 import array
 import contextlib
@@ -21,7 +21,7 @@ PIECES = (1, 2, 3, 7)
 HEADER = b'pidmax 40\nconsoles 1\n'
 PLAIN = HEADER + b'program init\nsys exit\nend\n'
 
-# A world, a list of events, and what the program says to them.
+# A world, events, and the message of the program.
 FAULTS = (
     (b'', b'step 3\n', b'jobk: world: line 1: end missing\n'),
     (b'pidmax 40\n', b'step 3\n', b'jobk: world: line 2: end missing\n'),
@@ -40,26 +40,27 @@ FAULTS = (
     (PLAIN, b'hangup x\n', b'jobk: events: line 1: bad number\n'),
     (PLAIN, b'#' * 201 + b'\n', b'jobk: events: line 1: line too long\n'))
 
-# Texts of which each byte is changed.
+# Inputs of which each byte is changed.
 WORLD = (b'pidmax 40\nconsoles 1\nprogram a setuid 7\nb:\nc:\nset r1, @b # c\nnote r1\njz r0, d\njmp b\nd:\n'
          b'sys exit\nend\n')
 EVENTS = b'step 9\nkey 1 0A 7f\nhangup 1\ntick 2 # t\n'
 
 
 def case(name):
-    """The world, the events and the trace of a case."""
+    """Returns the world, the events and the trace of a case."""
     folder = os.path.join('tests/cases', name)
     return [runs.read_file(os.path.join(folder, file)) for file in ('world', 'events', 'stdout')]
 
 
 def lines_to(trace, count):
-    """The lines of the first so many events."""
+    """Returns the lines of the first `count` events."""
     return b''.join(line for line in trace.splitlines(keepends=True) if int(line.split()[0]) <= count)
 
 
 def beginnings():
-    """Each beginning of each text of the cases, with the answer. A beginning of a list of events gives a beginning of
-    the trace. No beginning of a world is a world, but for the one without the last line feed."""
+    """Yields each beginning of the world and of the events of the cases, with the expected answer. A beginning of the
+    events makes a beginning of the trace. A beginning of a world is an error, except if only the last line feed is
+    missing."""
     for name in CASES:
         world, events, trace = case(name)
         for length in range(len(world) + 1):
@@ -81,7 +82,7 @@ def judge(item):
 
 
 def judge_in_pieces(item):
-    """The same, by reads that give few bytes."""
+    """Judges an item in the same way, but each read of the program returns only a few bytes."""
     library, piece, (name, world, events, wanted) = item
     environment = {'LD_PRELOAD': library, 'PIECE': str(piece)}
     got = runs.answer('run', world, events, environment=environment)
@@ -89,7 +90,8 @@ def judge_in_pieces(item):
 
 
 def judge_through_a_pipe(item):
-    """The same, where the events come through a pipe, a piece at a time, each after the one before was read."""
+    """Judges an item in the same way, but the events come through a pipe, piece by piece. Each piece is written after
+    the program has read the one before."""
     piece, (name, world, events, wanted) = item
     read_end, write_end = os.pipe()
     child = runs.start('run', world, '/dev/stdin', stdin=read_end)
@@ -103,21 +105,21 @@ def judge_through_a_pipe(item):
 
 
 def has_reader(pipe):
-    """Whether the other end of a pipe is open."""
+    """Returns true if the other end of a pipe is open."""
     poll = select.poll()
     poll.register(pipe, 0)
     return not poll.poll(0)
 
 
 def is_filled(pipe):
-    """Whether bytes of a pipe weren't read yet."""
+    """Returns true if a pipe holds bytes that were not read yet."""
     count = array.array('i', [0])
     fcntl.ioctl(pipe, termios.FIONREAD, count)
     return count[0] > 0
 
 
 def compile_library(folder):
-    """The library that lets reads give few bytes, or None where it can't be compiled."""
+    """Returns the library with which reads return only a few bytes, or None if it cannot be compiled."""
     library = os.path.join(folder, 'pieces.so')
     source = os.path.join(os.path.dirname(__file__), 'pieces.c')
     words = [*shlex.split(os.environ.get('CC', 'cc')), '-shared', '-fPIC', '-O1', '-o', library, source]
@@ -128,16 +130,16 @@ def compile_library(folder):
 
 
 def library_is_used(library):
-    """None where the library comes between the program and its reads."""
+    """Returns None if the library replaces the reads of the program, and otherwise a message."""
     if library is None:
-        return 'pieces.c cannot be compiled: set CC'
+        return 'cannot compile pieces.c; set CC'
     got = runs.answer('run', PLAIN, b'step 1\n', environment={'LD_PRELOAD': library, 'PIECE': '0'})
     wanted = runs.Answer(3, b'', b'jobk: cannot read /dev/fd/%d\n' % runs.FIRST_TEXT)
     return runs.difference('reads that fail', wanted, got)
 
 
 def changes(text):
-    """The text with each byte at each place, in place of what is there and before it, and without each of its bytes."""
+    """Yields the text without each of its bytes; and with each byte value before each byte, and in place of it."""
     for place in range(len(text) + 1):
         yield f'without byte {place}', text[:place] + text[place + 1:]
         for value in range(256):
@@ -162,7 +164,8 @@ def judge_change(item):
 
 
 def reader_fails(folder):
-    """What the plain reader says otherwise than a case, which was worked out by hand or by others."""
+    """Returns a message if the plain reader and a case differ, or None. The answers of the cases do not come from the
+    plain reader."""
     world, events = (runs.read_file(folder + file) for file in ('world', 'events'))
     wanted = runs.read_file(folder + 'stderr') if os.path.exists(folder + 'stderr') else b''
     got = plain_reader.message(world, events)[0] or b''
@@ -182,7 +185,7 @@ def check(checks):
                           [(library, piece, item) for piece in PIECES for item in wanted if library])
     whole = [answer_wanted(f'the events of {name}', *case(name)) for name in CASES]
     checks.judge_each('events through a pipe', judge_through_a_pipe, itertools.product(PIECES, whole))
-    checks.judge_each('faults by name', judge,
+    checks.judge_each('errors by name', judge,
                       [(f'{world} and {events}', world, events, runs.Answer(1, b'', message))
                        for world, events, message in FAULTS])
     checks.judge_each('texts with a changed byte', judge_change, changed_texts())

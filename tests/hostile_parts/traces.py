@@ -1,6 +1,6 @@
-"""Audits each trace of the cases and the examples, with one line removed, doubled or exchanged with its neighbour. The
-plain check is tried by the cases, and by traces of tests/mistakes.md that break a law each: they break it here, too. And
-random traces, which keep the laws up to their last line or so."""
+"""Audits each trace of the cases and the examples with one line removed, doubled or exchanged with its neighbour, and
+random traces, which break no law before their last lines. The plain check itself is tested with the cases, and with the
+traces of tests/mistakes.md, each of which must break its law."""
 
 import glob
 import os
@@ -13,7 +13,7 @@ from hostile_parts import plain_audit, runs
 RANDOM = 1000
 WORDS = 0, 256, 9, 4991, 5247, 65535, 139
 ONE_IN = {plain_audit.TWICE: 1, plain_audit.OTHER: 10, plain_audit.NOT_YET: 15, plain_audit.NOT_PARENT: 60}
-# Traces that no case can show, as memory is ample there.
+# Traces that no case can show, because the cases never run out of memory.
 REFUSED_FORK = b'1 call 1 fork = -11 memory\n2 call 1 fork = 2\n'
 REFUSED_SEND = (b'3 call 1 sigaction = 0\n6 call 1 sigprocmask = 0\n10 call 1 sigqueue = -11 memory\n'
                 b'11 call 1 sigpending = 0\n12 note 1 0\n14 call 1 sigqueue = 0\n15 call 1 sigpending = 0\n'
@@ -21,8 +21,8 @@ REFUSED_SEND = (b'3 call 1 sigaction = 0\n6 call 1 sigprocmask = 0\n10 call 1 si
 
 
 def traces():
-    """The traces of runs with status 0, and those that the cases audit, each once."""
-    found = {REFUSED_FORK: 'a refused fork', REFUSED_SEND: 'a refused send'}
+    """Returns the traces of runs with status 0, and those that the cases audit, each once and with a name."""
+    found = {REFUSED_FORK: 'a fork without memory', REFUSED_SEND: 'a send without memory'}
     for folder in sorted(glob.glob('tests/cases/*/') + glob.glob('examples/*/')):
         audited = first_word(folder) == b'audit'
         if first_word(folder) not in (b'run', b'audit') or not audited and os.path.exists(folder + 'status'):
@@ -35,27 +35,29 @@ def traces():
 
 
 def first_word(folder):
-    """The first word of the program in a case."""
+    """Returns the first argument of the program in a case."""
     words = folder + 'words'
     return runs.read_file(words).split(b'\n')[0] if os.path.exists(words) else b'run'
 
 
 def plain_check_fails(folder):
-    """Whether the plain check differs from what a case wants of an audit."""
+    """Returns a message if the plain check and the expected output of a case differ, or None."""
     wanted = runs.read_file(folder + 'stdout')
     got = plain_audit.audit(runs.read_file(folder + 'trace'))
     return None if got == wanted else f'{folder}: {got}, wanted {wanted}'
 
 
 def broken_laws():
-    """The rows of "Broken laws" in tests/mistakes.md: which clause the last line of a trace breaks, and its lines."""
+    """Yields the rows of "Broken laws" in tests/mistakes.md: the clause that the last line of a trace breaks, and the
+    lines of the trace."""
     text = runs.read_file('tests/mistakes.md').decode().partition('## Broken laws')[2]
     for lines, clause in re.findall(r'^\| `([^`]+)` \| .* \| broken_\w+ \| (\w+) \|$', text, flags=re.M):
         yield clause, lines.split('; ')
 
 
 def plain_law_fails(row):
-    """Whether the plain check finds no fault before the last line of a row, or the row's law isn't broken by that."""
+    """Returns None if the last line of a row is the first that breaks a law, and breaks the law of the row; otherwise a
+    message."""
     clause, lines = row
     number, broken = plain_audit.first_break(lines) or (0, {})
     if number == len(lines) and plain_audit.SAME_LAW.get(clause, clause) in broken:
@@ -64,7 +66,8 @@ def plain_law_fails(row):
 
 
 def damaged(lines):
-    """What becomes of a trace, and its lines then. Only what differs from the trace is given."""
+    """Yields each damage of a trace: what it is, the number of the line, and the damaged lines. A damage always changes
+    the trace."""
     for place in range(len(lines)):
         yield 'without', place, lines[:place] + lines[place + 1:]
         yield 'with twice', place, lines[:place + 1] + lines[place:]
@@ -73,7 +76,7 @@ def damaged(lines):
 
 
 def judge(item):
-    """Audits a trace. The status has to be 0 for `ok`, else 1."""
+    """Audits a trace. The status must be 0 for `ok`, and 1 otherwise."""
     name, trace = item
     wanted = plain_audit.audit(trace)
     got = runs.answer('audit', trace)
@@ -89,7 +92,7 @@ def items():
 
 
 def random_line(chance, event):
-    """A line of few processes, mostly one of which the laws say something."""
+    """Returns a line of one of four processes. The laws say something about most of these lines."""
     def who():
         return chance.choice((1, 1, 2, 2, 3, 3, 4))
     forms = (f'call {who()} fork = {who()}', f'call {who()} fork = {who()}',
@@ -102,8 +105,8 @@ def random_line(chance, event):
 
 
 def random_trace(seed):
-    """A trace. Most lines that break a law are left out, fewer of what seldom comes, and process 1 seldom ends. Behind
-    one that breaks a law come three more."""
+    """Returns a trace. Most lines that break a law are left out, but fewer of those that break it in a rare way.
+    Process 1 seldom exits. Three lines follow the first that breaks a law."""
     chance = random.Random(seed)
     kept, lines, left = plain_audit.Trace(), [], None
     while left != 0 and len(lines) < 80:

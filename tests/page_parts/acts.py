@@ -1,4 +1,4 @@
-"""What a person does at a page, and what has to come of it. Each act begins at a page that has just been opened."""
+"""What a person does on a page, and what must come of it. Each act begins on a page that has just been opened."""
 import json
 import os
 import re
@@ -16,10 +16,10 @@ def want(what, wanted, got):
         raise Failed(f'{what}: wanted {str(wanted)[:400]!r}, got {str(got)[:400]!r}')
 
 
-# A browser that says that it has no 64-bit memories.
+# Makes the browser say that it has no 64-bit memories.
 NO_64 = 'WebAssembly.validate = () => false'
 
-# A page whose memory grows by 11 pages, 704 kilobytes, at most: the section of the module that has it says so.
+# Limits the growth of the page's memory to 11 pages, 704 kilobytes, in the memory section of the module.
 BOUNDED = '''{
     const { compile } = WebAssembly;
     WebAssembly.compile = bytes => {
@@ -57,7 +57,7 @@ class Person:
         return self.page.ask(f'document.getElementById("{id}").value')
 
     def put(self, id, text):
-        """Types a text in the place of what stands there."""
+        """Replaces the content of a field by typing a text."""
         self.page.ask(f'(it => {{ it.focus(); it.select(); }})(document.getElementById("{id}"))')
         self.page.type(text)
 
@@ -73,7 +73,7 @@ class Person:
         return self.page.text('#place')
 
     def native_run(self, *words):
-        """Runs the native program on the texts as they stand in the page, without names."""
+        """Runs the native program on the world and the events of the page, after tools/names has replaced the names."""
         with tempfile.TemporaryDirectory() as room:
             for name in ('world', 'events'):
                 done = subprocess.run(['tools/names'], input=self.value(name), capture_output=True, text=True)
@@ -85,29 +85,29 @@ class Person:
         return self.native_run(*words).stdout
 
     def native_calls(self):
-        """What each event does, without the names of programs."""
+        """Returns the line of each event as `show --calls` prints it, without the names of programs."""
         lines = self.native_says('show', 'world', 'events', '--calls').splitlines()
         return [re.sub(r'^(\d+) (\d+) \S+ ', r'\1 \2 ', ' '.join(line.split())) for line in lines]
 
     def trace(self):
-        """The trace, as it is shown."""
+        """Returns the trace that the page shows."""
         rows = self.page.ask('[...document.querySelectorAll("#trace li")].map(it => it.querySelector(".event").textContent + " " + it.querySelector(".line").textContent)')
         return ''.join(row + '\n' for row in rows)
 
     def said(self):
-        """The trace with what each line says, as tools/explain writes it."""
+        """Returns the trace with the page's explanation of each line, in the form of tools/explain."""
         rows = self.page.ask('[...document.querySelectorAll("#trace li")].map(it => [".event", ".line", ".said"].map(part => it.querySelector(part).textContent))')
         return ''.join(f'{event} {line}' + (f'   {said}' if said else '') + '\n' for event, line, said in rows)
 
     def marked_line(self, name, kind):
-        """The line that a mark stands behind."""
+        """Returns the number of the line that has a mark."""
         return self.page.ask(f'''(() => {{
             const area = document.getElementById({json.dumps(name)}), mark = area.previousElementSibling.querySelector('.{kind}');
             return Math.round((parseFloat(mark.style.top) + area.scrollTop) / parseFloat(getComputedStyle(area).lineHeight)) + 1;
         }})()''')
 
     def changes(self):
-        """The columns of the state that are set off, by their processes."""
+        """Returns the highlighted columns of the state, for each process."""
         return self.page.ask('''[...document.querySelectorAll('#processes tr.process')].map(row =>
             [row.dataset.pid, ...[...row.cells].map((it, i) => it.className === 'new' ? i : 0).filter(Boolean)])''')
 
@@ -116,7 +116,8 @@ class Person:
             [...it.children].filter(part => !part.matches('.tick')).map(part => part.textContent).join(' ').replace(/ +/g, ' '))''')
 
     def state(self):
-        """The state, as it is shown: processes by their columns, what more is said of each, and all else."""
+        """Returns the state that the page shows: the columns of each process, the lines below it, and all other
+        lines."""
         return self.page.ask('''(() => {
             const rows = [...document.querySelectorAll('#processes tr')].map(row => [...row.cells].map(it => it.textContent.replace(' ◀ next', '')));
             rows.forEach(it => { if (it.length > 1) it[0] = it[0].replace(/^(\\d+) +/, '$1 '); });
@@ -125,7 +126,7 @@ class Person:
 
 
 def state_of(text):
-    """The same of what `show` prints."""
+    """Returns the state that `show` prints, in the form of Person.state."""
     first, *lines = text.splitlines()
     rows, others = [], [re.sub(r'^(after event|before the first) [^:]*: ', '', first)]
     for line in lines:
@@ -145,14 +146,14 @@ def explained(trace):
 
 
 def changes_of(before, now):
-    """Which columns of a process are others than before; all of one that wasn't there."""
+    """Returns the columns of each process that have changed; all columns of a new process."""
     former = {row[0].split()[0]: row for row in before['rows'] if len(row) > 1}
     now = [row for row in now['rows'] if len(row) > 1]
     return [[row[0].split()[0], *(i for i in range(1, 7) if former.get(row[0].split()[0], [None] * 7)[i] != row[i])] for row in now]
 
 
 def examples_have_their_traces(person):
-    """each example, race and C file of the list has the native trace, and each event its call"""
+    """each example, race and C file in the list has the native trace, and each event has its call"""
     names = person.page.ask('[...document.querySelectorAll("#examples option")].map(it => it.value).filter(Boolean)')
     if len(names) < 40:
         raise Failed(f'{len(names)} examples')
@@ -167,7 +168,7 @@ def examples_have_their_traces(person):
 
 
 def slider_has_states(person):
-    """the slider's state is that of show --at, and what the event changed is set off"""
+    """the slider shows the state of show --at, and highlights what the event changed"""
     for name in (SHELL, 'lost_wakeup', 'small_init', 'orphaned_job', 'full_queue', 'service_manager'):
         person.example(name)
         count = int(person.page.ask('document.getElementById("at").max'))
@@ -178,7 +179,7 @@ def slider_has_states(person):
             now = state_of(person.native_says('show', 'world', 'events', '--at', str(at)))
             want(f'state of {name} at {at}', now, person.state())
             before = state_of(person.native_says('show', 'world', 'events', '--at', str(max(at - 1, 0))))
-            want(f'what is set off of {name} at {at}', changes_of(before, now), person.changes())
+            want(f'highlights of {name} at {at}', changes_of(before, now), person.changes())
 
 
 def moves_by_keys(person):
@@ -209,7 +210,7 @@ def moves_by_keys(person):
 
 
 def puts_in_and_takes_back(person):
-    """ticks, keys, typed lines and hangups are put in behind the place, and taken back"""
+    """ticks, keys, typed lines and hangups are inserted after the current event, and removed again"""
     person.example(SHELL)
     person.page.choose('#at', '10')
     person.page.settle()
@@ -235,7 +236,7 @@ def puts_in_and_takes_back(person):
 
 
 def changes_no_other_event(person):
-    """a line that is put in changes no other event, wherever it stands"""
+    """an inserted line changes no other event, wherever it is"""
     wrong = person.page.ask('''(async () => {
         const { insertBehind, outline } = await import('./events.js');
         const events = 'step 5 # five\\nkey 1 ^Z 41 0A\\ntype 1 "a # \\u00e9b\\\\n" # end\\nhangup 1\\ntick 2';
@@ -250,7 +251,7 @@ def changes_no_other_event(person):
 
 
 def puts_a_tick_before(person):
-    """a tick is put in before a line of the trace, by a click there"""
+    """a click on a line of the trace inserts a tick before it"""
     person.example('lost_wakeup')
     person.page.choose('#at', '12')
     person.page.settle()
@@ -260,7 +261,7 @@ def puts_a_tick_before(person):
 
 
 def takes_names(person):
-    """names stand for numbers, in a world and in events, and a wrong name is told"""
+    """names stand for numbers, in a world and in events, and a wrong name is reported"""
     for name in ('world', 'events'):
         with open(f'tests/tools/names_run/{name}') as file:
             person.put(name, file.read())
@@ -268,33 +269,33 @@ def takes_names(person):
     person.page.settle()
     want('trace', person.native_says('run', 'world', 'events'), person.trace())
     person.put('world', person.value('world').replace('r1, SIG', 'r1, SGI', 1))
-    person.page.wait('!document.getElementById("refused").hidden', 'the name is refused')
+    person.page.wait('!document.getElementById("refused").hidden', 'the name is rejected')
     want('why', True, 'no name is SGI' in person.page.text('#refused'))
 
 
 def tells_faults(person):
-    """a refused text is told at its line, and mended"""
+    """an error is reported at its line, and the report goes when the error is fixed"""
     person.example('small_init')
     world = person.value('world')
     person.put('world', world.replace('sys fork', 'sys fokr', 1))
-    person.page.wait('!document.getElementById("refused").hidden', 'the fault is told')
+    person.page.wait('!document.getElementById("refused").hidden', 'the error is reported')
     told = person.native_run('run', 'world', 'events').stderr
     want('fault', re.sub(r'^jobk: world: line (\d+): (.*)\n', r'✗ world, line \1: \2', told), person.page.text('#refused').split('\n')[0])
     refusal = person.native_run('run', '--names', 'world', 'events').stderr
-    want('its word', ''.join(refusal.splitlines(True)[2:-1]).rstrip('\n'), person.page.text('#refused pre'))
+    want('its reason', ''.join(refusal.splitlines(True)[2:-1]).rstrip('\n'), person.page.text('#refused pre'))
     want('its mark', int(re.search(r'line (\d+)', told).group(1)), person.marked_line('world', 'fault'))
     person.put('world', world)
-    person.page.wait('document.getElementById("refused").hidden', 'it is mended')
+    person.page.wait('document.getElementById("refused").hidden', 'the error is fixed')
     person.put('events', 'step 3\nstep x\n')
-    person.page.wait('!document.getElementById("refused").hidden', 'the fault of events is told')
+    person.page.wait('!document.getElementById("refused").hidden', 'the error in the events is reported')
     want('fault of events', '✗ events, line 2: bad number', person.page.text('#refused').split('\n')[0])
 
 
 def carries_links(person):
-    """a link has both texts and the place"""
+    """a link has the world, the events and the place"""
     person.example('lost_wakeup')
     person.put('events', 'step 11\ntick 1\nstep 189\n')
-    person.page.wait('document.getElementById("place").textContent === "event 5 of 201"', 'the events are others')
+    person.page.wait('document.getElementById("place").textContent === "event 5 of 201"', 'the events have changed')
     person.page.settle()
     person.page.choose('#at', '33')
     person.page.settle()
@@ -318,12 +319,12 @@ def carries_links(person):
 
 
 def keeps_strangers_out(person):
-    """texts enter the page as text alone, and nothing comes from elsewhere"""
+    """a world and events enter the page only as text, and the page loads nothing from other sites"""
     policy = person.page.ask('document.querySelector("meta[http-equiv]").content')
     want('policy', [True, []], [policy.startswith("default-src 'none';"), re.findall(r"unsafe-inline|'unsafe-eval'|https?:|[*]|blob:", policy)])
     world = '# <img src=x onerror=alert(1)>\npidmax 2\nconsoles 0\nprogram <b>x</b>\nend\n'
     person.put('world', world)
-    person.page.wait('!document.getElementById("refused").hidden', 'the text is refused')
+    person.page.wait('!document.getElementById("refused").hidden', 'the world is rejected')
     want('elements', 0, person.page.ask('document.querySelectorAll("main img").length'))
     person.example(SHELL)
     person.put('events', person.value('events').replace('key 1 68 69 0A', 'type 1 "<u>hi\\n"'))
@@ -333,7 +334,7 @@ def keeps_strangers_out(person):
 
 
 def finds_schedules(person):
-    """all schedules are tried, each number of ticks is shown, and a click loads the one that hangs"""
+    """all schedules are tried, their counts and outcomes are shown, and a click loads the schedule that hangs"""
     person.example('lost_wakeup')
     person.key('4')
     person.click('#explore')
@@ -353,7 +354,7 @@ def finds_schedules(person):
 
 
 def mends_the_lost_wakeup(person):
-    """from the page alone the lost wake-up is found and mended, and the link sent"""
+    """the page alone suffices to find and fix the lost wakeup, and to share the link"""
     person.example('lost_wakeup')
     person.key('4')
     person.click('#explore')
@@ -386,20 +387,20 @@ wait:
 
 
 def stops_long_work(person):
-    """what lasts can be stopped, and the page stays usable"""
+    """long work can be stopped, and the page stays usable"""
     person.example('lost_wakeup')
     person.key('4')
     person.page.choose('#ticks', '4')
     person.page.choose('#upto', '200')
     person.page.click('#explore')
-    person.page.wait('/at most [34] of 4/.test(document.getElementById("explored").textContent)', 'it says how far it is')
+    person.page.wait('/at most [34] of 4/.test(document.getElementById("explored").textContent)', 'it shows its progress')
     person.key('Home')
     want('the page moves', 'event 0 of 200', person.place())
     person.click('#stop')
     person.page.wait('/stopped/.test(document.getElementById("explored").textContent)', 'it stops')
     person.page.choose('#ticks', '1')
     person.page.click('#explore')
-    person.page.wait('/^1 of|^\\d+\\.\\d s$/.test(document.getElementById("explored").textContent)', 'it can be begun again')
+    person.page.wait('/^1 of|^\\d+\\.\\d s$/.test(document.getElementById("explored").textContent)', 'it can be started again')
 
 
 def takes_much(person):
@@ -410,13 +411,13 @@ def takes_much(person):
     person.page.settle()
     want('rows', 5000, person.page.ask('document.querySelectorAll("#trace li").length'))
     person.page.ask('''(it => { it.value = `# ${'much '.repeat(38)}\\n`.repeat(52000); it.dispatchEvent(new Event('input')); })(document.getElementById("world"))''')
-    person.page.wait('!document.getElementById("refused").hidden', 'the long text is refused', seconds=60)
+    person.page.wait('!document.getElementById("refused").hidden', 'the long world is rejected', seconds=60)
     person.example('note_and_exit')
     want('a small world then', '2 note 1 7\n3 end 1 1792\n3 halt\n', person.trace())
 
 
 def refuses_memory(person):
-    """a fork for which there is no memory is refused, and the page stays usable"""
+    """a fork without memory fails, and the page stays usable"""
     def trace_of_forks(person):
         person.put('world', 'pidmax 1000\nconsoles 0\nprogram init\nmore:\nsys fork\njmp more\nend\n')
         person.put('events', 'step 300\n')
@@ -429,7 +430,7 @@ def refuses_memory(person):
         poor = Person(page, person.native)
         trace = trace_of_forks(poor)
         done, refused, _ = trace.partition(' fork = -11 memory\n')
-        want('a refused fork', ' fork = -11 memory\n', refused)
+        want('a failed fork', ' fork = -11 memory\n', refused)
         poor.example('note_and_exit')
         want('a small world then', '2 note 1 7\n3 end 1 1792\n3 halt\n', poor.trace())
     finally:
@@ -437,7 +438,7 @@ def refuses_memory(person):
     forks = trace_of_forks(person)
     want('with memory', person.native_says('run', 'world', 'events'), forks)
     before = done.rpartition('\n')[0]
-    want('before the refused fork', forks[:len(before)], before)
+    want('before the failed fork', forks[:len(before)], before)
 
 
 def draws_lanes(person):
@@ -458,7 +459,7 @@ def draws_lanes(person):
 
 
 def audits(person):
-    """a pasted trace is audited, and an example of the list"""
+    """a trace from the list of examples is audited, and the trace of the run"""
     person.page.choose('#examples', 'audit_of_a_second_report')
     person.page.wait('document.getElementById("verdict").textContent', 'the audit')
     want('a second report', '✗ line 4: fault 4', person.page.text('#verdict'))
@@ -468,7 +469,7 @@ def audits(person):
 
 
 def saves_and_opens(person):
-    """texts are saved as files, and opened"""
+    """a world is saved as a file, and opened"""
     folder = tempfile.mkdtemp()
     person.page.browser.send('Browser.setDownloadBehavior', behavior='allow', downloadPath=folder)
     person.example('note_and_exit')
@@ -504,7 +505,7 @@ def has_names(person):
 
 
 def opens_as_one_file(browser, address, before=''):
-    """the page as one file opens without a server"""
+    """the page as a single file opens without a server"""
     page = Page(browser, address, before=before)
     try:
         page.settle()

@@ -1,4 +1,4 @@
-"""A browser of the family of Chromium without a window, by its protocol, over two pipes."""
+"""A headless browser of the Chromium family, which these tests control by its protocol over two pipes."""
 import fcntl
 import json
 import os
@@ -13,11 +13,11 @@ CTRL = 2
 
 
 class Failed(Exception):
-    """What the page does isn't what is wanted."""
+    """The page does not do what the test expects."""
 
 
 def pipe():
-    """Two ends, at numbers above those that the browser takes."""
+    """Returns both ends of a pipe, with descriptors above those that the browser uses."""
     return [fcntl.fcntl(end, fcntl.F_DUPFD, 10) for end in os.pipe()]
 
 
@@ -53,7 +53,7 @@ class Browser:
                 raise Failed('the browser does not answer')
             piece = os.read(self.answers, 1 << 20)
             if not piece:
-                raise Failed('the browser has ended')
+                raise Failed('the browser has exited')
             self.rest += piece
         text, self.rest = self.rest.split(b'\0', 1)
         return json.loads(text)
@@ -76,7 +76,7 @@ class Browser:
             self.hear(message)
 
     def hear(self, message):
-        """Keeps what the page's console tells of errors."""
+        """Keeps the errors on the page's console."""
         method, of = message.get('method'), message.get('params', {})
         if method == 'Runtime.exceptionThrown':
             details = of['exceptionDetails']
@@ -88,7 +88,7 @@ class Browser:
 
 
 class Page:
-    """A page in the browser. A script may run before those of the page."""
+    """A page in the browser. The script `before` runs before those of the page."""
 
     def __init__(self, browser, address, width=1280, height=720, scale=1, before=''):
         self.browser = browser
@@ -115,7 +115,7 @@ class Page:
         self.send('Emulation.setDeviceMetricsOverride', width=width, height=height, deviceScaleFactor=scale, mobile=False)
 
     def ask(self, expression, seconds=60):
-        """The value of an expression, which may be a promise."""
+        """Returns the value of an expression, also if it is a promise."""
         told = self.browser.send('Runtime.evaluate', session=self.session, seconds=seconds, expression=expression,
                                  awaitPromise=True, returnByValue=True, userGesture=True)
         if 'exceptionDetails' in told:
@@ -131,7 +131,7 @@ class Page:
             time.sleep(0.01)
 
     def settle(self):
-        """Until all that was asked is shown."""
+        """Waits until the page shows all that was asked of it."""
         self.wait('document.getElementById("run").ariaBusy === "false" && document.getElementById("state").ariaBusy === "false"', 'the page settles')
 
     def click(self, selector):
@@ -158,7 +158,7 @@ class Page:
         return self.ask(f'document.querySelector({json.dumps(selector)}).textContent')
 
     def choose(self, selector, value):
-        """Takes an option of a list, or puts a value into a field."""
+        """Chooses an option of a list, or sets the value of a field."""
         self.ask(f'''(() => {{
             const it = document.querySelector({json.dumps(selector)});
             it.value = {json.dumps(value)};

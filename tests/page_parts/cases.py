@@ -1,4 +1,5 @@
-"""Cases of programs in a page: those of the tests and random worlds, with what the native program says."""
+"""Runs of the program in a page, each with its expected output: cases of the tests, and what the native program prints
+for examples and random worlds."""
 import base64
 import glob
 import os
@@ -28,7 +29,8 @@ class Case:
         self.wanted = {'out': out, 'err': err, 'status': status}
 
     def is_of_a_library(self):
-        """Whether the words name no other files than the three of the library, which always has them."""
+        """Returns true if the library can run the case: the words name no file but world, events and trace, which the
+        library always has, and the case has those that they name."""
         named = {word.decode('latin-1') for word in self.words}
         return named & set(FILES) <= set(self.files) and not named & (set(self.files) - set(FILES))
 
@@ -44,7 +46,7 @@ class Case:
 
 
 def words_of(folder):
-    """The words of a case; None where they name what a page hasn't, a path or a folder."""
+    """Returns the words of a case, or None if they name a path or a folder, which a page does not have."""
     if not os.path.exists(f'{folder}/words'):
         return [b'run', b'world', b'events']
     text = read(f'{folder}/words')
@@ -53,7 +55,7 @@ def words_of(folder):
 
 
 def kept():
-    """The cases of the tests, as tests/run has them, and the examples."""
+    """Yields the cases of the tests, with the results that tests/run expects, and the examples."""
     for folder in sorted(it for name in FOLDERS for it in glob.glob(f'tests/{name}/*')) + sorted(glob.glob('examples/*')):
         has = {name for name in ('world', 'trace', 'words', 'command', 'filter') if os.path.exists(f'{folder}/{name}')}
         words = words_of(folder)
@@ -65,7 +67,7 @@ def kept():
 
 
 def random_worlds():
-    """The small worlds of tests/compare_explore."""
+    """Yields the small random worlds of tests/compare_explore."""
     module = load('compare_explore', os.path.abspath('tests/compare_explore'))
     for number in range(RANDOM):
         small = module.Small(number)
@@ -82,7 +84,7 @@ def by_native(native, name, words, files):
 
 
 def beside_native(native):
-    """The examples and random worlds: what run, show, explore and audit print of them."""
+    """Yields what the native run, show, explore and audit print for races, examples and random worlds."""
     for folder in sorted(glob.glob('races/*') + glob.glob('examples/*')):
         files = {name: read(f'{folder}/{name}') for name in FILES if os.path.exists(f'{folder}/{name}')}
         if 'world' in files:

@@ -1,6 +1,9 @@
-"""Tests a page in a browser: programs, then acts.
+"""Tests a page in a browser: first the runs of its program, then the acts of a person.
 
-    main.py BROWSER FOLDER NATIVE SCRATCH [ACT..]      SCRATCH has page.html, the page as one file; without acts, all is tested
+    main.py BROWSER FOLDER NATIVE SCRATCH [ACT..]
+
+FOLDER has the page, and SCRATCH has page.html, the page as a single file. NATIVE is the native program. If an ACT is
+named, only the named acts are tested, and that the single file opens.
 """
 import functools
 import http.server
@@ -29,7 +32,7 @@ def serve(folder):
 
 
 def compare(page, all):
-    """Runs cases in the page, in pieces, and gives what differs."""
+    """Runs the cases in the page, 100 at a time, and returns what differs."""
     differences = []
     for at in range(0, len(all), 100):
         piece = all[at:at + 100]
@@ -62,20 +65,20 @@ class Judge:
 def judge_runs(judge, page, module, all):
     is_library, *taken = page.ask(cases.LOAD)
     all = [it for it in all if it.is_of_a_library() or not is_library]
-    judge.judge(f'the page takes {module}', [] if taken == [module] else taken)
+    judge.judge(f'the page loads {module}', [] if taken == [module] else taken)
     judge.judge(f'{len(all)} runs of {module} have the bytes of the native program', compare(page, all))
     print(f'{len(all)} runs of {"the library" if is_library else "the unproved program"}, {module}')
     page.close()
 
 
 def judge_modules(judge, browser, folder, address, native):
-    """Both modules, if the page has both."""
+    """Runs the cases with both modules of the page. Fails if the page has no jobk32.wasm."""
     all = [*cases.kept(), *cases.beside_native(native)]
     judge_runs(judge, Page(browser, address), 'jobk.wasm', all)
     if os.path.exists(f'{folder}/jobk32.wasm'):
         judge_runs(judge, Page(browser, address, before=acts.NO_64), 'jobk32.wasm', all)
     else:
-        judge.judge('the page has jobk32.wasm', ['tools/page found no wasm-opt: install the package binaryen'])
+        judge.judge('the page has jobk32.wasm', ['tools/page found no wasm-opt; install the package binaryen'])
 
 
 def main():

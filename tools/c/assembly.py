@@ -1,4 +1,4 @@
-"""The lines of a program of a world: instructions, labels and comments, and the places in memory that they name."""
+"""The lines of a program in a world: instructions, labels and comments; and the words of memory that they name."""
 import re
 from dataclasses import dataclass
 
@@ -8,12 +8,12 @@ OTHER_WAY = {'jz': 'jnz', 'jnz': 'jz'}
 
 @dataclass(eq=False)
 class Frame:
-    """Neighbouring words of memory. Where they begin is decided once all sizes are known."""
+    """Consecutive words of memory. Their base is set when all sizes are known."""
     size: int = 0
     base: int = 0
 
     def take(self, count=1):
-        """So many words more."""
+        """Adds words to the frame. Returns the first of them."""
         word = Word(self, self.size)
         self.size += count
         return word
@@ -57,12 +57,12 @@ class Instruction:
 
     @property
     def target(self):
-        """The label to which it can jump."""
+        """Returns the label that the instruction may jump to, or None."""
         return self.operands[-1] if self.operation in ('jmp', 'jz', 'jnz', 'jlt') else None
 
     @property
     def ends(self):
-        """Whether what stands behind it isn't reached from it."""
+        """Returns true if the next instruction never runs after this one."""
         return self.operation == 'jmp' or self.operation == 'sys' and self.operands[0] in ('exit', 'sigreturn')
 
     def __str__(self):
@@ -87,7 +87,7 @@ class Assembly:
         self.lines.append(label)
 
     def label(self, text, is_kept=False):
-        """A new label with a name of its own, which says what a text says."""
+        """Returns a new label with a unique name, which is made from a text."""
         stem = re.sub('[^a-z0-9_]', '_', text.lower()).lstrip('_0123456789') or 'label'
         name, count = stem[:LONGEST_NAME], 1
         while name in self.names:
@@ -98,12 +98,13 @@ class Assembly:
         return Label(name, is_kept)
 
     def last_label(self):
-        """The label at the place that is reached, if there is one."""
+        """Returns the label at the end of the lines so far, or None."""
         labels = [line for line in self.lines[-1:] if isinstance(line, Label)]
         return labels[0] if labels else None
 
     def finish(self):
-        """Takes out what is never reached, jumps to the next instruction, and labels that nobody names."""
+        """Removes unreachable instructions, jumps to the next instruction, and comments without instructions. Removes
+        labels that no instruction names, except kept ones."""
         while True:
             before = len(self.lines)
             self.lines = list(without_idle_jumps(list(with_turned_jumps(list(reached(self.lines))))))
@@ -141,12 +142,12 @@ class Address:
 
 
 def cut(line):
-    """A line of a world has at most 200 bytes."""
+    """Returns a line cut to a length that a world allows."""
     return line.encode('utf-8')[:LONGEST_LINE].decode('utf-8', 'ignore').rstrip()
 
 
 def reached(lines):
-    """The lines without instructions that stand behind a jump, and that no label leads to."""
+    """Yields the lines without unreachable instructions: those after a jump or an exit, before a label in use."""
     named = {line.target.name for line in lines if isinstance(line, Instruction) and line.target is not None}
     named |= {operand.name for line in lines if isinstance(line, Instruction)
               for operand in line.operands if isinstance(operand, Address)}
@@ -161,14 +162,14 @@ def reached(lines):
 
 
 def without_idle_jumps(lines):
-    """The lines without jumps to what comes next anyway."""
+    """Yields the lines without jumps to the next instruction."""
     for place, line in enumerate(lines):
         if not (isinstance(line, Instruction) and line.operation == 'jmp' and leads_to(lines, place + 1, line.target)):
             yield line
 
 
 def with_turned_jumps(lines):
-    """The lines with one jump in the place of one over another."""
+    """Yields the lines. A jump with the opposite condition replaces a conditional jump over another jump."""
     skipped = None
     for place, line in enumerate(lines):
         if place == skipped:
@@ -181,7 +182,7 @@ def with_turned_jumps(lines):
 
 
 def behind_comments(lines, place):
-    """Where the next instruction stands, if only comments stand between."""
+    """Returns the place of the next instruction, or None if a label or the end comes first."""
     place += 1
     while place < len(lines) and isinstance(lines[place], Comment):
         place += 1
@@ -189,7 +190,7 @@ def behind_comments(lines, place):
 
 
 def leads_to(lines, place, label):
-    """Whether a label stands at a place, before the next instruction."""
+    """Returns true if a label is at a place, before the next instruction."""
     while place < len(lines) and not isinstance(lines[place], Instruction):
         if lines[place] is label:
             return True
@@ -198,7 +199,7 @@ def leads_to(lines, place, label):
 
 
 def without_idle_comments(lines):
-    """The lines without comments that nothing stands behind but a comment, or the end."""
+    """Yields the lines without comments that come last or before another comment."""
     for place, line in enumerate(lines):
         behind = lines[place + 1] if place + 1 < len(lines) else None
         if not isinstance(line, Comment) or not (behind is None or isinstance(behind, Comment)):

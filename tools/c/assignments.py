@@ -1,4 +1,4 @@
-"""Code for what changes variables: assignments, steps by one, initial values, expressions whose value isn't used."""
+"""Code for assignments, ++ and --, initial values, and expressions whose value is not used."""
 from pycparser import c_ast
 
 from assembly import Word
@@ -11,10 +11,10 @@ MEMBER_ORDER = {Kind.ACTION: ('sa_handler', 'sa_mask', 'sa_flags'), Kind.VALUE: 
 
 
 class Assignments:
-    """Writes assignments of one function; a part of Writer."""
+    """Writes code for assignments in one function; a part of Writer."""
 
     def effect(self, node, depth=0):
-        """What an expression does, without its value."""
+        """Writes code for the side effects of an expression whose value is not used."""
         if isinstance(node, c_ast.Assignment):
             self.assign(node, depth, is_wanted=False)
         elif isinstance(node, c_ast.UnaryOp) and node.op in ('p++', 'p--', '++', '--'):
@@ -59,9 +59,9 @@ class Assignments:
     def assign(self, node, depth, is_wanted):
         target = node.lvalue
         if not isinstance(target, (c_ast.ID, c_ast.ArrayRef, c_ast.StructRef)):
-            refuse(target, 'a variable, an element or a member is assigned to; there are no pointers')
+            refuse(target, 'expected a variable, an element or a member on the left side; there are no pointers')
         if node.op != '=' and node.op[:-1] not in INSTRUCTIONS and node.op not in ('<<=', '>>='):
-            refuse(node, f'{node.op} is not in the subset')
+            refuse(node, f'expected an operator of the subset, found `{node.op}`')
         self.refuse_constant(target)
         if self.assign_whole(node):
             return
@@ -76,17 +76,19 @@ class Assignments:
     def refuse_constant(self, target):
         variable = self.meaning(target if isinstance(target, c_ast.ID) else target.name)
         if isinstance(variable, Variable) and 'const' in getattr(variable.node, 'quals', ()):
-            refuse(target, f'{variable.name} is const: leave out the const, or the assignment')
+            refuse(target, f'expected a variable without const, found `{variable.name}`; leave out const or the '
+                   'assignment')
 
     def assign_whole(self, node):
-        """Copies a set of signals, or another variable that is no number; says whether the target is one."""
+        """Copies a variable that is neither a number nor a handler, such as a signal set. Returns true if the target is
+        such a variable."""
         kind = self.stored_kind(node.lvalue)
         if kind in NUMBERS or kind is Kind.HANDLER:
             return False
         source = node.rvalue
         if node.op != '=' or not isinstance(source, (c_ast.ID, c_ast.StructRef)) \
                 or self.stored_kind(source) is not kind:
-            refuse(node, f'a {kind.value} is copied from another one alone: a = b')
+            refuse(node, f'expected another {kind.value} on the right side; write a = b')
         place, other = self.fixed_place(node.lvalue), self.fixed_place(source)
         for number in range(WORDS.get(kind, 1)):
             self.load(0, other + number)
@@ -99,13 +101,13 @@ class Assignments:
             return MEMBER_KINDS.get(self.member(node)[1], Kind.INT) if node.field.name != 'sival_int' else Kind.INT
         variable = self.element(node) if isinstance(node, c_ast.ArrayRef) else self.meaning(node)
         if not isinstance(variable, Variable):
-            refuse(node, 'a variable, an element or a member has to stand here')
+            refuse(node, 'expected a variable, an element or a member')
         if isinstance(node, c_ast.ID) and variable.length is not None:
             refuse(node, f'expected a number, found the array `{variable.name}`; write {variable.name}[0]')
         return variable.kind
 
     def assign_fixed(self, node, place, depth, is_wanted):
-        """To a variable in a register, or to a word whose address is known."""
+        """Assigns to a variable in a register, or to a word at a known address."""
         kind, register = self.stored_kind(node.lvalue), depth
         if node.op == '=':
             register = self.assign_new(node, place, kind, depth)
@@ -130,7 +132,7 @@ class Assignments:
         return (node.op[:-1] in INSTRUCTIONS and kind in (Kind.INT, Kind.LONG) and common(kind, other) is kind)
 
     def assign_new(self, node, place, kind, depth):
-        """Gives the register that has the value afterwards."""
+        """Assigns the right side of =. Returns the register that then holds the value."""
         if kind is Kind.CHAR:
             self.value_as(node.rvalue, depth, kind)
             self.keep_char(kind, depth, self.constant(node.rvalue))
@@ -144,7 +146,7 @@ class Assignments:
         return register
 
     def value_into(self, node, register, kind, depth):
-        """The value of an expression, into the register of a variable."""
+        """Puts the value of an expression into the register of a variable."""
         own, number = self.number_kind(node), self.constant(node)
         if number is not None:
             self.set(register, wrapped(number, kind))
@@ -155,12 +157,12 @@ class Assignments:
             self.move(register, depth)
 
     def keep_char(self, kind, register, number=None):
-        """A char takes the low byte."""
+        """Cuts the value of a char to its low byte."""
         if kind is Kind.CHAR and not (number is not None and 0 <= number < 128):
             self.with_number('and', register, 255)
 
     def change_by(self, node, kind, depth):
-        """Does the operation of += and the like on the value at a depth. The result has the kind of the value."""
+        """Applies the operation of += or another such assignment to a value. The result has the type of that value."""
         operation, other = node.op[:-1], self.number_kind(node.rvalue)
         if operation in ('<<', '>>'):
             count = self.shift_count(node, node.rvalue, promoted(kind))
@@ -179,7 +181,7 @@ class Assignments:
             self.convert(depth, kind)
 
     def assign_element(self, node, depth, is_wanted):
-        """The address comes first, and then the value, beside it."""
+        """Assigns to an element. The address is evaluated before the value, which goes into the next register."""
         if depth > 1:
             with self.put_away(depth):
                 self.assign_element(node, 0, is_wanted)
@@ -204,13 +206,13 @@ class Assignments:
     # steps by one
 
     def step(self, node, depth, wanted):
-        """++ and --, with the old value, the new one, or none."""
+        """Writes ++ or --. `wanted` is the value that is used: 'old', 'new' or None."""
         operation = 'add' if '+' in node.op else 'sub'
         if not isinstance(node.expr, (c_ast.ID, c_ast.ArrayRef, c_ast.StructRef)):
-            refuse(node, 'a variable, an element or a member is counted')
+            refuse(node, f'expected {node.op.strip("p")} of a variable, an element or a member')
         kind = self.stored_kind(node.expr)
         if kind not in NUMBERS or is_flags(node.expr):
-            refuse(node, f'{node.op.strip("p")} counts a number: write an int')
+            refuse(node, f'expected {node.op.strip("p")} of a number; write an int')
         self.refuse_constant(node.expr)
         place = self.fixed_place(node.expr)
         if place is None:
@@ -268,13 +270,13 @@ class Assignments:
     # initial values
 
     def begin_variable(self, variable, init):
-        """The value with which a variable begins."""
+        """Writes the initial value of a variable."""
         place = self.place(variable)
         if variable.length is not None:
             self.begin_array(variable, init, place)
         elif variable.kind in NUMBERS:
             if isinstance(init, c_ast.InitList):
-                refuse(init, 'a number has no braces')
+                refuse(init, 'expected a number without braces')
             self.begin_number(variable, init, place)
         elif isinstance(init, c_ast.InitList) and variable.kind in (Kind.ACTION, Kind.VALUE):
             self.begin_members(variable, init, place)
@@ -285,7 +287,7 @@ class Assignments:
                 self.load(0, self.fixed_place(init) + number)
                 self.store(0, place + number)
         else:
-            refuse(init, f'a {variable.kind.value} begins empty, or as another one: {variable.name} = other')
+            refuse(init, f'expected {{ 0 }} or another {variable.kind.value}; write {variable.name} = other')
 
     def begin_number(self, variable, init, place):
         if not isinstance(place, Word):
@@ -301,11 +303,11 @@ class Assignments:
         elif isinstance(init, c_ast.InitList):
             values = list(init.exprs)
         else:
-            refuse(init, 'an array has its values in braces')
+            refuse(init, 'expected the values of an array in braces; write { 1, 2 }')
         if any(isinstance(value, (c_ast.NamedInitializer, c_ast.InitList)) for value in values):
-            refuse(init, 'the values of an array stand one behind another')
+            refuse(init, 'expected the values of an array in order, found an index or inner braces; write { 1, 2 }')
         if len(values) > variable.length:
-            refuse(init, f'{variable.name} has {variable.length} elements')
+            refuse(init, f'expected at most {variable.length} values, found `{len(values)}`')
         self.fill(place, values + [None] * (variable.length - len(values)), [variable.kind] * variable.length)
 
     def fill(self, place, values, kinds=()):
@@ -326,12 +328,12 @@ class Assignments:
             if isinstance(value, c_ast.NamedInitializer):
                 name = value.name[0].name if isinstance(value.name[0], c_ast.ID) else ''
                 if len(value.name) != 1 or name not in MEMBERS[variable.kind]:
-                    refuse(value, f'the members are {", ".join(MEMBERS[variable.kind])}')
+                    refuse(value, f'expected a member: {", ".join(MEMBERS[variable.kind])}')
                 values[MEMBERS[variable.kind][name]] = value.expr
             elif number == 0 and is_null(value, self.unit.meaning):
                 values[0] = value
             else:
-                refuse(value, f'members are named: .{order[0]} = ..')
+                refuse(value, f'expected the name of a member; write .{order[0]} = ..')
         kinds = [MEMBER_KINDS.get(name, Kind.INT) for name in order]
         if Kind.SET in kinds and values[1] is not None:
             refuse(init, 'expected braces without sa_mask; write sigemptyset(&action.sa_mask)')

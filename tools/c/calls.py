@@ -1,4 +1,4 @@
-"""Code for calls: of functions of the file, and of the system, with C's names and arguments."""
+"""Code for calls of the functions of a file, and for system calls with C's names and arguments."""
 import re
 
 from pycparser import c_ast
@@ -14,14 +14,15 @@ LONGEST_ALARM = 1000000000
 
 
 class Calls:
-    """Writes calls of one function; a part of Writer."""
+    """Writes code for calls in one function; a part of Writer."""
 
     def value_funccall(self, node, depth):
         register = self.call(node, depth, wanted='value')
         self.move(depth, register)
 
     def call(self, node, depth, wanted):
-        """Calls, and gives the register with the result, of which `wanted` is used: its value, its sign or nothing."""
+        """Writes a call. Returns the register of the result. `wanted` is the part of the result that is used: 'value',
+        'sign' or None."""
         if self.waits:
             with self.put_away(depth):
                 self.call_now(node, 'value' if wanted else None)
@@ -30,7 +31,7 @@ class Calls:
         return 0
 
     def call_now(self, node, wanted):
-        """Calls while no value waits. The result is in r0."""
+        """Writes a call when no register holds a value that is needed later. The result is in r0."""
         self.at(node)
         function = self.meaning(node.name)
         if isinstance(function, Function):
@@ -39,9 +40,10 @@ class Calls:
         name, arguments = node.name.name, node.args.exprs if node.args else []
         count = ARGUMENTS[name]
         if count is not None and len(arguments) != count:
-            refuse(node, f'{name} has {count or "no"} argument{"s" * (count != 1)}')
+            refuse(node, f'expected {count or "no"} argument{"s" * (count != 1)} of {name}, found `{len(arguments)}`')
         if wanted and name in ('note', 'exit', '_exit', 'signal'):
-            refuse(node, f'the result of {name} is not kept' + (': write sigaction' if name == 'signal' else ''))
+            refuse(node, f'expected a value, found `{name}`, whose result cannot be used'
+                   + ('; write sigaction' if name == 'signal' else ''))
         if name in PLAIN:
             self.numbers(arguments, kind=Kind.UNSIGNED if name in UNSIGNED_ARGUMENTS else Kind.INT)
             self.finish(name, wanted)
@@ -58,9 +60,11 @@ class Calls:
         arguments = node.args.exprs if node.args else []
         if len(arguments) != len(function.parameters):
             count = len(function.parameters)
-            refuse(node, f'{function.name} has {count or "no"} parameter{"s" * (count != 1)}')
+            refuse(node, f'expected {count or "no"} argument{"s" * (count != 1)} of {function.name}, found '
+                   f'`{len(arguments)}`')
         if len(arguments) > MOST_PARAMETERS:
-            refuse(node, f'a function has at most {MOST_PARAMETERS} parameters: make one a global variable')
+            refuse(node, f'expected at most {MOST_PARAMETERS} parameters, found `{len(arguments)}`; make one a global '
+                   'variable')
         if wanted and function.gives is Kind.VOID:
             refuse(node, f'expected a value, found `{function.name}`, which returns void; declare it as int')
         instance = self.instance.context.instances[function]
@@ -74,7 +78,7 @@ class Calls:
         self.enter(instance)
 
     def calls_functions(self, node):
-        """Whether an argument calls a function of the file, which may be the one that gets it."""
+        """Returns true if an argument calls a function of the file: it may be the function that gets the argument."""
         if isinstance(node, c_ast.FuncCall) and isinstance(self.meaning(node.name), Function):
             return True
         return any(self.calls_functions(child) for _, child in node.children())
@@ -111,7 +115,7 @@ class Calls:
                 self.value_as(argument, register, kind)
 
     def value_of_argument(self, argument, register, kind):
-        """A value at a place that is too deep for what it needs comes there from r0."""
+        """Puts an argument into a register. If too few registers follow, the value is evaluated in r0 and moved."""
         if register > 2 and not isinstance(argument, c_ast.ID):
             with self.put_away(register):
                 self.value_as(argument, 0, kind)
@@ -120,24 +124,24 @@ class Calls:
 
     def descriptor(self, node):
         if self.constant(node) not in (0, 1, 2):
-            refuse(node, 'the one file is the terminal: write 0')
+            refuse(node, 'expected the file descriptor of the terminal; write 0')
 
     def variable_at(self, node, kind, what):
-        """The place of a variable whose address is an argument, or None for NULL."""
+        """Returns the place of the variable whose address is an argument, or None for NULL."""
         if is_null(node, self.unit.meaning):
             return None
         inner = node.expr if isinstance(node, c_ast.UnaryOp) and node.op == '&' else None
         places = (c_ast.ID, c_ast.ArrayRef, c_ast.StructRef) if kind is Kind.SET else (c_ast.ID, c_ast.ArrayRef)
         if not isinstance(inner, places) or self.stored_kind(inner) is not kind:
-            refuse(node, f'the address of a variable stands here: {what}')
+            refuse(node, f'expected the address of a variable of type {kind.value}; write {what}')
         place = self.fixed_place(inner)
-        return refuse(node, f'the index is a constant here, or write a variable: {what}') if place is None else place
+        return refuse(node, f'expected a constant index, or a variable; write {what}') if place is None else place
 
-    # what comes of a call
+    # results of calls
 
     def finish(self, name, wanted, store=None, is_nothing=False):
-        """The call itself. Of an error errno is set, and the result is -1. `store` keeps what else it answers, where it
-        does; with `is_nothing` a result of 0 answers nothing."""
+        """Writes the system call. If the call fails, errno is set and the result is -1. `store` writes code that stores
+        other results if the call succeeds; with `is_nothing`, only if its result is not 0."""
         self.emit('sys', name)
         if name in NEVER_FAIL:
             if store:
@@ -317,13 +321,13 @@ class Calls:
             items = value.init.exprs
             if len(items) != 1 or not isinstance(items[0], c_ast.NamedInitializer) \
                     or items[0].name[0].name != 'sival_int':
-                refuse(value, 'a value is written (union sigval){ .sival_int = 5 }')
+                refuse(value, 'expected a union sigval; write (union sigval){ .sival_int = 5 }')
             self.numbers([*arguments[:2], items[0].expr])
         elif isinstance(value, c_ast.ID) and self.stored_kind(value) is Kind.VALUE:
             self.numbers(arguments[:2])
             self.load(3, self.fixed_place(value))
         else:
-            refuse(value, 'a value is written (union sigval){ .sival_int = 5 }')
+            refuse(value, 'expected a union sigval; write (union sigval){ .sival_int = 5 }')
         self.finish('sigqueue', wanted)
 
     def call_tcgetpgrp(self, node, arguments, wanted):
@@ -345,7 +349,7 @@ class Calls:
         self.descriptor(arguments[0])
         count = self.constant(arguments[2])
         if count is not None and not 0 <= count <= MOST_BYTES:
-            refuse(arguments[2], f'a {name} moves at most {MOST_BYTES} bytes')
+            refuse(arguments[2], f'expected 0 to {MOST_BYTES} bytes, found `{count}`')
         if name == 'write' and is_string(arguments[1]):
             place, size = self.text(arguments[1], count)
         else:
@@ -365,7 +369,7 @@ class Calls:
         variable = self.meaning(inner)
         if not isinstance(variable, Variable) or variable.kind is not Kind.CHAR or offset is None \
                 or variable.length is None and not is_address:
-            refuse(node, 'an array of char stands here, or &letter of a char, or &line[4]')
+            refuse(node, 'expected an array of char, or the address of a char; write line, &letter or &line[4]')
         if not 0 <= offset <= (variable.length or 0):
             refuse(node, f'expected an element 0 to {variable.length - 1} of {variable.name}, found `{offset}`')
         return self.place(variable) + offset, (variable.length or 1) - offset
@@ -376,7 +380,7 @@ class Calls:
         size = len(values)
         values = values[:size if count is None else count]
         if len(values) > MOST_BYTES + 1:
-            refuse(node, f'a write moves at most {MOST_BYTES} bytes')
+            refuse(node, f'expected a string of at most {MOST_BYTES} characters, found `{len(values) - 1}`')
         place = self.texts.get((node.value, count))
         if place is None:
             place = self.texts[node.value, count] = self.instance.frame.take(len(values))
@@ -388,13 +392,13 @@ class Calls:
     def call_execl(self, node, arguments, wanted):
         if len(arguments) < 3 or not is_string(arguments[0]) or not is_string(arguments[1]) \
                 or not is_null(arguments[-1], self.unit.meaning):
-            refuse(node, 'a program is named: execl("tool", "tool", (char *)NULL)')
+            refuse(node, 'expected two strings first and NULL last; write execl("tool", "tool", (char *)NULL)')
         name = arguments[0].value[1:-1].rpartition('/')[2]
         if name not in self.programs:
-            refuse(arguments[0], f'no program is {name}: name its file, too: tools/cworld .. {name}.c')
+            refuse(arguments[0], f'expected a program, found `{name}`; name its file, too: tools/cworld .. {name}.c')
         words = arguments[2:-1]
         if len(words) > 2 or not all(is_string(word) and re.fullmatch('"-?[0-9]{1,9}"', word.value) for word in words):
-            refuse(node, 'a program gets at most two numbers: execl("tool", "tool", "5", (char *)NULL)')
+            refuse(node, 'expected at most two numbers as arguments; write execl("tool", "tool", "5", (char *)NULL)')
         self.set(1, f'${name}')
         for number in range(2):
             self.set(2 + number, int(words[number].value[1:-1]) if number < len(words) else 0)
@@ -412,19 +416,19 @@ class Calls:
         variable = self.meaning(argument.name) if isinstance(argument, c_ast.ArrayRef) else None
         if not isinstance(variable, Variable) or variable.kind is not Kind.ARGUMENTS \
                 or self.constant(argument.subscript) not in (1, 2):
-            refuse(node, 'the arguments of a program are atoi(argv[1]) and atoi(argv[2])')
+            refuse(node, 'expected an argument of the program; write atoi(argv[1]) or atoi(argv[2])')
         self.load(0, self.place(variable) + (self.constant(argument.subscript) - 1))
 
     def call_prctl(self, node, arguments, wanted):
         if self.constant(arguments[0]) != SUBREAPER:
-            refuse(node, 'prctl has PR_SET_CHILD_SUBREAPER alone here')
+            refuse(node, 'expected PR_SET_CHILD_SUBREAPER, the only option of prctl')
         self.numbers(arguments[1:])
         self.finish('subreaper', wanted)
 
     def call_memset(self, node, arguments, wanted):
         action = self.variable_at(arguments[0], Kind.ACTION, '&action')
         if action is None or wanted or self.constant(arguments[1]) != 0 or not self.is_size_of_action(arguments[2]):
-            refuse(node, 'memset clears a struct sigaction alone: memset(&action, 0, sizeof action)')
+            refuse(node, 'expected a struct sigaction to clear; write memset(&action, 0, sizeof action)')
         self.fill(action, [None] * WORDS[Kind.ACTION])
 
     def is_size_of_action(self, node):

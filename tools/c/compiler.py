@@ -1,4 +1,4 @@
-"""From C files to a world."""
+"""Compiles C files to a world."""
 from assembly import LONGEST_NAME, MOST_INSTRUCTIONS, Assembly, Frame
 from assignments import Assignments
 from calls import Calls
@@ -14,7 +14,7 @@ from symbols import Resolver
 
 
 class Writer(Statements, Assignments, Calls, Signals, Conditions, Expressions):
-    """Writes one function at one place."""
+    """Writes the code of one instance of a function."""
 
     def __init__(self, program, instance):
         self.program = program
@@ -26,7 +26,7 @@ class Writer(Statements, Assignments, Calls, Signals, Conditions, Expressions):
         self.instance = instance
         self.waits = []                 # registers whose values are needed later
         self.free_slots = []
-        self.jumps = []                 # of each loop and switch, where continue and break go
+        self.jumps = []                 # for each loop and switch, the targets of continue and break
         self.texts = {}
         self.end = None
 
@@ -52,7 +52,8 @@ class Writer(Statements, Assignments, Calls, Signals, Conditions, Expressions):
         return self.program.handlers[function].instances[function].label
 
     def enter(self, instance):
-        """Goes to a function, whose parameters are set, and comes back with its result in r0."""
+        """Writes a call of a function whose parameters are set: its code if this is its only call, otherwise a jump to
+        it. The result is in r0."""
         line = self.program.line
         if instance.sites == 1:
             Writer(self.program, instance).write_inline()
@@ -68,14 +69,14 @@ class Writer(Statements, Assignments, Calls, Signals, Conditions, Expressions):
         self.program.line = line
 
     def write_inline(self):
-        """The function at the place of its one call."""
+        """Writes the function at the place of its only call."""
         self.end = self.new_label(f'end_{self.instance.function.name}')
         self.put(self.instance.label)
         self.statement(self.instance.function.node.body)
         self.put(self.end)
 
     def write_apart(self):
-        """The function on its own; behind it the places to which it returns are told apart."""
+        """Writes the function on its own. At its end, it jumps back to the place of the call."""
         function = self.instance.function
         self.end = self.new_label(f'end_{function.name}')
         self.put(self.instance.label)
@@ -89,7 +90,7 @@ class Writer(Statements, Assignments, Calls, Signals, Conditions, Expressions):
             self.write_returns()
 
     def begin_root(self, function):
-        """What main and a handler get stands in r1, r2 and r3."""
+        """Stores the arguments of a handler: the signal is in r1, its value in r2, its sender in r3."""
         self.at(function.node)
         if function.name == 'main':
             return
@@ -138,7 +139,7 @@ class Program:
         self.line = 0
         self.commented = None
         if 'main' not in self.unit.functions:
-            raise Refused(f'{source.name}.c', 1, 1, 'there is no main: write int main(void)')
+            raise Refused(f'{source.name}.c', 1, 1, 'expected a function main; write int main(void)')
         refuse_recursion(self.unit)
         for variable in self.unit.variables:
             self.globals[variable] = self.frame.take(variable.words)
@@ -164,18 +165,18 @@ class Program:
         main = self.unit.functions['main']
         kinds = [variable.kind for variable in main.parameters]
         if main.gives is not Kind.INT or kinds not in ([], [Kind.INT, Kind.ARGUMENTS]):
-            refuse(main.node, 'main is written int main(void) or int main(int argc, char **argv)')
+            refuse(main.node, 'expected int main(void) or int main(int argc, char **argv)')
         if kinds and main.parameters[0].weight:
-            refuse(main.node, 'how many arguments there are is not known: write (void)argc')
+            refuse(main.node, 'expected no use of argc, because the number of arguments is not known; write (void)argc')
         for function in self.unit.functions.values():
             for callee, node in function.calls:
                 if callee is main:
-                    refuse(node, 'main is called by nobody: write a function')
+                    refuse(node, 'expected another function, found `main`; move the code into a function')
 
     def make_handler(self, function):
         kinds = [variable.kind for variable in function.parameters]
         if function.gives is not Kind.VOID or kinds not in ([Kind.INT], [Kind.INT, Kind.INFO, Kind.CONTEXT]):
-            refuse(function.node, f'a handler is written void {function.name}(int signal_number), or with SA_SIGINFO '
+            refuse(function.node, f'expected a handler void {function.name}(int signal_number), or with SA_SIGINFO '
                    f'void {function.name}(int signal_number, siginfo_t *info, void *context)')
         context = make_context(function)
         if self.planted == 'frame':
@@ -190,7 +191,7 @@ class Program:
                 instance.label = self.assembly.label(function.name, is_kept=True)
 
     def check_unused(self):
-        """Functions that nobody calls are compiled, so that their faults are told, and left out."""
+        """Compiles functions that are never called, so that their errors are reported. Leaves out their code."""
         used = {function for context in [self.main, *self.handlers.values()] for function in context.instances}
         lines, self.assembly.lines = self.assembly.lines, []
         for function in self.unit.functions.values():
@@ -211,7 +212,7 @@ class Program:
                 self.write_failures()
 
     def begin_globals(self, writer):
-        """Memory is 0 at the start; what begins with another value is set."""
+        """Stores the arguments of main, and the initial values of global and static variables. Other memory is 0."""
         main = self.unit.functions['main']
         if main.parameters and main.parameters[1].weight:
             self.line = main.node.coord.line
@@ -229,7 +230,7 @@ class Program:
             write()
 
     def comment_once(self, instance):
-        """The line of C from which an instruction comes, once before the first of them."""
+        """Writes a line of C as a comment before its first instruction."""
         now = self.line, instance.function.name
         if now != self.commented:
             self.commented = now
@@ -239,25 +240,27 @@ class Program:
     def check_size(self):
         if self.assembly.size > MOST_INSTRUCTIONS:
             name, size = self.unit.source.name, self.assembly.size
-            raise Refused(f'{name}.c', 1, 1, f'{name} needs {size} instructions, {size - MOST_INSTRUCTIONS} more than '
-                          f'the {MOST_INSTRUCTIONS} of a program: move a part into a program of its own, for execl')
+            raise Refused(f'{name}.c', 1, 1, f'expected at most {MOST_INSTRUCTIONS} instructions, found `{size}`, '
+                          f'{size - MOST_INSTRUCTIONS} more than the limit; move a part into a program of its own, for '
+                          'execl')
 
 
 def program_name(name):
-    """The name of a program: that of its file, as far as a world has it."""
+    """Returns the name of a program: the name of its file, changed and cut to a name that a world allows."""
     return ''.join(letter if letter.isalnum() and letter.isascii() else '_' for letter in name.lower())[:LONGEST_NAME]
 
 
 def world(sources, pidmax=40, consoles=1, planted=None):
-    """The text of a world; process 1 runs the first of the files."""
+    """Returns the text of a world. Process 1 runs the first file."""
     names = set()
     for source in sources:
         name = program_name(source.name)
         if name != source.name and source is not sources[0] or not name[:1].isalpha():
-            raise Refused(f'{source.name}.c', 1, 1, f'a program has a name of at most {LONGEST_NAME} letters a to z, '
-                          'digits and _, which is that of its file: rename it')
+            raise Refused(f'{source.name}.c', 1, 1, 'expected a file name of a letter and at most '
+                          f'{LONGEST_NAME - 1} of a to z, 0 to 9 and _, found `{source.name}`; rename the file')
         if name in names:
-            raise Refused(f'{source.name}.c', 1, 1, f'two programs are called {name}: rename a file')
+            raise Refused(f'{source.name}.c', 1, 1, f'expected different names of programs, found `{name}` twice; '
+                          'rename a file')
         names.add(name)
     programs = [Program(source, names, planted) for source in sources]
     texts = [program.text() for program in programs]

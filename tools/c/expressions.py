@@ -1,12 +1,12 @@
 """Code for expressions.
 
-A value comes into one of the registers r0 to r4, by the depth at which it stands; what stands to the left of it at
-less depth waits in the registers before. r5 is for addresses, r6 and r7 hold variables. Where a call comes while
-values wait they are put into words of the frame, as a call changes registers.
+The depth of an expression in a larger one selects the register of its value, r0 to r4. Values to its left that are
+needed later are in the registers before it. r5 is for addresses and constants, and r6 and r7 hold variables. A call
+changes registers, so values that are needed after it are saved in words of the frame.
 
 A register holds a number in its C type: a number of 32 bits is sign-extended if the type is signed, and otherwise
-zero-extended. C leaves the order of most operands open: here the left one comes first, and arguments come from left to
-right.
+zero-extended. C leaves the order of most operands open: here the left operand is evaluated first, and arguments are
+evaluated from left to right.
 """
 from contextlib import contextmanager
 
@@ -29,9 +29,9 @@ NO_VALUES = {
     'CompoundLiteral': 'expected a number, found a struct literal; use it only as the value of sigqueue',
     'InitList': 'expected a number, found braces; use them only for an array or a struct',
     'StructRef': 'expected a member of struct sigaction, siginfo_t or union sigval',
-    'Cast': 'expected a cast to a number or to void; write the value alone',
+    'Cast': 'expected a cast to a number or to void; write the value without a cast',
 }
-NO_OPERATORS = {'*': 'there are no pointers: write an array and an index',
+NO_OPERATORS = {'*': 'expected C without pointers, found `*`; write an array and an index',
                 '&': 'expected a number, found an address; use it only in a system call, as &status'}
 
 
@@ -40,7 +40,7 @@ def r(number):
 
 
 class Expressions:
-    """Writes expressions of one function; a part of Writer."""
+    """Writes code for expressions in one function; a part of Writer."""
 
     # small instructions
 
@@ -52,7 +52,7 @@ class Expressions:
             self.emit('mov', r(to), r(register))
 
     def load(self, register, place):
-        """What is at a place: a register, or a word."""
+        """Loads the value at a place, which is a register or a word."""
         if isinstance(place, Word):
             self.set(register, place)
             self.emit('ld', r(register), r(register))
@@ -67,11 +67,11 @@ class Expressions:
             self.move(place, register)
 
     def with_number(self, operation, register, number):
-        """An operation of a register and a number."""
+        """Applies an operation to a register and a number."""
         self.set(SCRATCH, number)
         self.emit(operation, r(register), r(SCRATCH))
 
-    # what waits while something else is evaluated
+    # values that are needed later
 
     @contextmanager
     def waiting(self, *registers):
@@ -81,7 +81,8 @@ class Expressions:
 
     @contextmanager
     def put_away(self, depth):
-        """All registers are free within; the value that is then in r0 comes to a depth."""
+        """Saves the values that are needed later, so that the code of the block may use all registers. Then moves the
+        result in r0 to the register of a depth, and restores the saved values."""
         waits, self.waits = self.waits, []
         slots = [self.slot() for _ in waits]
         for register, slot in zip(waits, slots):
@@ -128,7 +129,7 @@ class Expressions:
         if kind is Kind.HANDLER:
             refuse(node, 'expected a number, found a handler; compare it by == or !=')
         name = type(node).__name__
-        return refuse(node, NO_VALUES.get(name, f'{name} is not in the subset'))
+        return refuse(node, NO_VALUES.get(name, f'expected an expression of the subset, found `{name}`'))
 
     @staticmethod
     def require_number(node, variable):
@@ -208,7 +209,7 @@ class Expressions:
             refuse(node, 'expected a handler: SIG_DFL, SIG_IGN or the name of a function')
 
     def operand(self, node, depth):
-        """The register that has the value of an expression: its own, where it is a variable in a register."""
+        """Returns the register with the value of an expression. A variable in a register is not copied."""
         variable = self.meaning(node)
         if isinstance(node, c_ast.ID) and isinstance(variable, Variable):
             place = self.place(variable)
@@ -234,7 +235,7 @@ class Expressions:
             self.sign(depth)
 
     def sign(self, register):
-        """A byte of 0 to 255 as a char, which has a sign."""
+        """Converts a byte, 0 to 255, to a char, which is signed."""
         self.with_number('xor', register, 128)
         self.emit('sub', r(register), r(SCRATCH))
 
@@ -302,7 +303,7 @@ class Expressions:
             if node.op != '+':
                 self.keep_bits(depth, kind)
         else:
-            refuse(node, NO_OPERATORS.get(node.op, f'{node.op} is not in the subset'))
+            refuse(node, NO_OPERATORS.get(node.op, f'expected an operator of the subset, found `{node.op}`'))
 
     def negate(self, node, depth):
         register = self.operand(node.expr, depth + 1) if depth <= DEEPEST else None
@@ -340,7 +341,7 @@ class Expressions:
             self.keep_bits(register, kind)
 
     def both(self, left, right, depth, kind, operate):
-        """Evaluates the left side, then the right side, both in a type, and gives the right register to `operate`."""
+        """Evaluates the left side, then the right side, both in a type, and passes the right register to `operate`."""
         if self.planted == 'order':
             self.value_as(right, depth, kind)
             slot = self.slot()
@@ -398,7 +399,7 @@ class Expressions:
         self.put(end)
 
     def halve(self, depth, count):
-        """The quotient cut towards the lesser number: of a negative one by its complement."""
+        """Shifts right, rounding down. A negative number is complemented before and after the division."""
         negative, end = self.new_label('negative'), self.new_label('shifted')
         self.emit('jlt', r(depth), negative)
         self.halve_positive(depth, count)
@@ -434,7 +435,7 @@ class Expressions:
     def element(self, node):
         variable = self.meaning(node.name)
         if not isinstance(variable, Variable) or variable.length is None:
-            refuse(node, 'an index stands behind the name of an array')
+            refuse(node, 'expected the name of an array before an index')
         return variable
 
     def member(self, node):
@@ -443,18 +444,19 @@ class Expressions:
         if isinstance(node.name, c_ast.StructRef) and (node.name.field.name, member) == ('si_value', 'sival_int'):
             return self.member(node.name)
         if isinstance(variable, Variable) and (node.type == '->') != variable.is_pointer:
-            refuse(node, f'write {variable.name}{"->" if variable.is_pointer else "."}{member}')
+            refuse(node, f'expected {"->" if variable.is_pointer else "."} after {variable.name}, found '
+                   f'`{node.type}`; write {variable.name}{"->" if variable.is_pointer else "."}{member}')
         if not isinstance(variable, Variable) or member not in MEMBERS.get(variable.kind, ()):
             known = MEMBERS.get(variable.kind, ()) if isinstance(variable, Variable) else ()
-            refuse(node, f'no member is {member}' + (f': {", ".join(known)} are' if known else ''))
+            refuse(node, f'expected one of {", ".join(known)}, found `{member}`' if known else NO_VALUES['StructRef'])
         return variable, member
 
     def fixed_place(self, node):
-        """The register or word that a node names, where no index has to be evaluated; else None."""
+        """Returns the register or word that a node names, or None if an index must be evaluated."""
         if isinstance(node, c_ast.ID):
             variable = self.meaning(node)
             if not isinstance(variable, Variable):
-                refuse(node, f'{node.name} is no variable')
+                refuse(node, f'expected a variable, found `{node.name}`')
             return self.place(variable)
         if isinstance(node, c_ast.StructRef):
             variable, member = self.member(node)
@@ -465,12 +467,12 @@ class Expressions:
             if index is None:
                 return None
             if not 0 <= index < variable.length:
-                refuse(node, f'{variable.name} has the elements 0 to {variable.length - 1}')
+                refuse(node, f'expected an index from 0 to {variable.length - 1} of {variable.name}, found `{index}`')
             return self.place(variable) + index
-        return refuse(node, 'a variable, an element or a member has to stand here')
+        return refuse(node, 'expected a variable, an element or a member')
 
     def address(self, node, depth):
-        """The address of an element, into a register."""
+        """Puts the address of an element into a register."""
         variable = self.element(node)
         self.number_kind(node.subscript)
         index = self.operand(node.subscript, depth)

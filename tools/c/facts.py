@@ -1,7 +1,7 @@
 """The calls that a program can make, the types of their arguments and results, and what to write in place of others."""
 from kinds import Kind
 
-# Calls of which all arguments are numbers, in r1 and so on, and how many there are.
+# The calls whose arguments are all numbers, in r1, r2 and so on; and the number of arguments.
 PLAIN = {
     'fork': 0, 'getpid': 0, 'getppid': 0, 'getuid': 0, 'geteuid': 0, 'getgid': 0, 'getegid': 0, 'setsid': 0, 'pause': 0,
     'sched_yield': 0, 'setuid': 1, 'seteuid': 1, 'setgid': 1, 'setegid': 1, 'getpgid': 1, 'getsid': 1, 'alarm': 1,
@@ -27,7 +27,7 @@ RESULTS = {**dict.fromkeys(NEVER_NEGATIVE, Kind.UNSIGNED), 'read': Kind.LONG, 'w
 # Calls whose results below 0 are not errors.
 OWN_RESULTS = NEVER_NEGATIVE | {'atoi', 'note', 'exit', '_exit', 'memset'}
 
-# What to write in place of names that are often written.
+# What to write in place of names of C that are not in the subset.
 INSTEAD = {
     'printf': 'write note(x), which shows a number',
     'fprintf': 'write note(x), which shows a number',
@@ -38,7 +38,7 @@ INSTEAD = {
     'nanosleep': 'write alarm and sigsuspend',
     'malloc': 'write an array of constant size',
     'calloc': 'write an array of constant size',
-    'free': 'there is no heap: write an array of constant size',
+    'free': 'write an array of constant size',
     'system': 'write fork, execl and waitpid',
     'popen': 'there are no pipes',
     'pipe': 'there are no pipes',
@@ -51,20 +51,20 @@ INSTEAD = {
     'execvp': 'write execl("tool", "tool", (char *)NULL)',
     'execlp': 'write execl("tool", "tool", (char *)NULL)',
     'execve': 'write execl("tool", "tool", (char *)NULL)',
-    'sigwaitinfo': 'it is not built yet: write sigsuspend',
-    'sigtimedwait': 'it is not built yet: write alarm and sigsuspend',
-    'sigwait': 'it is not built yet: write sigsuspend',
+    'sigwaitinfo': 'write sigsuspend',
+    'sigtimedwait': 'write alarm and sigsuspend',
+    'sigwait': 'write sigsuspend',
     'tcsetattr': 'write settostop(1) for TOSTOP',
     'ioctl': 'write setctty(1) for TIOCSCTTY',
     'abort': 'write _exit(1)',
-    'setjmp': 'write a variable that the loop asks',
-    'longjmp': 'write a variable that the loop asks',
-    'sigsetjmp': 'write a variable that the loop asks',
-    'siglongjmp': 'write a variable that the loop asks',
-    'getenv': 'there is no environment: write a #define',
+    'setjmp': 'write a variable that the loop tests',
+    'longjmp': 'write a variable that the loop tests',
+    'sigsetjmp': 'write a variable that the loop tests',
+    'siglongjmp': 'write a variable that the loop tests',
+    'getenv': 'write a #define',
     'memcpy': 'write a loop',
-    'strcmp': 'compare the letters',
-    'strlen': 'count the letters, or use what read gives',
+    'strcmp': 'compare the characters',
+    'strlen': 'count the characters, or use the result of read',
     'assert': 'write if (!..) note(..)',
     'pthread_sigmask': 'write sigprocmask',
     'setpgrp': 'write setpgid(0, 0)',

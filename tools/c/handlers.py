@@ -259,7 +259,7 @@ def refuse_unknown_members(unit, units):
                 refuse(node, f'expected the {member} of a child, but a program sends SIGCHLD, or a signal that is not '
                        'constant; send another signal')
         elif member in ('si_code', 'si_status'):
-            refuse(node, f'expected a handler of only SIGCHLD, because it reads {member}; write one for SIGCHLD alone')
+            refuse(node, f'expected a handler of only SIGCHLD, because it reads {member}; write one only for SIGCHLD')
         elif CHLD in signals or None in signals:
             refuse(node, f'expected a handler without SIGCHLD, because it reads {member}; write a handler for each '
                    'signal')

@@ -35,7 +35,7 @@ MEMBERS = {
     Kind.INFO: {'si_pid': 0, 'si_code': 1, 'si_status': 2, 'si_value': 2, 'si_int': 2},
     Kind.VALUE: {'sival_int': 0},
 }
-# sa_flags has the bits that the machine takes, in an unsigned number.
+# sa_flags holds the bits that the machine accepts, as an unsigned number.
 MEMBER_KINDS = {'sa_handler': Kind.HANDLER, 'sa_sigaction': Kind.HANDLER, 'sa_mask': Kind.SET,
                 'sa_flags': Kind.UNSIGNED, 'si_value': Kind.VALUE}
 # By the sorted words of a type, without `int` and `signed`.
@@ -57,7 +57,7 @@ class Variable:
     is_static: bool = False         # a static local variable
     is_pointer: bool = False        # a parameter of main or of a handler
     uses: int = 0                   # how often it is named
-    weight: int = 0                 # the uses, where each loop around one counts 8 times
+    weight: int = 0                 # the uses, each times 8 for every loop around it, up to 4
 
     @property
     def words(self):

@@ -1,8 +1,8 @@
-"""Where everything of a program has its place: a frame of memory for each function, registers for what is used most.
+"""Places the variables of a program: a frame of memory for each function, registers for the variables used most.
 
-A function is there once for the main program and once for each handler from which it can be called, each with a frame
-of its own: a handler comes between any two instructions, and what it does in memory stays. Registers are given back as
-a handler returns, so those of a handler are its own. Two functions can share words and registers where neither calls
+A function has one instance in the main program, and one in each handler that can call it. Each instance has its own
+frame, because a handler can run between any two instructions, and its stores to memory stay. When a handler returns,
+all registers are restored, so a handler may use each of them. Two functions share words and registers if neither calls
 the other, directly or through others.
 """
 from dataclasses import dataclass, field
@@ -16,15 +16,15 @@ REGISTERS = (7, 6)
 
 @dataclass(eq=False)
 class Instance:
-    """A function in the main program or in a handler."""
+    """The instance of a function in the main program or in a handler."""
     function: Function
     context: 'Context'
     label: object = None
-    sites: int = 0                                      # how many calls there are
+    sites: int = 0                                      # the number of calls
     frame: Frame = field(default_factory=Frame)
     places: dict = field(default_factory=dict)          # a register or a word for each variable
-    returns: list = field(default_factory=list)         # the labels behind its calls
-    return_word: object = None                          # where the number of the label is to which it returns
+    returns: list = field(default_factory=list)         # the labels after its calls
+    return_word: object = None                          # the word with the number of the label that it returns to
 
 
 @dataclass(eq=False)
@@ -42,7 +42,8 @@ def refuse_recursion(unit):
             if callee in path or callee is function:
                 around = path[path.index(callee):] if callee in path else []
                 names = ', '.join(it.name for it in [*around, function, callee])
-                refuse(node, f'{callee.name} calls itself ({names}): a function has one frame, write a loop')
+                refuse(node, f'expected no recursion, found `{callee.name}`, which calls itself ({names}); write a '
+                       'loop, because a function has one frame')
             if callee not in done:
                 visit(callee, [*path, function])
         done.add(function)
@@ -51,7 +52,7 @@ def refuse_recursion(unit):
 
 
 def callers_first(root):
-    """The functions that are called from one, each behind all that call it."""
+    """Returns a function and those that it calls, directly or through others, each after its callers."""
     order = []
 
     def visit(function):
@@ -80,7 +81,8 @@ def reachable(function):
 
 
 def give_registers(context):
-    """Gives the variables that are used most a register that no variable has that lives at the same time."""
+    """Gives registers to the variables used most. Two variables share a register only if neither of their functions
+    calls the other. Each other variable that is used, and each of several words, gets words of its frame."""
     below = {function: reachable(function) for function in context.instances}
     given = []
     candidates = [(variable, function) for function in context.instances for variable in function.variables
@@ -98,7 +100,7 @@ def give_registers(context):
 
 
 def lay_out(globals_frame, contexts):
-    """Gives each frame its base; of a program, which words are taken."""
+    """Sets the base of each frame. Returns the number of words that the program needs."""
     end = globals_frame.size
     for context in contexts:
         end = lay_out_context(context, end)
@@ -117,5 +119,6 @@ def lay_out_context(context, base):
 def refuse_too_much_memory(unit, words):
     if words > MEMORY:
         place = place_of(unit.functions['main'].node)
-        raise Refused(place.file, 1, 1, f'{unit.source.name} needs {words} words of memory, {words - MEMORY} more than '
-                      f'the {MEMORY} of a process: make arrays smaller, or give variables to several functions')
+        raise Refused(place.file, 1, 1, f'expected at most {MEMORY} words of memory, found `{words}`, '
+                      f'{words - MEMORY} more than the limit; make arrays smaller, or move variables into functions '
+                      'that do not call each other')

@@ -1,4 +1,4 @@
-"""What is refused: a place in a C file, what is wrong there, and what to write instead."""
+"""Errors in a C file: the place, and a message that says what to write instead."""
 from dataclasses import dataclass
 
 
@@ -12,7 +12,7 @@ class Place:
 
 @dataclass
 class Refused(Exception):
-    """A text that the compiler doesn't take."""
+    """The error for which the compiler rejects a file."""
     file: str
     line: int
     column: int
@@ -23,7 +23,7 @@ class Refused(Exception):
 
 
 def refuse(node, what):
-    """Refuses what stands at a node of the syntax tree, or at the first place that is known within it."""
+    """Rejects the code at a node of the syntax tree, or at the first known place within it."""
     place = place_of(node)
     if place is None:
         raise Refused('?', 1, 1, what)
@@ -31,7 +31,7 @@ def refuse(node, what):
 
 
 def place_of(node):
-    """The place of a node; lists of initial values have none of their own."""
+    """Returns the place of a node. A list of initial values has none: the first place within it is returned."""
     if node.coord is not None:
         return node.coord
     places = (place_of(child) for _, child in node.children())

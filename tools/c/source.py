@@ -12,7 +12,7 @@ from pycparser import c_ast, c_parser
 
 from refusal import Place, Refused
 
-# The headers that replace jobk.h and those of the system.
+# The headers that replace jobk.h and the system's headers.
 HEADERS = os.path.join(os.path.dirname(os.path.realpath(__file__)), 'include')
 GCC = ['gcc', '-E', '-dU', '-fdebug-cpp', '-Werror=undef', '-fdiagnostics-color=never', '-nostdinc', '-I', '.']
 TOKEN = re.compile(r'\{P:([^;{}]*);F:[^;{}]*;L:(\d+);C:(\d+);S:\d+;M:[^;{}]*;E:\d+,LOC:\d+,R:\d+\}')
@@ -24,7 +24,7 @@ OF_PLACE = re.compile(r'\b__(has_include|has_include_next|(FILE|FILE_NAME|BASE_F
 QUOTED = re.compile(r'(["\'])(\\.|(?!\1)[^\\])*\1', re.S)
 ESCAPE = re.compile(r'\\(x[0-9a-fA-F]+|[0-7]{1,3}|.)|(.)', re.S)
 LETTERS = {'n': 10, 't': 9, 'r': 13, '\\': 92, "'": 39, '"': 34, '?': 63, 'a': 7, 'b': 8, 'f': 12, 'v': 11, 'e': 27}
-SYNTAX = {'at end of input': 'the file ends within a function or a statement: write } or ;'}
+SYNTAX = {'at end of input': 'expected } or ; before the end of the file'}
 
 
 class NoGcc(Exception):
@@ -65,12 +65,12 @@ def parse_source(path, raw):
 def refuse_places(source, raw):
     """Refuses names that mean a path, a file or the time, and directives that move the places of messages."""
     if re.search(r'^[ \t]*#[ \t]*(line\b|\d)', raw, re.M):
-        refuse_directive(source, raw, r'(line\b|\d)', '#line moves the places of messages: leave it out')
+        refuse_directive(source, raw, r'(line\b|\d)', 'expected C of the subset, found `#line`; leave it out')
     found = OF_PLACE.search(raw)
     if found:
         line = raw.count('\n', 0, found.start()) + 1
         at = column(raw.split('\n')[line - 1], found.start() - raw.rfind('\n', 0, found.start()) - 1)
-        raise Refused(source.shown, line, at, f'{found[0]} is not in the subset: leave it out')
+        raise Refused(source.shown, line, at, f'expected C of the subset, found `{found[0]}`; leave it out')
 
 
 def shown_line(line):
@@ -107,7 +107,7 @@ def preprocessor_error(source, said):
         what = (f'expected jobk.h or a header that it includes, found `{what.partition(":")[0]}`; write the code into '
                 'this file, or into a program of its own for execl')
     what = re.sub(r'"(\w+)" is not defined, .*', lambda match: not_defined(match[1]), what)
-    what = what.replace('unterminated comment', 'this comment has no end: write */')
+    what = what.replace('unterminated comment', 'expected */ at the end of this comment')
     return Refused(source.shown, int(place[1]), int(place[2]), what)
 
 
@@ -130,7 +130,7 @@ class Tokens:
         self.source = source
         self.raw = raw
         self.lines = raw.split('\n')
-        # gcc gives a token of a macro the place of the definition. Here it gets that of the name in the text.
+        # gcc gives a token of a macro the place in the definition. Here it gets the place where the macro is used.
         self.defined_at = {number for found in DIRECTIVE.finditer(raw)
                            for number in range(raw.count('\n', 0, found.start()) + 1,
                                                raw.count('\n', 0, found.end()) + 2)}
@@ -162,7 +162,8 @@ class Tokens:
             elif re.match(r'#\w', piece):
                 word = piece[1:].split()[0]
                 if word != 'define':
-                    refuse_directive(self.source, self.raw, word, f'#{word} is not in the subset: leave it out')
+                    refuse_directive(self.source, self.raw, word,
+                                     f'expected C of the subset, found `#{word}`; leave it out')
             elif piece.strip():
                 self.token(file, line, first, piece.strip())
 
@@ -226,7 +227,7 @@ def parse(source, tokens, places):
     parser = c_parser.CParser()
     try:
         tree = parser.parse('\n'.join(tokens), source.shown)
-    except (c_parser.ParseError, AssertionError) as error:          # the latter where a } is too much
+    except (c_parser.ParseError, AssertionError) as error:          # an AssertionError for a } without {
         raise syntax_error(source, tokens, places, parser, str(error)) from None
     locate(tree, places)
     return tree
@@ -249,16 +250,16 @@ def syntax_error(source, tokens, places, parser, message):
     if what == 'Invalid expression' and 0 < line <= len(tokens):        # later versions; earlier ones name the token
         what = f'before: {tokens[line - 1].strip()}'
     if what.startswith('before: '):
-        what = f'this is no C from here on: {what[len("before: "):]}'
-    what = SYNTAX.get(what.lower(), what) or 'a } is too much: leave it out'
+        what = f'unexpected `{what[len("before: "):]}`; check the C before it'
+    what = SYNTAX.get(what.lower(), what) or 'unexpected `}`; leave it out'
     if what.startswith('Illegal character'):
-        what += ': leave it out'
+        what += '; leave it out'
     place = places[line - 1] if 0 < line <= len(places) else Place(source.shown, *end_of(source))
     return Refused(source.shown, place.line, place.column, what[:1].lower() + what[1:])
 
 
 def number_of_next(parser, places):
-    """Where the parser stood, which doesn't always say so."""
+    """Returns the number of the next token, for a message of the parser without a place."""
     tokens = getattr(parser, '_tokens', None)
     token = tokens.peek() if tokens is not None else None
     return token.lineno if token is not None else len(places) + 1
@@ -272,7 +273,7 @@ def end_of(source):
 # several files
 
 def named_programs(node):
-    """The names of the programs that a tree runs by execl."""
+    """Yields the names of the programs that a tree runs by execl."""
     if isinstance(node, c_ast.FuncCall) and isinstance(node.name, c_ast.ID) and node.name.name == 'execl' and node.args:
         first = node.args.exprs[0]
         if isinstance(first, c_ast.Constant) and first.type == 'string':
@@ -282,7 +283,7 @@ def named_programs(node):
 
 
 def read_sources(paths):
-    """The files that are named, and those beside the first one that are programs for execl and weren't named."""
+    """Returns the named files, and the programs for execl that are not named but are found beside the first file."""
     sources = [read_source(path) for path in paths]
     for source in sources:
         for name in named_programs(source.tree):

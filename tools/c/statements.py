@@ -6,18 +6,18 @@ from kinds import Kind, wrapped
 from refusal import refuse
 
 INSTEAD = {
-    'Goto': 'goto is not in the subset: write a loop and break',
-    'Label': 'labels are not in the subset: write a loop and break',
-    'Case': 'case stands directly in the braces of its switch',
-    'Default': 'default stands directly in the braces of its switch',
-    'StaticAssert': '_Static_assert is not in the subset: leave it out',
-    'FuncDef': 'a function stands outside of others',
-    'Pragma': '#pragma is not in the subset: leave it out',
+    'Goto': 'expected C of the subset, found `goto`; write a loop and break',
+    'Label': 'expected C of the subset, found a label; write a loop and break',
+    'Case': 'expected a statement, found `case`; write it directly in the braces of a switch',
+    'Default': 'expected a statement, found `default`; write it directly in the braces of a switch',
+    'StaticAssert': 'expected C of the subset, found `_Static_assert`; leave it out',
+    'FuncDef': 'expected a statement, found a function; define it outside other functions',
+    'Pragma': 'expected C of the subset, found `#pragma`; leave it out',
 }
 
 
 class Statements:
-    """Writes statements of one function; a part of Writer."""
+    """Writes code for statements in one function; a part of Writer."""
 
     def statement(self, node):
         method = getattr(self, f'statement_{type(node).__name__.lower()}', None)
@@ -45,7 +45,7 @@ class Statements:
 
     @staticmethod
     def has_effect(node):
-        """Whether a value has to be evaluated though its variable is never used."""
+        """Returns true if an initial value must be evaluated even if its variable is never used."""
         return not isinstance(node, (c_ast.Constant, c_ast.ID))
 
     def statement_decllist(self, node):
@@ -66,8 +66,8 @@ class Statements:
         self.put(end)
 
     def begin_loop(self, node, word):
-        """Puts the label at which a loop begins, which is the function's where it begins with the loop. Gives it, and
-        where `continue` and `break` go."""
+        """Places the label of a loop, unless a kept label is there, such as the function's. Returns that label, and the
+        targets of `continue` and `break`."""
         line = node.coord.line
         again = self.assembly.last_label()
         if again is None or not again.is_kept:
@@ -112,18 +112,18 @@ class Statements:
 
     def statement_break(self, node):
         if not self.jumps:
-            refuse(node, 'break stands in a loop or a switch: leave it out')
+            refuse(node, 'expected a loop or a switch around `break`; leave it out')
         self.emit('jmp', self.jumps[-1][1])
 
     def statement_continue(self, node):
         target = next((step for step, _ in reversed(self.jumps) if step is not None), None)
         if target is None:
-            refuse(node, 'continue stands in a loop: leave it out')
+            refuse(node, 'expected a loop around `continue`; leave it out')
         self.emit('jmp', target)
 
     def statement_switch(self, node):
         if not isinstance(node.stmt, c_ast.Compound):
-            refuse(node, 'a switch has braces')
+            refuse(node, 'expected braces after switch (..)')
         done = self.new_label(f'done_{node.coord.line}')
         kind = self.number_kind(node.cond)
         register = self.operand_as(node.cond, 0, kind)
@@ -135,7 +135,7 @@ class Statements:
                 default = self.new_label(f'default_{item.coord.line}')
                 labels.append(default)
             elif not labels:
-                refuse(item, 'the first statement of a switch is a case')
+                refuse(item, 'expected case or default before the first statement of a switch')
         self.emit('jmp', default)
         self.jumps.append((None, done))
         for item in node.stmt.block_items or []:
@@ -146,10 +146,10 @@ class Statements:
     def test_case(self, item, register, numbers, kind):
         number = self.constant(item.expr)
         if number is None:
-            refuse(item.expr, 'a constant has to stand behind case: a number, or a name of #define or enum')
+            refuse(item.expr, 'expected a constant after case; write a number, or a name of #define or enum')
         number = wrapped(number, kind)
         if number in numbers:
-            refuse(item.expr, f'there is a case {number} above: join them')
+            refuse(item.expr, f'expected another number, found `{number}` in a second case; join the two')
         numbers.add(number)
         label = self.new_label(f'case_{item.coord.line}')
         if number == 0:
@@ -173,9 +173,10 @@ class Statements:
     def statement_return(self, node):
         gives = self.instance.function.gives
         if node.expr is None and gives is not Kind.VOID:
-            refuse(node, f'{self.instance.function.name} gives an int: write return 0')
+            refuse(node, f'expected a value, because {self.instance.function.name} returns {gives.value}; write '
+                   'return 0')
         if node.expr is not None and gives is Kind.VOID:
-            refuse(node, f'{self.instance.function.name} gives nothing: write return alone')
+            refuse(node, f'expected no value, because {self.instance.function.name} returns void; write return;')
         if self.instance.function.name == 'main':
             self.value_as(node.expr, 1, Kind.INT)
             self.emit('sys', 'exit')

@@ -1,4 +1,4 @@
-"""What the names of a C file mean: variables, functions and constants; and what each function uses."""
+"""Finds what each name in a C file means: a variable, a function or a constant; and what each function uses."""
 import difflib
 import os
 import re
@@ -19,19 +19,19 @@ class Unit:
     """A C file whose names are known."""
     source: object
     meaning: dict = field(default_factory=dict)         # by the id of a node
-    variables: list = field(default_factory=list)       # the global ones, and static ones
+    variables: list = field(default_factory=list)       # the global and static variables
     functions: dict = field(default_factory=dict)
-    handlers: list = field(default_factory=list)        # functions that are named other than in a call
+    handlers: list = field(default_factory=list)        # functions that are named outside calls
     installed: list = field(default_factory=list)       # the handlers that the file sets, with their signals
     errno: Variable = None
-    saved_errno: dict = field(default_factory=dict)     # how often errno is set to a variable, or that begins as errno
+    saved_errno: dict = field(default_factory=dict)     # by variable: how often it saves errno, or restores it
     members: list = field(default_factory=list)         # nodes that name a member
 
     @property
     def keeps_errno(self):
-        """Whether errno is used otherwise than to save it and to set it again."""
+        """Returns true if the file does more with errno than to save and restore it."""
         saved = self.saved_errno
-        # A saved variable is named each time that errno is set to it, and once less where it began as errno.
+        # Saves and restores each use errno once. Restores also use the variable once; declarations that save do not.
         return self.errno is not None and (self.errno.uses != sum(saved.values())
                                            or any(variable.uses != count - 1 for variable, count in saved.items()))
 
@@ -40,7 +40,7 @@ class Unit:
 
 
 class Resolver:
-    """Walks a tree, and keeps in a unit what each name means."""
+    """Walks a tree, and records in a unit what each name means."""
 
     def __init__(self, source):
         self.unit = Unit(source)
@@ -60,7 +60,7 @@ class Resolver:
             elif isinstance(node, c_ast.Decl):
                 self.declare(node)
             elif node in own:
-                refuse(node, 'a type gets no new name here: write int')
+                refuse(node, 'expected a function, a variable or an enum; write the type in place of a typedef')
         return self.unit
 
     # functions
@@ -68,9 +68,9 @@ class Resolver:
     def begin_function(self, node):
         name = node.decl.name
         if name in self.unit.functions:
-            refuse(node, f'{name} is defined twice: give it another name')
+            refuse(node, f'expected a new name, found `{name}`, which is defined above; rename one')
         if name in PROVIDED:
-            refuse(node, f'{name} is a call of the system: give the function another name')
+            refuse(node, f'expected a name that the system does not use, found `{name}`; rename the function')
         self.unit.functions[name] = Function(name, node, None)
 
     def declare_function(self, node):
@@ -86,7 +86,7 @@ class Resolver:
 
     def walk_function(self, function):
         if function.node.param_decls:
-            refuse(function.node, 'parameters stand with their types in parentheses: int f(int a)')
+            refuse(function.node, 'expected the types of parameters in the parentheses; write int f(int a)')
         self.function = function
         self.begin_scope()
         parameters = function.node.decl.type.args
@@ -98,13 +98,13 @@ class Resolver:
 
     def declare_parameter(self, function, node):
         if isinstance(node, c_ast.EllipsisParam):
-            refuse(function.node, 'a function has a fixed number of parameters')
+            refuse(function.node, 'expected a fixed number of parameters, found `...`')
         if isinstance(node, c_ast.ID):
-            refuse(node, f'{node.name} has a type: write int {node.name}')
+            refuse(node, f'expected a parameter with a type, found `{node.name}`; write int {node.name}')
         if isinstance(node, c_ast.Typename):
             if self.kind(node.type, node) is Kind.VOID:
                 return
-            refuse(node, 'a parameter has a name')
+            refuse(node, 'expected a parameter with a name; write int a')
         variable = self.variable(node, is_parameter=True)
         function.parameters.append(variable)
         function.variables.append(variable)
@@ -113,11 +113,11 @@ class Resolver:
     # declarations
 
     def kind(self, node, place):
-        """The kind that a type is, without its array."""
+        """Returns the kind of a type that is not an array."""
         inner = node.type if isinstance(node, c_ast.TypeDecl) else node
         if isinstance(inner, c_ast.IdentifierType):
             kind = kind_of_words(inner.names)
-            return kind or refuse(place, f'{" ".join(inner.names)} is not in the subset: write int')
+            return kind or refuse(place, f'expected a type of the subset, found `{" ".join(inner.names)}`; write int')
         if isinstance(inner, c_ast.Enum):
             return self.kind_of_enum(inner)
         if isinstance(inner, c_ast.Struct) and inner.name == 'sigaction' and not inner.decls:
@@ -125,10 +125,11 @@ class Resolver:
         if isinstance(inner, c_ast.Union) and inner.name == 'sigval' and not inner.decls:
             return Kind.VALUE
         if isinstance(inner, (c_ast.Struct, c_ast.Union)):
-            refuse(place, 'the one struct is struct sigaction: write an array for each member')
+            refuse(place, 'expected no struct or union but struct sigaction and union sigval; write an array for each '
+                   'member')
         if isinstance(inner, c_ast.PtrDecl):
-            refuse(place, 'there are no pointers: write an array and an index')
-        return refuse(place, 'this type is not in the subset: write int')
+            refuse(place, 'expected C without pointers; write an array and an index')
+        return refuse(place, 'expected a type of the subset; write int')
 
     def kind_of_enum(self, node):
         """An enum is signed if one of its constants is below 0, as in gcc."""
@@ -153,7 +154,7 @@ class Resolver:
         return values
 
     def declare(self, node):
-        """A declaration of variables, constants or a function."""
+        """Declares a variable, constants or a function."""
         if isinstance(node.type, c_ast.FuncDecl):
             if node.name in self.unit.functions:
                 self.declare_function(node)
@@ -165,7 +166,7 @@ class Resolver:
         variable.is_global = self.function is None
         variable.is_static = 'static' in node.storage and self.function is not None
         if node.name in self.scopes[-1]:
-            refuse(node, f'{node.name} is defined twice: give it another name')
+            refuse(node, f'expected a new name, found `{node.name}`, which is defined above; rename one')
         self.scopes[-1][node.name] = variable
         self.unit.meaning[id(node)] = variable
         if variable.is_global or variable.is_static:
@@ -192,30 +193,30 @@ class Resolver:
     def variable(self, node, is_parameter=False):
         refused = {'extern', 'register', 'auto', '_Thread_local'} & set(node.storage or ())
         if refused:
-            refuse(node, f'{refused.pop()} is not in the subset: leave it out')
+            refuse(node, f'expected C of the subset, found `{refused.pop()}`; leave it out')
         if node.name in PROVIDED or node.name == 'errno':
-            refuse(node, f'{node.name} is a name of the system: give the variable another name')
+            refuse(node, f'expected a name that the system does not use, found `{node.name}`; rename the variable')
         if isinstance(node.type, c_ast.PtrDecl):
             if not is_parameter:
-                refuse(node, 'there are no pointers: write an array and an index')
+                refuse(node, 'expected C without pointers; write an array and an index')
             return Variable(node.name, self.pointer(node), node, is_pointer=True)
         if isinstance(node.type, c_ast.ArrayDecl):
             if is_parameter and isinstance(node.type.type, c_ast.PtrDecl):
                 return Variable(node.name, self.pointer(node), node, is_pointer=True)
             if is_parameter:
-                refuse(node, 'an array is no parameter: make it global, and give an index')
+                refuse(node, 'expected a number as a parameter, found an array; make it global, and pass an index')
             return self.array(node)
         kind = self.kind(node.type, node)
         if kind is Kind.VOID:
-            refuse(node, 'a variable has a type: write int')
+            refuse(node, 'expected the type of a variable, found `void`; write int')
         if kind is Kind.HANDLER:
-            refuse(node, 'there are no pointers: write a struct sigaction')
+            refuse(node, 'expected C without pointers; write a struct sigaction')
         if is_parameter and kind not in NUMBERS:
-            refuse(node, f'a parameter is an int: make the {kind.value} global')
+            refuse(node, f'expected a number as a parameter, found a {kind.value}; make it global')
         return Variable(node.name, kind, node)
 
     def pointer(self, node):
-        """The kinds of pointers that the parameters of main and of a handler are."""
+        """Returns the kind of a pointer. Only parameters of main and of handlers can be pointers."""
         inner = node.type.type
         if isinstance(inner, c_ast.PtrDecl):                # char **argv, char *argv[]
             inner = inner.type
@@ -225,18 +226,18 @@ class Resolver:
             kind = self.kind(inner, node)
             if kind in (Kind.INFO, Kind.VOID):
                 return kind if kind is Kind.INFO else Kind.CONTEXT
-        return refuse(node, 'there are no pointers: write an array and an index')
+        return refuse(node, 'expected C without pointers; write an array and an index')
 
     def array(self, node):
         if not isinstance(node.type.type, c_ast.TypeDecl):
-            refuse(node, 'an array has one index: write a[i * WIDTH + k]')
+            refuse(node, 'expected an array with one index; write a[i * WIDTH + k]')
         kind = self.kind(node.type.type, node)
         if kind not in NUMBERS:
-            refuse(node, f'an array has int or char, not {kind.value}')
+            refuse(node, f'expected an array of numbers, found one of {kind.value}')
         return Variable(node.name, kind, node, self.length(node))
 
     def length(self, node):
-        """How many elements an array has, by its brackets or by its values."""
+        """Returns the number of elements of an array, by its brackets or by its values."""
         if node.type.dim is not None:
             self.walk(node.type.dim)
             length = self.needed_constant(node.type.dim)
@@ -247,13 +248,14 @@ class Resolver:
         else:
             length = 0
         if length < 1:
-            refuse(node, 'an array has a constant size, above 0')
+            refuse(node, 'expected an array with a constant size above 0; write int a[3]')
         if length > MEMORY:
             more = length - MEMORY
-            refuse(node, f'{node.name} has {length} elements, {more} more than the {MEMORY} words of a process')
+            refuse(node, f'expected at most {MEMORY} elements, found `{length}`, {more} more than the memory of a '
+                   'process')
         return length
 
-    # what stands in functions
+    # the bodies of functions
 
     def walk(self, node):
         name = type(node).__name__
@@ -321,7 +323,7 @@ class Resolver:
             self.unit.handlers.append(meaning)
 
     def walk_cast(self, node):
-        """A value that is only cast to void isn't used."""
+        """Counts no use of a variable that is cast to void."""
         if not (is_void(node.to_type) and isinstance(node.expr, c_ast.ID)):
             self.walk(node.expr)
         else:
@@ -329,14 +331,14 @@ class Resolver:
 
     def walk_funccall(self, node):
         if not isinstance(node.name, c_ast.ID):
-            refuse(node, 'a function is called by its name')
+            refuse(node, 'expected a call of a function by its name')
         name = node.name.name
         meaning = self.find(name)
         if isinstance(meaning, Function):
             self.function.calls.append((meaning, node))
             self.unit.meaning[id(node.name)] = meaning
         elif meaning is not None:
-            refuse(node, f'{name} is no function')
+            refuse(node, f'expected a function, found `{name}`')
         elif name in PROVIDED:
             self.function.system_calls.append(node)
         else:
@@ -351,7 +353,7 @@ class Resolver:
             self.save_errno(self.unit.meaning[id(node.rvalue)])
 
     def save_errno(self, variable):
-        """A handler saves errno in a variable, and sets it again."""
+        """Counts that errno is saved in a variable, or restored from it."""
         self.unit.saved_errno[variable] = self.unit.saved_errno.get(variable, 0) + 1
 
     # names
@@ -377,19 +379,21 @@ class Resolver:
     def refuse_unknown(self, node, what):
         name = node.name
         if name in INSTEAD:
-            refuse(node, f'{name} is not in the subset: {INSTEAD[name]}')
+            refuse(node, f'expected C of the subset, found `{name}`; {INSTEAD[name]}')
         own = [word for scope in self.scopes for word in scope]
         near = difflib.get_close_matches(name, [*own, *PROVIDED, *macros(), *self.unit.functions], 1, 0.75)
-        above = name in self.unit.functions
-        meant = f': is {near[0]} meant?' if near and not above else ': define it above'
-        return refuse(node, f'no {what} is {name}{meant}')
+        if name in self.unit.functions:                     # it is defined below
+            what, hint = 'function', 'declare it above'
+        else:
+            hint = f'did you mean {near[0]}?' if near else f'{"define" if what == "function" else "declare"} it above'
+        return refuse(node, f'expected a declared {what}, found `{name}`; {hint}')
 
     # constants
 
     def needed_constant(self, node):
         value = constant(node, self.unit.meaning)
         if value is None:
-            refuse(node, 'a constant has to stand here: a number, or a name of #define or enum')
+            refuse(node, 'expected a constant; write a number, or a name of #define or enum')
         return value
 
 

@@ -1,13 +1,13 @@
-/* A real process that makes the system calls that tools/linux/replay tells it, and has real signal handlers.
+/* A real process that makes the system calls that tools/linux/replay orders, and has real signal handlers.
  *
- *     agent MEMORY SOCKET      two open files; replay starts it, and a world's exec starts it again
+ *     agent MEMORY SOCKET      two open files; replay starts it, and an exec of the world starts it again
  *
- * MEMORY is shared by replay and all agents. It has a page for each process, by its number. In its page an agent waits
- * for an order, carries it out, and appends what came of it to its reports: the result of a call, a call that the
- * kernel would restart, a handler that is entered. A child begins where its parent was, and takes its own page.
+ * Replay and all agents share MEMORY. It has a page for each process, indexed by process ID. In its page, an agent
+ * waits for an order, carries it out, and appends the outcome to its reports: the result of a call, a call that the
+ * kernel would restart, or the entry of a handler. A child begins where its parent was, and takes its own page.
  *
  * The kernel pushes the frames of all signals that it can deliver before the first handler runs. So a handler that
- * begins looks below its own frame, and reports the call that was interrupted and the handlers that have yet to begin.
+ * begins looks below its own frame, and reports the interrupted call and the handlers that have yet to begin.
  */
 #define _GNU_SOURCE
 #include <linux/futex.h>
@@ -30,26 +30,26 @@
 /* Replay knows these numbers, and the layout of a page. */
 enum { PAGE = 4096, REPORTS = 40 };
 #define BASE ((char *)0x100000000000)
-/* The first argument becomes a descriptor: of TERMINAL_CALL that of /dev/tty, of OPENED_CALL that of a file named in
- * `data`. */
+/* The first argument is replaced by a descriptor: of /dev/tty for TERMINAL_CALL, of the file named in `data` for
+ * OPENED_CALL. */
 enum order { CALL = 1, TERMINAL_CALL, RETURN, FAULT, OPENED_CALL };
 enum report { RESULT = 1, RESTART, HANDLER, BEGUN };
 
 struct page {
-    uint32_t ordered, taken;        /* how many orders were given, and taken */
+    uint32_t ordered, taken;        /* counts of the orders given and taken */
     int64_t order, arguments[7];    /* the first argument is the number of the system call, or the signal of a fault */
     int64_t handler, restorer;      /* for sigaction */
     int64_t reports;
     struct { int64_t kind, value[3]; } report[REPORTS];
-    char data[1024];                /* what calls point at; replay writes and reads it */
+    char data[1024];                /* the buffers of calls; replay writes and reads them */
 };
 
 static struct page *page;
-static int births;                  /* the socket by which a new process tells that it is there */
+static int births;                  /* the socket on which a new process reports itself */
 static ucontext_t *to_begin[64];    /* the frames of handlers that were reported before they began */
 static int waiting_to_begin;
 
-/* The call is made at one place, so that a handler sees from the pc that it interrupted a call, and how. */
+/* All calls are made at one place, so a handler can see from the pc whether it interrupted a call, and how. */
 long make_call(const int64_t *arguments);
 void make_fault(long signal);
 void restorer(void);
@@ -85,7 +85,7 @@ __asm__(".text\n"
         "    mov $15, %eax\n"
         "    syscall\n");
 
-/* What make_call gives where a handler has told the result. */
+/* What make_call returns if a handler has reported the result. */
 enum { TOLD = -100000 };
 
 static void tell(int64_t kind, int64_t a, int64_t b, int64_t c)
@@ -100,7 +100,7 @@ static void tell(int64_t kind, int64_t a, int64_t b, int64_t c)
     page->reports = n + 1;
 }
 
-/* The page of this process, whose number may be new. */
+/* Takes the page of this process, which may be a new one. */
 static void take_page(void)
 {
     int number = getpid();
@@ -128,7 +128,7 @@ static void call_on_file(const char *name)
     close(file);
 }
 
-/* Takes orders until a handler has to return. */
+/* Carries out orders until a handler must return. */
 static void serve(void)
 {
     for (;;) {
@@ -178,8 +178,8 @@ static void tell_handler(int signal, const siginfo_t *info)
     tell(HANDLER, signal, value, sender);
 }
 
-/* What was interrupted: a call that is done or is to be restarted, which serve then needn't tell; or a fault, which
- * is behind it then. */
+/* Reports what was interrupted: a call that has returned or would be restarted, which `serve` then doesn't report. Or
+ * moves the pc past a fault. */
 static void tell_interrupted(ucontext_t *context)
 {
     greg_t *r = context->uc_mcontext.gregs;
@@ -197,13 +197,13 @@ static void tell_interrupted(ucontext_t *context)
 
 static void handler(int signal, siginfo_t *info, void *own_context);
 
-/* The handlers that have yet to begin lie one below another, so the last one that was told begins first. */
+/* The frames of handlers that have yet to begin are stacked, so the last reported handler begins first. */
 static int is_told(const ucontext_t *context)
 {
     return waiting_to_begin > 0 && to_begin[waiting_to_begin - 1] == context;
 }
 
-/* Tells what lies below a frame, as far as it isn't told, and then the frame. */
+/* Reports what is below a frame, unless it is reported already, and then the frame. */
 static void tell_frames(int signal, const siginfo_t *info, ucontext_t *context)
 {
     greg_t *r = context->uc_mcontext.gregs;

@@ -1,9 +1,9 @@
-"""Runs a C program on Linux as process 1, with a terminal at which keys are typed, and says what it notes.
+"""Runs a C program on Linux as process 1, with a terminal at which keys are typed, and returns its notes.
 
-The program is the first process of a pid namespace and leads a session, as process 1 of a world does, so processes have
-the same numbers. Its files 0 and 1 are a pseudoterminal, which it may take by setctty, and 2 is a pipe for its notes.
-`step` of the events waits until all processes sleep, are stopped or have ended, `tick` some seconds, `key` types, and
-`hangup` closes the other side of the terminal, for good.
+The program is the first process of a pid namespace and leads a session, like process 1 of a world, so processes have
+the same process IDs. Its files 0 and 1 are a pseudoterminal, which it may make its controlling terminal by setctty.
+File 2 is a pipe for its notes. The event `step` waits until all processes sleep, are stopped or are zombies. `tick`
+waits some seconds, `key` types, and `hangup` closes the other side of the terminal, for good.
 """
 import os
 import re
@@ -17,17 +17,17 @@ import time
 HERE = os.path.dirname(os.path.abspath(__file__))
 FLAGS = ['-Wall', '-Wextra', '-Werror', '-I', os.path.join(HERE, '..', 'c')]
 NOTE = re.compile(r'note (\d+) (-?\d+)')
-# Seconds between looks, how often a look has to be the same, the seconds in which a key is noticed, and those after which
-# a program is given up.
+# Seconds between two polls, the number of equal polls that count as calm, the seconds in which a key is noticed, and
+# the seconds after which a program is killed.
 POLL, CALM, NOTICED, LONGEST = 0.004, 6, 0.5, 30.0
 
 
 class NotHere(Exception):
-    """Why programs aren't run here."""
+    """The reason why this machine runs no programs."""
 
 
 def read_events(path):
-    """The lines of a file of events, with numbers for names; none, where there is no file."""
+    """Returns the lines of a file of events, with numbers for names; no lines if there is no file."""
     if not os.path.exists(path):
         return []
     done = subprocess.run([os.path.join(HERE, '..', 'names'), path], capture_output=True, text=True, check=True)
@@ -36,15 +36,15 @@ def read_events(path):
 
 
 def compile_file(path, folder, more=()):
-    """Compiles a C file to a program of its name in a folder; gives what the compiler says of faults."""
+    """Compiles a C file to a program of its name in a folder. Returns the compiler's messages if it fails."""
     name = os.path.splitext(os.path.basename(path))[0]
     done = subprocess.run(['gcc', *FLAGS, *more, path, '-o', os.path.join(folder, name)], capture_output=True, text=True)
     return done.stderr if done.returncode else ''
 
 
 def check():
-    """Refuses a machine on which programs can't be process 1. A program would ignore what is ignored here, as a shell has
-    its background commands ignore SIGINT and SIGQUIT: so neither is ignored from here on."""
+    """Raises NotHere if programs can't be process 1 on this machine. Restores the default actions of SIGINT and
+    SIGQUIT, because a shell may have its background commands ignore them, and the program would inherit that."""
     for number in (signal.SIGINT, signal.SIGQUIT):
         if signal.getsignal(number) is signal.SIG_IGN:
             signal.signal(number, signal.SIG_DFL)
@@ -52,14 +52,14 @@ def check():
         if shutil.which(name) is None:
             raise NotHere(f'there is no {name}')
     if not os.path.exists(f'/proc/self/task/{os.getpid()}/children'):
-        raise NotHere('/proc does not tell the children of a process')
+        raise NotHere('/proc does not list the children of a process')
     done = subprocess.run(['unshare', '--pid', '--fork', 'setsid', 'true'], capture_output=True, text=True)
     if done.returncode != 0:
         raise NotHere(done.stderr.strip().splitlines()[-1] if done.stderr else 'unshare fails')
 
 
 def children(process):
-    """All that descend from a process."""
+    """Returns all descendants of a process."""
     try:
         with open(f'/proc/{process}/task/{process}/children', encoding='ascii') as file:
             direct = file.read().split()
@@ -69,7 +69,7 @@ def children(process):
 
 
 def state(process):
-    """What a process does, and how often it has waited."""
+    """Returns the process, its state, and the counts of its context switches."""
     try:
         with open(f'/proc/{process}/stat', encoding='ascii', errors='replace') as file:
             letter = file.read().rpartition(')')[2].split()[0]
@@ -80,7 +80,7 @@ def state(process):
 
 
 class Run:
-    """A program that runs. On a busy machine, more patience waits as many times longer before it takes a process to rest."""
+    """A running program. `patience` says how many times longer a process must sleep before it counts as at rest."""
 
     def __init__(self, path, patience=1):
         self.patience = patience
@@ -100,7 +100,7 @@ class Run:
         return [state(process) for process in children(str(self.process.pid))]
 
     def type_keys(self, keys):
-        """Types keys, and waits until a process notices: the kernel hands them on as it finds time."""
+        """Types keys, and waits until a process notices them: the kernel passes them on later."""
         before, until = self.states(), time.monotonic() + NOTICED * self.patience
         os.write(self.master, keys)
         while self.states() == before and self.process.poll() is None and time.monotonic() < until:
@@ -111,7 +111,7 @@ class Run:
         self.master = None
 
     def wait_for_calm(self, calm=CALM):
-        """Waits until nothing acts, or the program has ended."""
+        """Waits until no process runs, or the program has terminated."""
         before, same = None, 0
         while same < calm * self.patience and self.process.poll() is None and time.monotonic() < self.ends:
             now = self.states()
@@ -130,7 +130,7 @@ class Run:
             self.wait_for_calm()
 
     def finish(self):
-        """What was noted, and the status with which process 1 ended, or None where it rests."""
+        """Returns the notes, and the exit status of process 1, or None if it still runs."""
         self.wait_for_calm(4 * CALM)
         status = self.process.poll()
         if status is None:
@@ -149,7 +149,7 @@ class Run:
 
 
 def outcome(text, status):
-    """The notes of each process, and how process 1 ends."""
+    """Returns the notes of each process, and the exit status of process 1."""
     notes = {}
     for process, value in NOTE.findall(text):
         notes.setdefault(int(process), []).append(int(value))

@@ -1,5 +1,5 @@
-"""What docs/CONFORMANCE.md explains. Each heading has a cause, and explains a difference only where its cause is there:
-what has happened so far is followed from event to event, in the states of the plain machine.
+"""The known differences of docs/CONFORMANCE.md. Each heading has a cause, and explains a difference only if its cause
+has occurred. To know the causes, `Known` follows the states of the plain machine from event to event.
 """
 
 import machine as rules
@@ -12,12 +12,12 @@ TERMINAL = ('tcgetpgrp', 'tcsetpgrp', 'settostop', 'read', 'write')
 REFUSED_AFTER_A_HANGUP = {'tcgetpgrp': '-5', 'settostop': '-5', 'tcsetpgrp': '-25'}
 FAULTS = 4, 5, 7, 8, 11, 31
 WITH_A_CORE = 3, 4, 5, 6, 7, 8, 11, 24, 25, 31
-# Headings where the result of a call differs, and nothing else comes of it.
+# Headings with a different result of a call, and no other effect.
 RESULTS_ALONE = {'einval-or-esrch-from-kill', 'kill-of-all-without-permission', 'setctty-of-the-same-console',
                  'tcsetpgrp-of-an-unused-number', 'tcsetpgrp-in-an-orphaned-group',
                  'tcgetpgrp-without-a-foreground-group', 'setpgid-of-a-negative-process-id', 'waitpid-of-int_min',
                  'waitid-without-wexited', 'seteuid-of-the-current-id', 'terminal-calls-after-a-hangup'}
-# Headings behind which the states can agree again, and all that is hidden in them, too.
+# Headings after which the states, with all that is hidden in them, can agree again.
 PASSING = {'a-recreated-foreground-group', 'tcsetpgrp-of-a-process-id', 'a-blocked-signal-for-process-1',
            'pending-sigcont-in-process-1', 'sigkill-of-a-stopped-process', 'sigchld-for-a-continue',
            'fatal-signals-act-at-once', 'the-temporary-mask-of-sigsuspend', 'which-child-is-reported',
@@ -25,65 +25,66 @@ PASSING = {'a-recreated-foreground-group', 'tcsetpgrp-of-a-process-id', 'a-block
 
 
 def reported(text):
-    """The child and the status word that the result of a wait tells, or None twice."""
+    """Returns the child and the wait status in the result of a wait, or None twice."""
     words = text.split()
     return (int(words[-3]), int(words[-1])) if words[-2:-1] == ['status'] else (None, None)
 
 
 def sort_of(word):
-    """The option of a wait that asks for a status word."""
+    """Returns the option of a wait that selects a wait status."""
     return CONTINUED if word == CONTINUED_WORD else STOPPED if word % 256 == 127 else EXITED
 
 
 def interrupts(p, number):
-    """Whether p has a handler for a signal, without SA_RESTART."""
+    """Returns true if p has a handler for a signal, without SA_RESTART."""
     return bool(number) and p.has_handler(number) and not p.action(number)[2] & rules.RESTART
 
 
 def fatal(p):
-    """The pending signals that end p without a core."""
+    """Returns the pending signals that kill p without a core dump."""
     return {n for n in rules.SIGNALS if p.pending() & bit(n) & ~p.mask and p.action(n)[0] == rules.DEFAULT
             and n not in (*WITH_A_CORE, *STOPS, *rules.IGNORED_BY_DEFAULT)}
 
 
 class Known:
-    """What has happened in a run, and which difference it explains."""
+    """Follows a run, and finds the differences that it explains."""
 
     def __init__(self, run):
         self.run, self.machine = run, run.machine
-        self.lost = [0] * run.world.consoles    # of each console the foreground group that has lost its last member
-        self.without = set()                    # who has no terminal in Linux, as the leader took it later
-        self.hung_up = {}                       # by the leader of a session the foreground as its terminal hung up
-        self.born = [1]                         # all processes, the children of each in the order in which they came
-        # The events in which a process changed its group, a child of a process did, and a child came to its parent.
+        self.lost = [0] * run.world.consoles    # by console: the foreground group that lost its last member
+        self.without = set()                    # processes without a terminal in Linux (children-forked-before-setctty)
+        self.hung_up = {}                       # by session leader: the foreground group at the hangup
+        self.born = [1]                         # all processes; the children of a process in order of arrival
+        # By process, the last event in which: it changed its group; a child of it changed its group; it got a new
+        # parent.
         self.moved, self.child_moved, self.came = {}, {}, {}
-        self.begun = {}                         # the event in which a call began, and the group of its caller
-        # Who was stopped in a call; who was continued, and hasn't run since; who has, and the states haven't agreed since;
-        # the signals that end a process in Linux.
+        self.begun = {}                         # by process: the event in which its call began, and its group
+        # Processes that were stopped in a call; that were continued, and have not run since; that have run, but the
+        # states have not agreed since; by process, the signals that kill it in Linux.
         self.stopped_in_call, self.continued, self.told, self.dying = set(), set(), set(), {}
-        self.came_together = {}                 # zombies that came to a process at once
-        self.here_alone, self.there_alone = set(), set()    # children of which only one side has reported the news
-        # The state before the event: the orphaned groups, and of the process that acts its zombies and its heir.
+        self.came_together = {}                 # by process: zombies that became its children at once
+        self.here_alone, self.there_alone = set(), set()    # children that only one side has reported
+        # The state before the event: the orphaned groups; the zombies of the current process, and their new parent.
         self.before, self.foregrounds, self.orphaned, self.left, self.heir = {}, [], set(), [], 1
 
-    # -- what happens
+    # -- following the run
 
     def begin(self, p):
-        """A call of p begins, or begins again."""
+        """Notes that a call of p begins, or begins again."""
         self.begun[p.number] = self.run.count, p.group
 
     def note_turn(self, number):
-        """A process runs, and so Linux tells of its continue."""
+        """Notes that a process runs; Linux then sends SIGCHLD for its continue."""
         if number in self.continued:
             self.continued.discard(number)
             self.told.add(number)
 
     def note_hangup(self, console):
-        """The terminal of a session hangs up."""
+        """Notes that the terminal of a session hangs up."""
         self.hung_up[console.session] = console.foreground
 
     def look_before(self):
-        """Before an event."""
+        """Notes the state before an event."""
         machine, p = self.machine, self.run.p
         self.before = {q.number: (q.parent, q.group, q.life, q.news) for q in machine.processes.values()}
         self.born = [number for number in self.born if number in self.before or number in self.here_alone]
@@ -93,7 +94,7 @@ class Known:
         self.heir = machine.heir(p) if p else 1
 
     def look_behind(self):
-        """Behind it: what it has changed."""
+        """Notes the changes by an event."""
         machine, run, p = self.machine, self.run, self.run.p
         for q in machine.rising():
             if q.number not in self.before:
@@ -140,7 +141,7 @@ class Known:
             self.there_alone.discard(number)
 
     def note_reports(self, here, there):
-        """Two children are reported, one on each side."""
+        """Notes that each side has reported another child."""
         both = self.here_alone, self.there_alone
         for text, alone, others in (here, *both), (there, *both[::-1]):
             number, _ = reported(text)
@@ -150,13 +151,13 @@ class Known:
                 alone.add(number)
 
     def note_dying(self, q):
-        """Linux has decided that q ends. Whether a signal that is pending here explains it."""
+        """Notes that q is dying in Linux. Returns true if a signal that is pending here explains it."""
         return bool(self.dying.setdefault(q.number, fatal(q)))
 
     # -- a difference
 
     def explain(self, d):
-        """The heading of docs/CONFORMANCE.md that explains a difference, or None."""
+        """Returns the heading of docs/CONFORMANCE.md that explains a difference, or None."""
         here, there, run = str(d.here), str(d.there), self.run
         anchor = None
         if d.what == run.name and run.p and d.number == run.p.number:
@@ -166,7 +167,7 @@ class Known:
             return 'a-recreated-foreground-group' if is_made_again else None
         return anchor or self.of_state(d.what, d.number, here, there)
 
-    # -- where the result of the call differs that is made or taken up again
+    # -- a difference in the result of a call, new or blocked before
 
     def of_result(self, name, here, there):
         pair, (r1, r2, _, r4) = (here, there), self.run.registers[1:5]
@@ -236,12 +237,12 @@ class Known:
         return 'which-child-is-reported' if self.came_before(number, there) else None
 
     def asks_for(self, word):
-        """Whether the wait asks for a status word."""
+        """Returns true if the wait selects a wait status."""
         options = self.run.registers[2] | EXITED if self.run.name == 'waitpid' else self.run.registers[3]
         return bool(options & sort_of(word))
 
     def came_before(self, number, there):
-        """Whether Linux reports a child that came earlier than this one, and not the least number."""
+        """Returns true if Linux reports a child that came earlier than this one, not the lowest number."""
         other, word = reported(there)
         if not other or not self.asks_for(word):
             return False
@@ -276,7 +277,8 @@ class Known:
         return r1 == 0 if name == 'waitpid' else (r1, r2) == (rules.A_GROUP, 0)
 
     def has_ends_alone(self, p, kind, number, options):
-        """Whether a waitid doesn't ask for ends, and all children that it names have ended: Linux finds none then."""
+        """Returns true if a waitid lacks WEXITED, and all children that it selects are zombies: Linux finds none
+        then."""
         named = [child for child in self.machine.children(p) if self.machine.is_of_kind(p, kind, number, child)]
         return not options & EXITED and all(child.life == 'zombie' for child in named)
 
@@ -322,7 +324,7 @@ class Known:
                   and run.linux.busy[q.number] == 'read' and self.begun[q.number] < self.begun[p.number]]
         return 'several-readers' if others else None
 
-    # -- where a signal or the state of a process differs
+    # -- a difference in a signal or in the state of a process
 
     def of_state(self, what, number, here, there):
         run, q = self.run, self.machine.processes.get(number)
@@ -357,8 +359,8 @@ class Known:
         return 'fatal-signals-act-at-once'
 
     def is_told_of_hangup(self, what, q, here, there):
-        """Whether Linux sends q a CONT, too: the leader at a hangup, and at its end what was the foreground then, which
-        may be another one here."""
+        """Returns true if Linux sends SIGCONT, too: to the leader at a hangup; when the leader terminates, to the group
+        that was in the foreground at the hangup, which may be another group here."""
         p, run = self.run.p, self.run
         is_end = p and p.number in self.hung_up and ['end', str(p.number)] in [words[:2] for words in run.lines]
         is_now = is_end and (p.number, q.group) in self.foregrounds
@@ -371,7 +373,7 @@ class Known:
         return there - here <= may_lack and here - there <= may_have
 
     def is_orphaned_twice(self, what, q, here, there):
-        """Whether a zombie of q's group, which was orphaned before, was a child of the process that ends."""
+        """Returns true if q's group was orphaned before, and the terminating process had a zombie child in it."""
         p, more = self.run.p, {*there.split()} - {*here.split(), 'none'}
         is_asked = any(child.group == q.group and child.session == p.session for child in self.left)
         is_told = (here, there) == ('stopped', 'running') if what == 'life' else more <= {'1', '18'}
@@ -394,20 +396,20 @@ class Known:
         return None
 
     def sent(self):
-        """The signal that the event sends."""
+        """Returns the signal that the event sends."""
         run = self.run
         if run.name in TERMINAL:
             return rules.TTIN if run.name == 'read' else rules.TTOU
         return run.registers[2] if run.name in SENDS else rules.KEYS.get(run.name, 0)
 
     def of_continue(self, children):
-        """Of the notice that Linux sends as one of these children next runs, or not at all as it is dying."""
+        """Explains a SIGCHLD that Linux sends when one of these children next runs, or never if the child is dying."""
         if any(KILL in child.standard for child in children):
             return 'sigkill-of-a-stopped-process'
         return 'sigchld-for-a-continue' if children else None
 
     def of_handler(self, q, here, there):
-        """The same for a handler, `here` and there its signal, value and sender, behind `handler` there."""
+        """Explains a handler, with its signal, value and sender in `here`, and in `there` after the word `handler`."""
         signal, sender = (int(there[1]), int(there[3])) if there[0] == 'handler' else (0, 0)
         if here[:2] == ['17', str(CONTINUED_WORD)] and (there == ['asleep'] or signal == rules.CHLD):
             child = self.machine.processes.get(int(here[2]))
@@ -426,7 +428,7 @@ class Known:
         return 'the-temporary-mask-of-sigsuspend' if there == 'zombie' and ends else None
 
     def goes_on(self, q, signals):
-        """Whether q goes on with a sigsuspend whose mask alone blocks these signals."""
+        """Returns true if q remains in a sigsuspend, and only its temporary mask blocks these signals."""
         discards = ['discard', str(q.number)] in [line[:2] for line in self.run.lines]
         return ((discards or q.number in self.stopped_in_call) and q.call == 'sigsuspend' and q.life == 'running'
                 and all(q.mask & bit(number) & ~q.earlier for number in signals))

@@ -1,11 +1,11 @@
 #!/usr/bin/env python3
-"""A plain machine: the rules of docs/RULES.md and docs/FORMATS.md once more, in Python and without a thought of speed.
-tools/linux/replay takes from it what no trace shows: who acts, and the state after each event. Each line that it gives
-has to be that of jobk.
+"""A plain machine: a second implementation of docs/RULES.md and docs/FORMATS.md, in Python, written for clarity, not
+speed. tools/linux/replay takes from it what no trace shows: the process that acts, and the state after each event. Its
+trace must be the trace of jobk.
 
-    tools/linux/machine.py run -- WORLD EVENTS      its trace: so it stands in for jobk
+    tools/linux/machine.py run -- WORLD EVENTS      prints its trace, so it can replace jobk
 
-The texts have to be texts that jobk accepts, and no call is refused for memory.
+jobk must accept the world and the events. No call fails for lack of memory.
 """
 
 import copy
@@ -20,7 +20,7 @@ IGNORED_BY_DEFAULT = (CHLD, CONT, 23, 28)
 EPERM, ENOENT, ESRCH, EINTR, EIO, ECHILD, EAGAIN, EACCES, EFAULT, EINVAL, ENOTTY = 1, 2, 3, 4, 5, 10, 11, 13, 14, 22, 25
 NOCLDSTOP, NOCLDWAIT, SIGINFO, RESTART, NODEFER, RESETHAND = 1, 2, 4, 1 << 28, 1 << 30, 1 << 31
 FLAGS = NOCLDSTOP | NOCLDWAIT | SIGINFO | RESTART | NODEFER | RESETHAND
-# Options of waitpid and waitid: what stops is WUNTRACED of the one and WSTOPPED of the other.
+# Options of waitpid and waitid: STOPPED is WUNTRACED of waitpid and WSTOPPED of waitid.
 NOHANG, STOPPED, EXITED, CONTINUED, NOWAIT = 1, 2, 4, 8, 1 << 24
 SORTS = STOPPED | EXITED | CONTINUED
 ANY_CHILD, A_CHILD, A_GROUP = 0, 1, 2                       # the kinds of waitid
@@ -29,7 +29,7 @@ KEYS = {0x03: INT, 0x1c: QUIT, 0x1a: TSTP}
 JUMPS = {'jz': lambda x: x == 0, 'jnz': lambda x: x != 0, 'jlt': lambda x: x < 0}
 GREATEST = 2**31 - 1
 CONTINUED_WORD = 65535
-# What a call comes to, where it gives no result: it has to wait; it begins again; its lines are shown already.
+# The outcomes of a call without a result: it blocks; it begins again; it has already shown its lines.
 BLOCK, AGAIN, SHOWN = 'block', 'again', 'shown'
 
 
@@ -105,8 +105,8 @@ class Process:
 class Console:
     def __init__(self):
         self.session, self.foreground, self.lines, self.edited, self.tostop = 0, 0, [], b'', False
-        self.is_hung_up = False                             # until it is somebody's again
-        self.has_dropped = False                            # a byte or a line had no room
+        self.is_hung_up = False                             # until a session takes it as its controlling terminal
+        self.has_dropped = False                            # a byte or a line did not fit
 
     def finish(self, line):
         if len(self.lines) < 64 and sum(map(len, self.lines)) + len(line) <= 1024:
@@ -139,7 +139,7 @@ class Machine:
         self.order, self.last, self.ticks, self.halted, self.count = [1], 1, 0, False, 0
         self.lines = []
 
-    # ---- who there is
+    # ---- the processes
 
     def rising(self):
         return [self.processes[number] for number in sorted(self.processes)]
@@ -151,7 +151,8 @@ class Machine:
         return [q for q in self.rising() if q.parent == p.number]
 
     def heir(self, p):
-        """Who gets the children of p as it ends: the nearest of its living forebears that is marked, or process 1."""
+        """Returns the new parent of p's children when p terminates: the nearest live ancestor that is a subreaper, or
+        process 1."""
         forebear = self.processes.get(p.parent)
         while forebear and (forebear.life == 'zombie' or not forebear.is_subreaper):
             forebear = self.processes.get(forebear.parent)
@@ -176,7 +177,7 @@ class Machine:
     # ---- an event
 
     def event(self, event):
-        """The lines that it shows."""
+        """Runs an event, and returns the lines that it shows."""
         self.count += 1
         self.lines = []
         if not self.halted:
@@ -209,7 +210,7 @@ class Machine:
         return p.life == 'running' and (p.call is None or p.chosen() is not None or self.outcome(p)[0] != BLOCK)
 
     def outcome(self, p):
-        """What the call that p is blocked in would come to."""
+        """Returns the present outcome of the call in which p is blocked."""
         return {'waitpid': self.waitpid_outcome, 'waitid': self.waitid_outcome,
                 'read': self.read_outcome}.get(p.call, lambda _: (BLOCK,))(p)
 
@@ -245,8 +246,9 @@ class Machine:
     # ---- a step
 
     def plan(self, p):
-        """What the next step of p is: the end by 'kill'; a 'call', taken up 'again', too; the 'signal' that is
-        delivered; an 'idle' wait; a 'fault'; or any other instruction, which is 'plain'."""
+        """Returns the kind of p's next step: 'kill' (SIGKILL terminates it); a 'call', or 'again' if it was blocked in
+        the call; a 'signal' that is delivered; 'idle' (it remains blocked); a 'fault'; or another instruction,
+        'plain'."""
         if KILL in p.standard:
             return 'kill', KILL
         if p.call:
@@ -276,7 +278,7 @@ class Machine:
             self.finish(p, what, getattr(self, what)(p))
 
     def finish(self, p, name, result):
-        """What follows a call."""
+        """Completes a call, or blocks p in it."""
         if result == BLOCK:
             if p.call is None and name == 'sigsuspend':
                 p.earlier, p.mask = p.mask, maskable(p.r[1])
@@ -310,7 +312,7 @@ class Machine:
         return SEGV if words[0] in ('ld', 'st') and not 0 <= p.r[int(words[2][1])] < 256 else None
 
     def run_plain(self, p, words):
-        """Runs an instruction that is no call and has no fault."""
+        """Runs an instruction that is not a call and has no fault."""
         word, *operands = words
         program = self.world.programs[p.program]
         a = int(operands[0][1]) if word != 'jmp' else None
@@ -402,7 +404,7 @@ class Machine:
         else:
             self.end(p, number)
 
-    # ---- ends
+    # ---- terminations
 
     def end(self, p, word):
         self.show('end', p.number, word)
@@ -505,7 +507,7 @@ class Machine:
         return self.wait_outcome(named, options, ((0, 0, 0), (0,)))
 
     def wait_outcome(self, named, options, nothing):
-        """What a wait comes to; `nothing` is its result where it hasn't to wait for a report."""
+        """Returns the outcome of a wait; `nothing` is its result with WNOHANG if there is nothing to report."""
         if not named:
             return 'refused', -ECHILD
         for child in named:
@@ -515,7 +517,7 @@ class Machine:
         return ('refused', nothing) if options & NOHANG else (BLOCK,)
 
     def report(self, child):
-        """What a child has to report, as the option that asks for it, or 0; and its status word."""
+        """Returns the unreported status change of a child, as the option that selects it, or 0; and the wait status."""
         if child.life == 'zombie':
             return EXITED, child.word
         return (CONTINUED if child.news == CONTINUED_WORD else STOPPED if child.news else 0), child.news
@@ -710,7 +712,7 @@ class Machine:
         return (console.foreground or self.world.pidmax + 1) if console else -ENOTTY
 
     def refusal(self, p, console):
-        """What TTOU makes of a call: AGAIN or an error, or None where it is let through."""
+        """Returns the effect of SIGTTOU on a call: AGAIN or an error, or None if the call may proceed."""
         if p.group == console.foreground or p.blocks_or_ignores(TTOU):
             return None
         if self.is_orphaned(p.group):

@@ -1,4 +1,4 @@
-"""The consoles of a replay: pseudoterminals of Linux, and how they hang up; and the priorities of its processes."""
+"""The consoles of a replay, which are pseudoterminals of Linux, their hangups, and the priorities of processes."""
 
 import array
 import ctypes
@@ -27,7 +27,7 @@ def set_priority(number, priority):
 
 
 def end_with_parent(parent):
-    """KILL comes to this process as its parent ends. In a new namespace the parent has the number 0."""
+    """Has Linux kill this process when its parent terminates. In a new namespace the parent has the process ID 0."""
     libc.prctl(1, signal.SIGKILL)                           # PR_SET_PDEATHSIG
     if os.getppid() not in (parent, 0):
         os._exit(1)
@@ -37,8 +37,8 @@ class Terminals:
     """The terminals of a world. `undo` closes them, and `control` is the socket of the guard."""
 
     def __init__(self):
-        # The descriptors of both sides, and the names; those that are to be opened again; and of those that still hang up
-        # who does it.
+        # The descriptors of both sides; the names; the places to open again; and, by place, the processes that wait for
+        # a hangup to finish.
         self.consoles, self.names, self.lost, self.hanging = [], [], set(), {}
 
     def open_console(self):
@@ -63,18 +63,19 @@ class Terminals:
         try:
             fcntl.ioctl(self.consoles[console - 1][1], TIOCSTI, bytes([byte]))
         except OSError as why:
-            raise NotHere(f'no key can be put into a terminal: {why}')
+            raise NotHere(f'TIOCSTI puts no key into a terminal: {why}')
 
     def hang_up(self, place):
-        """Hangs a terminal up. The call tells the leader, and then waits until all have left their reads, which may be
-        long after. So another process makes it, and has a tenth of a second until this one goes on."""
+        """Hangs up a terminal. The call signals the leader, and then blocks until all processes have left their reads,
+        which may take long. So another process makes the call, and this one waits at most a tenth of a second for
+        it."""
         mine = os.getpid()
         self.hanging[place] = os.fork()
         if self.hanging[place] == 0:
             try:
                 end_with_parent(mine)
                 self.control.close()
-                set_priority(0, GUARD)                      # so it is done as the last one leaves
+                set_priority(0, GUARD)                      # so it continues when the last read has ended
                 fcntl.ioctl(self.consoles[place][1], TIOCVHANGUP)
                 os._exit(0)
             finally:
@@ -85,7 +86,7 @@ class Terminals:
             os.sched_yield()
 
     def hangs_up(self, place):
-        """Whether a hangup still waits for those that read."""
+        """Returns true if a hangup still waits for processes that read."""
         ended, word = os.waitpid(self.hanging[place], os.WNOHANG) if place in self.hanging else (0, 0)
         if ended:
             del self.hanging[place]
@@ -98,9 +99,9 @@ class Terminals:
             os.waitpid(child, 0)
 
     def open_again(self, place, tostop):
-        """Opens a terminal that has hung up again, with its modes, for keys to come."""
+        """Opens a terminal again after its hangup, with its modes, for later keys."""
         if self.hangs_up(place):
-            raise Skipped('a terminal is taken again before all have left their reads of it')
+            raise Skipped('a terminal gets a new session before all processes have left their reads of it')
         slave = self.consoles[place][1]
         again = os.open(self.names[place], os.O_RDWR | os.O_NOCTTY)
         os.dup2(again, slave, inheritable=False)
@@ -108,7 +109,8 @@ class Terminals:
         self.set_modes(slave, tostop)
 
     def owners(self, place):
-        """The session and the foreground process group of a console, by the numbers outside, 0 for none."""
+        """Returns the session and the foreground process group of a console, as IDs outside the namespace, 0 for
+        none."""
         session, group = array.array('i', [0]), array.array('i', [0])
         try:
             fcntl.ioctl(self.consoles[place][0], TIOCGSID, session)

@@ -1,4 +1,4 @@
-"""What the texts of a world and of events say, where jobk accepts them."""
+"""Parses a world and events that jobk accepts."""
 
 
 class Program:
@@ -6,10 +6,10 @@ class Program:
         self.name = words[1]
         ids = dict(zip(words[2::2], map(int, words[3::2])))
         self.setuid, self.setgid = ids.get('setuid'), ids.get('setgid')
-        self.code, self.lines, self.labels = [], [], {}     # lines: of each instruction
+        self.code, self.lines, self.labels = [], [], {}     # lines: the line of each instruction
 
     def label(self, address):
-        """The label nearest before an address, and how far behind it the address is; nothing where there is none."""
+        """Returns the last label up to an address, and the distance from it; an empty string if there is none."""
         found = [(name, at) for name, at in self.labels.items() if at <= address]
         if not found:
             return ''
@@ -17,7 +17,7 @@ class Program:
         return name + ('+%d' % (address - at) if address != at else '')
 
     def place(self, pc):
-        """Where a process with this pc stands: the line of the world, and the label before it."""
+        """Describes a pc: the line of the world, and the label before it."""
         if pc < 16:
             return 'at address %d' % pc
         label = self.label(pc)
@@ -26,7 +26,7 @@ class Program:
 
 
 class World:
-    """What the text of a world says."""
+    """A parsed world."""
 
     def __init__(self, text):
         lines = ((number, line.split('#')[0].replace(',', ' ').split()) for number, line in enumerate(text.split('\n'), 1))
@@ -55,7 +55,7 @@ class World:
 
 
 def read_events(text):
-    """The events of a text: ('step',), ('tick',), ('key', console, byte) and ('hangup', console)."""
+    """Yields the events of a text: ('step',), ('tick',), ('key', console, byte) and ('hangup', console)."""
     for line in text.split('\n'):
         words = line.split('#')[0].replace(',', ' ').split()
         if words[:1] == ['key']:

@@ -1,8 +1,8 @@
 #!/usr/bin/env python3
-"""library.py NAME TOOLCHAIN FILE: builds the static library NAME of this repository, which is proved for that.
+"""library.py NAME TOOLCHAIN FILE: proves and builds the static library NAME of this repository.
 
-The crates below it are taken as tools/prove left them in crates/*/out. The folder TOOLCHAIN has the compiler that is given
-the library's module. The status is 0 where the library is proved and built.
+The crates below it must be in crates/*/out, where tools/prove keeps them. The compiler in the folder TOOLCHAIN compiles
+the library's module. The status is 0 if the library is proved and built.
 """
 import os
 import subprocess

@@ -1,9 +1,9 @@
-"""Makes one HTML file of a page's folder: its style and modules stand within it, and all else compressed, in letters.
+"""Makes one HTML file of a page's folder, with its style, its modules, and all other files, compressed, in base64.
 
     one_file.py FOLDER FILE.html
 
-The modules are joined to one, in which each has a scope of its own. An import stands in one line, and an export before
-what it exports.
+The modules become one module, in which each has its own scope. In a module, each import must be on one line, and each
+export must precede a declaration.
 """
 import base64
 import gzip
@@ -25,7 +25,7 @@ EXPORT = re.compile(r'^export (?=(?:async )?(?:function|const|class) ([\w$]+))',
 
 
 def in_order(folder, name, before=()):
-    """A module behind all that it imports."""
+    """Returns the names of a module and of all modules that it imports, imported modules first."""
     if name in before:
         return before
     for _, other in IMPORT.findall(read(folder, name).decode()):
@@ -34,7 +34,7 @@ def in_order(folder, name, before=()):
 
 
 def joined(folder, name):
-    """A module and all that it imports, as one."""
+    """Returns the text of a module and of all modules that it imports, as one module."""
     scopes = ["'use strict';", 'const modules = {};']
     for one in in_order(folder, name):
         text = read(folder, one).decode()

@@ -1,7 +1,7 @@
-"""Writes what a page has of the repository's texts: examples.json, with examples, races and C; and build.json, with the
-commit, the toolchain, the faults of a trace, and why a text is refused.
+"""Writes the texts of a page that come from the repository. examples.json has examples, races and C programs.
+build.json has the commit, the toolchain, the faults of a trace, and the reasons why jobk rejects a text.
 
-    texts.py FOLDER TOOLCHAIN CRATE      of the crate `page` all is proved
+    texts.py FOLDER TOOLCHAIN CRATE      the crate `page` is proved, any other is not
 """
 import datetime
 import glob
@@ -24,12 +24,12 @@ def without_links(text):
 
 
 def lesson(text):
-    """Sentences of a lesson; none that leads to what follows."""
+    """Returns a lesson without a last sentence that ends with a colon."""
     return re.sub(r'(?<=\.) [^.]*:$', '', without_links(text))
 
 
 def examples():
-    """Those that have a world and events, in the order of examples/README.md, and those that have a trace alone."""
+    """Returns the examples with a world and events, in the order of examples/README.md, and those with only a trace."""
     told = re.findall(r'^\*\*\[([a-z_]+)\]\(\1/\w+\)\*\*\. (.*)$', read('examples', 'README.md'), re.MULTILINE)
     worlds, traces = [], []
     for name, says in told:
@@ -53,13 +53,13 @@ def races():
 
 
 def first_paragraph(source):
-    """Of the comment that a C file begins with."""
+    """Returns the first paragraph of the comment that begins a C file."""
     comment = re.match(r'/\*(.*?)(?:\n \*\n|\*/)', source, re.DOTALL)
     return ' '.join(re.sub(r'^ \*', '', comment.group(1), flags=re.MULTILINE).split()) if comment else ''
 
 
 def in_c():
-    """What tools/cworld makes of the files that compile alone; none where there is no pycparser."""
+    """Yields the worlds that tools/cworld makes of single C files; none if pycparser is missing."""
     sys.dont_write_bytecode = True
     sys.path.insert(0, os.path.join(TOP, 'tools', 'c'))
     try:
@@ -67,7 +67,7 @@ def in_c():
         from refusal import Refused
         from source import read_sources
     except ImportError:
-        print('tools/page: without pycparser the page has no examples in C', file=sys.stderr)
+        print('tools/page: the page has no examples in C; install pycparser to add them', file=sys.stderr)
         return
     for path in sorted(glob.glob(os.path.join(TOP, 'examples', 'c', '*.c'))):
         name, events = os.path.basename(path), path[:-2] + '.events'
@@ -80,7 +80,7 @@ def in_c():
 
 
 def faults():
-    """The faults of a trace, by their numbers, as docs/jobk.1 tells them."""
+    """Returns the faults of a trace, by number, as docs/jobk.1 describes them."""
     section = read('docs', 'jobk.1').split('.Sh FAULTS')[1].split('.Sh ')[0]
     told = {}
     for head, text in re.findall(r'^\.It (\d(?: to \d)?)\n(.*?)(?=^\.It |^\.El)', section, re.MULTILINE | re.DOTALL):
@@ -91,11 +91,11 @@ def faults():
 
 
 def remedies():
-    """What the reasons of a refusal mean, as docs/ERRORS.md has it, and what to do, where no link is wanted for that."""
+    """Returns the meanings of the reasons in docs/ERRORS.md, each with its remedy unless the remedy has a link."""
     section = read('docs', 'ERRORS.md').split('## By message')[1].split('\n## ')[0]
     told = {}
     for reason, means, remedy in re.findall(r'^\| `([a-z ]+)` \| (.*?) \| (.*) \|$', section, re.MULTILINE):
-        told[reason] = without_links(means) if '](' in remedy else f'{without_links(means)}. Right is: {remedy}'
+        told[reason] = without_links(means) if '](' in remedy else f'{without_links(means)}. Instead: {remedy}'
     return told
 
 
