@@ -19,7 +19,7 @@ FLAGS = ['-Wall', '-Wextra', '-Werror', '-I', os.path.join(HERE, '..', 'c')]
 NOTE = re.compile(r'note (\d+) (-?\d+)')
 # Seconds between two polls, the number of equal polls that count as calm, the seconds in which a key is noticed, and
 # the seconds after which a program is killed.
-POLL, CALM, NOTICED, LONGEST = 0.004, 6, 0.5, 30.0
+POLL, CALM, NOTICED, LONGEST = 0.004, 6, 0.5, 120.0
 
 
 class NotHere(Exception):
@@ -94,7 +94,7 @@ class Run:
             stdin=slave, stdout=slave, stderr=write_end)
         os.close(slave)
         os.close(write_end)
-        self.ends = time.monotonic() + LONGEST
+        self.ends = time.monotonic() + LONGEST * patience
 
     def states(self):
         return [state(process) for process in children(str(self.process.pid))]
