@@ -231,24 +231,12 @@ def compile_all(folder):
 ON_LINUX_ALONE = {'shell_alone': {(((2, (0,)), (3, (-1,))), 0)}}
 
 
-# A busy machine can let a process wait so long that it seems to be at rest. So a run with another outcome is repeated
-# alone, and waits this many times longer.
-PATIENCE = 20
-
-
 def compare_runs(path, runs, program):
-    """Returns the outcomes of runs of a program that no schedule has, and all that schedules have."""
+    """Returns what is wrong with the runs of a program: outcomes that no schedule has."""
     shown = set(runs) - ON_LINUX_ALONE.get(name_of(path), set())
     with tempfile.TemporaryDirectory() as folder:
         possible = schedules.outcomes(program, folder, world_of(path), events_beside(path), shown)
-    return sorted(shown - possible, key=str), possible
-
-
-def repeated(path, others, program, folder):
-    """Runs a program again for each outcome that no schedule has, and returns what is wrong with these runs."""
-    place = os.path.join(folder, name_of(path))
-    again = [c_program.run(place, events_beside(path), PATIENCE) for _ in others]
-    others, possible = compare_runs(path, again, program) if again else ([], set())
+    others = sorted(shown - possible, key=str)
     return [f'{name_of(path)}.c on Linux: {outcome}, of {possible}' for outcome in others]
 
 
@@ -264,7 +252,6 @@ def on_linux(program, report):
         with concurrent.futures.ThreadPoolExecutor(WORKERS) as pool:
             runs = {path: [pool.submit(c_program.run, os.path.join(folder, name_of(path)), events_beside(path))
                            for _ in range(RUNS)] for path in first_files()}
-            checks = {path: pool.submit(compare_runs, path, [it.result() for it in runs[path]], program) for path in runs}
-            others = {path: check.result()[0] for path, check in checks.items()}
-        failures = [it for path in others for it in repeated(path, others[path], program, folder)]
+            checks = [pool.submit(compare_runs, path, [it.result() for it in runs[path]], program) for path in runs]
+            failures = [failure for check in checks for failure in check.result()]
         report.part(f'on Linux, {RUNS} times each', len(runs), failures)

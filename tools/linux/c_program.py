@@ -19,7 +19,7 @@ FLAGS = ['-Wall', '-Wextra', '-Werror', '-I', os.path.join(HERE, '..', 'c')]
 NOTE = re.compile(r'note (\d+) (-?\d+)')
 # Seconds between two polls, the number of equal polls that count as calm, the seconds in which a key is noticed, and
 # the seconds after which a program is killed.
-POLL, CALM, NOTICED, LONGEST = 0.004, 6, 0.5, 120.0
+POLL, CALM, NOTICED, LONGEST = 0.004, 6, 0.5, 30.0
 
 
 class NotHere(Exception):
@@ -43,11 +43,14 @@ def compile_file(path, folder, more=()):
 
 
 def check():
-    """Raises NotHere if programs can't be process 1 on this machine. Restores the default actions of SIGINT and
-    SIGQUIT, because a shell may have its background commands ignore them, and the program would inherit that."""
+    """Raises NotHere if programs can't be process 1 on this machine. From then on they begin with the default actions of
+    SIGINT and SIGQUIT, which a shell's background commands ignore, and of SIGHUP, which nohup has its command ignore."""
     for number in (signal.SIGINT, signal.SIGQUIT):
         if signal.getsignal(number) is signal.SIG_IGN:
             signal.signal(number, signal.SIG_DFL)
+    if signal.getsignal(signal.SIGHUP) is signal.SIG_IGN:
+        # (a handler, unlike an action that ignores, is not inherited)
+        signal.signal(signal.SIGHUP, lambda *_: None)
     for name in ('unshare', 'setsid', 'gcc'):
         if shutil.which(name) is None:
             raise NotHere(f'there is no {name}')
@@ -80,10 +83,9 @@ def state(process):
 
 
 class Run:
-    """A running program. `patience` says how many times longer a process must sleep before it counts as at rest."""
+    """A running program."""
 
-    def __init__(self, path, patience=1):
-        self.patience = patience
+    def __init__(self, path):
         self.master, slave = os.openpty()
         modes = termios.tcgetattr(slave)
         modes[3] &= ~termios.ECHO
@@ -94,14 +96,14 @@ class Run:
             stdin=slave, stdout=slave, stderr=write_end)
         os.close(slave)
         os.close(write_end)
-        self.ends = time.monotonic() + LONGEST * patience
+        self.ends = time.monotonic() + LONGEST
 
     def states(self):
         return [state(process) for process in children(str(self.process.pid))]
 
     def type_keys(self, keys):
         """Types keys, and waits until a process notices them: the kernel passes them on later."""
-        before, until = self.states(), time.monotonic() + NOTICED * self.patience
+        before, until = self.states(), time.monotonic() + NOTICED
         os.write(self.master, keys)
         while self.states() == before and self.process.poll() is None and time.monotonic() < until:
             time.sleep(POLL)
@@ -113,7 +115,7 @@ class Run:
     def wait_for_calm(self, calm=CALM):
         """Waits until no process runs, or the program has terminated."""
         before, same = None, 0
-        while same < calm * self.patience and self.process.poll() is None and time.monotonic() < self.ends:
+        while same < calm and self.process.poll() is None and time.monotonic() < self.ends:
             now = self.states()
             is_calm = len(now) > 0 and all(letter in 'STtZ' for _, letter, _ in now)
             same = same + 1 if is_calm and now == before else 0
@@ -156,8 +158,8 @@ def outcome(text, status):
     return tuple(sorted((process, tuple(values)) for process, values in notes.items())), status
 
 
-def run(path, events, patience=1):
-    running = Run(path, patience)
+def run(path, events):
+    running = Run(path)
     for event in events:
         running.take(event)
     return outcome(*running.finish())
