@@ -16,7 +16,7 @@ CALLS = ('getpid getppid fork waitpid waitid sched_yield getuid geteuid getgid g
 GREATEST_PROCESS = 2**31 - 1
 CONTINUED = 65535
 
-# ---- the forms of a line, from the index of docs/RULES.md: letters stand for numbers, NAME and HEX for words
+# ---- the forms of a line, from the index of docs/RULES.md: a letter is a number, NAME and HEX are words
 
 FORMS = [form.split() for form in (
     'E note P V', 'E call P NAME = R', 'E call P waitpid = C status W', 'E call P waitid = 0 take C status W',
@@ -171,11 +171,11 @@ class Trace:
 # ---- the laws: each yields the ways in which a line breaks it
 
 FALLS, PLACE, DEAD, LIVES = 'its event is before', 'halt is here, or is not', 'it does not live', 'it lives'
-NOBODY, NOT_PARENT, NOT_YET = 'no such child was born', 'another is the parent', 'this has not been'
+NO_CHILD, NOT_PARENT, NOT_YET = 'no such child was born', 'another is the parent', 'this has not been'
 TWICE, OTHER, NO_STATUS = 'this was reported', 'that was another status', 'this is no status'
 
 # The fault of each way. If a line breaks laws in several ways, the fault of the first one here is reported.
-FAULTS = {FALLS: 1, PLACE: 7, DEAD: 7, LIVES: 2, NOBODY: 3, NOT_PARENT: 5, NOT_YET: 3, TWICE: 4, OTHER: 6, NO_STATUS: 6}
+FAULTS = {FALLS: 1, PLACE: 7, DEAD: 7, LIVES: 2, NO_CHILD: 3, NOT_PARENT: 5, NOT_YET: 3, TWICE: 4, OTHER: 6, NO_STATUS: 6}
 
 
 def event_numbers_never_fall(trace, line):
@@ -213,7 +213,7 @@ def nobody_is_born_who_lives(trace, line):
 def told_to_the_parent(trace, line):
     """Yields a way if the child of a report does not exist, or if the reporting process is not its parent."""
     if line.child not in trace.newest:
-        yield NOBODY
+        yield NO_CHILD
     elif line.process in trace.newest and trace.newest[line.process] is not trace.newest[line.child].parent():
         yield NOT_PARENT
 
