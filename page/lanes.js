@@ -62,7 +62,7 @@ function arrowOfLine(text) {
 function arrowOfEffect(effect) {
   const [, signal, to, more = ''] = /^sends (\S+) to (\d+)(?:, (.*))?$/.exec(effect) ?? [];
   if (signal) return { kind: 'sends', other: to, words: more ? `${signal}, ${more}` : signal };
-  const [, child, parent] = /^gives (\d+) to (\d+)/.exec(effect) ?? [];
+  const [, child, parent] = /^reparents (\d+) to (\d+)/.exec(effect) ?? [];
   return child ? { kind: 'gives', other: child, words: `child of ${parent}` } : null;
 }
 

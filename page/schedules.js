@@ -2,7 +2,7 @@
 
 const isEvents = line => /^ {4}(#|(step|tick|key|type|hangup) )/.test(line);
 
-const last = '  with the last lines';
+const last = '  last lines';
 
 // A part of the output: its heading, the events of its first schedule with their comments, the first line that differs,
 // and the last lines of its trace.

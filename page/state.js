@@ -5,7 +5,7 @@
 export function parseState(text) {
   const lines = text.split('\n').filter(Boolean);
   const head = (lines.shift() ?? '').replace(/^(after|before) [^:]*: /, '');
-  const state = { head, next: /^process (\d+) acts next/.exec(head)?.[1] ?? '', processes: [], rest: [] };
+  const state = { head, next: /^process (\d+) runs next/.exec(head)?.[1] ?? '', processes: [], rest: [] };
   for (const line of lines) {
     if (line.startsWith('    ')) state.processes.at(-1)?.more.push(line.trim());
     else if (/^\d/.test(line)) state.processes.push(processOf(line));

@@ -138,10 +138,10 @@ FORMS = [
     (['tools/jobk', 'examples/c/fork.c'], 0, 'call 1 fork = 2\n'),
     (['tools/jobk', '-x', 'examples/c/exec.c', 'examples/c/tool.c'], 0, 'end 2 1280   exit 5'),
     (['tools/jobk', 'explore', 'examples/c/lost_wakeup.c', '--upto', '80', '--ticks', '1'], 0,
-     '    step 42\n    # takes the turn of process 1 at lost_wakeup.c:21, in main\n    tick 1\n    step 158\n'  # english: ok
-     '  the first line unlike those of 1\n    50 handle 1 17 768 2\n'
-     '  in place of\n    53 call 1 pause = -4   at lost_wakeup.c:22, in main\n'
-     '  with the last lines\n    49 end 3 768   at lost_wakeup.c:20, in main\n'),
+     '    step 42\n    # preempts process 1 at lost_wakeup.c:21, in main\n    tick 1\n    step 158\n'
+     '  first difference from outcome 1\n    50 handle 1 17 768 2\n'
+     '  where outcome 1 has\n    53 call 1 pause = -4   at lost_wakeup.c:22, in main\n'
+     '  last lines\n    49 end 3 768   at lost_wakeup.c:20, in main\n'),
     (['tools/jobk', 'show', 'examples/c/lost_wakeup.c', '--at', '82'], 0, 'runs, at lost_wakeup.c:21, in main'),
     (['tools/jobk', 'nothing.c'], 3, 'tools/cworld: cannot read nothing.c'),
     ([sys.executable, '-S', 'tools/cworld', 'examples/c/fork.c'], 3, 'tools/cworld: expected pycparser, found none'),

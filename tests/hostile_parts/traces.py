@@ -1,6 +1,6 @@
 """Audits each trace of the cases and the examples with one line removed, doubled or exchanged with its neighbour, and
 random traces, which break no law before their last lines. The plain check itself is tested with the cases, and with the
-traces of tests/mistakes.md, each of which must break its law."""
+traces of tests/mistakes, each of which must break its law."""
 
 import glob
 import os
@@ -48,9 +48,9 @@ def plain_check_fails(folder):
 
 
 def broken_laws():
-    """Yields the rows of "Broken laws" in tests/mistakes.md: the clause that the last line of a trace breaks, and the
+    """Yields the rows of "Broken laws" in tests/mistakes: the clause that the last line of a trace breaks, and the
     lines of the trace."""
-    text = runs.read_file('tests/mistakes.md').decode().partition('## Broken laws')[2]
+    text = runs.read_file('tests/mistakes').decode().partition('## Broken laws')[2]
     for lines, clause in re.findall(r'^\| `([^`]+)` \| .* \| broken_\w+ \| (\w+) \|$', text, flags=re.M):
         yield clause, lines.split('; ')
 

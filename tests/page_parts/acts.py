@@ -270,7 +270,7 @@ def takes_names(person):
     want('trace', person.native_says('run', 'world', 'events'), person.trace())
     person.put('world', person.value('world').replace('r1, SIG', 'r1, SGI', 1))
     person.page.wait('!document.getElementById("refused").hidden', 'the name is rejected')
-    want('why', True, 'no name is SGI' in person.page.text('#refused'))
+    want('why', True, 'unknown name SGI' in person.page.text('#refused'))
 
 
 def tells_faults(person):
@@ -346,7 +346,7 @@ def finds_schedules(person):
     want('outcomes', [part.split('\n')[0] for part in told.strip().split('\n\n')[1:]], heads)
     person.click('#found section button')
     want('events', 'step 11\ntick 1\nstep 189\n', person.value('events'))
-    want('the state', 'no process can act', person.page.text('#others div'))
+    want('the state', 'no process is runnable', person.page.text('#others div'))
     want('view', False, person.page.ask('document.getElementById("lanes").hidden'))
     want('the tick is marked', 1, person.page.ask('document.querySelectorAll("#events-editor .gutter .kind.tick").length'))
     person.click('#take-back')
@@ -359,7 +359,7 @@ def mends_the_lost_wakeup(person):
     person.key('4')
     person.click('#explore')
     person.page.wait('!document.getElementById("explore").disabled', 'all are tried', seconds=60)
-    want('hang', '74 come to rest: no process can act', person.page.text('#found li:nth-child(2)'))
+    want('hang', '74 come to rest: no process is runnable', person.page.text('#found li:nth-child(2)'))
     person.click('#found section button')
     world = person.value('world')
     person.put('world', world.replace('wait:\n', """    set r1, SIG_BLOCK
@@ -375,7 +375,7 @@ wait:
     person.page.choose('#upto', '60')
     person.click('#explore')
     person.page.wait('!document.getElementById("explore").disabled', 'all are tried again', seconds=60)
-    want('hang', '0 come to rest: no process can act', person.page.text('#found li:nth-child(2)'))
+    want('hang', '0 come to rest: no process is runnable', person.page.text('#found li:nth-child(2)'))
     person.click('#share')
     person.page.wait('/^the link is/.test(document.getElementById("told").textContent)', 'the link is there')
     other = Page(person.page.browser, person.page.ask('location.href'))

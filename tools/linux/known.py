@@ -256,7 +256,7 @@ class Known:
     def of_blocked_wait(self, name, here, there):
         p, run, (r1, r2) = self.run.p, self.run, self.run.registers[1:3]
         if p.number in self.stopped_in_call and there == 'asleep' and not run.is_there(p.number):
-            return 'a-fatal-signal-for-a-stopped-waiter'
+            return 'a-fatal-signal-for-a-process-stopped-in-a-wait'
         if p.number in self.stopped_in_call and self.is_interrupted(p, there):
             return 'eintr-after-a-stop'
         if there != 'asleep':
@@ -334,7 +334,7 @@ class Known:
         if what == 'record' and there == 'gone' and run.kind == 'kill' and run.was_in in WAITS:
             return 'sigkill-of-a-waiting-parent' if number in [child.number for child in self.left] else None
         if what == 'record' and there == 'there' and run.kind == 'signal' and 'end' in words:
-            return 'a-fatal-signal-for-a-stopped-waiter' if run.p.number in self.stopped_in_call else None
+            return 'a-fatal-signal-for-a-process-stopped-in-a-wait' if run.p.number in self.stopped_in_call else None
         if not q:
             return None
         if self.is_told_of_hangup(what, q, here, there):

@@ -1,7 +1,7 @@
 //! An arena that several owners share.
 //!
-//! `Shared` is an allocator if what it shares is one (`allocate`, `deallocate`, proved by hand), and a clone is of the
-//! same one. So a vector over an `Arena` has the contracts of any vector.
+//! `Shared` is an allocator if what it shares is one (`allocate`, `deallocate`, proved by hand), and a clone shares
+//! the same one. So a vector over an `Arena` has the contracts of any vector.
 #![tactic(auto)]
 
 ghost use Rattle.std.specs.Prelude.{◌≡◌, ◌≤◌, IfOk, OnOk, vec_capacity};
@@ -11,40 +11,40 @@ use std::alloc::{AllocError, Allocator, Global};
 use std::marker::Model;
 use std::rc::Rc;
 
-/// A handle of an allocator that several owners share. Each clone gives memory of the same one, which lives as
-/// long as the last handle, and so as the last collection that has one.
+/// A handle to an allocator that several owners share. Each clone allocates from the same allocator, which lives as
+/// long as the last handle, and so as long as the last collection that has one.
 #[derive(Drop)]
 pub struct Shared<B> {
     inner: Rc<B, Global>,
 }
 
-/// A handle of an arena that several owners share.
+/// A handle to an arena that several owners share.
 pub type Arena = Shared<Bump>;
 
-/// How many bytes an arena has room for at first: about two dozen processes take as much.
+/// The initial size of an arena in bytes, enough for about two dozen processes.
 const FIRST_CHUNK: usize = 1 << 17;
 
-/// The first handle of a new arena; an error where the host has no memory for it. What is taken of its room costs
-/// memory only once it is written to, and what is given back isn't used again.
+/// Creates an arena, and returns its first handle. Fails if the host has no memory for it. Allocated room costs
+/// memory only once it is written to, and deallocated room isn't used again.
 pub fn new_arena(alloc: Global) -> Result<Arena, AllocError> {
     Shared::new(alloc, Bump::try_with_capacity(alloc, FIRST_CHUNK)?)
 }
 
-/// The items of a vector become these; its room stays or grows. An error where it has too little room and the host
-/// has no memory.
+/// Replaces the items of a vector; its capacity stays or grows. Fails if the capacity is too small
+/// and the host has no memory.
 pub fn refill<T: Copy>(to: &mut Vec<T, Arena>, from: &[T]) -> Result<(), AllocError>
     ensures items { OnOk result (to.new.items ≡ from.now) }
     ensures room { vec_capacity to.old ≤ vec_capacity to.new }
 {
     to.clear();
-    // This spares a birth the loop over nothing.
+    // This saves a fork the loop over nothing.
     if from.is_empty() {
         return Ok(());
     }
     to.extend_from_slice(from)
 }
 
-/// Its value is the allocator.
+/// The value of a handle is the allocator.
 impl<B> Model for Shared<B> {
     ghost Value = { B };
 
@@ -52,7 +52,7 @@ impl<B> Model for Shared<B> {
 }
 
 impl<B: Drop> Shared<B> {
-    /// The first handle of an allocator; an error where the host has no memory for it.
+    /// Creates the first handle to an allocator. Fails if the host has no memory for it.
     pub fn new(alloc: Global, inner: B) -> Result<Shared<B>, AllocError>
         ensures { IfOk result (λ handle. handle ≡ inner) }
     {
@@ -63,7 +63,7 @@ impl<B: Drop> Shared<B> {
 }
 
 impl<B> Shared<B> {
-    /// The allocator.
+    /// Returns the allocator.
     fn lent(&self) -> &B
         ensures { result.now ≡ self.now }
     {
@@ -92,7 +92,8 @@ unsafe impl<B: Allocator> Allocator for Shared<B> {
         self.lent().deallocate(ptr, size, align);
     }
 
-    // (by hand, since the default's proof can't be kept: each crate above would prove again what rests on it)
+    // Written by hand, because the proof of the default can't be kept: each crate above would prove
+    // again what rests on it.
     unsafe fn grow<T>(
         &self,
         ptr: *mut T,

@@ -11,7 +11,7 @@ use Rattle.audit.proofs.FieldLemmas.{IsParentSet, parent_set, AreJoined, joins, 
 
 -- ---- one without a list
 
--- whose parent was nobody or process 1 stood in no list, and one that has such a parent stands in none
+-- a child of no process or of process 1 was in no list, and one that gets such a parent is in none
 pub unlisted : (f g : ℕ → Option Record) (p k : ℕ) → AreLinked f → parent_in f p ≤ 1 → k ≤ 1 → p ≢ 0 → IsParentSet p k f g → AreLinked g
 unlisted f g p k l low none some s = record {
   place = l.place;
@@ -52,7 +52,7 @@ record IsTaken (f g : ℕ → Option Record) (place : ℕ → ℕ) (k p a b : �
   else_behind : (n i : ℕ) → n ≢ k → (i ≡ a → a ≡ 0) → behind_in g n i ≡ behind_in f n i
   before : (i : ℕ) → i ≢ 0 → before_in g i ≡ cond (i == b) a (before_in f i)
 
--- in a list n, z is behind x now, where y was: behind a that is b
+-- in a list n, z comes after x now, where y came before: after a, it is b
 taken_gap : (f g : ℕ → Option Record) (place : ℕ → ℕ) (k p a b : ℕ) → IsTaken f g place k p a b → IsNext g place k a b
 taken_gap f g place k p a b t = record {
   stands = grind (arith, nat_tests, t.two, t.some, t.above, t.high, t.parent b);
@@ -60,11 +60,11 @@ taken_gap f g place k p a b t = record {
   rises = λ some up. let low = t.low up in let high = t.high some in omega (arith, low, high);
 }
 
--- behind whom p stood
+-- the previous sibling of p
 taken_from : (f g : ℕ → Option Record) (place : ℕ → ℕ) (k p a b n x z : ℕ) → IsTaken f g place k p a b → Stands f n x → IsNext f place n x p → z ≡ behind_in g n x → (n ≡ k) × (x ≡ a) × (z ≡ b)
 taken_from f g place k p a b n x z t hx m ez = (grind (arith, t.some, t.is, m.stands), grind (arith, t.some, t.before_is, m.back), grind (arith, nat_tests, t.some, t.is, t.before_is, m.stands, m.back, t.behind n x))
 
--- and one other than p has the same one behind it still
+-- a child other than p keeps its next sibling
 taken_still : (f g : ℕ → Option Record) (place : ℕ → ℕ) (k p a b n x y z : ℕ) → IsTaken f g place k p a b → y ≢ p → behind_in f n x ≡ y → Stands f n x → z ≡ behind_in g n x → z ≡ y
 taken_still f g place k p a b n x y z t away ey hx ez = grind (arith, nat_tests, t.below, t.back, t.behind n x, t.else_behind n x)
 
@@ -156,7 +156,7 @@ added_behind f g place k p b n x y z t two apart hx m ey ez =
       rises = λ some up. grind (arith, nat_tests, t.two, t.some, t.apart, m.stands, m.rises, at, other);
     }
 
--- and behind p
+-- and after p
 added_first : (f g : ℕ → Option Record) (place : ℕ → ℕ) (k p b n z : ℕ) → IsAdded f g k p b → n ≡ k → z ≡ behind_in g n p → IsNext g (place_after place p) n p z
 added_first f g place k p b n z t same ez =
     let at = t.put.behind n p same in
@@ -269,7 +269,7 @@ given_unlisted p k old new l one there low none h =
       keys = h.keys;
     }
 
--- who stands in a list is there
+-- a child in a list exists
 pub child_there : (f : ℕ → Option Record) (k i : ℕ) → 2 ≤ k → Stands f k i → i ≢ 0 → is_some (f i) ≡ true
 child_there f k i two (inl none) other = absurd (other none)
 child_there f k i two (inr e) other = is_there f i (λ z. omega (arith, e, z, two))

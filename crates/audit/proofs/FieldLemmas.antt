@@ -52,7 +52,7 @@ there_same p h f g is i = ap is_some (is i) ∙ by (p == i) (f i)
 
 -- ---- a parent is set
 
--- p has the parent k from now on, and all stand where they stood
+-- p has the parent k, and all siblings are unchanged
 pub record IsParentSet (p k : ℕ) (f g : ℕ → Option Record) : Type 0 where
   pub parent : (i : ℕ) → parent_in g i ≡ cond (i == p) k (parent_in f i)
   pub behind : (n i : ℕ) → behind_in g n i ≡ behind_in f n i
@@ -89,7 +89,7 @@ first_set k b old new h there = record {
 
 -- ---- two are joined
 
--- b comes right behind a among the children of k from now on, and nothing else changed
+-- b comes right after a among the children of k, and nothing else changed
 pub record AreJoined (k a b : ℕ) (f g : ℕ → Option Record) : Type 0 where
   pub parent : (i : ℕ) → parent_in g i ≡ parent_in f i
   pub behind : (n i : ℕ) → n ≡ k → behind_in g n i ≡ cond (i == a) b (behind_in f n i)
@@ -97,7 +97,7 @@ pub record AreJoined (k a b : ℕ) (f g : ℕ → Option Record) : Type 0 where
   pub before : (i : ℕ) → i ≢ 0 → before_in g i ≡ cond (i == b) a (before_in f i)
   pub state : (i : ℕ) → state_in g i ≡ state_in f i
 
--- the first half: b is the first, where a is nobody, or behind a
+-- the first half: b is the first child, if a is 0, or comes after a
 record IsHalf (none : Bool) (k a b : ℕ) (f g : ℕ → Option Record) : Type 0 where
   parent : (i : ℕ) → parent_in g i ≡ parent_in f i
   first : (i : ℕ) → first_of g i ≡ cond none (cond (i == k) b (first_of f i)) (first_of f i)
@@ -129,7 +129,7 @@ half k a b f false first behind =
       there = there_same a (linked (Behind b)) f g (λ q. refl);
     }
 
--- who stands behind i, by who did
+-- the next sibling of i, by the old one
 behind_same : (k a b n i x y v w : ℕ) → n ≡ k → v ≡ cond (a == 0) (cond (n == k) b x) x → w ≡ cond (a == 0) y (cond (i == a) b y) → cond (i == 0) v w ≡ cond (i == a) b (cond (i == 0) x y)
 behind_same k a b n i x y v w same first behind = grind (arith, nat_tests)
 

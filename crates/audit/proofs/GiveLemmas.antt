@@ -13,7 +13,7 @@ use Rattle.audit.proofs.FieldLemmas.{IsParentSet, parent_set, first_set, AreJoin
 use Rattle.audit.proofs.ChildLemmas.{is_there, behind_first, child_there}
 use Rattle.audit.proofs.KeptLemmas.{there_by_state}
 
--- who stands behind a child, whoever its parent is
+-- the next sibling of a child doesn't depend on the parent
 behind_any : (f : ℕ → Option Record) (k n i : ℕ) → i ≢ 0 → behind_in f k i ≡ behind_in f n i
 unfolding behind_in
 behind_any f k n i some = rw (ne_eqb i 0 some) refl
@@ -26,7 +26,7 @@ behind_child f k i some = rw (ne_eqb i 0 some) refl
 child_some : (f : ℕ → Option Record) (k i : ℕ) → parent_in f 0 ≡ 0 → 2 ≤ k → parent_in f i ≡ k → i ≢ 0
 child_some f k i nobody two e = λ no. let is : parent_in f 0 ≡ k = ap (parent_in f) (sym no) ∙ e in omega (arith, is, nobody, two)
 
--- who stands among the children of k and isn't 0 is one
+-- a child of k that isn't 0 has the parent k
 child_of : (f : ℕ → Option Record) (k i : ℕ) → Stands f k i → i ≢ 0 → parent_in f i ≡ k
 child_of f k i (inl none) some = absurd (some none)
 child_of f k i (inr e) some = e
@@ -77,7 +77,7 @@ pub record AreUpTo (p heir z c : ℕ) (f g : ℕ → Option Record) : Type 0 whe
   pub before : (b : ℕ) → before_in g b ≡ before_in f b
   pub state : (i : ℕ) → state_in g i ≡ state_in f i
 
--- who stands before a child is one, or 0
+-- the previous sibling of a child is a child, or 0
 before_child : (f : ℕ → Option Record) (l : AreLinked f) (p i : ℕ) → 2 ≤ p → parent_in f i ≡ p → (before_in f i ≡ 0) ⊎ ((before_in f i ≢ 0) × (parent_in f (before_in f i) ≡ p))
 before_child f l p i two e = by (before_in f i) (l.before p i two e).0
   where
@@ -174,15 +174,15 @@ next_given p heir z c d old now new two other some is t h =
     let next : d ≡ behind_in (record_in old) p c = is ∙ sym (behind_child (record_in now) p c some) ∙ t.behind p c some in
     (one_given p heir z c d (record_in old) (record_in now) (record_in new) two other some next t s (state_same c (linked (Parent heir)) (λ r. refl) (record_in now) (record_in new) h.is), fewer p heir c now new other k.1 there s h.keys)
 
--- ---- where nobody stands behind the last one, no child is left
+-- ---- if no child comes after the last one, no child is left
 
--- who stands before a child has a lower place
+-- the previous sibling of a child has a lower place
 lower : (f : ℕ → Option Record) (l : AreLinked f) (p i : ℕ) → 2 ≤ p → parent_in f i ≡ p → i ≢ 0 → before_in f i ≢ 0 → l.place (before_in f i) < l.place i
 lower f l p i two e some there =
     let b = l.before p i two e in
     subst (λ x. l.place (before_in f i) < l.place x) b.1 ((l.behind p (before_in f i) two b.0).rises (λ z. some (sym b.1 ∙ z)) there)
 
--- where nobody stands behind z, and before each child with a mark is z or one with a mark, none has a mark
+-- if no child comes after z, and the previous sibling of each marked child is z or marked, no child is marked
 none_below : (f : ℕ → Option Record) (l : AreLinked f) (p z : ℕ) (Marked : ℕ → Type 0) → 2 ≤ p → behind_in f p z ≡ 0 → ((i : ℕ) → Marked i → (parent_in f i ≡ p) × ((before_in f i ≡ z) ⊎ ((before_in f i ≢ 0) × Marked (before_in f i)))) → (n i : ℕ) → Marked i → l.place i < n → ⊥
 none_below f l p z Marked two none down zero i marked less = omega (arith, less)
 none_below f l p z Marked two none down (suc n) i marked less =
@@ -217,12 +217,12 @@ all_given p heir first z c f g two other starts none t = record {
     by i (inl e) = e ∙ rw (ne_eqb (parent_in f i) p (λ mine. none_left p heir z c f g t two other none i (e ∙ mine))) refl
     by i (inr q) = q.1 ∙ rw (eq-eqb (parent_in f i) p q.0) refl
 
--- ---- what an heir without a list gets stands in no list
+-- ---- the children that go to a new parent without a list are in no list
 
 nothing_next : (f : ℕ → Option Record) (place : ℕ → ℕ) (k a z : ℕ) → z ≡ 0 → IsNext f place k a z
 nothing_next f place k a z none = record { stands = inl none; back = λ some. absurd (some none); rises = λ some. absurd (some none) }
 
--- who stands in another list than that of p stands there still
+-- a child in a list other than that of p stays in that list
 stands_still : (f g : ℕ → Option Record) (p h k a : ℕ) → parent_in g a ≡ cond (parent_in f a == p) h (parent_in f a) → k ≢ p → Stands f k a → Stands g k a
 stands_still f g p h k a is apart (inl none) = inl none
 stands_still f g p h k a is apart (inr e) = inr (is ∙ rw (ne_eqb (parent_in f a) p (λ mine. apart (sym e ∙ mine))) e)
@@ -284,7 +284,7 @@ record IsSpliced (f g : ℕ → Option Record) (p h c z b : ℕ) : Type 0 where
   behind : (n k i : ℕ) → i ≢ 0 → behind_in g n i ≡ cond (i == z) b (behind_in f k i)
   before : (i : ℕ) → i ≢ 0 → before_in g i ≡ cond (i == b) z (before_in f i)
 
--- the places after it: all others come behind the last child of p
+-- the places after it: all others come after the last child of p
 abbrev spliced_place : (ℕ → Option Record) → (ℕ → ℕ) → ℕ → ℕ → ℕ → ℕ
 spliced_place f place p z i = cond (parent_in f i == p) (place i) (place i + place z + 1)
 
@@ -304,7 +304,7 @@ spliced_next f g place p h c z b n k x y w t some was now m is = record {
   rises = λ there up. grind (arith, nat_tests, t.other, t.last_is, t.above, m.stands, m.rises, t.parent x);
 }
 
--- y has the parent n before it, and x stood before it: nobody, or another one
+-- y has the parent n, and its previous sibling was x: 0, or another child
 back_first : (f g : ℕ → Option Record) (p h c z b n k y : ℕ) → IsSpliced f g p h c z b → y ≢ b → parent_in f y ≡ n → parent_in g y ≡ k → behind_in f n 0 ≡ y → behind_in g k 0 ≡ y
 back_first f g p h c z b n k y t other was now m = grind (arith, nat_tests, t.first_was, t.above_was, t.parent y, t.first k)
 
@@ -343,7 +343,7 @@ spliced f g p h c z b l t =
           spliced_before f g p h c z b (parent_in f y) k (before_in f y) y (before_in g y) t some refl now old.0 old.1 (t.before y some);
     }
 
--- a first child stays as another one comes behind the last one
+-- a first child stays when another one is inserted after the last one
 first_joined : (h z b k : ℕ) (f g : ℕ → Option Record) → z ≢ 0 → AreJoined h z b f g → behind_in g k 0 ≡ behind_in f k 0
 first_joined h z b k f g end j = elim (cases_eq k h) [
   | inl here ↦ j.behind k 0 here ∙ rw (ne_eqb 0 z (λ e. end (sym e))) refl

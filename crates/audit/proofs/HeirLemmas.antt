@@ -11,18 +11,18 @@ use Rattle.audit.specs.declared.records.Change.TheVariants as change
 use Rattle.audit.specs.Records.{kept_record, kept_by, record_in, has_mark_now, IsAfter, NobodyMarked}
 use Rattle.audit.proofs.KeptLemmas.{there_by_life}
 
--- who is a forebear by what is kept
+-- a living process as an ancestor, by what is kept
 abbrev pub living_by : (ℕ → Kept) → ℕ → Option Forebear
 living_by kept q = forebear_kept (kept q)
 
--- whom the walk comes to from q on
+-- the result of the walk from q on
 abbrev pub walk_from : List (ℕ × Record) → ℕ → ℕ → ℕ → ℕ
 walk_from entries p left q = nearest_marked (living_by (kept_by entries)) p left q
 
 pub walk_begins : (entries : List (ℕ × Record)) (p : ℕ) → p ≢ 1 → walk_from entries p 2147483647 p ≡ heir_of (kept_by entries) p
 walk_begins entries p other = rw (ne_eqb p 1 other) refl
 
--- where who is there is no forebear
+-- the walk ends at a process that is not an ancestor
 pub walk_gone : (entries : List (ℕ × Record)) (p left q n : ℕ) (o : Option Record) → left ≢ 0 → n ≡ q → record_in entries n ≡ o → forebear_kept (kept_record o) ≡ None → walk_from entries p left q ≡ 1
 unfolding kept_by
 walk_gone entries p left q n o some same found none = nearest_gone (living_by (kept_by entries)) p left q some (rw (ap (record_in entries) (sym same) ∙ found) none)
@@ -54,7 +54,7 @@ heir_lives kept p other = of (heir_found (living_by kept) p) other
     of (inl first) other = absurd (other first)
     of {h} (inr k) other = (k.0, lives (kept h) k.1.0 k.1.1)
 
--- process 1 where nobody is marked
+-- the new parent is process 1 if no process is marked
 pub heir_unmarked : (kept : ℕ → Kept) (p : ℕ) → NobodyMarked kept → heir_of kept p ≡ 1
 heir_unmarked kept p none = cond_both (p == 1) 1 (nearest_marked (living_by kept) p most_processes p) (λ h. h ≡ 1) (λ t. refl) (λ t. nearest_none (living_by kept) p most_processes p (λ q f e. by (kept q) f (none q) e))
   where

@@ -29,7 +29,7 @@ kept_is f c = by (f c)
     by None = refl
     by (Some r) = refl
 
--- who is there has a state
+-- an existing process has a state
 pub there_by_state : (f g : ℕ → Option Record) (i : ℕ) → state_in g i ≡ state_in f i → is_some (f i) ≡ true → is_some (g i) ≡ true
 unfolding state_in
 there_by_state f g i same there = sym (some_mapped (g i) (λ (r : Record). r.state)) ∙ ap is_some same ∙ some_mapped (f i) (λ (r : Record). r.state) ∙ there

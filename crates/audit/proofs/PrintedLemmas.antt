@@ -1,4 +1,4 @@
--- No line feed stands in what is printed before the line feed of a line.
+-- What is printed before the line feed of a line has no line feed.
 use Rattle.std.proofs.Common.{◌≡◌, ℕ, zero, suc, ◌/◌, ◌%◌, ◌==◌, true, false, not, List, [], ◌∷◌, refl, ◌∙◌, arith}
 use Rattle.std.specs.Prelude.{codes, decimal, slice_index_or, ℤ, pos, negsuc}
 use Rattle.std.specs.Fmt.{digit_glyph, digits_onto, digits, signed_decimal}

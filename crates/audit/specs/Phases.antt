@@ -1,4 +1,4 @@
--- Whether `halt` comes next, or nothing.
+-- What may come next: any line but `halt`, only `halt`, or nothing.
 use Rattle.laws.specs.Keeping as laws
 use Rattle.audit.specs.declared.tests_of_lines.Phase.{Phase}
 use Rattle.audit.specs.declared.tests_of_lines.Phase.TheVariants.{Going, FirstEnded, Over}

@@ -11,14 +11,14 @@ use Rattle.audit.specs.declared.texts.TraceFault.{TraceFault}
 use Rattle.trace.specs.Lines.{IsCut, is_one_line}
 use Rattle.audit.specs.Knowing.{IsAnswer, IsNewBirth}
 
--- A text is the print of lines, each of one of the forms, of which the laws of a trace hold.
+-- The text is a print of lines, each of one of the forms, of which the laws of a trace hold.
 pub record IsLawful (text : List ℕ) : Type 0 where
   pub lines : List Line
   pub is : text ≡ print lines
   pub forms : list_all is_line lines ≡ true
   pub laws : Laws lines
 
--- A text begins with the print of such lines, which are all those before the line with this number.
+-- The text begins with a print of such lines, which are all the lines before the one with this number.
 pub record IsLawfulBefore (text : List ℕ) (number : ℕ) : Type 0 where
   pub lines : List Line
   pub rest : List ℕ
@@ -27,7 +27,7 @@ pub record IsLawfulBefore (text : List ℕ) (number : ℕ) : Type 0 where
   pub laws : Laws lines
   pub counted : number ≡ length lines + 1
 
--- The line with this number is the birth of a process with a number that no process had before.
+-- In the line with this number, a fork returns a process ID that no process had before.
 pub record IsNewBirthAt (text : List ℕ) (number : ℕ) : Type 0 where
   pub before : IsLawfulBefore text number
   pub line : List ℕ
@@ -39,8 +39,7 @@ pub record IsNewBirthAt (text : List ℕ) (number : ℕ) : Type 0 where
 
 -- ---- the first fault
 
--- What follows lawful lines begins with a line that is answered with a fault. No lawful text begins with those lines and
--- this one.
+-- The text after lawful lines begins with a line that has a fault. No lawful text begins with those lines and this one.
 pub record IsFaultyLine (lines : List Line) (text : List ℕ) (fault : AuditFault) : Type 0 where
   pub line : List ℕ
   pub rest : List ℕ
@@ -48,13 +47,14 @@ pub record IsFaultyLine (lines : List Line) (text : List ℕ) (fault : AuditFaul
   pub answer : IsAnswer lines line (Err fault)
   pub refused : (more : List ℕ) → IsLawful (print lines ++ (line ++ 10 ∷ more)) → ⊥
 
--- it is a line that has no line feed
+-- The text is a line without a line feed.
 pub record IsUnfinished (text : List ℕ) (fault : AuditFault) : Type 0 where
   pub some : text ≢ []
   pub one : is_one_line text ≡ true
   pub is : fault ≡ NoLine
 
--- The first fault of a text: lawful lines come before it, and the next line is refused by the first test that it fails.
+-- The first fault of a text: the lines before it are lawful, and the next line is rejected by the
+-- first test that it fails.
 pub record IsFirstFault (text : List ℕ) (fault : TraceFault) : Type 0 where
   pub before : IsLawfulBefore text fault.line
   pub faulty : IsFaultyLine before.lines before.rest fault.fault ⊎ IsUnfinished before.rest fault.fault

@@ -17,14 +17,14 @@ use std::hash::RandomState;
 use std::marker::Model;
 use trace::read_line;
 
-/// An auditor: what it heard of a trace, line by line.
+/// An auditor, which reads a trace line by line.
 #[derive(Drop)]
 pub struct Audit {
     known: Known,
-    /// The event's number of the last line.
+    /// The event number of the last line.
     last: u64,
     phase: Phase,
-    /// The fault that was answered, for good.
+    /// The final fault, if any, with which each later line fails, too.
     fault: Option<AuditFault>,
 }
 
@@ -39,8 +39,8 @@ impl Model for Audit {
 }
 
 impl Audit {
-    /// An auditor that heard nothing, and finds numbers by a hash with these keys. The error is that there is no memory
-    /// for what it keeps of process 1.
+    /// Creates an auditor that has read no line, and finds process IDs by a hash with these keys. Fails if there is
+    /// no memory for the record of process 1.
     pub fn new(alloc: Global, keys: RandomState) -> Result<Audit, AllocError>
         ensures { IfOk result (Knows []) }
     {
@@ -52,13 +52,14 @@ impl Audit {
         })
     }
 
-    /// One line more of a trace, without its line feed.
+    /// Audits the next line of a trace, without its line feed.
     ///
-    /// Ok, or [`AuditFault::Memory`], where the laws of a trace hold of the lines so far and this one. That fault comes
-    /// at the birth of a number alone that was never born before, and all stays as it was. Any other fault is the first
-    /// test that the line fails; no lawful trace goes on so, and the fault is the answer to each line from then on.
-    /// Memory is taken only for a new process ID, after all tests and before any change. So the line of fault 8 can be
-    /// given again. After any other fault it is unknown which processes live, so that fault is final.
+    /// Returns Ok, or [`AuditFault::Memory`], if the laws of a trace hold of the lines so far and this one. That
+    /// fault occurs only if a fork returns a process ID that no process had before, and it leaves the auditor
+    /// unchanged. Any other fault is the first test that the line fails. No lawful trace continues with this line,
+    /// and each later line fails with the same fault.
+    /// Memory is taken only for a new process ID, after all tests and before any change. So the line of fault 8 can
+    /// be passed again. After any other fault, it is unknown which processes live, so that fault is final.
     pub fn line(&mut self, line: &[u8]) -> Result<(), AuditFault>
         ensures ok { OnOk result ((texts : List (List ℕ)) → Knows texts self.old → Knows (texts ++ line.now ∷ []) self.new) }
         ensures memory { result ≡ Err Memory → StaysWith self.old.fault self.old self.new × ((texts : List (List ℕ)) → Knows texts self.old → AreLawful (texts ++ line.now ∷ [])) }
@@ -79,7 +80,7 @@ impl Audit {
         answer
     }
 
-    /// One text more, where no fault was answered before. At an error all stays as it was.
+    /// Audits the next text, if there is no final fault. An error leaves the auditor unchanged.
     fn read(&mut self, text: &[u8]) -> Result<(), AuditFault>
         ensures { IsRead text.now result self.old self.new }
     {
@@ -89,7 +90,7 @@ impl Audit {
         }
     }
 
-    /// One line more, that was read. At an error all stays as it was.
+    /// Audits the next line, which was read from a text. An error leaves the auditor unchanged.
     fn take_in(&mut self, event: u64, entry: &Entry) -> Result<(), AuditFault>
         requires { is_entry entry.now ≡ true }
         ensures tested { fault_tested result ≡ fault_of (kept_at self.old.numbers) self.old.last self.old.phase (line event entry.now) }

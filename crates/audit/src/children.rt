@@ -1,4 +1,5 @@
-//! The children of each number, in lists of records that are linked both ways: so an end visits its own children alone.
+//! The children of each process, in doubly linked lists of records, so that a termination visits
+//! only that process's children.
 
 ghost use Rattle.std.specs.Prelude.{◌≡◌, ◌≢◌, ◌≤◌, true, nat_lt, is_some, OnOk, OnErr, None};
 ghost use Rattle.audit.specs.Records.{record_in, Become};
@@ -8,14 +9,15 @@ use crate::records::{Link, Record, Records, State, behind_by, first_by, relink};
 use posix::Pid;
 use std::alloc::AllocError;
 
-/// Whether the children of a number stand in a list: not those of nobody or of process 1, which gives none on.
+/// Returns true if a process has a list of its children. ID 0 has none, and process 1 has none, because its children
+/// are never reparented.
 fn has_list(parent: Pid) -> bool
     ensures { result ≡ nat_lt 1 parent }
 {
     parent.number() > 1
 }
 
-/// One comes right behind another from now on, or is the first child of a number.
+/// Makes one process the next sibling of another, or the first child of a parent if there is no other.
 fn put_behind(records: &mut Records, parent: Pid, before: Pid, behind: Pid)
     ensures { Become (is_put_behind parent before behind) records.old.entries records.new.entries }
 {
@@ -26,8 +28,7 @@ fn put_behind(records: &mut Records, parent: Pid, before: Pid, behind: Pid)
     }
 }
 
-/// One comes right behind another among the children of a number from now on. Number 0 stands before the first, and
-/// behind the last.
+/// Makes two children of a process adjacent. ID 0 comes before the first child and after the last.
 fn join(records: &mut Records, parent: Pid, before: Pid, behind: Pid)
     ensures { Become (joined parent before behind) records.old.entries records.new.entries }
 {
@@ -35,7 +36,7 @@ fn join(records: &mut Records, parent: Pid, before: Pid, behind: Pid)
     relink(records, behind, Link::Before(before));
 }
 
-/// Puts a number that has no parent before the children of another one.
+/// Makes a process that has no parent the first child of another process.
 pub(crate) fn put_in(records: &mut Records, pid: Pid, parent: Pid)
     requires linked { AreLinked (record_in records.old.entries) }
     requires apart { parent_in (record_in records.old.entries) pid ≡ 0 }
@@ -53,8 +54,8 @@ pub(crate) fn put_in(records: &mut Records, pid: Pid, parent: Pid)
     relink(records, behind, Link::Before(pid));
 }
 
-/// The children of a number, of which this is the first, have its heir as their parent from now on, and stand where they
-/// stood, but it has no first child any more. The result is the last of them. Number 0 stands for nobody.
+/// Reparents the children of a process, of which `first_child` is the first, and returns the last of them. Their
+/// order stays, but the process has no first child any more. ID 0 means no process.
 fn give_all(records: &mut Records, pid: Pid, first_child: Pid, heir: Pid) -> Pid
     requires linked { AreLinked (record_in records.old.entries) }
     requires pid { 2 ≤ pid }
@@ -72,8 +73,8 @@ fn give_all(records: &mut Records, pid: Pid, first_child: Pid, heir: Pid) -> Pid
     last
 }
 
-/// The children of a number, of which this is the first, or number 0 for nobody, have its heir as their parent from now on.
-/// Process 1 keeps its own.
+/// Reparents the children of a process, of which `first_child` is the first, or 0 if there is none.
+/// Process 1 keeps its children.
 pub(crate) fn give_on(records: &mut Records, pid: Pid, first_child: Pid, heir: Pid)
     requires linked { AreLinked (record_in records.old.entries) }
     requires pid { 1 ≤ pid }
@@ -96,7 +97,8 @@ pub(crate) fn give_on(records: &mut Records, pid: Pid, first_child: Pid, heir: P
     }
 }
 
-/// A life of a number begins, without a parent. At the error that there is no memory all stays, and there was no record of it.
+/// Begins a life of a process ID, without a parent. Fails if there is no memory, which leaves the records unchanged;
+/// then the ID had no record.
 pub(crate) fn begin(records: &mut Records, pid: Pid) -> Result<(), AllocError>
     requires linked { AreLinked (record_in records.old.entries) }
     requires pid { 1 ≤ pid }

@@ -6,30 +6,31 @@ ghost use Rattle.audit.specs.Faults.{law_of, number_of};
 use std::error::Error;
 use std::fmt;
 
-/// Which test of the auditor a line fails, or that there was no memory.
+/// The fault of a line: the test that it fails, or that there was no memory.
 #[derive(Clone, Copy, Debug, PartialEq, Eq)]
 pub enum AuditFault {
-    /// Fault 1: the text has none of the forms of a line, or the number of its event is below that of the line before.
+    /// Fault 1: the text is not a trace line, or its event number is below that of the line before.
     NoLine,
-    /// Fault 2: a number is born that is living.
+    /// Fault 2: a fork returned the process ID of a living process.
     BornWhileLiving,
-    /// Fault 3: a report of what didn't happen to the child: it was never born, hasn't ended, has, or never stopped.
+    /// Fault 3: a wait reports a status change that has not happened: of a child that was never created, a
+    /// termination of a living child, or a stop or a continue of a child that has terminated or never stopped.
     NotHappened,
-    /// Fault 4: a report of what was reported before.
+    /// Fault 4: a wait reports a status change that an earlier wait has consumed.
     ReportedBefore,
-    /// Fault 5: a report by a process that isn't the parent.
+    /// Fault 5: a wait by a process that is not the child's parent.
     NotTheParent,
-    /// Fault 6: a report with another status than the end or the stop had, or with one that no report has.
+    /// Fault 6: a wait status other than that of the termination or the stop, or one that no wait reports.
     OtherStatus,
-    /// Fault 7: a line of a process that isn't living, `halt` at another place than right after the end of process 1,
-    /// another line there, or a line after `halt`.
+    /// Fault 7: a line of a process that is not living, `halt` anywhere but right after the termination of process 1,
+    /// any other line there, or a line after `halt`.
     OutOfPlace,
-    /// Fault 8: no memory for a new number. The line passes all tests.
+    /// Fault 8: no memory for a new process ID. The line passes all tests.
     Memory,
 }
 
 impl AuditFault {
-    /// Its number: 1 to 8.
+    /// Returns the fault number: 1 to 8.
     pub fn number(self) -> u8
         ensures { result ≡ number_of self }
     {
@@ -52,13 +53,13 @@ impl AuditFault {
         ensures short { length result.now ≤ 50 }
     {
         match self {
-            AuditFault::NoLine => "no line of a trace, or a falling event",
-            AuditFault::BornWhileLiving => "a living number is born",
-            AuditFault::NotHappened => "a report of what did not happen",
-            AuditFault::ReportedBefore => "a second report",
-            AuditFault::NotTheParent => "a report by another than the parent",
-            AuditFault::OtherStatus => "a report with another status",
-            AuditFault::OutOfPlace => "a line out of its place",
+            AuditFault::NoLine => "not a trace line, or its event number decreases",
+            AuditFault::BornWhileLiving => "fork returned the process ID of a living process",
+            AuditFault::NotHappened => "wait reports a status change that has not happened",
+            AuditFault::ReportedBefore => "wait reports the same status change twice",
+            AuditFault::NotTheParent => "wait by a process that is not the parent",
+            AuditFault::OtherStatus => "wait status does not match the status change",
+            AuditFault::OutOfPlace => "process is not alive, or line misplaced near halt",
             AuditFault::Memory => "out of memory",
         }
     }

@@ -1,4 +1,4 @@
-//! What is known of each number by the lines so far.
+//! What the lines so far say of each process ID.
 
 ghost use Rattle.std.specs.Prelude.{◌≡◌, ◌≢◌, ◌==◌, ◌≤◌, ℕ, true, false, if◌then◌else◌, OnOk, OnErr, IfOk, IfSome, IsSomeAnd, []};
 ghost use Rattle.laws.specs.Keeping.{NeverBorn, kept_of, kept_after, lives_now, newborn, ended_with, given_on, heir_of};
@@ -16,14 +16,14 @@ use std::collections::HashMap;
 use std::hash::RandomState;
 use std::marker::Model;
 
-/// What is known of each number: a record of the newest life of each that was ever born. They are found by a hash with
-/// random keys, so that nobody can choose numbers that are slow to find.
-/// A `BTreeMap` took 1.7 times as long for births and terminations; `Numbered` items would move all others for births
-/// in falling order; with a fixed hash, 130,000 chosen IDs took 12 seconds.
+/// What is known of each process ID: a record of the newest life of each ID that a process ever had. Records are
+/// found by a hash with random keys, so that no trace can choose IDs that are slow to find.
+/// A `BTreeMap` took 1.7 times as long for forks and terminations; `Numbered` items would move all others for forks
+/// in falling order of ID; with a fixed hash, 130,000 chosen IDs took 12 seconds.
 #[derive(Drop)]
 pub(crate) struct Known {
     records: Records,
-    /// Whether there may be child subreapers: none are looked for before the first one is marked.
+    /// True if there may be child subreapers; none are searched for before the first mark is set.
     may_be_marked: bool,
 }
 
@@ -40,7 +40,7 @@ impl Model for Known {
 }
 
 impl Known {
-    /// What no lines say: process 1 lives, and has no parent. The error is that there is no memory.
+    /// Returns what is known before the first line: process 1 lives, and has no parent. Fails if there is no memory.
     #[tactic(auto, unfolding(crate::specs::Records::kept_by, laws::specs::Keeping::kept_of, laws::specs::Lives::parents_from, laws::specs::Lives::newest_life))]
     pub(crate) fn new(alloc: Global, keys: RandomState) -> Result<Known, AllocError>
         ensures { IfOk result (λ known. (c : ℕ) → kept_by known c ≡ kept_of [] c) }
@@ -53,7 +53,7 @@ impl Known {
         })
     }
 
-    /// The record of the newest life of a number, if it was ever born.
+    /// Returns the record of the newest life of a process ID, if it ever had one.
     #[tactic(auto, unfolding(crate::specs::Records::kept_by))]
     pub(crate) fn newest(&self, pid: Pid) -> Option<Record>
         ensures { kept_record result ≡ kept_by self.now pid }
@@ -61,7 +61,7 @@ impl Known {
         self.records.get(&pid.number()).copied()
     }
 
-    /// Whether a number lives.
+    /// Returns true if the process with this ID lives.
     #[tactic(auto, unfolding(crate::specs::Records::kept_by))]
     pub(crate) fn is_living(&self, pid: Pid) -> bool
         ensures { result ≡ lives_now (kept_by self.now pid) }
@@ -72,8 +72,8 @@ impl Known {
         }
     }
 
-    /// An entry that passes the tests of its place and of its birth. At the error that there is no memory all stays,
-    /// and a number is born that was never born before.
+    /// Takes in an entry that passes the tests of its place and of its fork. Fails if there is no memory, which
+    /// changes nothing; then a fork returned a process ID that no process had before.
     #[tactic(auto, unfolding(laws::specs::Keeping::made_by))]
     pub(crate) fn take_in(&mut self, entry: &Entry) -> Result<(), AllocError>
         requires entry { is_entry entry.now ≡ true }
@@ -98,8 +98,8 @@ impl Known {
         Ok(())
     }
 
-    /// A number that isn't living is born, with a parent that is. At the error that there is no memory all stays, and
-    /// the number was never born before.
+    /// Creates a process, whose ID no living process has and whose parent lives. Fails if there is no memory, which
+    /// changes nothing; then no process had the ID before.
     pub(crate) fn bear(&mut self, pid: Pid, parent: Pid) -> Result<(), AllocError>
         requires pid { 1 ≤ pid }
         requires ended { lives_now (kept_by self.old pid) ≡ false }
@@ -113,7 +113,7 @@ impl Known {
         Ok(())
     }
 
-    /// A change of a number's life.
+    /// Changes the life of a process.
     pub(crate) fn change(&mut self, pid: Pid, change: Change)
         ensures { IsAfter change pid self.old self.new }
     {
@@ -123,7 +123,7 @@ impl Known {
         apply(&mut self.records, pid, change);
     }
 
-    /// A number that lives ends with a status, and its heir gets its children.
+    /// Terminates a living process with a wait status, and reparents its children.
     pub(crate) fn end(&mut self, pid: Pid, status: Status)
         requires pid { 1 ≤ pid }
         requires living { lives_now (kept_by self.old pid) ≡ true }
@@ -135,7 +135,7 @@ impl Known {
         }
     }
 
-    /// Who gets the children of a number that ends.
+    /// Returns the new parent of a terminating process's children.
     fn heir(&self, pid: Pid) -> Pid
         ensures { result ≡ heir_of (kept_by self.now) pid }
     {
@@ -149,7 +149,8 @@ impl Known {
     }
 }
 
-/// The nearest forebear of a number that is a child subreaper, or process 1. There are no more forebears than numbers.
+/// Returns the nearest ancestor of a process that is a child subreaper, or process 1. There are at most as many
+/// ancestors as process IDs.
 fn nearest_marked(records: &Records, pid: Pid) -> Pid
     requires { pid ≢ 1 }
     ensures { result ≡ heir_of (kept_by records.now.entries) pid }

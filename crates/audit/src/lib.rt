@@ -1,10 +1,10 @@
-//! The auditor: whether the laws of a trace hold, by its lines alone.
+//! The auditor: checks whether the laws of a trace hold, from its lines only.
 //!
-//! If an audit knows some texts (`Knows`), `Audit::line` returns Ok or fault 8 exactly if the laws hold of them and the
-//! new line. After Ok it knows all. Fault 8 comes only at the birth of a new process ID, and changes nothing. Any other
-//! fault is the first test that the line fails, and final: no lawful trace continues so. `audit_text` returns it at the
-//! first faulty line, or at a last line without line feed (`IsFirstFault`); the lines before are lawful at any fault.
-//! `AuditFault::law` returns the words of a law.
+//! If an audit knows some texts (`Knows`), `Audit::line` returns Ok or fault 8 exactly if the laws hold of them and
+//! the new line. After Ok, it knows the new line, too. Fault 8 occurs only if a fork returns a new process ID, and
+//! changes nothing. Any other fault is the first test that the line fails, and final: no lawful trace continues with
+//! that line. `audit_text` returns it at the first faulty line, or at a last line without line feed (`IsFirstFault`);
+//! the lines before are lawful at any fault. `AuditFault::law` returns the words of a law.
 #![tactic(auto)]
 
 pub mod audit;

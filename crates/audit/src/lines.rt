@@ -6,7 +6,7 @@ ghost use Rattle.laws.specs.Lives.{born_by as birth_said};
 
 use posix::{Call, Entry, Pid};
 
-/// The number whose life a line begins: the positive result of a fork.
+/// Returns the process ID whose life a line begins: the positive result of a fork.
 pub(crate) fn born_by(entry: &Entry) -> Option<Pid>
     requires { is_entry entry.now ≡ true }
     ensures { result ≡ birth_said entry.now }

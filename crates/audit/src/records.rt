@@ -1,4 +1,4 @@
-//! A record of the newest life of a number.
+//! The record of the newest life of a process ID.
 
 ghost use Rattle.std.specs.Prelude.{◌≡◌, ℕ, None};
 ghost use Rattle.std.specs.Option.{option_map_or};
@@ -10,82 +10,81 @@ use posix::{Pid, Sig, Status};
 use std::collections::HashMap;
 use std::hash::RandomState;
 
-/// What the lines so far say of a life that goes on.
+/// What the lines so far say of a life that has not ended.
 #[derive(Clone, Copy)]
 pub(crate) struct Life {
-    /// Whether it is a child subreaper.
+    /// True if the process is a child subreaper.
     pub(crate) is_marked: bool,
-    /// Whether it stopped since its birth.
+    /// True if the process has stopped in this life.
     pub(crate) has_stopped: bool,
-    /// The signal of the last stop, where no report of that came, nor of its continue.
+    /// The signal of the last stop, if no wait has consumed that stop or its continue.
     pub(crate) stop: Option<Sig>,
-    /// Whether it stopped, and no report of the last stop's continue came.
+    /// True if the process has stopped, and no wait has consumed the continue after its last stop.
     pub(crate) may_continue: bool,
 }
 
 /// What the lines so far say of a life.
 #[derive(Clone, Copy)]
 pub(crate) enum State {
-    /// It goes on.
+    /// The process lives.
     Living(Life),
-    /// It ended.
+    /// The process has terminated.
     Ended {
         status: Status,
-        /// Whether a report of the end came.
+        /// True if a wait has consumed the termination.
         reported: bool,
     },
 }
 
-/// The newest life of a number, and where it stands among the children of its parent.
+/// The newest life of a process ID, and its place among its parent's children.
 #[derive(Clone, Copy)]
 pub(crate) struct Record {
-    /// Number 0 for nobody.
+    /// The parent, or 0.
     pub(crate) parent: Pid,
-    /// Who stands before it among the children of its parent; number 0 for nobody.
+    /// The previous sibling, or 0.
     pub(crate) before: Pid,
-    /// Who stands behind it among the children of its parent; number 0 for nobody.
+    /// The next sibling, or 0.
     pub(crate) behind: Pid,
-    /// The first of its children; number 0 for nobody.
+    /// The first child, or 0.
     pub(crate) first: Pid,
     pub(crate) state: State,
 }
 
-/// The records of all numbers that were ever born.
+/// The records of all process IDs that a process ever had.
 pub(crate) type Records = HashMap<u32, Record, RandomState>;
 
-/// What a line says of a life that began before.
+/// What a line says of a life that has already begun.
 #[derive(Clone, Copy)]
 pub(crate) enum Change {
-    /// A signal stops it.
+    /// A signal stops the process.
     Stopped(Sig),
-    /// It becomes a child subreaper, or is none any more.
+    /// The process becomes a child subreaper, or is no longer one.
     Marked(bool),
-    /// It is reported with a status.
+    /// A wait consumes a status change of the process, with this wait status.
     Reported(Status),
-    /// It ends with a status.
+    /// The process terminates with a wait status.
     Ended(Status),
 }
 
-/// Where a number stands among the children of its parent, or which is its own first child, or that a life of it begins.
-/// Number 0 stands for nobody.
+/// A change of the links of a record, or the beginning of a life. ID 0 means no process.
 #[derive(Clone, Copy)]
 pub(crate) enum Link {
-    /// It has this parent, and stands where it stood.
+    /// Sets the parent, but keeps the siblings.
     Parent(Pid),
-    /// This is its first child.
+    /// Sets the first child.
     First(Pid),
-    /// This one stands before it.
+    /// Sets the previous sibling.
     Before(Pid),
-    /// This one stands behind it.
+    /// Sets the next sibling.
     Behind(Pid),
-    /// It is the first child of a parent, and this one stands behind it.
+    /// Makes the process the first child of a parent, with this next sibling.
     Place { parent: Pid, behind: Pid },
-    /// A life of it begins, without a parent.
+    /// Begins a life, without a parent.
     Begins,
 }
 
 impl State {
-    /// The state of a life that begins.
+    /// Returns the state of a new life.
     #[inline]
     pub(crate) fn newborn() -> State
         ensures { result ≡ newborn_state }
@@ -98,7 +97,7 @@ impl State {
         })
     }
 
-    /// Whether the life goes on.
+    /// Returns true if the process lives.
     #[inline]
     pub(crate) fn is_living(self) -> bool
         ensures { result ≡ is_living_state self }
@@ -106,7 +105,7 @@ impl State {
         matches!(self, State::Living(_))
     }
 
-    /// The state after a change.
+    /// Returns the state after a change.
     fn after(self, change: Change) -> State
         ensures { (parent : ℕ) → kept_as parent result ≡ change_of change (kept_as parent self) }
     {
@@ -126,7 +125,7 @@ impl State {
 }
 
 impl Life {
-    /// The state after a change.
+    /// Returns the state after a change.
     fn after(self, change: Change) -> State
         ensures { (parent : ℕ) → kept_as parent result ≡ change_of change (kept_as parent (Living self)) }
     {
@@ -156,7 +155,7 @@ impl Life {
 }
 
 impl Record {
-    /// Links it otherwise.
+    /// Changes the links of the record.
     #[inline]
     fn relink(&mut self, link: Link)
         ensures { self.new ≡ linked link self.old }
@@ -179,7 +178,7 @@ impl Record {
     }
 }
 
-/// Changes the life of a number, where there is a record of it. The result is the record that was there.
+/// Changes the life of a process ID, if it has a record. Returns the record before the change.
 #[inline]
 pub(crate) fn apply(records: &mut Records, pid: Pid, change: Change) -> Option<Record>
     ensures links { KeepLinks (record_in records.old.entries) (record_in records.new.entries) }
@@ -194,7 +193,7 @@ pub(crate) fn apply(records: &mut Records, pid: Pid, change: Change) -> Option<R
     Some(was)
 }
 
-/// Links a number otherwise, where there is a record of it. The result is the record that was there.
+/// Changes the links of a process ID, if it has a record. Returns the record before the change.
 #[inline]
 pub(crate) fn relink(records: &mut Records, pid: Pid, link: Link) -> Option<Record>
     ensures is { Become (changed pid (linked link)) records.old.entries records.new.entries }
@@ -209,7 +208,7 @@ pub(crate) fn relink(records: &mut Records, pid: Pid, link: Link) -> Option<Reco
     Some(was)
 }
 
-/// The first child by a record; number 0 for nobody.
+/// Returns the first child in a record, or 0.
 pub(crate) fn first_by(found: Option<Record>) -> Pid
     ensures { result ≡ option_map_or (λ r. r.first) found 0 }
 {
@@ -219,7 +218,7 @@ pub(crate) fn first_by(found: Option<Record>) -> Pid
     }
 }
 
-/// Who stands behind by a record; number 0 for nobody.
+/// Returns the next sibling in a record, or 0.
 pub(crate) fn behind_by(found: Option<Record>) -> Pid
     ensures { result ≡ option_map_or (λ r. r.behind) found 0 }
 {

@@ -1,4 +1,4 @@
-//! The tests of a line, by what is known of the numbers.
+//! The tests of a line, by what is known of the processes.
 
 ghost use Rattle.std.specs.Prelude.{◌≡◌, ◌≢◌, ℕ, true, Err};
 ghost use Rattle.posix.specs.Common.{line};
@@ -16,19 +16,19 @@ use crate::lines::born_by;
 use crate::records::{Life, State};
 use posix::{Entry, Pid, Status};
 
-/// Whether `halt` comes next, or nothing.
+/// What may come next: any line but `halt`, only `halt`, or nothing.
 #[derive(Clone, Copy)]
 pub(crate) enum Phase {
-    /// The last line, if any, is neither the end of process 1 nor `halt`.
+    /// The last line, if any, is neither the termination of process 1 nor `halt`.
     Going,
-    /// The last line is the end of process 1: `halt` comes next.
+    /// The last line is the termination of process 1: `halt` comes next.
     FirstEnded,
     /// The last line is `halt`: nothing comes next.
     Over,
 }
 
 impl Phase {
-    /// The phase after a line.
+    /// Returns the phase after a line.
     pub(crate) fn after(entry: &Entry) -> Phase
         ensures { phase_said result ≡ phase_said_after entry.now }
     {
@@ -40,7 +40,7 @@ impl Phase {
     }
 }
 
-/// The first test that a line fails, after a line with the number `last`.
+/// Returns the first test that a line fails, after a line with the event number `last`.
 #[tactic(auto, unfolding(laws::specs::Keeping::fault_of))]
 pub(crate) fn test(
     known: &Known,
@@ -59,7 +59,7 @@ pub(crate) fn test(
     test_report(known, entry)
 }
 
-/// The numbers of events don't fall.
+/// Checks that event numbers don't decrease.
 fn test_number(last: u64, event: u64) -> Result<(), AuditFault>
     ensures fault { fault_number result ≡ number_fault last event }
     ensures tested { result ≢ Err Memory }
@@ -70,7 +70,7 @@ fn test_number(last: u64, event: u64) -> Result<(), AuditFault>
     Ok(())
 }
 
-/// The process of a line lives, and `halt` comes right after the end of process 1 and last.
+/// Checks that the process of a line lives, and that `halt` comes right after the termination of process 1 and last.
 fn test_place(known: &Known, phase: Phase, entry: &Entry) -> Result<(), AuditFault>
     ensures fault { fault_number result ≡ place_fault (kept_by known.now) (phase_said phase) entry.now }
     ensures tested { result ≢ Err Memory }
@@ -90,7 +90,7 @@ fn test_place(known: &Known, phase: Phase, entry: &Entry) -> Result<(), AuditFau
     }
 }
 
-/// Who is born isn't living.
+/// Checks that a fork doesn't return the process ID of a living process.
 fn test_birth(known: &Known, entry: &Entry) -> Result<(), AuditFault>
     requires { is_entry entry.now ≡ true }
     ensures fault { fault_number result ≡ birth_fault (kept_by known.now) (birth_said entry.now) }
@@ -102,7 +102,7 @@ fn test_birth(known: &Known, entry: &Entry) -> Result<(), AuditFault>
     }
 }
 
-/// A report is made by the parent, and due, and so is what a look tells.
+/// Checks that what a wait reports, with or without WNOWAIT, is due to its caller.
 fn test_report(known: &Known, entry: &Entry) -> Result<(), AuditFault>
     ensures fault { fault_number result ≡ report_fault (kept_by known.now) entry.now }
     ensures tested { result ≢ Err Memory }
@@ -119,7 +119,7 @@ fn test_report(known: &Known, entry: &Entry) -> Result<(), AuditFault>
     }
 }
 
-/// What is told of a child is due to this process.
+/// Checks that a report of a child is due to this process.
 fn test_told(known: &Known, pid: Pid, child: Pid, word: Status) -> Result<(), AuditFault>
     ensures fault { fault_number result ≡ word_fault pid word (kept_by known.now child) }
     ensures tested { result ≢ Err Memory }
@@ -134,7 +134,7 @@ fn test_told(known: &Known, pid: Pid, child: Pid, word: Status) -> Result<(), Au
 }
 
 impl State {
-    /// A report by the parent with a status is due.
+    /// Checks that a report by the parent, with this wait status, is due.
     fn test_report(self, word: Status) -> Result<(), AuditFault>
         ensures fault { (p : ℕ) → fault_number result ≡ word_fault p word (kept_as p self) }
         ensures tested { result ≢ Err Memory }
@@ -146,7 +146,7 @@ impl State {
     }
 }
 
-/// The same, of a life that goes on.
+/// Checks a report of a child that still lives.
 fn test_living(life: Life, word: Status) -> Result<(), AuditFault>
     ensures fault { (p : ℕ) → fault_number result ≡ fault_of_living p word (alive p life) }
     ensures tested { result ≢ Err Memory }
@@ -175,7 +175,7 @@ fn test_living(life: Life, word: Status) -> Result<(), AuditFault>
     }
 }
 
-/// The same, of one that ended with a status.
+/// Checks a report of a child that has terminated with a wait status.
 fn test_ended(ended: Status, reported: bool, word: Status) -> Result<(), AuditFault>
     ensures fault { (p : ℕ) → fault_number result ≡ fault_of_ended p word (record { parent = p; status = ended; reported = reported }) }
     ensures tested { result ≢ Err Memory }

@@ -18,19 +18,19 @@ use trace::next_line;
 #[derive(Clone, Copy, Debug, PartialEq, Eq, Error)]
 #[error("line {line}: {fault}")]
 pub struct TraceFault {
-    /// Its number, from 1.
+    /// The line number, from 1.
     pub line: u64,
     pub fault: AuditFault,
 }
 
-/// Audits a whole trace, each line with its line feed. The answer doesn't depend on the keys, by which numbers are found.
+/// Audits a whole trace, each line with its line feed. The result doesn't depend on the keys of the hash.
 ///
-/// Ok where the text is the print of lines of which the laws of a trace hold, as the empty text is. The error is the
-/// first line that an [`Audit`] refuses, and why: the lines before it are lawful, and no lawful text begins with these
-/// lines and that one. What follows the last line feed, if anything, is a line that none of the forms has, so its fault
-/// is [`AuditFault::NoLine`]. If there is no memory, the fault is [`AuditFault::Memory`], and the lines before its line
-/// are lawful. Its line is the birth of a process with a number that no process had before. At line 1 there may be no
-/// memory before the line is read.
+/// Returns Ok if the text consists of printed lines of which the laws of a trace hold; the empty text does. Otherwise
+/// returns the first line that an [`Audit`] rejects, with its fault: the lines before it are lawful, and no lawful
+/// text begins with these lines and that one. Anything after the last line feed is not a trace line, so its fault is
+/// [`AuditFault::NoLine`]. If there is no memory, the fault is [`AuditFault::Memory`], and the lines before its line
+/// are lawful. In that line, a fork returns a process ID that no process had before; but at line 1, memory may be
+/// missing before the line is read.
 pub fn audit_text(alloc: Global, keys: RandomState, text: &[u8]) -> Result<(), TraceFault>
     ensures ok { OnOk result (IsLawful text.now) }
     ensures memory { (fault : TraceFault) → result ≡ Err fault → fault.fault ≡ Memory → IsLawfulBefore text.now fault.line }
@@ -65,10 +65,10 @@ pub fn audit_text(alloc: Global, keys: RandomState, text: &[u8]) -> Result<(), T
     })
 }
 
-/// The trace of each run is lawful.
+/// The trace of every run is lawful.
 ///
-/// So [`audit_text`] is Ok on the printed trace of each run of at most 1,000,000,000,000 events, unless there is no
-/// memory.
+/// So [`audit_text`] returns Ok for the printed trace of every run of at most 1,000,000,000,000
+/// events, unless there is no memory.
 pub fn runs_are_lawful()
     ensures { (w : World) (events : List Event) (lines : List Line) (last : State) → 1 ≤ w.pidmax → IsWorld w → AllByRecursion IsEvent events
         → length events ≤ 1000000000000 → Runs w events lines last → IsLawful (print lines) }

@@ -1,4 +1,4 @@
--- How many slots a wait and a kill read, and who is to be rechecked after them.
+-- How many slots a wait and a kill read, and which processes are rechecked after them.
 use Rattle.std.proofs.Common.{subst, ◌≡◌, ℕ, ℤ, ◌+◌, ◌≤◌, true, false, cond, ◌==◌, refl, ap, sym, ◌∙◌, arith, List, [], ◌∷◌, length, filter, Option, Some, None, Result, Ok}
 use Rattle.std.proofs.lemmas.Bool.{eqb-true}
 use Rattle.std.proofs.lemmas.List.{length-map}
@@ -28,9 +28,9 @@ use Rattle.life.specs.declared.consoles.Unchecked.TheVariants.{Nothing, In}
 use Rattle.calls.specs.Counts.{slots_of_rechecks, slots_of_checking}
 use Rattle.calls.proofs.CountLemmas.{rechecks_none, rechecks_taking}
 
--- ---- who is to be rechecked
+-- ---- the processes that are rechecked
 
--- a signal stays chosen where a call is finished
+-- a signal stays chosen when a call is finished
 taking_still : (results : List (ℕ × ℤ)) (p : ℕ) (rs : List Process) (ns : List ℕ) → AreTaking rs ns → AreTaking (changed p (finished results) rs) ns
 unfolding finished changed
 taking_still results p rs ns h q e =
@@ -43,7 +43,7 @@ taking_still results p rs ns h q e =
 pub quiet_on : (p : ℕ) (old mid : MachineView) → AreSame old mid → IsQuiet p old → IsQuiet p mid
 quiet_on p old mid same h = record { none = same.to_recheck ∙ h.none; checked = same.foregrounds_unchecked ∙ h.checked; place = ap (λ (s : State). has_place s p) same.state ∙ h.place }
 
--- what is brief after something is so before it, where that changes no console
+-- what is brief after something is so before it, if that changes no console
 pub brief_behind : (n k m : ℕ) (old mid new : MachineView) → mid.state.consoles ≡ old.state.consoles → mid.visits ≤ old.visits + k → n + k ≤ m → CostsWithRechecks n mid new → CostsWithRechecks m old new
 brief_behind n k m old mid new same read most h = record { reads = let more = h.reads in omega (arith, read, more, most); unchecked = h.unchecked; consoles = h.consoles ∙ same }
 
@@ -76,7 +76,7 @@ brief_done p results old new h is costs = let c = costs h.place in brief_alone 1
 
 -- ---- a wait
 
--- where the record of a child has gone, and its parent has a place, nobody is to be rechecked
+-- if the record of a child was removed, and its parent is in the run queue, no process is to be rechecked
 gone_alone : (child p : ℕ) (order : List ℕ) → is_in p order ≡ true → without_gone child p order [] ≡ []
 unfolding without
 gone_alone child p order place = rw place refl
@@ -123,7 +123,7 @@ taking_sent me p (Some m) rs order plain up =
     let most = one.1 in
     (all.0, omega (arith, few, many, most))
 
--- one slot at least
+-- at least one slot
 pub kill_least : (sig : Result (Option ℕ) Errno) → 1 ≤ slots_of_kill sig
 kill_least sig = elim (is_cont sig) as (λ b. 1 ≤ cond b 12 (4 + slots_before sig)) [ true ↦ omega arith | false ↦ omega arith ]
 
@@ -153,7 +153,7 @@ kill_slots me p (Some m) results rs order up = elim (m.sig == CONT) as (λ b. (m
           omega (arith, most, one)
     ] refl
 
--- so it does where at most one process is meant
+-- it does if at most one process is selected
 one_slots : (me : Process) (to : Target) (k : Option PendingSignal) (results : List (ℕ × ℤ)) (rs : List Process) (order : List ℕ) → is_one to ≡ true → IsRising rs
     → 2 + slots_of_send (number_of k) + slots_of_survey_of_one (number_of k) + slots_of_rechecks (changed me.pid (finished results) (sent me to k rs)) None (rechecking_signalled me k (targets me to rs) rs order []) ≤ slots_of_kill (Ok (number_of k))
 unfolding slots_of_rechecks
@@ -161,7 +161,7 @@ one_slots me (whom.Process p) k results rs order one up = kill_slots me p k resu
 one_slots me whom.Nobody k results rs order one up = let least = sending_least (number_of k) in rw (targets_nobody me rs, rechecked_nobody me k rs order []) (omega (arith, least))
 one_slots me to k results rs order one up = absurd (cc)
 
--- and nothing more where it isn't sent
+-- and nothing more if it isn't sent
 answer_slots : (answer : Sending) (me : Process) (to : Target) (k : Option PendingSignal) (results : List (ℕ × ℤ)) (rs : List Process) (order : List ℕ) → is_one to ≡ true → IsRising rs
     → 2 + slots_of_send (number_of k) + slots_of_survey_of_one (number_of k) + slots_of_rechecks (changed me.pid (finished results) (sent_as answer me to k rs)) None (rechecking_as answer me k to rs order []) ≤ slots_of_kill (Ok (number_of k))
 unfolding slots_of_rechecks
@@ -171,7 +171,7 @@ answer_slots answer me to k results rs order one up = elim (is_sent answer) as (
       | false ↦ let least = sending_least (number_of k) in omega (arith, least)
     ]
 
--- what a send to this target reads, with this signal, whatever comes of it
+-- what a send to this target reads, with this signal, whatever its outcome
 pub brief_send : (me : Process) (to : Target) (named : Result (Option ℕ) Errno) (word : ℤ) (sig : Option ℕ) (value : ℤ) (k : Option PendingSignal) (answer : Sending) (results : List (ℕ × ℤ)) (old mid new : MachineView) → is_one to ≡ true → IsQuiet me.pid old → named ≡ signal_or_none word → named ≡ Ok sig → k ≡ message me.pid value sig
     → IsRegular old.state → mid.state ≡ with_processes old.state (sent_as answer me to k old.state.processes) → mid.to_recheck ≡ rechecking_as answer me k to old.state.processes old.state.order old.to_recheck → mid.foregrounds_unchecked ≡ old.foregrounds_unchecked
     → mid.visits ≤ old.visits + 1 + slots_of_send (number_of k) + slots_of_survey_of_one (number_of k) → new.state ≡ finish mid.state me.pid results → (has_place mid.state me.pid ≡ true → CostsAtMost 1 mid new)
@@ -192,7 +192,7 @@ brief_send me to named word sig value k answer results old mid new one h known o
       consoles = ap (λ (s : State). s.consoles) finishes;
     })
 
--- so it is by a caller that was looked at, who tells the target
+-- the same of a caller that was looked at, which names the target
 pub brief_sent_as : (p : ℕ) (old mid new : MachineView) (me : Process) (d : Caller) (f : Caller → Target) (to : Target) → Looks 1 old mid → d.pid ≡ p → d ≡ caller_of me → to ≡ f d → is_one (f (caller_of me)) ≡ true → IsQuiet p old
     → (is_one to ≡ true → IsQuiet d.pid mid → CostsWithRechecks (slots_of_kill (signal_or_none d.r2)) mid new) → CostsWithRechecks (slots_of_kill (signal_or_none (argument me 2)) + 1) old new
 brief_sent_as p old mid new me d f to looks named is target one quiet brief =

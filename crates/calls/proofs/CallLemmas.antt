@@ -1,4 +1,4 @@
--- What calls come to.
+-- Outcomes of calls.
 use Rattle.std.proofs.Common.{◌≡◌, ℕ, Bool, true, false, cond, refl, ap, sym, ◌∙◌, subst, Option, Some, List, map, [], ◌∷◌, ◌++◌, ℤ, ◌==◌}
 use Rattle.std.specs.Option.{IfSome}
 use Rattle.posix.specs.declared.call.Call.{Call}
@@ -23,19 +23,19 @@ outcome_of s xs = record { state = s; entries = xs }
 pub same_outcome : (s t : State) (xs ys : List Entry) → s ≡ t → xs ≡ ys → outcome_of s xs ≡ outcome_of t ys
 same_outcome s t xs ys e f = ap (λ (u : State). outcome_of u xs) e ∙ ap (outcome_of t) f
 
--- ---- what an attempt comes to
+-- ---- the outcome of an attempt
 
--- where the process has to wait, the definition blocks it in the same call, and nothing has changed
+-- if the process has to wait, the definition blocks it in the same call, and nothing has changed
 pub block_is : (s : State) (a : outcome.Attempted) (b : Blocked) (xs ys : List Entry) (n : State) → Comes s a (came.Block b) xs ys n → (a ≡ outcome.Block b) × (ys ≡ xs) × (n ≡ s)
 block_is s (outcome.Block x) b xs ys n h = (ap outcome.Block (sym h.0), h.1, h.2)
 block_is s a b xs ys n h = absurd h
 
--- where it begins again, it does so in the definition, in the same state
+-- if it restarts, it does so in the definition, in the same state
 pub again_is : (s : State) (a : outcome.Attempted) (xs ys : List Entry) (n : State) → Comes s a came.Again xs ys n → (a ≡ outcome.Again n) × (ys ≡ xs)
 again_is s (outcome.Again t) xs ys n h = (ap outcome.Again (sym h.1), h.0)
 again_is s a xs ys n h = absurd h
 
--- a call that gives these results in t, and shows this: the code did so in b, which is the same
+-- a call that returns these results in t, and shows this: the code did so in b, which is the same
 pub shows_is : (s t b n : State) (a : outcome.Attempted) (p : ℕ) (results : List (ℕ × ℤ)) (shown : Entry) (xs ys : List Entry) (r : Attempt) → a ≡ outcome.Done (outcome_of (outcome.finish t p results) (shown ∷ []))
     → r ≡ came.Done → n ≡ outcome.finish b p results → b ≡ t → ys ≡ xs ++ shown ∷ [] → Comes s a r xs ys n
 shows_is s t b n a p results entry xs ys r is done state before shown =
@@ -43,7 +43,7 @@ shows_is s t b n a p results entry xs ys r is done state before shown =
     (subst (λ q. Comes s (outcome.Done (outcome_of (outcome.finish t p results) (entry ∷ []))) q xs ys n) (sym done)
     (shown, state ∙ ap (λ (u : State). outcome.finish u p results) before))
 
--- a call that gives z in t: the code gave v in b, and these are the same
+-- a call that returns z in t: the code returned v in b, and these are the same
 pub gives_is : (s t b n : State) (a : outcome.Attempted) (p : ℕ) (call : Call) (v z : ℤ) (xs ys : List Entry) (r : Attempt) → a ≡ outcome.finish_with t p call z
     → r ≡ came.Done → n ≡ outcome.finish b p ((0, v) ∷ []) → b ≡ t → ys ≡ xs ++ Called p call v ∷ [] → v ≡ z → Comes s a r xs ys n
 gives_is s t b n a p call v z xs ys r is done state before shown same =
@@ -58,7 +58,7 @@ changed_then p f g keeps (r ∷ rs) = elim (r.pid == p) as (λ b. (r.pid == p) �
   | false ↦ λ e. rw e (ap (λ qs. r ∷ qs) (changed_then p f g keeps rs))
 ] refl
 
--- a call that gives z, and changes its process before that
+-- a call that returns z, and changes its process before that
 pub answers_then : (s : State) (p : ℕ) (call : Call) (z : ℤ) (g : Process → Process) → ((r : Process) → (g r).pid ≡ r.pid) → outcome.finish_call s p call (record { value = z; changes = g }) ≡ outcome.finish_with (change s p g) p call z
 answers_then s p call z g keeps = ap (λ rs. outcome.Done (outcome_of (record s { processes = rs }) (Called p call z ∷ []))) (sym (changed_then p (outcome.finished ((0, z) ∷ [])) g keeps s.processes))
 
@@ -76,7 +76,7 @@ wait_like s me call = refl
 pub wait_of : (s : State) (o : Option Process) (me : Process) (c : Caller) (call : WaitCall) → IfSome o (λ r. c ≡ caller_of r) → o ≡ Some me → wait_by call s (process_like c) ≡ wait_by call s me
 wait_of s o me c call h e = ap (λ d. wait_by call s (process_like d)) (caller_is o me c h e) ∙ wait_like s me call
 
--- ---- an end
+-- ---- a termination
 
 pub end_entries : (s : State) (r : Process) (status : ℕ) (b : Bool) → (r.pid == 1) ≡ b
     → (end_process s r status).entries ≡ cond b (Ended r.pid status ∷ Halted ∷ []) (Ended r.pid status ∷ [])

@@ -20,7 +20,7 @@ ready_pending : (g : Signals) (n : ℕ) → least_ready g ≡ Some n → is_pend
 unfolding least_ready
 ready_pending g n e = (and_parts (is_pending g n) (not (has g.mask n)) (find_passes (is_ready g) all_signals n e)).0
 
--- KILL is chosen where it is pending
+-- if SIGKILL is chosen, it is pending
 pub kill_chosen : (l : Life) (g : Signals) → chosen l g ≡ Some KILL → is_pending g KILL ≡ true
 unfolding chosen
 kill_chosen l g e = elim (is_pending g KILL) as (λ b. is_pending g KILL ≡ b → cond b (Some KILL) (cond (is_running l) (least_ready g) None) ≡ Some KILL → b ≡ true) [
@@ -31,7 +31,7 @@ kill_chosen l g e = elim (is_pending g KILL) as (λ b. is_pending g KILL ≡ b �
   ] h
 ] refl e
 
--- and is not pending where another is, or none
+-- and is not pending if another is chosen, or none
 pub no_kill_chosen : (l : Life) (g : Signals) → chosen l g ≢ Some KILL → is_pending g KILL ≡ false
 unfolding chosen
 no_kill_chosen l g ne = elim (is_pending g KILL) as (λ b. is_pending g KILL ≡ b → b ≡ false) [
@@ -39,7 +39,7 @@ no_kill_chosen l g ne = elim (is_pending g KILL) as (λ b. is_pending g KILL ≡
   | false ↦ λ k. refl
 ] refl
 
--- nor where none is
+-- nor if none is
 pub none_chosen : (l : Life) (g : Signals) → chosen l g ≡ None → is_pending g KILL ≡ false
 none_chosen l g none = no_kill_chosen l g (λ k. let no = sym none ∙ k in absurd (cc))
 
@@ -48,26 +48,26 @@ pub handle_taken : (s : State) (me : Process) (n : ℕ) (signal : PendingSignal)
 unfolding handle take_out taken end_process hang_up
 handle_taken s me n signal address = elim (is_realtime n) as (λ b. handle s (record me { signals = cond b (with_queue (without_first n me.signals.queue) me.signals) (with_pending n None me.signals) }) signal address ≡ handle s me signal address) [ true ↦ refl | false ↦ refl ]
 
--- a process ends the same
+-- a process terminates the same
 pub end_taken : (s : State) (me : Process) (n status : ℕ) → end_process s (take_out n me) status ≡ end_process s me status
 unfolding take_out taken end_process hang_up
 end_taken s me n status = refl
 
--- who is there is there after a change that keeps the number, changed
+-- an existing process exists after a change that keeps its ID, changed
 pub changed_there : (p : ℕ) (f : Process → Process) → ((r : Process) → (f r).pid ≡ r.pid) → (rs : List Process) (r : Process) → lookup p rs ≡ Some r → lookup p (changed p f rs) ≡ Some (f r)
 unfolding changed
 changed_there p f k rs r e =
     let here : (r.pid == p) ≡ true = eq-eqb r.pid p (pid_looked p rs r e) in
     lookup_on (at p f) (at_pid p f k) p rs r e ∙ rw here refl
 
--- ---- who can act
+-- ---- runnable processes
 
--- where KILL is pending a signal is chosen
+-- if SIGKILL is pending, a signal is chosen
 kill_is_chosen : (l : Life) (g : Signals) → is_pending g KILL ≡ true → is_some (chosen l g) ≡ true
 unfolding chosen
 kill_is_chosen l g e = rw e refl
 
--- one that runs can act where it needn't wait
+-- a running process is runnable if it need not wait
 pub running_acts : (s : State) (r : Process) → r.life ≡ Running → can_act s r ≡ (can_go_on s r r.blocked || is_some (chosen r.life r.signals))
 unfolding can_act
 running_acts s r runs =
@@ -77,7 +77,7 @@ running_acts s r runs =
       | false ↦ λ e. refl
     ] refl
 
--- one that is stopped can act where a signal is chosen: that is KILL
+-- a stopped process is runnable if a signal is chosen: that is SIGKILL
 pub stopped_acts : (s : State) (r : Process) → r.life ≡ Stopped → can_act s r ≡ is_some (chosen r.life r.signals)
 unfolding can_act chosen
 stopped_acts s r stops =

@@ -1,5 +1,5 @@
--- Waits that are judged by one child, and who is to be rechecked after CONT was sent to one process: it, and its parent where
--- that waits for just this child.
+-- Waits that are judged by one child, and the processes that are rechecked after SIGCONT was sent to one process: it,
+-- and its parent if that waits for just this child.
 use Rattle.std.proofs.Common.{◌≡◌, ℕ, ℤ, ◌≤◌, Bool, true, false, cond, not, ◌||◌, ◌==◌, refl, ap, sym, ◌∙◌, inl, inr, arith, List, [], ◌∷◌, filter, find, Option, Some, None}
 use Rattle.std.proofs.lemmas.Bool.{eq-eqb, both_ways, or_left, or_right, or_cases, and_parts}
 use Rattle.posix.specs.declared.process.Effect.{Effect}
@@ -40,7 +40,7 @@ reports_alike : (options : ℕ) (a b : Process) → seen a ≡ seen b → report
 unfolding report_of
 reports_alike options a b e = ap (λ s. is_something (report_life options s.pid s.life s.news)) e
 
--- who waits for a child reports it, if it is looked at first
+-- a wait for a child reports it, if it is looked at first
 asked_first : (rs : List Process) (p : ℕ) (me child now : Process) (o : Option Asked) → lookup p rs ≡ Some now → now.parent ≡ me.pid → seen now ≡ seen child → awaits_asked me.group o child ≡ true → reports_at_once rs p me o ≡ true
 asked_first rs p me child now None found up same waits = refl
 asked_first rs p me child now (Some a) found up same waits =
@@ -51,13 +51,13 @@ awaited_first : (rs : List Process) (p : ℕ) (me child now : Process) → looku
 unfolding awaits
 awaited_first rs p me child now found up same waits = asked_first rs p me child now (asked_in me me.blocked) found up same waits
 
--- ---- a wait that reports who is looked at first
+-- ---- a wait that reports the process that is looked at first
 
 nobody : (options : ℕ) (rs : List Process) → report_among options rs ≡ found.Nothing → find (reports options) rs ≡ None
 nobody options [] e = absurd (cc)
 nobody options (r ∷ rs) e = quiet options (r ∷ rs) e
 
--- who is there, is a child and is meant reports nothing where nothing was found
+-- an existing process that is a child and selected reports nothing if nothing was found
 silent : (t meant child : Process → Bool) (rs : List Process) (q : ℕ) (r : Process) → lookup q rs ≡ Some r → meant r ≡ true → child r ≡ true → find t (filter meant (filter child rs)) ≡ None → t r ≡ false
 unfolding lookup
 silent t meant child [] q r found m k e = absurd (cc)
@@ -91,7 +91,7 @@ first_reported s me (Some q) call a told = by (report s.processes me.pid me.grou
 seen_noticed : (signal : PendingSignal) (r : Process) → seen (noticed_of_change signal r) ≡ seen r
 seen_noticed signal r = ap seen (only_noticed_of_change signal r)
 
--- a parent that acts by its child looks at no other child
+-- a parent that its child makes runnable looks at no other child
 parent_told : (results : List (ℕ × ℤ)) (c p : ℕ) (ts : List Process) (up child now : Process) → lookup p ts ≡ Some now → now.parent ≡ up.pid → seen now ≡ seen child → (awaits up child || takes_signal up) ≡ true
     → let u = at c (finished results) up in (takes_signal u || (not (is_in_wait u.blocked) || reports_at_once ts p u (asked_in u u.blocked))) ≡ true
 unfolding finished
@@ -104,7 +104,7 @@ parent_told results c p ts up child now found its same acts = by (up.pid == c)
       | inr takes ↦ or_left (takes_signal up) _ takes
     ]
 
--- a process was continued, and its parent told, before the caller c finished its call
+-- a process was continued, and its parent notified, before the caller c finished its call
 told_slots : (results : List (ℕ × ℤ)) (c : ℕ) (signal : PendingSignal) (r : Process) (rs : List Process) (order ns : List ℕ) → lookup r.pid rs ≡ Some r → with_number r.pid ns ≡ r.pid ∷ []
     → let mid = told_of_change continued r (changed r.pid resumed (changed r.pid (signalled signal) rs)) in slots_of_rechecks (changed c (finished results) mid) None (rechecking_told (resumed (signalled signal r)) (lookup r.parent mid) order ns) ≤ 7
 unfolding told_of_change signalled resumed changed finished
@@ -166,7 +166,7 @@ told_slots results c signal r rs order ns found alone = by (lookup q mid) refl
       ]
     ] refl
 
--- a signal that continues nobody
+-- a signal that continues no process
 plain_slots : (results : List (ℕ × ℤ)) (c : ℕ) (signal : PendingSignal) (r : Process) (rs : List Process) (order : List ℕ) → lookup r.pid rs ≡ Some r
     → slots_of_rechecks (changed c (finished results) (changed r.pid (signalled signal) rs)) None (rechecking_by_signals (Some (signalled signal r)) order []) ≤ 7
 unfolding signalled changed slots_of_rechecks with_number finished
@@ -198,7 +198,7 @@ generated_slots results c signal r rs order found = by (effect_of r.pid r.life s
     by effect.Nothing e = let most = plain_slots results c signal r rs order found in omega (arith, most)
     by effect.Continued e = told_slots results c signal r rs order (rechecking_by_signals (Some (signalled signal r)) order []) found (listed (takes_signal (signalled signal r)))
 
--- and where it was sent to one process by its number
+-- and if it was sent to one process by its ID
 pub sent_slots : (results : List (ℕ × ℤ)) (me : Process) (p : ℕ) (signal : PendingSignal) (rs : List Process) (order : List ℕ) → IsRising rs
     → slots_of_rechecks (changed me.pid (finished results) (sent me (whom.Process p) (Some signal) rs)) None (rechecking_signalled me (Some signal) (targets me (whom.Process p) rs) rs order []) ≤ 7
 unfolding sent sent_among targets permitted rechecking_signalled rechecking_all signalled_all slots_of_rechecks

@@ -24,7 +24,7 @@ rechecks_first rs last (n ∷ ns) p up first =
     subst (λ q. slots_of_rechecking rs (neighbour last (n ∷ ns)) (lookup q rs) + slots_of_rechecks rs (Some q) (without q (n ∷ ns)) ≡ slots_of_rechecks rs last (n ∷ ns)) same
     (ap (λ l. slots_of_rechecking rs (neighbour last (n ∷ ns)) (lookup n rs) + slots_of_rechecks rs (Some n) l) others)
 
--- one for each, where a signal is chosen for each
+-- one for each, if a signal is chosen for each
 pub rechecks_taking : (rs : List Process) (last : Option ℕ) (ns : List ℕ) → AreTaking rs ns → slots_of_rechecks rs last ns ≤ length ns
 unfolding slots_of_rechecks is_in
 rechecks_taking rs last [] h = omega arith
@@ -33,13 +33,13 @@ rechecks_taking rs last (n ∷ ns) h =
     let rest = rechecks_taking rs (Some n) ns (λ p e. h p (or_right _ _ e)) in
     rw (it.1, it.2) (omega (arith, rest))
 
--- a call that isn't a wait is told of by one more
+-- a call that isn't a wait takes at most one more
 call_brief : (rs : List Process) (first : Option ℕ) (me : Process) (b : Option Blocked) → not (is_in_wait b) ≡ true → slots_of_call rs first me b ≤ 1
 call_brief rs first me (Some (blocked.Wait call)) e = absurd (cc)
 call_brief rs first me (Some blocked.Read) e = omega arith
 call_brief rs first me b e = omega arith
 
--- who isn't in a wait, or takes a signal, is told of by two
+-- a process that isn't in a wait, or has a chosen signal, takes at most two
 pub judged_brief : (rs : List Process) (first : Option ℕ) (r : Process) → (is_some (chosen r.life r.signals) || not (is_in_wait r.blocked)) ≡ true → slots_of_rechecking rs first (Some r) ≤ 2
 judged_brief rs first r e = by (is_some (chosen r.life r.signals)) e
   where
@@ -47,7 +47,7 @@ judged_brief rs first r e = by (is_some (chosen r.life r.signals)) e
     by true e = omega arith
     by false e = let one = call_brief rs first r r.blocked e in omega (arith, one)
 
--- two for each, where no child has to be looked at
+-- two for each, if no child has to be looked at
 pub rechecks_brief : (rs : List Process) (last : Option ℕ) (ns : List ℕ) → NeedNoChild rs ns → slots_of_rechecks rs last ns ≤ 2 * length ns
 unfolding slots_of_rechecks is_in
 rechecks_brief rs last [] h = omega arith
@@ -57,7 +57,7 @@ rechecks_brief rs last (n ∷ ns) h =
     let one = judged_brief rs (neighbour last (n ∷ ns)) it.0 it.2 in
     rw it.1 (omega (arith, rest, one))
 
--- none where nobody is to be rechecked
+-- none if the recheck list is empty
 pub rechecks_none : (rs : List Process) (last : Option ℕ) (ns : List ℕ) → ns ≡ [] → slots_of_rechecks rs last ns ≡ 0
 unfolding slots_of_rechecks
 rechecks_none rs last ns none = rw none refl
@@ -104,7 +104,7 @@ judged_any rs first r = by (takes_signal r) r.blocked
     by false (Some blocked.Read) = omega arith
     by false b = omega arith
 
--- one process alone
+-- only one process
 pub rechecks_one : (rs : List Process) (p : ℕ) (r : Process) → lookup p rs ≡ Some r → slots_of_rechecks rs None (p ∷ []) ≤ 4
 unfolding slots_of_rechecks
 rechecks_one rs p r found = rw found (let one = judged_any rs None r in omega (arith, one))

@@ -1,4 +1,4 @@
--- What a delivery comes to, by what was found on the way.
+-- The outcome of a delivery, by what was found on the way.
 use Rattle.std.proofs.Common.{◌≡◌, ℕ, Bool, true, false, cond, not, ◌&&◌, refl, ap, sym, ◌∙◌, List, [], ◌∷◌, ◌++◌, Some, ◌==◌, ℤ, inl, inr, ◌⊎◌}
 use Rattle.posix.specs.declared.sig.DefaultAction.{DefaultAction}
 use Rattle.posix.specs.declared.sig.DefaultAction.TheVariants as default
@@ -14,7 +14,7 @@ use Rattle.posix.proofs.RegularLemmas.{keeps_handles}
 use Rattle.calls.proofs.CallLemmas.{outcome_of, same_outcome}
 use Rattle.calls.proofs.ChosenLemmas.{handle_taken, end_taken, changed_there}
 
--- ---- an end depends on the number, the parent and the session alone
+-- ---- a termination depends only on the ID, the parent and the session
 
 pub end_same : (s : State) (r q : Process) (status : ℕ) → r.pid ≡ q.pid → r.parent ≡ q.parent → r.session ≡ q.session → end_process s r status ≡ end_process s q status
 unfolding end_process hang_up
@@ -29,7 +29,7 @@ pub handle_room : (s : State) (me : Process) (signal : PendingSignal) (address :
 unfolding handle
 handle_room s me signal address t es room st en = rw room (same_outcome _ t _ es (sym st) (sym en))
 
--- there is none, and the process ends
+-- there is none, and the process terminates
 pub handle_full : (s : State) (me : Process) (signal : PendingSignal) (address : ℤ) (t u : State) (es : List Entry) → is_full me.signals ≡ true → t ≡ change s me.pid (handles signal address)
     → u ≡ (end_process t (handles signal address me) (killed SEGV)).state
     → es ≡ interruption me.pid me.blocked (action me.signals signal.sig) ++ (end_process t (handles signal address me) (killed SEGV)).entries
@@ -91,13 +91,13 @@ deliver_default s me n t a is by_default =
 pub by_default_if : (s : State) (me : Process) (n : ℕ) (b : Bool) → (me.pid == 1) ≡ b → defaults s me n (default_action n) ≡ cond b (discard s me.pid n) (act_by_default s me n (default_action n))
 by_default_if s me n b e = ap (λ b. cond b (discard s me.pid n) (act_by_default s me n (default_action n))) e
 
--- an end by default
+-- a termination by default
 pub default_ends : (s : State) (me : Process) (n : ℕ) (u : State) (es : List Entry) → (me.pid == 1) ≡ false → default_action n ≡ default.Terminate
     → u ≡ (end_process s me (killed n)).state → es ≡ (end_process s me (killed n)).entries → defaults s me n (default_action n) ≡ outcome_of u es
 default_ends s me n u es other ends st en =
     by_default_if s me n false other ∙ ap (act_by_default s me n) ends ∙ same_outcome (end_process s me (killed n)).state u (end_process s me (killed n)).entries es (sym st) (sym en)
 
--- where the group is orphaned, and the signal isn't STOP, it has no effect
+-- if the group is orphaned, and the signal isn't SIGSTOP, it has no effect
 pub stop_if : (s : State) (me : Process) (n : ℕ) (b : Bool) → (not (n == STOP) && is_orphaned me.group s.processes) ≡ b → stop_or_discard s me n ≡ cond b (discard s me.pid n) (stop_process s me n)
 stop_if s me n b e = ap (λ b. cond b (discard s me.pid n) (stop_process s me n)) e
 
@@ -111,15 +111,15 @@ return_is s me frame t newest st = ap (return_to s me) newest ∙ ap (λ x. outc
 
 -- ---- small steps
 
--- what was added to no entries stands alone
+-- what was added to no entries is the only one
 pub shown_alone : (old new : List Entry) (e : Entry) → old ≡ [] → new ≡ old ++ e ∷ [] → e ∷ [] ≡ new
 shown_alone old new e none is = sym (is ∙ ap (λ (l : List Entry). l ++ e ∷ []) none)
 
--- a default other than an end and a stop has no effect
+-- a default action other than terminating and stopping has no effect
 pub default_rests : (s : State) (me : Process) (n : ℕ) (d e : DefaultAction) → d ≡ e → (d ≡ default.Ignore) ⊎ (d ≡ default.Continue) → act_by_default s me n e ≡ discard s me.pid n
 default_rests s me n d e same (inl is) = ap (act_by_default s me n) (sym same ∙ is)
 default_rests s me n d e same (inr is) = ap (act_by_default s me n) (sym same ∙ is)
 
--- who is there is there after a change
+-- an existing process exists after a change
 pub there_then : (s t : State) (p : ℕ) (f : Process → Process) → ((r : Process) → (f r).pid ≡ r.pid) → t ≡ change s p f → (me : Process) → process s p ≡ Some me → process t p ≡ Some (f me)
 there_then s t p f k is me e = ap (λ (x : State). process x p) is ∙ changed_there p f k s.processes me e

@@ -12,18 +12,18 @@ use Rattle.life.specs.Machines.{MachineView, AreSame}
 
 -- ---- setpgid
 
--- who moves is there
+-- a process that moves exists
 pub who_moves : (me : Process) (target : Option Process) (z : ℤ) (rs : List Process) (g : ℕ) → move_to me target z rs ≡ Ok g → There target
 who_moves me None (pos n) rs g e = absurd (cc)
 who_moves me None (negsuc n) rs g e = absurd (cc)
 who_moves me (Some r) z rs g e = record { what = r; found = refl }
 
--- who is there is there after a move
+-- an existing process exists after a move
 pub there_moved : (s : State) (p q g : ℕ) → IsSome (process s p) → IsSome (process (change s q (in_group g)) p)
 unfolding in_group
 there_moved s p q g h = some_changed q p (in_group g) (λ r. refl) s.processes h
 
--- what setpgid comes to where it moves somebody
+-- the outcome of setpgid if it moves a process
 pub setpgid_moves : (s : State) (me r : Process) (group : ℕ) → named me (argument me 1) s.processes ≡ Some r → move_to me (named me (argument me 1) s.processes) (argument me 2) s.processes ≡ Ok group
     → setpgid s me ≡ outcome.finish_with (change s r.pid (in_group group)) me.pid Setpgid (pos 0)
 unfolding setpgid
@@ -42,12 +42,12 @@ pub session_led : (s : State) (me : Process) → is_session_refused s me ≡ fal
 unfolding setsid
 session_led s me e = rw e refl
 
--- who leads a session is there
+-- a process that leads a session exists
 pub there_led : (s : State) (p : ℕ) → IsSome (process s p) → IsSome (process (change s p in_session) p)
 unfolding in_session
 there_led s p h = some_changed p p in_session (λ r. refl) s.processes h
 
--- it leads one where it wasn't refused
+-- it leads one if the call didn't fail
 pub record HasLed (s now : State) (p : ℕ) (me : Process) : Type 0 where
   pub may : is_session_refused s me ≡ false
   pub state : now ≡ change s p in_session
@@ -59,7 +59,7 @@ has_led s now p me result done ok refuses leads = elim (is_session_refused s me)
   | false ↦ λ t. record { may = t; state = (leads t).1 }
 ] refl
 
--- where it was, nothing has changed
+-- if it did, nothing has changed
 pub record HasNot (s now : State) (me : Process) (why : Errno) : Type 0 where
   pub refused : is_session_refused s me ≡ true
   pub errno : why ≡ EPERM
@@ -80,7 +80,7 @@ Runs s now p z result = (n : ℕ) (program : Program) → z ≡ pos n → slice_
 abbrev RunsNone : State → State → ℤ → Bool → Type 0
 RunsNone s now z result = ((n : ℕ) → z ≡ pos n → slice_get s.world.programs n ≡ None) → (result ≡ false) × (now ≡ s)
 
--- a program that is there is run
+-- an existing program is run
 pub record HasRun (s now : State) (p : ℕ) (z : ℤ) : Type 0 where
   pub number : ℕ
   pub program : Program
@@ -103,7 +103,7 @@ pub exec_made : (s : State) (me : Process) (n : ℕ) (program : Program) → arg
 unfolding exec
 exec_made s me n program word found = ap (exec_of s me) word ∙ ap (exec_as s me n) found
 
--- and else nothing changes
+-- and otherwise nothing changes
 pub record HasNotRun (s now : State) (z : ℤ) : Type 0 where
   pub state : now ≡ s
   pub refused : (me : Process) → argument me 1 ≡ z → exec s me ≡ outcome.refused s me.pid Exec ENOENT

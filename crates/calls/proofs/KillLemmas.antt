@@ -19,9 +19,9 @@ use Rattle.calls.specs.declared.outcome.Attempt.TheVariants as came
 use Rattle.calls.specs.Outcomes.{Comes, value_of_sending, entry_of_sending}
 use Rattle.calls.proofs.RemainLemmas.{some_signalled}
 
--- ---- who is there
+-- ---- existing processes
 
--- after a signal is sent to those that are meant
+-- after a signal is sent to those that are selected
 some_sent_among : (me : Process) (k : Option PendingSignal) (qs rs : List Process) (q : ℕ) → IsSome (lookup q rs) → IsSome (lookup q (sent_among me k qs rs))
 unfolding sent_among
 some_sent_among me None qs rs q h = h
@@ -32,11 +32,11 @@ some_sent : (me : Process) (to : Target) (k : Option PendingSignal) (rs : List P
 unfolding sent
 some_sent me to k rs q h = some_sent_among me k _ rs q h
 
--- the state after a send with this answer
+-- the state after a send with this result
 abbrev pub sent_in : Sending → State → Process → Target → Option PendingSignal → State
 sent_in answer s me to k = with_processes s (sent_as answer me to k s.processes)
 
--- who is there is there afterwards
+-- an existing process exists afterwards
 pub there_sent : (answer : Sending) (s now : State) (me : Process) (to : Target) (k : Option PendingSignal) (p : ℕ) → now ≡ sent_in answer s me to k → IsSome (process s p) → IsSome (process now p)
 there_sent answer s now me to k p state h = subst (λ (t : State). IsSome (process t p)) (sym state) (by (is_sent answer))
   where
@@ -58,7 +58,7 @@ number_is p value sig k is = ap number_of is ∙ number_sent p value sig
 pub send_unknown : (granted : Bool) (s : State) (me : Process) (call : Call) (to : Target) (value word : ℤ) (named : Result (Option ℕ) Errno) (why : Errno) → named ≡ signal_or_none word → named ≡ Err why → send granted s me call to value (signal_or_none word) ≡ outcome.refused s me.pid call why
 send_unknown granted s me call to value word named why known none = ap (send granted s me call to value) (sym known ∙ none)
 
--- one of this signal with this answer
+-- one of this signal with this result
 send_answers : (granted : Bool) (s : State) (me : Process) (call : Call) (to : Target) (value word : ℤ) (named : Result (Option ℕ) Errno) (sig : Option ℕ) (k : Option PendingSignal) (answer : Sending) → named ≡ signal_or_none word → named ≡ Ok sig → k ≡ message me.pid value sig
     → answer ≡ sending_granted granted me to (number_of k) s.processes → send granted s me call to value (signal_or_none word) ≡ send_with s me call to k answer
 send_answers granted s me call to value word named sig k answer known ok is answers =
@@ -70,7 +70,7 @@ send_answers granted s me call to value word named sig k answer known ok is answ
 abbrev finished_as : Sending → State → Process → Target → Option PendingSignal → State
 finished_as answer s me to k = outcome.finish (sent_in answer s me to k) me.pid ((0, value_of_sending answer) ∷ [])
 
--- its call is finished and shown by the answer
+-- its call is finished and shown by the result
 answered_as : (answer : Sending) (s new : State) (me : Process) (call : Call) (to : Target) (k : Option PendingSignal) (xs ys : List Entry) → new ≡ finished_as answer s me to k → ys ≡ xs ++ entry_of_sending me.pid call answer ∷ [] → Comes s (send_with s me call to k answer) came.Done xs ys new
 answered_as found.NoMemory s new me call to k xs ys state shown = (shown, state)
 answered_as answer s new me call to k xs ys state shown = (shown, state)
@@ -89,7 +89,8 @@ send_like : (granted : Bool) (s : State) (me : Process) (call : Call) (to : Targ
 unfolding sending targets permitted sent sent_among sending_granted queuers_among
 send_like granted s me call to value = refl
 
--- what came of a send by a caller that was looked at came of it by its process: the caller tells the target and the value
+-- a send by a caller that was looked at has the outcome of one by its process: the caller names the target and the
+-- value
 pub sends_as : (granted : Bool) (s mid new : State) (me : Process) (d : Caller) (call : Call) (f : Caller → Target) (h : Caller → ℤ) (to : Target) (value : ℤ) (r : Attempt) (xs ys : List Entry) → mid ≡ s → d ≡ caller_of me → to ≡ f d → value ≡ h d
     → Comes mid (send granted mid (process_like d) call to value (signal_or_none d.r2)) r xs ys new → Comes s (send granted s me call (f (caller_of me)) (h (caller_of me)) (signal_or_none (argument me 2))) r xs ys new
 sends_as granted s mid new me d call f h to value r xs ys same is target given came =

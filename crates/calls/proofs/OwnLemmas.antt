@@ -1,4 +1,4 @@
--- Calls that change their process alone, by the own part of it that is lent.
+-- Calls that change only their process, by the own part of it that is lent.
 use Rattle.std.proofs.Common.{◌≡◌, ℕ, true, Some, refl, ap, sym, subst, ◌∙◌, List, [], ◌∷◌, ℤ, Bool, false, pos, ◌++◌, Result, Ok, Err, OnOk, OnErr, IfErr}
 use Rattle.std.specs.Option.{IsSome, IfSome}
 use Rattle.posix.specs.declared.call.Call.{Call}
@@ -30,15 +30,15 @@ own_there s p o me h e = e ∙ ap Some (sym (own_process s p o me h e))
 pub of_own : (P : Process → Type 0) (s : State) (p : ℕ) (o : OwnPart) (me : Process) → IfSome (process s p) (λ r. o ≡ own_of r) → process s p ≡ Some me → P (with_own p o me) → P me
 of_own P s p o me h e x = subst P (own_process s p o me h e) x
 
--- who is there is there after a loan
+-- an existing process exists after a loan
 pub there_lent : (s : State) (p : ℕ) (w : OwnPart) → IsSome (process s p) → IsSome (process (change s p (give_own w)) p)
 there_lent s p w h = some_changed p p (give_own w) (λ r. refl) s.processes h
 
--- and who is no zombie still is none
+-- and one that is no zombie still is none
 pub placed_lent : (s : State) (p : ℕ) (w : OwnPart) → IsPlaced s.processes p → IsPlaced (change s p (give_own w)).processes p
 placed_lent s p w h = record { what = give_own w h.what; found = changed_there p (give_own w) (λ r. refl) s.processes h.what h.found; living = h.living }
 
--- a call that was answered through a loan
+-- a call that was completed through a loan
 pub answered : (s : State) (p : ℕ) (o w : OwnPart) (me : Process) (call : Call) (xs ys : List Entry) → IsRegular s → IfSome (process s p) (λ r. o ≡ own_of r) → process s p ≡ Some me
     → Answers (with_own p o me) call o w xs ys → Comes s (attempt true s me call) came.Done xs ys (change s p (give_own w))
 answered s p o w me call xs ys regular lent e a =
@@ -51,11 +51,11 @@ answered s p o w me call xs ys regular lent e a =
 abbrev pub IsAnsweredWith : Process → Call → outcome.Reply → Type 0
 IsAnsweredWith me call reply = (granted : Bool) (s : State) → attempt granted s me call ≡ outcome.finish_call s me.pid call reply
 
--- a call that gives a value, and changes nothing else
+-- a call that returns a value, and changes nothing else
 pub gives_plain : (me : Process) (call : Call) (o : OwnPart) (v z : ℤ) → v ≡ z → IsAnsweredWith me call (outcome.plain z) → RepliesTo me call v o o
 gives_plain me call o v z is has = record { reply = outcome.plain z; attempts = has; replies = record { given = is; changed = λ r. refl } }
 
--- a call whose reply another function gave
+-- a call whose reply another function made
 pub gives_reply : (me : Process) (call : Call) (o w : OwnPart) (v z : ℤ) (reply : outcome.Reply) → v ≡ z → Replies reply z o w → IsAnsweredWith me call reply → RepliesTo me call v o w
 gives_reply me call o w v z reply is replies has = record { reply = reply; attempts = has; replies = record { given = is ∙ replies.given; changed = replies.changed } }
 
@@ -73,7 +73,7 @@ pub gives_ids : (me : Process) (call : Call) (o : OwnPart) (c : Credentials) (v 
 gives_ids me call o c v done new is value eq ok err same has =
     gives_reply me call o (record o { creds = c }) v (value_of done) (set_credentials is) value (subst (λ n. Replies (set_credentials n) (value_of done) o (record o { creds = c })) eq (sets o c done new ok err same)) has
 
--- a reply that was answered
+-- a reply that was made
 pub answers_reply : (me : Process) (call : Call) (o a w : OwnPart) (v x : ℤ) (before after : List Entry) → RepliesTo me call v o a → x ≡ v → ((r : Process) → give_own w r ≡ outcome.finished ((0, x) ∷ []) (give_own a r))
     → after ≡ before ++ Called me.pid call x ∷ [] → Answers me call o w before after
 answers_reply me call o a w v x before after h same left shown = record {

@@ -1,4 +1,4 @@
--- Who is there as signals are generated goes on to be there, with the same number and parent.
+-- An existing process still exists after signals are generated, with the same ID and parent.
 use Rattle.std.proofs.Common.{◌≡◌, ℕ, ◌==◌, ◌&&◌, not, refl, ap, sym, subst, ◌∙◌, List, [], ◌∷◌, Option, Some, None}
 use Rattle.std.specs.Option.{IsSome}
 use Rattle.std.proofs.lemmas.Bool.{cond_both}
@@ -30,7 +30,7 @@ remains_changed q p f pid parent rs r h = record {
   parent = at_keeps (λ (x : Process). x.parent) q f parent h.what ∙ h.parent;
 }
 
--- after a child was continued, and its parent has notice
+-- after a child was continued, and its parent was notified
 remains_continued : (p : ℕ) (x : Process) (rs : List Process) (r : Process) → Remains (lookup p rs) r → Remains (lookup p (acted_upon effect.Continued x rs)) r
 unfolding told_of_change
 remains_continued p x rs r h =
@@ -55,7 +55,7 @@ unfolding signalled_all
 remains_signalled signal [] p rs r h = h
 remains_signalled signal (q ∷ qs) p rs r h = remains_signalled signal qs p (generated_for signal (lookup q rs) rs) r (remains_generated signal (lookup q rs) p rs r h)
 
--- who is there is there
+-- an existing process still exists
 pub some_signalled : (signal : PendingSignal) (ps : List ℕ) (p : ℕ) (rs : List Process) → IsSome (lookup p rs) → IsSome (lookup p (signalled_all signal ps rs))
 some_signalled signal ps p rs h =
     let it = there (lookup p rs) h in
@@ -73,7 +73,7 @@ remains_hung : (s : State) (session : ℕ) (o : Option Console) (p : ℕ) (r : P
 remains_hung s session None p r h = h
 remains_hung s session (Some c) p r h = remains_group HUP c.foreground p s.processes r h
 
--- who is there is there after the terminal of a session is hung up whose leader ends
+-- an existing process exists after the terminal is hung up of a session whose leader terminates
 pub remains : (s : State) (x : Process) (p : ℕ) (r : Process) → process s p ≡ Some r → Remains (process (hang_up s x) p) r
 unfolding hang_up
 remains s x p r e =
@@ -81,9 +81,9 @@ remains s x p r e =
     cond_both (not (x.pid == 1) && x.session == x.pid) (hung_up s x.session (console_of x.session s.consoles)) s (λ (t : State). Remains (process t p) r)
     (λ e. remains_hung s x.session (console_of x.session s.consoles) p r here) (λ e. here)
 
--- ---- an end
+-- ---- a termination
 
--- a process ends as the record does that is there after its terminal is hung up
+-- a process terminates as the existing record does after its terminal is hung up
 pub end_hung : (s hung new : State) (r : Process) (p heir status : ℕ) → process s p ≡ Some r → hung ≡ hang_up s r → heir ≡ heir_in hung.processes p
     → ((q : Process) → process hung p ≡ Some q → new ≡ (end_with_heir hung q heir status).state) → new ≡ (end_process s r status).state
 unfolding end_process
@@ -94,6 +94,6 @@ end_hung s hung new r p heir status e is inherits ends =
     ∙ ap (λ h. (end_with_heir (hang_up s r) now.what h status).state) (inherits ∙ ap (λ (t : State). heir_in t.processes p) is ∙ ap (heir_in (hang_up s r).processes) (sym (pid_looked p s.processes r e)))
     ∙ ap (λ (o : Outcome). o.state) (end_alike (hang_up s r) now.what r (heir_in (hang_up s r).processes r.pid) status now.pid now.parent)
 
--- who is there is there
+-- an existing process still exists
 pub some_hung : (s hung : State) (r : Process) (p : ℕ) → process s p ≡ Some r → hung ≡ hang_up s r → IsSome (process hung p)
 some_hung s hung r p e is = subst IsSome (sym (ap (λ (t : State). process t p) is ∙ (remains s r p r e).found)) refl

@@ -31,7 +31,7 @@ in_session s p me i here is = λ none.
 
 -- ---- setctty
 
--- a console that may be acquired is nobody's, and the session has none
+-- a console that may be acquired is no session's terminal, and the session has none
 pub acquirable : (s : State) (r : Process) (c : Console) → may_acquire s r c ≡ true → (console_of r.session s.consoles ≡ None) × (c.session ≡ 0)
 acquirable s r c e = elim (console_of r.session s.consoles) as (λ o. (r.session == r.pid && (not (is_some o) && c.session == 0)) ≡ true → (o ≡ None) × (c.session ≡ 0)) [
   | None ↦ λ k. (refl, eqb-true c.session 0 (last (r.session == r.pid) (c.session == 0) k))
@@ -48,7 +48,7 @@ acquirable s r c e = elim (console_of r.session s.consoles) as (λ o. (r.session
 
 -- ---- tcsetpgrp
 
--- which process group becomes the foreground one where a register names one
+-- which process group becomes the foreground one if a register names one
 abbrev pub foreground_or : State → Process → ℕ → Bool → Attempted
 foreground_or s r g b = cond b (finish_with (change_console s r.session (with_foreground g)) r.pid Tcsetpgrp (pos 0)) (refused s r.pid Tcsetpgrp EPERM)
 
@@ -98,7 +98,7 @@ few_first n (line ∷ rest) bytes e = let same : take n line ≡ bytes = cc in l
 abbrev pub after_read : State → Process → Span → List ℕ → State
 after_read s r span bytes = change (change_console s r.session (line_taken span.count)) r.pid (with_bytes span.address bytes)
 
--- else it moves bytes of the first
+-- otherwise it moves bytes of the first
 pub read_some : (s : State) (r : Process) (span : Span) (lines : List (List ℕ)) (bytes : List ℕ) → first_bytes span.count lines ≡ Some bytes
     → read_from s r span lines ≡ finish_moved (after_read s r span bytes) r.pid Read bytes
 read_some s r span [] bytes e = absurd (cc)

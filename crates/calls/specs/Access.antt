@@ -1,4 +1,4 @@
--- Whether a process may use its terminal, XBD 11.1.4.
+-- The access of a process to its terminal, XBD 11.1.4.
 use Rattle.std.specs.Prelude.{not, ◌||◌, if◌then◌else◌}
 use Rattle.posix.specs.Common.{TTIN, TTOU, Process, State, Console, is_orphaned, is_in_background, blocks_or_ignores}
 use Rattle.calls.specs.declared.background.Access.{Access}
@@ -18,6 +18,6 @@ read_access_of s me c =
     else if blocks_or_ignores me TTIN || is_orphaned me.group s.processes then Refused
     else Signalled
 
--- to write to it: only where TOSTOP is set does it matter who writes
+-- to write to it: only if TOSTOP is set does it matter which process writes
 abbrev pub write_access_of : State → Process → Console → Access
 write_access_of s me c = if c.tostop then change_access_of s me c else Allowed

@@ -1,4 +1,4 @@
--- Parts of what the calls on the controlling terminal do.
+-- Parts of the calls on the controlling terminal.
 use Rattle.std.specs.Prelude.{ℕ, List, [], ◌∷◌, take, Option, Some, None, ℤ, pos, negsuc}
 use Rattle.posix.specs.declared.call.Call.TheVariants.{Settostop}
 use Rattle.posix.specs.Common.{Process, argument, State, with_tostop, Attempted, finish_with, change_console, is_nonzero}
@@ -8,7 +8,7 @@ abbrev pub natural_in : ℤ → Option ℕ
 natural_in (pos n) = Some n
 natural_in (negsuc n) = None
 
--- TOSTOP of its terminal is set where r1 isn't 0
+-- TOSTOP of its terminal is set if r1 isn't 0, otherwise cleared
 abbrev pub putting_tostop : State → Process → Attempted
 putting_tostop s me = finish_with (change_console s me.session (with_tostop (is_nonzero (argument me 1)))) me.pid Settostop (pos 0)
 

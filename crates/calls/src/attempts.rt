@@ -1,4 +1,4 @@
-//! Attempts of system calls: each is done, and adds what it shows, or the process has to wait.
+//! Attempts of system calls: a call completes and adds what it shows, restarts, or blocks its caller.
 
 ghost use Rattle.std.specs.Prelude.{◌≡◌, ◌⊎◌, ◌≢◌, ◌+◌, ◌<◌, ◌≤◌, ◌^◌, ◌++◌, ◌∷◌, [], length, IsSome, IfSome, Some, is_some, true};
 ghost use Rattle.posix.specs.declared.entry.Entry.TheVariants.{Called, NoMemory};
@@ -22,7 +22,7 @@ use life::Machine;
 use posix::{Blocked, Call, Entry, Errno, Pid, Register, Status, WaitCall};
 use proctable::ProcessTable;
 
-/// The call of a process that is there gives a value, and an entry shows the call.
+/// Completes the call of an existing process with a result, and adds this entry for it.
 pub(crate) fn finish_shown<K: ProcessTable>(
     machine: &mut Machine<K>,
     pid: Pid,
@@ -43,7 +43,7 @@ pub(crate) fn finish_shown<K: ProcessTable>(
     Attempt::Done
 }
 
-/// The call of a process that is there gives a value.
+/// Completes the call of an existing process with a result.
 pub fn finish_with<K: ProcessTable>(
     machine: &mut Machine<K>,
     pid: Pid,
@@ -67,7 +67,7 @@ pub fn finish_with<K: ProcessTable>(
     finish_shown(machine, pid, value, entry, entries)
 }
 
-/// The call of a process that is there is refused.
+/// Fails the call of an existing process with an error.
 pub fn refuse<K: ProcessTable>(
     machine: &mut Machine<K>,
     pid: Pid,
@@ -86,7 +86,7 @@ pub fn refuse<K: ProcessTable>(
     finish_with(machine, pid, call, refusal(errno), entries)
 }
 
-/// The call of a process that is there is refused, since the host has no memory for it.
+/// Fails the call of an existing process with EAGAIN, because the host has no memory for it.
 pub fn refuse_memory<K: ProcessTable>(
     machine: &mut Machine<K>,
     pid: Pid,
@@ -105,7 +105,7 @@ pub fn refuse_memory<K: ProcessTable>(
     finish_shown(machine, pid, refusal(Errno::EAGAIN), entry, entries)
 }
 
-/// The number of the caller's parent (XSH getppid).
+/// Returns the process ID of the caller's parent (XSH getppid).
 fn getppid<K: ProcessTable>(machine: &mut Machine<K>, pid: Pid, entries: &mut Entries) -> Attempt
     requires there { IsSome (process machine.old.state pid) }
     requires room { length entries.old.items ≤ 1 }
@@ -122,7 +122,7 @@ fn getppid<K: ProcessTable>(machine: &mut Machine<K>, pid: Pid, entries: &mut En
     )
 }
 
-/// The caller goes to the end of the order (XSH sched_yield).
+/// Moves the caller to the end of the run queue (XSH sched_yield).
 fn sched_yield<K: ProcessTable>(
     machine: &mut Machine<K>,
     pid: Pid,
@@ -137,7 +137,8 @@ fn sched_yield<K: ProcessTable>(
     finish_with(machine, pid, Call::SchedYield, 0, entries)
 }
 
-/// A child like the caller is born. EAGAIN where no number is free, or the host has no memory for the child (XSH fork).
+/// Creates a child as a copy of the caller. Fails with EAGAIN if no process ID is free, or if the host has no memory
+/// for the child (XSH fork).
 fn fork<K: ProcessTable>(machine: &mut Machine<K>, pid: Pid, entries: &mut Entries) -> Attempt
     requires acting { IsActing machine.old.state pid }
     requires births { machine.old.state.births + 1 < 2 ^ 64 }
@@ -154,7 +155,7 @@ fn fork<K: ProcessTable>(machine: &mut Machine<K>, pid: Pid, entries: &mut Entri
     }
 }
 
-/// The process ends with the code in r1 (XSH _exit).
+/// Terminates the process with the exit code in r1 (XSH _exit).
 #[tactic(auto, unfolding(posix::specs::Attempts::attempt))]
 fn exit<K: ProcessTable>(machine: &mut Machine<K>, pid: Pid, entries: &mut Entries) -> Attempt
     requires there { IsSome (process machine.old.state pid) }
@@ -167,7 +168,7 @@ fn exit<K: ProcessTable>(machine: &mut Machine<K>, pid: Pid, entries: &mut Entri
     Attempt::Done
 }
 
-/// The caller becomes a child subreaper where r1 isn't 0, else it is none any more (prctl(2)).
+/// Makes the caller a child subreaper if r1 isn't 0; otherwise it is no longer one (prctl(2)).
 #[tactic(auto, unfolding(posix::specs::Attempts::attempt, posix::specs::Subreapers::subreaper))]
 fn subreaper<K: ProcessTable>(machine: &mut Machine<K>, pid: Pid, entries: &mut Entries) -> Attempt
     requires there { IsSome (process machine.old.state pid) }
@@ -193,7 +194,7 @@ fn sigreturn<K: ProcessTable>(machine: &mut Machine<K>, pid: Pid, entries: &mut 
     Attempt::Done
 }
 
-/// The ticks that a register asks for: 0 to 1,000,000,000.
+/// Returns the ticks in a register, or `None` unless they are 0 to 1,000,000,000.
 fn ticks_in(word: i64) -> Option<u64>
     ensures { result ≡ ticks_in_word word }
 {
@@ -203,8 +204,8 @@ fn ticks_in(word: i64) -> Option<u64>
     }
 }
 
-/// The caller's alarm is set to r1 ticks from now, where 0 clears it, and the ticks are given that were left of the one
-/// before. EINVAL outside 0 to 1,000,000,000 (XSH alarm; the range is own).
+/// Sets the caller's alarm to r1 ticks from now, or cancels it if r1 is 0. Returns the ticks that were left of the
+/// previous alarm. Fails with EINVAL if r1 is not 0 to 1,000,000,000 (XSH alarm; the range is own).
 #[tactic(auto, unfolding(posix::specs::Attempts::attempt))]
 fn alarm<K: ProcessTable>(machine: &mut Machine<K>, pid: Pid, entries: &mut Entries) -> Attempt
     requires acting { IsActing machine.old.state pid }
@@ -221,9 +222,11 @@ fn alarm<K: ProcessTable>(machine: &mut Machine<K>, pid: Pid, entries: &mut Entr
     finish_with(machine, pid, Call::Alarm, left as i64, entries)
 }
 
-/// A process that has a place attempts a call. Where it has to wait nothing has changed, and the call that
-/// it is to be blocked in is answered. Where nothing is left to settle a wait reads six slots at most, and a signal that is
-/// sent to one process by its number five, a real-time signal seven, and CONT 13.
+/// Attempts a call of a process in the run queue. If the process has to wait, returns the call that it is to be blocked
+/// in, and changes nothing.
+///
+/// If nothing was left to settle, a wait reads at most 6 slots, settling included. A signal sent to one process by its
+/// ID reads at most 5, a real-time signal 7, and SIGCONT 13.
 #[tactic(auto, unfolding(posix::specs::Attempts::attempt))]
 #[inline(always)]
 pub fn attempt<K: ProcessTable>(
@@ -274,7 +277,7 @@ pub fn attempt<K: ProcessTable>(
     }
 }
 
-/// A process that is no zombie attempts the call afresh that it is blocked in.
+/// Attempts again the call that a live process is blocked in.
 #[tactic(auto, unfolding(posix::specs::Attempts::attempt_again))]
 pub fn attempt_again<K: ProcessTable>(
     machine: &mut Machine<K>,

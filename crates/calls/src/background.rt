@@ -1,4 +1,4 @@
-//! Background process groups: who may use a terminal (XBD 11.1.4).
+//! Background process groups: which processes may use a terminal (XBD 11.1.4).
 
 ghost use Rattle.std.specs.Prelude.{◌≡◌, ◌≤◌, false, IsSome, Some};
 ghost use Rattle.posix.specs.Common.{Process, is_realtime, Console, process, is_ignored as is_ignored_by, is_in_background as is_in_background_of, blocks_or_ignores as blocks_or_ignores_signal, signalled_group};
@@ -11,25 +11,25 @@ use life::{Caller, Machine, Terminal};
 use posix::{Handler, Pid, Sig};
 use proctable::ProcessTable;
 
-/// Whether a process may use its terminal.
+/// The access of a process to its terminal.
 #[derive(Clone, Copy)]
 pub enum Access {
-    /// It may.
+    /// The process may use it.
     Allowed,
-    /// The call is refused with EIO.
+    /// The call fails with EIO.
     Refused,
-    /// A signal is sent to the process group, and then the call begins again.
+    /// A signal is generated for the process group, and then the call restarts.
     Signalled,
 }
 
-/// Whether a handler ignores its signal.
+/// Returns true if a handler is to ignore its signal.
 fn is_ignored(handler: Handler) -> bool
     ensures { result ≡ is_ignored_by handler }
 {
     matches!(handler, Handler::Ignore)
 }
 
-/// Whether a caller is in the background of its terminal: its process group isn't the foreground one (XBD 3
+/// Returns true if a caller is in the background of its terminal: its process group isn't the foreground one (XBD 3
 /// Background Process Group).
 fn is_in_background(me: &Caller, terminal: &Terminal) -> bool
     ensures { (r : Process) (c : Console) → me.now ≡ caller_of r → terminal.now ≡ terminal_of c → result ≡ is_in_background_of r c }
@@ -37,7 +37,7 @@ fn is_in_background(me: &Caller, terminal: &Terminal) -> bool
     me.group != terminal.foreground
 }
 
-/// Whether a process that is there blocks or ignores a signal. Nothing changes.
+/// Returns true if an existing process blocks or ignores a signal. Changes nothing.
 fn blocks_or_ignores<K: ProcessTable>(machine: &mut Machine<K>, pid: Pid, sig: Sig) -> bool
     requires { IsSome (process machine.old.state pid) }
     ensures value { (me : Process) → process machine.old.state pid ≡ Some me → result ≡ blocks_or_ignores_signal me sig }
@@ -48,8 +48,9 @@ fn blocks_or_ignores<K: ProcessTable>(machine: &mut Machine<K>, pid: Pid, sig: S
     signals.mask().contains(sig) || is_ignored(signals.action(sig).handler)
 }
 
-/// Whether a caller that is there may change its terminal: in the foreground, and where it blocks or ignores TTOU. Else
-/// it is refused where its process group is orphaned (XBD 11.1.4). Nothing changes.
+/// Returns the access of an existing caller that wants to change its terminal. It is allowed in the foreground, and if
+/// the caller blocks or ignores SIGTTOU. Otherwise it is refused if the caller's process group is orphaned (XBD
+/// 11.1.4). Changes nothing.
 pub(crate) fn change_access<K: ProcessTable>(
     machine: &mut Machine<K>,
     me: &Caller,
@@ -70,8 +71,9 @@ pub(crate) fn change_access<K: ProcessTable>(
     }
 }
 
-/// Whether a caller that is there may read from its terminal: in the foreground. Else it is refused where it blocks or
-/// ignores TTIN, or its process group is orphaned (XBD 11.1.4). Nothing changes.
+/// Returns the access of an existing caller that wants to read from its terminal. It is allowed in the foreground.
+/// Otherwise it is refused if the caller blocks or ignores SIGTTIN, or its process group is orphaned (XBD 11.1.4).
+/// Changes nothing.
 pub(crate) fn read_access<K: ProcessTable>(
     machine: &mut Machine<K>,
     me: &Caller,
@@ -92,8 +94,8 @@ pub(crate) fn read_access<K: ProcessTable>(
     }
 }
 
-/// Whether a caller that is there may write to its terminal: always, unless TOSTOP is set, and then where it may
-/// change it (XBD 11.1.4, 11.2.5). Nothing changes.
+/// Returns the access of an existing caller that wants to write to its terminal. It is allowed unless TOSTOP is set. If
+/// TOSTOP is set, it is that of a change of the terminal (XBD 11.1.4, 11.2.5). Changes nothing.
 pub(crate) fn write_access<K: ProcessTable>(
     machine: &mut Machine<K>,
     me: &Caller,
@@ -111,7 +113,7 @@ pub(crate) fn write_access<K: ProcessTable>(
     }
 }
 
-/// A standard signal of the kernel is generated for each member of the caller's process group, and the call begins again.
+/// Generates a standard signal of the kernel for each member of the caller's process group, and restarts the call.
 pub(crate) fn signal_own_group<K: ProcessTable>(
     machine: &mut Machine<K>,
     me: &Caller,

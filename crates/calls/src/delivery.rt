@@ -15,7 +15,7 @@ use posix::{
 use proctable::ProcessTable;
 use signal::is_interrupted;
 
-/// What an end shows: that the process has ended, and of process 1 that the machine halts.
+/// Adds what a termination shows: that the process has terminated and, for process 1, that the machine halts.
 fn show_end(pid: Pid, status: Status, entries: &mut Entries)
     requires room { length entries.old.items ≤ 2 }
     ensures { entries.new.items ≡ entries.old.items ++ (if pid == 1 then Ended pid status ∷ Halted ∷ [] else Ended pid status ∷ []) }
@@ -26,8 +26,8 @@ fn show_end(pid: Pid, status: Status, entries: &mut Entries)
     }
 }
 
-/// The end of a process that is there, and what it shows. The terminal of the session that it leads is hung up
-/// first (XSH _exit).
+/// Terminates an existing process, and adds what this shows. First hangs up the terminal of the session that the
+/// process leads (XSH _exit).
 #[tactic(auto, unfolding(posix::specs::Ends::end_process))]
 pub fn end<K: ProcessTable>(
     machine: &mut Machine<K>,
@@ -48,8 +48,7 @@ pub fn end<K: ProcessTable>(
     show_end(pid, status, entries);
 }
 
-/// Shows that the call that a process is blocked in, if any, is interrupted as a handler with this action
-/// is entered, if it is.
+/// Adds an EINTR entry if a process is blocked in a call, and entering a handler with this action interrupts the call.
 fn show_interruption(pid: Pid, blocked: &Option<Blocked>, action: &Action, entries: &mut Entries)
     requires { entries.old.items ≡ [] }
     ensures items { entries.new.items ≡ interruption_of pid blocked.now action.now }
@@ -67,8 +66,8 @@ fn show_interruption(pid: Pid, blocked: &Option<Blocked>, action: &Action, entri
     }
 }
 
-/// A process that is there enters the handler of a signal at an address. Where there is no room for
-/// another frame it ends by SEGV (own).
+/// Enters the handler of a signal of an existing process, at an address. If there is no room for another frame, SIGSEGV
+/// terminates the process (own).
 #[tactic(auto, unfolding(posix::specs::Delivery::handle))]
 fn handle<K: ProcessTable>(
     machine: &mut Machine<K>,
@@ -98,7 +97,7 @@ fn handle<K: ProcessTable>(
     }
 }
 
-/// Whether a stop signal has no effect on a process that is there: it isn't STOP, and the process group is
+/// Returns true if a stop signal of an existing process is discarded: it isn't SIGSTOP, and the process group is
 /// orphaned (XSH 2.4.3).
 fn is_stop_discarded<K: ProcessTable>(machine: &mut Machine<K>, pid: Pid, sig: Sig) -> bool
     ensures value { (me : Process) → process machine.old.state pid ≡ Some me → result ≡ (not (sig == STOP) && is_orphaned me.group machine.old.state.processes) }
@@ -114,8 +113,8 @@ fn is_stop_discarded<K: ProcessTable>(machine: &mut Machine<K>, pid: Pid, sig: S
     }
 }
 
-/// A signal whose default action is to stop comes to a process that is there and no zombie. Where its process
-/// group is orphaned only STOP stops it (XSH 2.4.3).
+/// Delivers to a live process a signal whose default action is to stop. If its process group is orphaned, only SIGSTOP
+/// stops it (XSH 2.4.3).
 fn stop<K: ProcessTable>(machine: &mut Machine<K>, pid: Pid, sig: Sig, entries: &mut Entries)
     requires placed { IsPlaced machine.old.state.processes pid }
     requires none { entries.old.items ≡ [] }
@@ -130,8 +129,7 @@ fn stop<K: ProcessTable>(machine: &mut Machine<K>, pid: Pid, sig: Sig, entries: 
     }
 }
 
-/// The default action for a signal of a process that is there and no zombie. It has no effect on process 1
-/// (kill(2)).
+/// Takes the default action for a signal of a live process. For process 1, the signal is discarded (kill(2)).
 fn act_by_default<K: ProcessTable>(
     machine: &mut Machine<K>,
     pid: Pid,
@@ -156,9 +154,10 @@ fn act_by_default<K: ProcessTable>(
     }
 }
 
-/// A pending signal of a process that is there and no zombie is taken out, and its action done (XSH 2.4.1, 2.4.3).
-/// Requires a process that is no zombie, because a stop would let a zombie live again. A process in the run queue is
-/// none, so callers know it.
+/// Delivers a pending signal of a live process: it is no longer pending, and its action is taken (XSH 2.4.1, 2.4.3).
+///
+/// Requires a live process, because a stop would let a zombie live again. Callers know that it is live, because no
+/// process in the run queue is a zombie.
 #[tactic(auto, unfolding(posix::specs::Delivery::deliver))]
 pub fn deliver<K: ProcessTable>(machine: &mut Machine<K>, pid: Pid, sig: Sig, entries: &mut Entries)
     requires placed { IsPlaced machine.old.state.processes pid }
@@ -184,9 +183,8 @@ pub fn deliver<K: ProcessTable>(machine: &mut Machine<K>, pid: Pid, sig: Sig, en
     }
 }
 
-/// A machine fault of a process that is there: its handler is entered, if there is one and it isn't
-/// blocked, or else the process ends by the signal, also process 1 (own). Where a handler is entered two slots are
-/// read at most.
+/// Handles a machine fault of an existing process. Enters the handler if there is one and the signal isn't blocked.
+/// Otherwise the signal terminates the process, even process 1 (own). Reads at most two slots if a handler is entered.
 #[tactic(auto, unfolding(posix::specs::Delivery::fault))]
 #[inline(never)]
 pub fn fault<K: ProcessTable>(machine: &mut Machine<K>, pid: Pid, sig: Sig, entries: &mut Entries)
@@ -214,8 +212,7 @@ pub fn fault<K: ProcessTable>(machine: &mut Machine<K>, pid: Pid, sig: Sig, entr
     }
 }
 
-/// The newest handler of a process that is there returns; without one that is a fault SEGV
-/// (sigreturn(2)).
+/// Returns from the newest handler of an existing process. Without one, this is a fault with SIGSEGV (sigreturn(2)).
 #[tactic(auto, unfolding(posix::specs::Delivery::return_from_handler))]
 pub fn return_from_handler<K: ProcessTable>(
     machine: &mut Machine<K>,

@@ -12,8 +12,8 @@ use life::Machine;
 use posix::{Call, Errno, Pid, Register};
 use proctable::{ProcessTable, Snapshot};
 
-/// The small fields of the process that the first argument of a caller that is there names, 0 being the
-/// caller; none where no process has that number. Nothing changes.
+/// Returns the small fields of the process whose ID is the first argument of an existing caller; 0 selects the caller.
+/// Returns `None` if no process has that ID. Changes nothing.
 fn named<K: ProcessTable>(machine: &mut Machine<K>, pid: Pid) -> Option<Snapshot>
     requires { IsSome (process machine.old.state pid) }
     ensures value { (me : Process) → process machine.old.state pid ≡ Some me → result ≡ option_map snapshot_of (named_by me (argument me 1) machine.old.state.processes) }
@@ -24,7 +24,7 @@ fn named<K: ProcessTable>(machine: &mut Machine<K>, pid: Pid) -> Option<Snapshot
     machine.named(pid, word)
 }
 
-/// What a call tells of a process: its session by a getsid, and else its process group.
+/// Returns what a call reports of a process: its session for `getsid`, otherwise its process group.
 fn told_by(call: Call, it: &Snapshot) -> Pid
     ensures { result ≡ id_told call it.now }
 {
@@ -34,8 +34,8 @@ fn told_by(call: Call, it: &Snapshot) -> Pid
     }
 }
 
-/// Tells by a getpgid or a getsid what the call tells of the process that r1 names, 0 being the caller; ESRCH where no
-/// process has that number.
+/// Completes a `getpgid` or a `getsid` with the ID that it reports of the process whose ID is in r1; 0 selects the
+/// caller. Fails with ESRCH if no process has that ID.
 fn tell<K: ProcessTable>(
     machine: &mut Machine<K>,
     pid: Pid,
@@ -54,8 +54,8 @@ fn tell<K: ProcessTable>(
     finish_with(machine, pid, call, i64::from(id.number()), entries)
 }
 
-/// The process group of the process that r1 names, 0 being the caller. ESRCH where no process has that number (XSH
-/// getpgid).
+/// Returns the process group ID of the process whose ID is in r1; 0 selects the caller. Fails with ESRCH if no process
+/// has that ID (XSH getpgid).
 #[tactic(auto, unfolding(posix::specs::Attempts::attempt, posix::specs::GroupCalls::getpgid))]
 pub fn getpgid<K: ProcessTable>(
     machine: &mut Machine<K>,
@@ -70,7 +70,8 @@ pub fn getpgid<K: ProcessTable>(
     tell(machine, pid, Call::Getpgid, entries)
 }
 
-/// The session of the process that r1 names, 0 being the caller. ESRCH where no process has that number (XSH getsid).
+/// Returns the session ID of the process whose ID is in r1; 0 selects the caller. Fails with ESRCH if no process has
+/// that ID (XSH getsid).
 #[tactic(auto, unfolding(posix::specs::Attempts::attempt, posix::specs::GroupCalls::getsid))]
 pub fn getsid<K: ProcessTable>(machine: &mut Machine<K>, pid: Pid, entries: &mut Entries) -> Attempt
     requires there { IsSome (process machine.old.state pid) }
@@ -81,8 +82,8 @@ pub fn getsid<K: ProcessTable>(machine: &mut Machine<K>, pid: Pid, entries: &mut
     tell(machine, pid, Call::Getsid, entries)
 }
 
-/// Moves the process that r1 names, the caller or a child, to the process group in r2. The errors are those of
-/// [`Machine::move_group`] (XSH setpgid).
+/// Moves the process whose ID is in r1, the caller or a child, to the process group in r2. Fails as
+/// [`Machine::move_group`] does (XSH setpgid).
 #[tactic(auto, unfolding(posix::specs::Attempts::attempt, posix::specs::GroupCalls::setpgid))]
 pub fn setpgid<K: ProcessTable>(
     machine: &mut Machine<K>,
@@ -101,8 +102,8 @@ pub fn setpgid<K: ProcessTable>(
     }
 }
 
-/// The caller leads a session and a process group of its own. EPERM where it leads a process group, or another process is
-/// in one with its number (XSH setsid).
+/// Makes the caller the leader of a new session and of a new process group, and returns its ID. Fails with EPERM if the
+/// caller leads a process group, or if another process is in a group with the caller's ID (XSH setsid).
 #[tactic(auto, unfolding(posix::specs::Attempts::attempt, posix::specs::GroupCalls::setsid))]
 pub fn setsid<K: ProcessTable>(machine: &mut Machine<K>, pid: Pid, entries: &mut Entries) -> Attempt
     requires placed { IsPlaced machine.old.state.processes pid }

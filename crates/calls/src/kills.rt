@@ -14,7 +14,7 @@ use life::{Caller, Machine};
 use posix::{Call, Carried, Entry, Errno, PendingSignal, Pid, Sending, Sig, Target};
 use proctable::ProcessTable;
 
-/// The signal that the second argument names; none for signal 0. EINVAL where it is neither.
+/// Returns the signal in the second argument, or `None` for signal 0. Fails with EINVAL if it is neither.
 fn signal_or_none(me: &Caller) -> Result<Option<Sig>, Errno>
     ensures { result ≡ signal_number_or_none me.now.r2 }
 {
@@ -25,7 +25,7 @@ fn signal_or_none(me: &Caller) -> Result<Option<Sig>, Errno>
     Ok(Some(sig))
 }
 
-/// The signal as a process sends it, with a value and its number.
+/// Returns the signal as a process sends it, with a value and the sender's process ID.
 fn message(sender: Pid, value: i64, sig: Option<Sig>) -> Option<PendingSignal>
     ensures { result ≡ message_of sender value sig }
 {
@@ -36,7 +36,7 @@ fn message(sender: Pid, value: i64, sig: Option<Sig>) -> Option<PendingSignal>
     })
 }
 
-/// What a call gives, by what became of its signal.
+/// Returns the result of a call by the outcome of its send.
 fn value_of(sending: Sending) -> i64
     ensures { result ≡ value_of_sending sending }
 {
@@ -48,7 +48,7 @@ fn value_of(sending: Sending) -> i64
     }
 }
 
-/// How a call of a process is shown, by what became of its signal.
+/// Returns the entry of a call by the outcome of its send.
 fn entry_of(pid: Pid, call: Call, sending: Sending) -> Entry
     ensures { result ≡ entry_of_sending pid call sending }
 {
@@ -62,7 +62,7 @@ fn entry_of(pid: Pid, call: Call, sending: Sending) -> Entry
     }
 }
 
-/// Sends the signal that the second argument names to a target, with a value, by this call of a caller that is there.
+/// Sends the signal in the second argument to a target, with a value, for this call of an existing caller.
 #[inline(always)]
 fn send<K: ProcessTable>(
     machine: &mut Machine<K>,
@@ -88,9 +88,10 @@ fn send<K: ProcessTable>(
     finish_shown(machine, me.pid, value_of(sending), entry, entries)
 }
 
-/// Sends the signal in r2, with value 0, to the processes that r1 means; 0 only checks. EINVAL where r2 is neither 0 nor a
-/// signal; ESRCH where r1 means nobody; EPERM where no process that is meant may be signalled; EAGAIN where the queue of a
-/// real-time signal is full at one of them, or the host has no memory for the queues (XSH kill).
+/// Sends the signal in r2, with value 0, to the processes that r1 selects; signal 0 only checks. Fails with EINVAL if
+/// r2 is neither 0 nor a signal; with ESRCH if r1 selects no process; with EPERM if the caller may signal none of those
+/// selected; with EAGAIN if the queue of real-time signals is full at one of them, or the host has no memory for the
+/// queues (XSH kill).
 pub fn kill<K: ProcessTable>(machine: &mut Machine<K>, pid: Pid, entries: &mut Entries) -> Attempt
     requires there { IsSome (process machine.old.state pid) }
     requires room { length entries.old.items ≤ 1 }
@@ -103,8 +104,8 @@ pub fn kill<K: ProcessTable>(machine: &mut Machine<K>, pid: Pid, entries: &mut E
     send(machine, &me, Call::Kill, me.target(), 0, entries)
 }
 
-/// Sends the signal in r2, with the value in r3, to the process with the number in r1; 0 only checks. The errors are those
-/// of [`kill`] (XSH sigqueue).
+/// Sends the signal in r2, with the value in r3, to the process whose ID is in r1; signal 0 only checks. Fails as
+/// [`kill`] does (XSH sigqueue).
 pub fn sigqueue<K: ProcessTable>(
     machine: &mut Machine<K>,
     pid: Pid,

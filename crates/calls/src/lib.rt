@@ -1,9 +1,9 @@
-//! System calls: what a process attempts, and what it comes to; delivery of signals.
+//! System calls: attempts, and their outcomes; delivery of signals.
 //!
-//! `attempt` and `attempt_again` do what the definitions of calls say (`Attempts`, `Comes`): done, with their lines;
-//! blocked, with nothing changed; or again, with SIGTTIN or SIGTTOU for the caller's process group. `deliver` (not of a
-//! zombie), `fault`, `return_from_handler` and `end`, with the hangup before it, are as defined, as are `has_to_wait`
-//! and `has_to_read`.
+//! `attempt` and `attempt_again` do what the definitions of calls say (`Attempts`, `Comes`): the call completes, with
+//! its lines; blocks, with nothing changed; or restarts, with SIGTTIN or SIGTTOU for the caller's process group.
+//! `deliver` (not of a zombie), `fault`, `return_from_handler` and `end`, with the hangup before it, are as defined,
+//! and so are `has_to_wait` and `has_to_read`.
 #![tactic(auto)]
 
 pub mod attempts;

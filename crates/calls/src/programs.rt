@@ -1,4 +1,4 @@
-//! Programs that processes run in place of their own (XSH exec).
+//! Replacement of a process's program by another (XSH exec).
 
 ghost use Rattle.std.specs.Prelude.{◌≤◌, length, IsSome};
 ghost use Rattle.posix.specs.Common.{process};
@@ -11,9 +11,10 @@ use life::Machine;
 use posix::{Call, Entry, Errno, Pid, Register};
 use proctable::ProcessTable;
 
-/// Runs the program in r1 in place of the caller's own. The pc doesn't move on: it is where the program begins. ENOENT
-/// where the world has no program with that number (XSH exec).
-/// Prints a line although it does not return: otherwise no trace would show where the new program begins.
+/// Replaces the caller's program by the one whose number is in r1. The pc doesn't move on: it is where the program
+/// begins. Fails with ENOENT if the world has no program with that number (XSH exec).
+///
+/// Adds an entry although it does not return: otherwise no trace would show where the new program begins.
 #[tactic(auto, unfolding(posix::specs::Attempts::attempt, posix::specs::Programs::exec))]
 pub fn exec<K: ProcessTable>(machine: &mut Machine<K>, pid: Pid, entries: &mut Entries) -> Attempt
     requires there { IsSome (process machine.old.state pid) }

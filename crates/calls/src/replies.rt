@@ -1,4 +1,4 @@
-//! Calls that change their process alone: its number, ids, actions and signal mask.
+//! Calls that change only their caller: its IDs, actions and signal mask.
 
 ghost use Rattle.std.specs.Prelude.{◌≡◌, ◌≤◌, length, true, is_some, IfSome};
 ghost use Rattle.std.specs.Int.{cast_unsigned, w64};
@@ -14,14 +14,14 @@ use proctable::OwnPart;
 
 // ---- results
 
-/// The result of a call that is refused: the negative number of the error.
+/// Returns the result of a call that fails: the negated error number.
 pub fn refusal(errno: Errno) -> i64
     ensures { result ≡ refusal_of errno }
 {
     -i64::from(errno.number())
 }
 
-/// The result of a call that gives 0 where it is done.
+/// Returns the result of a call that returns 0 if it succeeds.
 fn word_of(done: Result<(), Errno>) -> i64
     ensures { result ≡ value_of done }
 {
@@ -33,7 +33,7 @@ fn word_of(done: Result<(), Errno>) -> i64
 
 // ---- arguments
 
-/// The signal that a register names: 1 to 31 and 34 to 64.
+/// Returns the signal in a register: 1 to 31 and 34 to 64.
 pub fn signal_in(number: i64) -> Option<Sig>
     ensures { result ≡ signal_number_in number }
 {
@@ -43,7 +43,7 @@ pub fn signal_in(number: i64) -> Option<Sig>
     }
 }
 
-/// A handler as a register holds it: 0 is the default, 1 ignores the signal, and all else is an address.
+/// Returns the handler in a register: 0 is the default, 1 ignores the signal, and any other value is an address.
 fn handler_in(word: i64) -> Handler
     ensures { result ≡ handler_held_in word }
 {
@@ -54,7 +54,7 @@ fn handler_in(word: i64) -> Handler
     }
 }
 
-/// A register that holds a handler.
+/// Returns the value of a register that holds a handler.
 fn handler_word(handler: Handler) -> i64
     ensures { result ≡ handler_word_of handler }
 {
@@ -65,14 +65,14 @@ fn handler_word(handler: Handler) -> i64
     }
 }
 
-/// Whether a sigaction with this in r2 asks for the action.
+/// Returns true if a `sigaction` with this in r2 only asks for the action.
 fn is_question(word: i64) -> bool
     ensures { result ≡ is_question_in word }
 {
     matches!(word, -1)
 }
 
-/// The flags that a register holds; none where it has a bit that is no flag's.
+/// Returns the flags in a register, or `None` if it has a bit that is no flag's.
 fn flags_in(word: i64) -> Option<SaFlags>
     ensures known { is_some result ≡ are_flags (cast_unsigned w64 word) }
     ensures value { IfSome result (λ f. f.0 ≡ cast_unsigned w64 word) }
@@ -81,8 +81,7 @@ fn flags_in(word: i64) -> Option<SaFlags>
     SaFlags::from_bits(bits)
 }
 
-/// The action in r2, r3 and r4 of a process with this of its own; none where r4 has a bit that is no
-/// flag's (own).
+/// Returns the action in r2, r3 and r4, or `None` if r4 has a bit that is no flag's (own).
 fn action_in(own: &OwnPart) -> Option<Action>
     ensures known { (r : Process) → is_some result ≡ are_flags (cast_unsigned w64 (argument (give_own own.now r) 4)) }
     ensures value { (r : Process) → IfSome result (λ a. a ≡ action_held_in (give_own own.now r)) }
@@ -99,7 +98,7 @@ fn action_in(own: &OwnPart) -> Option<Action>
 
 // ---- calls
 
-/// Shows an action in r2, r3 and r4.
+/// Writes an action to r2, r3 and r4.
 #[tactic(auto, unfolding(posix::specs::Outcomes::written))]
 fn show_action_in_registers(own: &mut OwnPart, action: &Action)
     ensures { (r : Process) → give_own own.new r ≡ holding action.now (give_own own.old r) }
@@ -110,8 +109,9 @@ fn show_action_in_registers(own: &mut OwnPart, action: &Action)
     cpu.set_register(Register::FOURTH_ARGUMENT, i64::from(action.flags.bits()));
 }
 
-/// Asks for the action for the signal in r1, or sets it. EINVAL where r1 is no signal; of an action that is set, where r4
-/// has a bit that is no flag's, or the signal is KILL or STOP (XSH sigaction).
+/// Returns the action for the signal in r1, in r2 to r4, and sets a new one unless r2 is -1. Fails with EINVAL if r1 is
+/// no signal; and for a new action, if r4 has a bit that is no flag's, or the signal is SIGKILL or SIGSTOP (XSH
+/// sigaction).
 #[tactic(auto, unfolding(posix::specs::SignalCalls::sigaction, posix::specs::SignalCalls::give_signals))]
 fn sigaction(own: &mut OwnPart) -> Result<(), Errno>
     ensures { (r : Process) → Replies (sigaction_of (give_own own.old r)) (value_of result) own.old own.new }
@@ -136,7 +136,8 @@ fn sigaction(own: &mut OwnPart) -> Result<(), Errno>
     }
 }
 
-/// Changes the signal mask by the set in r2. EINVAL where r1 is none of 0 to 2 (XSH sigprocmask).
+/// Changes the signal mask by the set in r2, and returns the old mask there. Fails with EINVAL if r1 is not 0 to 2 (XSH
+/// sigprocmask).
 #[tactic(auto, unfolding(posix::specs::SignalCalls::sigprocmask, posix::specs::SignalCalls::give_signals, posix::specs::Outcomes::written))]
 fn sigprocmask(own: &mut OwnPart) -> Result<(), Errno>
     ensures { (r : Process) → Replies (sigprocmask_of (give_own own.old r)) (value_of result) own.old own.new }
@@ -149,7 +150,7 @@ fn sigprocmask(own: &mut OwnPart) -> Result<(), Errno>
     Ok(())
 }
 
-/// The set of pending signals (XSH sigpending).
+/// Returns the set of pending signals, in r1 (XSH sigpending).
 #[tactic(auto, unfolding(posix::specs::SignalCalls::sigpending, posix::specs::Outcomes::written))]
 fn sigpending(own: &mut OwnPart) -> Result<(), Errno>
     ensures { (r : Process) → Replies (sigpending_of (give_own own.old r)) (value_of result) own.old own.new }
@@ -159,16 +160,17 @@ fn sigpending(own: &mut OwnPart) -> Result<(), Errno>
     Ok(())
 }
 
-/// Whether a process asks to be a child subreaper: r1 isn't 0.
+/// Returns true if a process asks to be a child subreaper: r1 isn't 0.
 pub fn asks_for_mark(own: &OwnPart) -> bool
     ensures { (r : Process) → result ≡ is_nonzero (argument (give_own own.now r) 1) }
 {
     own.cpu.register(Register::FIRST_ARGUMENT) != 0
 }
 
-/// What a call of a process, with this of its own, gives, that changes the process alone.
-/// A call that changes only its process has a `Reply` in the definitions, a value and one change of the record: one
-/// loan and one lemma serve twelve calls.
+/// Carries out a call that changes only its caller, and returns its result.
+///
+/// In the definitions, such a call has a `Reply`: a value and one change of the record. One loan and one lemma serve
+/// twelve calls.
 #[tactic(auto, unfolding(posix::specs::Attempts::attempt, posix::specs::SignalCalls::give_credentials))]
 fn reply(own: &mut OwnPart, pid: Pid, call: Call) -> i64
     requires { changes_caller_alone call ≡ true }
@@ -192,7 +194,7 @@ fn reply(own: &mut OwnPart, pid: Pid, call: Call) -> i64
     }
 }
 
-/// A call of a process, with this of its own, that changes the process alone.
+/// Completes a call that changes only its caller.
 pub fn own_call(own: &mut OwnPart, pid: Pid, call: Call, entries: &mut Entries) -> Attempt
     requires own { changes_caller_alone call ≡ true }
     requires room { length entries.old.items ≤ 3 }

@@ -1,5 +1,5 @@
-//! Calls on the controlling terminal but read and write: whose it is, its foreground process group and TOSTOP (XBD
-//! 11.1, XSH tcgetpgrp, tcsetpgrp).
+//! Calls on the controlling terminal other than read and write: acquiring it, its foreground process group and TOSTOP
+//! (XBD 11.1, XSH tcgetpgrp, tcsetpgrp).
 
 ghost use Rattle.std.specs.Prelude.{◌≡◌, ◌≤◌, length, pos, IsSome, Some, option_map, slice_get};
 ghost use Rattle.posix.specs.Common.{Process, argument, Console, process, IsRegular, console_named as console_named_by, setctty_of, may_acquire as may_acquire_by, foreground_told as foreground_told_of, put_foreground as putting_foreground, tcsetpgrp_on as tcsetpgrp_of, settostop_on as settostop_of};
@@ -18,21 +18,23 @@ use proctable::ProcessTable;
 
 // ---- setctty
 
-/// The index of the console that a register names: consoles count from 1.
+/// Returns the index of the console whose number is in a register. Numbers start at 1.
 fn console_named(word: i64) -> Option<usize>
     ensures { result ≡ console_named_by word }
 {
     usize::try_from(word).ok()?.checked_sub(1)
 }
 
-/// Whether a caller leads a session without a terminal, and a console that is the terminal of this session is nobody's.
+/// Returns true if a caller leads a session without a terminal, and the console that it wants is no session's terminal.
+/// `session` is the session of that console, or number 0 if it has none.
 fn may_acquire<K: ProcessTable>(machine: &Machine<K>, me: &Caller, session: Pid) -> bool
     ensures { (r : Process) (c : Console) → me.now ≡ caller_of r → session ≡ c.session → result ≡ may_acquire_by machine.now.state r c }
 {
     me.session == me.pid && machine.terminal(me.session).is_none() && session == Pid::NONE
 }
 
-/// A caller that is there asks for the console with this index, the terminal of this session; number 0 is nobody's.
+/// Makes the console with this index the terminal of an existing caller's session. `session` is the session that has
+/// the console, or number 0 if none has. Fails with EPERM if the caller may not acquire the console.
 fn acquire<K: ProcessTable>(
     machine: &mut Machine<K>,
     me: &Caller,
@@ -54,10 +56,10 @@ fn acquire<K: ProcessTable>(
     finish_with(machine, me.pid, Call::Setctty, 0, entries)
 }
 
-/// The console in r1 becomes the controlling terminal of the session that the caller leads, with the caller's process
-/// group in the foreground; what was typed before stays. ENOENT where there is no such console; EPERM where the caller
-/// leads no session, its session has a terminal, or the console is another session's (own; as TIOCSCTTY in
-/// ioctl_tty(2), which in Linux is 0 for the session's own terminal).
+/// Makes the console in r1 the controlling terminal of the session that the caller leads, with the caller's process
+/// group in the foreground. Input that was typed before stays. Fails with ENOENT if there is no such console; with
+/// EPERM if the caller leads no session, its session has a terminal, or the console is another session's (own; as
+/// TIOCSCTTY in ioctl_tty(2), which in Linux returns 0 for the session's own terminal).
 #[tactic(auto, unfolding(posix::specs::Attempts::attempt, posix::specs::Terminals::setctty))]
 pub fn setctty<K: ProcessTable>(
     machine: &mut Machine<K>,
@@ -81,7 +83,7 @@ pub fn setctty<K: ProcessTable>(
 
 // ---- tcgetpgrp
 
-/// What tcgetpgrp gives: the foreground process group, or a number above all where there is none.
+/// Returns the result of `tcgetpgrp`: the foreground process group, or a number above all process IDs if there is none.
 fn foreground_told(pidmax: u32, group: Pid) -> i64
     ensures { result ≡ pos (foreground_told_of pidmax group) }
 {
@@ -92,8 +94,8 @@ fn foreground_told(pidmax: u32, group: Pid) -> i64
     }
 }
 
-/// The foreground process group of the caller's terminal, or pidmax + 1 where there is none. ENOTTY where the caller's
-/// session has no terminal (XSH tcgetpgrp).
+/// Returns the foreground process group of the caller's terminal, or pidmax + 1 if there is none. Fails with ENOTTY if
+/// the caller's session has no terminal (XSH tcgetpgrp).
 #[tactic(auto, unfolding(posix::specs::Attempts::attempt, posix::specs::Terminals::tcgetpgrp))]
 pub fn tcgetpgrp<K: ProcessTable>(
     machine: &mut Machine<K>,
@@ -115,15 +117,15 @@ pub fn tcgetpgrp<K: ProcessTable>(
 
 // ---- tcsetpgrp
 
-/// The number in a register; none where it is negative.
+/// Returns the number in a register, or `None` if it is negative.
 fn natural_in(word: i64) -> Option<u64>
     ensures { result ≡ natural_number_in word }
 {
     u64::try_from(word).ok()
 }
 
-/// The process group in r1 of a caller that is there becomes the foreground one of its session's terminal. EINVAL where
-/// r1 is negative, EPERM where no process of the session is in that group.
+/// Makes the process group in r1 of an existing caller the foreground one of its session's terminal. Fails with EINVAL
+/// if r1 is negative; with EPERM if no process of the session is in that group.
 fn put_foreground<K: ProcessTable>(
     machine: &mut Machine<K>,
     me: &Caller,
@@ -146,7 +148,7 @@ fn put_foreground<K: ProcessTable>(
     finish_with(machine, me.pid, Call::Tcsetpgrp, 0, entries)
 }
 
-/// Puts a process group into the foreground of the caller's terminal, where the rule for the background allows it.
+/// Sets the foreground process group of the caller's terminal, if the rule for the background allows it.
 fn tcsetpgrp_on<K: ProcessTable>(
     machine: &mut Machine<K>,
     me: &Caller,
@@ -167,10 +169,11 @@ fn tcsetpgrp_on<K: ProcessTable>(
     }
 }
 
-/// The process group in r1 becomes the foreground one of the caller's terminal. ENOTTY where the caller's session has no
-/// terminal; EIO, or TTOU for the caller's process group and the call again, in the background (XBD 11.1.4); EINVAL where
-/// the group is negative; EPERM where no process of the caller's session is in it (XSH tcsetpgrp); in Linux the
-/// background's error is ENOTTY, and that of a number which nobody bears ESRCH.
+/// Makes the process group in r1 the foreground one of the caller's terminal. Fails with ENOTTY if the caller's session
+/// has no terminal; with EINVAL if the group is negative; with EPERM if no process of the caller's session is in it. In
+/// the background, fails with EIO, or generates SIGTTOU for the caller's process group and restarts, unless the caller
+/// blocks or ignores SIGTTOU (XBD 11.1.4, XSH tcsetpgrp). In Linux the error in the background is ENOTTY, and that of
+/// an ID which no process has is ESRCH.
 #[tactic(auto, unfolding(posix::specs::Attempts::attempt, posix::specs::Terminals::tcsetpgrp))]
 pub fn tcsetpgrp<K: ProcessTable>(
     machine: &mut Machine<K>,
@@ -191,7 +194,7 @@ pub fn tcsetpgrp<K: ProcessTable>(
 
 // ---- settostop
 
-/// TOSTOP of the terminal of a caller that is there is set where r1 isn't 0, and else cleared.
+/// Sets TOSTOP of an existing caller's terminal if r1 isn't 0, otherwise clears it.
 fn put_tostop<K: ProcessTable>(
     machine: &mut Machine<K>,
     me: &Caller,
@@ -208,7 +211,7 @@ fn put_tostop<K: ProcessTable>(
     finish_with(machine, me.pid, Call::Settostop, 0, entries)
 }
 
-/// Sets or clears TOSTOP of the caller's terminal, where the rule for the background allows it.
+/// Sets or clears TOSTOP of the caller's terminal, if the rule for the background allows it.
 fn settostop_on<K: ProcessTable>(
     machine: &mut Machine<K>,
     me: &Caller,
@@ -229,9 +232,9 @@ fn settostop_on<K: ProcessTable>(
     }
 }
 
-/// TOSTOP of the caller's terminal is set where r1 isn't 0, and else cleared. ENOTTY where the caller's session has no
-/// terminal; EIO, or TTOU for the caller's process group and the call again, in the background (own; as XSH tcsetattr,
-/// XBD 11.1.4).
+/// Sets TOSTOP of the caller's terminal if r1 isn't 0, otherwise clears it. Fails with ENOTTY if the caller's session
+/// has no terminal. In the background, fails with EIO, or generates SIGTTOU for the caller's process group and
+/// restarts, unless the caller blocks or ignores SIGTTOU (own; as XSH tcsetattr, XBD 11.1.4).
 #[tactic(auto, unfolding(posix::specs::Attempts::attempt, posix::specs::Terminals::settostop))]
 pub fn settostop<K: ProcessTable>(
     machine: &mut Machine<K>,

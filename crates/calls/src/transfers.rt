@@ -1,4 +1,4 @@
-//! Bytes between a process and its terminal (XSH read, write).
+//! Bytes moved between a process and its terminal (XSH read, write).
 
 ghost use Rattle.std.specs.Prelude.{◌≡◌, ◌≢◌, ◌+◌, ◌≤◌, length, IsSome, Some, Ok, option_map};
 ghost use Rattle.posix.specs.Common.{Process, Console, console_of, line_taken, process, change, IsRegular, change_console, finish_moved as finish_moved_of, with_bytes, read as reading, read_in, read_from, write as writing, write_in, waits_to_read};
@@ -17,8 +17,8 @@ use life::{Caller, Machine, Terminal};
 use posix::{Blocked, Bytes, Call, Entry, Errno, Pid, Sig, Span};
 use proctable::{ProcessTable, Snapshot};
 
-/// The call of a process that is there moved these bytes, and gives their number; where there are none it shows no
-/// more than that.
+/// Completes the call of an existing process that moved these bytes, with their number. If there are none, the entry
+/// shows only that number.
 fn finish_moved<K: ProcessTable>(
     machine: &mut Machine<K>,
     pid: Pid,
@@ -41,7 +41,7 @@ fn finish_moved<K: ProcessTable>(
 
 // ---- read
 
-/// Bytes are put into the words of a process that is there from an address on.
+/// Stores bytes in the words of an existing process, from an address on.
 #[tactic(auto, unfolding(posix::specs::Terminals::with_bytes))]
 fn store<K: ProcessTable>(machine: &mut Machine<K>, pid: Pid, address: u16, bytes: &[u8])
     requires there { IsSome (process machine.old.state pid) }
@@ -52,8 +52,8 @@ fn store<K: ProcessTable>(machine: &mut Machine<K>, pid: Pid, address: u16, byte
     machine.own(pid).cpu.store(address, bytes);
 }
 
-/// Takes at most so many bytes, up to 16, of the first finished line of a session's terminal; what it leaves of the line
-/// stays. None, and nothing changes, where no line is finished.
+/// Takes at most `most` bytes, up to 16, of the first finished line of a session's terminal. The rest of the line
+/// stays. Returns `None`, and changes nothing, if no line is finished.
 fn take_bytes<K: ProcessTable>(machine: &mut Machine<K>, session: Pid, most: u8) -> Option<Bytes>
     requires session { session ≢ 0 }
     requires terminal { IsSome (console_of session machine.old.state.consoles) }
@@ -68,8 +68,8 @@ fn take_bytes<K: ProcessTable>(machine: &mut Machine<K>, session: Pid, most: u8)
     Some(Bytes::new(&part[..count]))
 }
 
-/// A caller that is there, and whose session has a terminal, reads into the words of a span. Where no line is finished
-/// it has to wait.
+/// Reads into the words of a span of an existing caller, whose session has a terminal. If no line is finished, the
+/// caller has to wait.
 fn read_line<K: ProcessTable>(
     machine: &mut Machine<K>,
     me: &Caller,
@@ -93,7 +93,7 @@ fn read_line<K: ProcessTable>(
     finish_moved(machine, me.pid, Call::Read, bytes, entries)
 }
 
-/// A read into the words of a span by a caller that is there, with this terminal. A count of 0 takes nothing.
+/// Reads into the words of a span of an existing caller with this terminal. A count of 0 takes nothing.
 fn read_span<K: ProcessTable>(
     machine: &mut Machine<K>,
     me: &Caller,
@@ -123,10 +123,12 @@ fn read_span<K: ProcessTable>(
 }
 
 /// Takes at most r2 bytes of the first finished line of the caller's terminal into the words from address r1 on, and
-/// gives their number: 0 at the end of file, and from a terminal that is hung up, in the background, too (XBD 11.1.10).
-/// What it leaves of the line stays. ENOTTY where the caller's session has no terminal; EINVAL for a count outside 0 to
-/// 16; EFAULT where a word is none of the process; EIO, or TTIN for the caller's process group and the call again, in the
-/// background (XBD 11.1.4, 11.1.6, XSH read). Where no line is finished the caller has to wait.
+/// returns their number. The rest of the line stays. If no line is finished, the caller has to wait. Returns 0 at the
+/// end of file, and from a terminal that is hung up, even in the background (XBD 11.1.10).
+///
+/// Fails with ENOTTY if the caller's session has no terminal; with EINVAL if the count is not 0 to 16; with EFAULT if a
+/// word is outside the memory of the process. In the background, fails with EIO, or generates SIGTTIN for the caller's
+/// process group and restarts (XBD 11.1.4, 11.1.6, XSH read).
 #[tactic(auto, unfolding(posix::specs::Terminals::read))]
 pub fn read<K: ProcessTable>(machine: &mut Machine<K>, pid: Pid, entries: &mut Entries) -> Attempt
     requires there { IsSome (process machine.old.state pid) }
@@ -144,8 +146,8 @@ pub fn read<K: ProcessTable>(machine: &mut Machine<K>, pid: Pid, entries: &mut E
     }
 }
 
-/// Whether a read of a process that is there, with this snapshot, would have to wait: its process group is the
-/// foreground one of its controlling terminal, which isn't hung up, it asks for bytes, and no line is finished (XBD
+/// Returns true if a read of an existing process, with this snapshot, would have to wait: its process group is the
+/// foreground one of its controlling terminal, which isn't hung up; it asks for bytes; and no line is finished (XBD
 /// 11.1.4, 11.1.6, 11.1.10).
 #[tactic(auto, unfolding(posix::specs::Terminals::waits_to_read))]
 pub fn has_to_read<K: ProcessTable>(machine: &mut Machine<K>, pid: Pid, snapshot: Snapshot) -> bool
@@ -172,7 +174,7 @@ pub fn has_to_read<K: ProcessTable>(machine: &mut Machine<K>, pid: Pid, snapshot
 
 // ---- write
 
-/// A write of the words of a span by a caller that is there, with this terminal.
+/// Writes the words of a span of an existing caller with this terminal.
 fn write_span<K: ProcessTable>(
     machine: &mut Machine<K>,
     me: &Caller,
@@ -201,10 +203,12 @@ fn write_span<K: ProcessTable>(
     }
 }
 
-/// Writes the r2 words from address r1 on to the caller's terminal, each as its low 8 bits, and gives their number.
-/// ENOTTY where the caller's session has no terminal; EINVAL for a count outside 0 to 16; EFAULT where a word is none of
-/// the process; EIO where the terminal is hung up (XBD 11.1.10); EIO, or TTOU for the caller's process group and the call
-/// again, in the background where TOSTOP is set (XBD 11.1.4, XSH write).
+/// Writes the r2 words from address r1 on to the caller's terminal, each as its low 8 bits, and returns their number.
+///
+/// Fails with ENOTTY if the caller's session has no terminal; with EINVAL if the count is not 0 to 16; with EFAULT if a
+/// word is outside the memory of the process; with EIO if the terminal is hung up (XBD 11.1.10). In the background, if
+/// TOSTOP is set, fails with EIO, or generates SIGTTOU for the caller's process group and restarts, unless the caller
+/// blocks or ignores SIGTTOU (XBD 11.1.4, XSH write).
 #[tactic(auto, unfolding(posix::specs::Terminals::write))]
 pub fn write<K: ProcessTable>(machine: &mut Machine<K>, pid: Pid, entries: &mut Entries) -> Attempt
     requires there { IsSome (process machine.old.state pid) }

@@ -17,7 +17,8 @@ use life::{Caller, Machine};
 use posix::{Asked, Blocked, Entry, Errno, Pid, Report, Status, WaitCall, WaitidOptions};
 use proctable::ProcessTable;
 
-/// The wait of a process that is there gives a child, which it leaves as it is (WNOWAIT), or has collected.
+/// Completes the wait of an existing process with a child. The child has been reaped, its stop or continue has been
+/// cleared, or it is left as it is (WNOWAIT).
 fn report<K: ProcessTable>(
     machine: &mut Machine<K>,
     pid: Pid,
@@ -49,7 +50,7 @@ fn report<K: ProcessTable>(
     Attempt::Done
 }
 
-/// The wait of a process that is there has nothing to report, and need not wait.
+/// Completes the wait of an existing process that has nothing to report, and need not wait.
 fn find_nothing<K: ProcessTable>(
     machine: &mut Machine<K>,
     pid: Pid,
@@ -73,7 +74,7 @@ fn find_nothing<K: ProcessTable>(
     Attempt::Done
 }
 
-/// Waits for a child, as a caller that is there and no zombie.
+/// Waits for a child of a live caller.
 #[tactic(auto, unfolding(posix::specs::Waits::wait_by))]
 fn wait_as<K: ProcessTable>(
     machine: &mut Machine<K>,
@@ -118,9 +119,9 @@ fn wait_as<K: ProcessTable>(
     }
 }
 
-/// Waits for a child, and gives it and its status; 0 where WNOHANG is set and no child has anything to report. EINVAL
-/// where the options, or of waitid the kind or the number, are none; ECHILD where no child is meant. Where no child has
-/// anything to report the caller has to wait (XSH waitpid, waitid).
+/// Waits for a child, and returns its process ID and wait status. Returns 0 if WNOHANG is set and no selected child has
+/// a requested status change. Without WNOHANG, the caller then has to wait. Fails with EINVAL if the options, or the
+/// kind or ID of `waitid`, are invalid; with ECHILD if no child is selected (XSH waitpid, waitid).
 #[tactic(auto, unfolding(posix::specs::Waits::wait_by))]
 pub fn wait<K: ProcessTable>(
     machine: &mut Machine<K>,
@@ -140,7 +141,7 @@ pub fn wait<K: ProcessTable>(
     wait_as(machine, call, &me, entries)
 }
 
-/// Whether the wait of a caller reports the process `first`, if there is one and the wait gets to it.
+/// Returns true if the wait of a caller reports the process `first`, if there is one and the wait gets to it.
 fn reports_first<K: ProcessTable>(
     machine: &mut Machine<K>,
     me: &Caller,
@@ -158,8 +159,8 @@ fn reports_first<K: ProcessTable>(
     }
 }
 
-/// Whether the wait of a caller that is there would have to wait. Where it reports the process `first`, no other is
-/// looked at.
+/// Returns true if the wait of an existing caller would have to wait. If it reports the process `first`, looks at no
+/// other.
 #[tactic(auto, unfolding(posix::specs::Waits::wait_by))]
 fn would_wait<K: ProcessTable>(
     machine: &mut Machine<K>,
@@ -185,8 +186,8 @@ fn would_wait<K: ProcessTable>(
     }
 }
 
-/// Whether the wait of a process that is there would have to wait. Where it reports the process `first`, no other is
-/// looked at. Nothing changes.
+/// Returns true if the wait of an existing process would have to wait. If it reports the process `first`, looks at no
+/// other. Changes nothing.
 #[inline(always)]
 pub fn has_to_wait<K: ProcessTable>(
     machine: &mut Machine<K>,

@@ -4,7 +4,7 @@ use Rattle.posix.specs.Common.{Process}
 use Rattle.proctable.specs.declared.records.Record.{Record}
 use Rattle.proctable.specs.Records.{with_record}
 
--- its processes, and how many more it has room for
+-- The processes of the table, and how many more it has room for.
 pub record SortedView : Type 0 where
   pub processes : List Process
   pub room : ℕ

@@ -1,4 +1,5 @@
-//! How many slots of the table events read that are none of the sleepers', where no clause of `KernelOn::event` counts them.
+//! Events that read few slots of the process table although many processes sleep. No clause of `KernelOn::event` counts
+//! these reads.
 
 use kernel::Kernel;
 use posix::Event;
@@ -7,9 +8,10 @@ use std::process::Abort;
 use std::test::Fail;
 use text::read_world;
 
-/// Process 1, which ignores CHLD, has 900 children that pause. Then it goes in rounds of twenty steps, with the
-/// two of a child that is born, ends and is dropped, and the one in which the last sleeper stops: a note, a
-/// getpid, CHLD to the last sleeper, STOP, a yield, CONT, the birth, a yield, a wait for any child that doesn't block.
+/// Process 1, which ignores SIGCHLD, has 900 children that pause. Then it repeats rounds of twenty steps. A round has a
+/// note, a getpid, SIGCHLD to the last sleeper, SIGSTOP, a yield, SIGCONT, a fork, a yield, and a wait for any child
+/// that doesn't block. It includes the two steps of the child, which exits and leaves no zombie, and the step in which
+/// the last sleeper stops.
 const SLEEPERS: &[u8] = b"\
 pidmax 1000
 consoles 1
@@ -53,7 +55,8 @@ sys pause
 end
 ";
 
-/// Process 1 has 300 children in its process group, and three in another one, for which it waits: first without blocking.
+/// Process 1 has 300 children in its process group, and three in another one. It waits for those three, first without
+/// blocking.
 const GROUP_BESIDE_CHILDREN: &[u8] = b"\
 pidmax 1000
 consoles 0
@@ -85,7 +88,7 @@ sys pause
 end
 ";
 
-/// Process 1 stops and continues a child that waits for its 300 children, and then waits for the child's news.
+/// Process 1 stops and continues a child that waits for its 300 children, and then waits for it with WCONTINUED.
 const NEWS_OF_A_WAITER: &[u8] = b"\
 pidmax 1000
 consoles 0
@@ -119,8 +122,7 @@ sys pause
 end
 ";
 
-/// Beside 900 processes that pause, three read in the foreground process group of process 1, which has an alarm at each
-/// tick.
+/// Three processes in the foreground process group read, and 900 others pause. Process 1 has an alarm at each tick.
 const READERS_BESIDE_SLEEPERS: &[u8] = b"\
 pidmax 1000
 consoles 1
@@ -175,7 +177,7 @@ sys pause
 end
 ";
 
-/// Beside 901 processes that wait to read from console 2, process 1 reads from console 1.
+/// Process 1 reads from console 1, and 901 other processes are blocked in a read from console 2.
 const SLEEPING_READERS: &[u8] = b"\
 pidmax 1000
 consoles 2
@@ -223,8 +225,8 @@ jmp again
 end
 ";
 
-/// What comes behind so many steps of a world, when so many processes live: rounds of events, each so often in a row, with
-/// the entries that they show together.
+/// Rounds of events after some steps of a world, with the number of living processes. Each event has a number of times,
+/// and the number of entries that these show together.
 #[derive(Clone, Copy)]
 struct Beside<'a> {
     world: &'a [u8],
@@ -234,7 +236,7 @@ struct Beside<'a> {
     events: &'a [(Event, u64, usize)],
 }
 
-/// The kernel after so many steps of a world.
+/// Returns the kernel after `steps` steps of a world.
 fn after_steps(alloc: Global, world: &[u8], steps: u64) -> Result<Kernel, Fail> {
     let world = read_world(alloc, world)?;
     let mut kernel = Kernel::boot(alloc, &world)?;
@@ -244,7 +246,7 @@ fn after_steps(alloc: Global, world: &[u8], steps: u64) -> Result<Kernel, Fail> 
     Ok(kernel)
 }
 
-/// How many entries one of the first 10,000 events shows, and how many slots of the table it reads.
+/// Runs one of the first 10,000 events. Returns how many entries it shows, and how many slots of the table it reads.
 fn slots_of(kernel: &mut Kernel, event: Event) -> (usize, u128) {
     if kernel.events() >= 10_000 {
         return (0, 0);
@@ -254,8 +256,8 @@ fn slots_of(kernel: &mut Kernel, event: Event) -> (usize, u128) {
     (shown, kernel.visits().wrapping_sub(before))
 }
 
-/// Whether so many events in a row show so many entries, and each reads at most 16 slots, and a step that shows something
-/// one at least.
+/// Returns true if `count` equal events show `wanted` entries, each event reads at most 16 slots, and each step that
+/// shows an entry reads at least one.
 fn read_few(kernel: &mut Kernel, event: Event, count: u64, wanted: usize) -> bool {
     let mut shown: usize = 0;
     for _ in 0..count {
@@ -268,7 +270,8 @@ fn read_few(kernel: &mut Kernel, event: Event, count: u64, wanted: usize) -> boo
     shown == wanted
 }
 
-/// Whether the events of all rounds read few slots and show what they should, and no process is missing before a round.
+/// Returns true if the events of all rounds read few slots and show the right number of entries, and if all processes
+/// live before each round.
 fn all_read_few(kernel: &mut Kernel, beside: &Beside<'_>) -> bool {
     for _ in 0..beside.rounds {
         if kernel.census().living != beside.living {
@@ -283,7 +286,7 @@ fn all_read_few(kernel: &mut Kernel, beside: &Beside<'_>) -> bool {
     true
 }
 
-/// How many slots a last event reads; none where one before it reads too many, or shows something else.
+/// Returns how many slots a last event reads, or `None` if the events before it do not read and show what they should.
 fn slots_behind(alloc: Global, beside: &Beside<'_>, last: Event) -> Result<Option<u128>, Fail> {
     let mut kernel = after_steps(alloc, beside.world, beside.steps)?;
     let slots = if all_read_few(&mut kernel, beside) {
@@ -291,7 +294,7 @@ fn slots_behind(alloc: Global, beside: &Beside<'_>, last: Event) -> Result<Optio
     } else {
         None
     };
-    // A kernel that is dropped by its name is dropped by one function, whose proof is short.
+    // A kernel is dropped explicitly, by one function whose proof is short.
     drop(kernel);
     Ok(slots)
 }
@@ -303,7 +306,7 @@ fn sleepers_are_not_asked(rt: HostRuntime) -> Result<(), Fail> {
         steps: 5409,
         living: 901,
         rounds: 10,
-        // A line for each call of the round, the note, the stop and the end.
+        // A line for each call of the round, the note, the stop and the exit.
         events: &[(Event::Step, 20, 11), (Event::Tick, 1, 0)],
     };
     assert!(rt; slots_behind(rt.alloc(), &beside, Event::Tick)? == Some(0));
@@ -330,14 +333,14 @@ fn a_waiter_that_continues_finds_a_child_at_once(rt: HostRuntime) -> Result<(), 
         steps: 1815,
         living: 302,
         rounds: 1,
-        // CONT continues process 2 in its wait for the members of its process group, and its 300 children are in it.
+        // SIGCONT continues process 2, which waits for the members of its process group: its 300 children are in it.
         events: &[(Event::Step, 1, 1)],
     };
     assert!(rt; slots_behind(rt.alloc(), &beside, Event::Tick)? == Some(0));
     Ok(())
 }
 
-/// A key on a console.
+/// Returns a key on a console.
 fn key(console: u8, byte: u8) -> Event {
     Event::Key { console, byte }
 }
@@ -350,14 +353,14 @@ fn sleepers_are_asked_by_no_event(rt: HostRuntime) -> Result<(), Fail> {
         living: 904,
         rounds: 1,
         events: &[
-            // INT for the foreground: the read of each is interrupted, its handler entered, and it reads again.
+            // SIGINT for the foreground process group: it interrupts each read, the handler runs, and each reads again.
             (key(1, 0x03), 1, 0),
             (Event::Step, 12, 9),
-            // A line, which one of the three takes.
+            // A line, which one of the three reads.
             (key(1, b'a'), 1, 0),
             (key(1, b'\n'), 1, 0),
             (Event::Step, 5, 1),
-            // The alarm rings, and is set again.
+            // SIGALRM is generated, and the alarm is set again.
             (Event::Tick, 1, 0),
             (Event::Step, 6, 4),
         ],
@@ -379,7 +382,7 @@ fn sleeping_readers_are_not_asked(rt: HostRuntime) -> Result<(), Fail> {
             (Event::Step, 3, 1),
         ],
     };
-    // A line on the other console is for all 901 of them.
+    // A line on the other console wakes all 901 readers.
     assert!(rt; slots_behind(rt.alloc(), &beside, key(2, b'\n'))? >= Some(901));
     Ok(())
 }

@@ -1,4 +1,4 @@
-//! Schedules that are explored.
+//! The progress that `explore` reports.
 
 use counting::{Family, Progress, explore};
 use schedules::family_size;
@@ -10,7 +10,7 @@ use text::{EventList, World, read_events, read_world};
 const NOTE_AND_EXIT: &[u8] =
     b"pidmax 40\nconsoles 1\nprogram init\nset r1, 7\nnote r1\nsys exit\nend\n";
 
-/// Of how many schedules it heard, and how many it was told there are.
+/// Counts the calls of `run`, and keeps the arguments of the last one.
 #[derive(Drop)]
 struct Heard {
     times: u64,
@@ -26,7 +26,7 @@ impl Progress for Heard {
     fn reach(&mut self, _place: u64, _upto: u64, _states: u64) {}
 }
 
-/// What is heard of the ten schedules of two ticks before three events.
+/// Returns what is reported for the ten schedules of two ticks before three events.
 fn heard_of(alloc: Global, world: &World, events: &EventList) -> Result<Heard, AllocError> {
     let mut heard = Heard {
         times: 0,

@@ -1,4 +1,4 @@
-//! Event texts that come in pieces.
+//! Event texts that are read in pieces.
 
 ghost use Rattle.std.specs.Prelude.{◌≤◌};
 
@@ -8,7 +8,7 @@ use std::process::Abort;
 use std::test::Fail;
 use text::{EventList, EventReader, EventRun, TextFault, read_events};
 
-/// So many keys of a byte on a console.
+/// Returns a run of equal keys on a console.
 fn keys(console: u8, byte: u8, count: u32) -> EventRun {
     EventRun::new(Event::Key { console, byte }, u64::from(count))
 }
@@ -36,19 +36,19 @@ fn an_event_text_comes_in_pieces(rt: HostRuntime) -> Result<(), Fail> {
     Ok(())
 }
 
-/// What an event text for two consoles says that comes in pieces of so many bytes.
+/// Returns the events of a text for two consoles, read in pieces of `size` bytes.
 fn in_pieces(alloc: Global, text: &[u8], size: usize) -> Result<EventList, TextFault>
     requires { 1 ≤ size }
 {
     let mut reader = EventReader::new(alloc, 2);
     for piece in text.chunks(size) {
-        // A fault is answered at the end, too.
+        // `finish` returns the fault again.
         let _ = reader.feed(piece);
     }
     reader.finish()
 }
 
-/// Whether two texts were read alike.
+/// Returns true if two texts were read with the same result.
 fn are_alike(one: &Result<EventList, TextFault>, other: &Result<EventList, TextFault>) -> bool {
     match (one, other) {
         (Ok(one), Ok(other)) => one.len() == other.len() && one.runs() == other.runs(),
@@ -57,7 +57,7 @@ fn are_alike(one: &Result<EventList, TextFault>, other: &Result<EventList, TextF
     }
 }
 
-/// Whether each beginning of an event text is read in pieces of so many bytes as it is read whole.
+/// Returns true if each beginning of an event text has the same result in pieces of `size` bytes as in one piece.
 fn beginnings_are_alike(alloc: Global, text: &[u8], size: usize) -> bool
     requires { 1 ≤ size }
 {

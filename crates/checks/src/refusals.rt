@@ -6,7 +6,7 @@ use proctable::ProcessTable;
 use std::alloc::Global;
 use std::process::Abort;
 
-/// The texts of a run, and what it comes to.
+/// The inputs of a run, and its expected trace and summary.
 #[derive(Clone, Copy)]
 struct Run {
     world: &'static [u8],
@@ -124,7 +124,7 @@ end
     },
 };
 
-/// What a run over this table of processes answers, and what is put.
+/// Runs a world over this table of processes. Returns the result, and the trace.
 fn run_over<K: ProcessTable>(
     alloc: Global,
     world: &[u8],
@@ -135,7 +135,7 @@ fn run_over<K: ProcessTable>(
     (answer, out.into_writer())
 }
 
-/// Whether a run over this table of processes comes to what it should.
+/// Returns true if a run over this table of processes has the expected summary and trace.
 fn comes_out<K: ProcessTable>(alloc: Global, run: &Run) -> bool {
     let (answer, put) = run_over::<K>(alloc, run.world, run.events);
     answer == Ok(run.summary) && put.as_slice() == run.trace
@@ -143,7 +143,7 @@ fn comes_out<K: ProcessTable>(alloc: Global, run: &Run) -> bool {
 
 #[test]
 fn a_fork_without_memory_changes_only_its_result(rt: HostRuntime) {
-    // Process 1 made the first attempt, at the start.
+    // The first attempt is for process 1, at the start.
     let well = comes_out::<RefusingTable<2>>(rt.alloc(), &FIRST_FORK_REFUSED)
         && comes_out::<RefusingTable<3>>(rt.alloc(), &SECOND_FORK_REFUSED)
         && comes_out::<RefusingTable<4>>(rt.alloc(), &NO_FORK_REFUSED)

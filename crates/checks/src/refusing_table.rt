@@ -1,4 +1,4 @@
-//! A table of processes that is refused memory once.
+//! A table of processes that fails once to get memory.
 
 ghost use Rattle.std.specs.Prelude.{◌≡◌, refl};
 ghost use Rattle.std.proofs.Common.{arith};
@@ -9,7 +9,7 @@ use posix::Pid;
 use proctable::{GrantedPools, ProcessTable, Record, SlabTable, Snapshot, Spare};
 use std::alloc::{AllocError, Global};
 
-/// The program's table, whose attempt number `REFUSED` to make room, from 1, finds no memory.
+/// The program's table, except that its attempt number `REFUSED` to get memory, counted from 1, fails.
 #[derive(Drop)]
 pub(crate) struct RefusingTable<const REFUSED: usize> {
     table: SlabTable,
@@ -17,7 +17,7 @@ pub(crate) struct RefusingTable<const REFUSED: usize> {
 }
 
 impl<const REFUSED: usize> RefusingTable<REFUSED> {
-    /// Counts an attempt, and says whether it is the one that is refused.
+    /// Counts an attempt. Returns true if it is the one that fails.
     fn is_refused(&mut self) -> bool
         ensures { self.new.table ≡ self.old.table }
     {

@@ -24,7 +24,7 @@ run_fails world events old new before after error.Write h = (world, events, (ref
 
 -- ---- how an audit ends
 
--- what holds in any case holds at an error
+-- a statement about all cases holds for an error
 pub any_error : {T E P : Type 0} (r : Result T E) → P → OnErr r P
 any_error (Ok done) p = tt
 any_error (Err why) p = p
@@ -50,14 +50,14 @@ audit_weaker tells_law P Q old new before after (Err (failure.Run (error.Events 
 audit_weaker tells_law P Q old new before after (Err (failure.Run error.Memory)) f h = h
 audit_weaker tells_law P Q old new before after (Err (failure.Run error.Write)) f h = (h.0, f h.0 h.1, h.2)
 
--- ---- what a status means
+-- ---- what an exit status means
 
--- that of a text which is refused
+-- the status of a rejected text
 means_refused : {A S : Type 0} (Done Refused IsBegun : Type 0) (asked : Option A) (old new : S) → Refused → MeansOf Done Refused IsBegun asked old new 1
 means_refused Done Refused IsBegun asked old new h =
     record { done = λ e. absurd (omega (arith, e)); refused = λ e. h; other_words = λ e. absurd (omega (arith, e)); cut_short = λ e. absurd (omega (arith, e)) }
 
--- that of any end of a run
+-- the status of a run, however it ends
 pub run_means : {A S : Type 0} (Asks : List ℕ → List ℕ → Type 0) (asked : Option A) (old new : S) (before after : Seen) (done : Result (Unit {0}) Failure)
     → EndsRun Asks old new before after done → MeansOfRun Asks asked old new before after (answer_of done)
 run_means Asks asked old new before after (Ok done) h = means_done _ _ _ asked old new h
@@ -68,7 +68,7 @@ run_means Asks asked old new before after (Err (failure.Run (error.Events fault)
 run_means Asks asked old new before after (Err (failure.Run error.Memory)) h = means_cut_short _ _ _ asked old new 3 refl (inl h)
 run_means Asks asked old new before after (Err (failure.Run error.Write)) h = means_cut_short _ _ _ asked old new 3 refl (inr h)
 
--- and of an audit
+-- the status of an audit
 pub audit_means : {A S : Type 0} (tells_law : Bool) (Audits : List ℕ → Type 0) (asked : Option A) (old new : S) (before after : Seen) (done : Result (Unit {0}) Failure)
     → EndsAudit tells_law Audits old new before after done → MeansOfAudit tells_law Audits asked old new before after (answer_of done)
 audit_means tells_law Audits asked old new before after (Ok done) h = means_done _ _ _ asked old new h

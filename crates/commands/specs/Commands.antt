@@ -1,4 +1,4 @@
--- The program's commands: what the words are for, and what a status means.
+-- The commands of the program: what arguments ask for, and what an exit status means.
 use Rattle.std.specs.Prelude.{◌≡◌, ◌≤◌, ◌||◌, ℕ, Bool, true, false, List, [], ◌∷◌, Some, codes, if◌then◌else◌, map}
 use Rattle.std.specs.Str.{bytes_eq}
 use Rattle.explaining.specs.Drawings.{MeansOfDrawing, drawing_asked}
@@ -16,20 +16,20 @@ use Rattle.commands.specs.declared.running.TheConstants.{STORED_WORLD}
 use Rattle.commands.specs.declared.serving.Command.{Command}
 use Rattle.commands.specs.declared.serving.Command.TheVariants as command
 
--- what words are for
+-- what arguments ask for
 pub data Purpose : Type 0 where
   Helps : Purpose
   TellsVersion : Purpose
-  RunsStored : Purpose  -- no words
-  Runs : List (List ℕ) → Purpose  -- by the words behind `run`
+  RunsStored : Purpose  -- no arguments
+  Runs : List (List ℕ) → Purpose  -- by the arguments after `run`
   Audits : List (List ℕ) → Purpose
   Explores : List (List ℕ) → Purpose
   Shows : List (List ℕ) → Purpose
   Explains : List (List ℕ) → Purpose
-  AuditsInWords : List (List ℕ) → Purpose  -- by those behind `explain --audit`
-  Draws : List (List ℕ) → Purpose  -- by those behind `lanes`
+  AuditsInWords : List (List ℕ) → Purpose  -- by the arguments after `explain --audit`
+  Draws : List (List ℕ) → Purpose  -- by the arguments after `lanes`
   Names : List (List ℕ) → Purpose
-  AsksNothing : Purpose  -- any other words
+  AsksNothing : Purpose  -- a usage error
 
 abbrev pub is_help : List ℕ → Bool
 is_help word = bytes_eq word (codes "--help") || bytes_eq word (codes "-h")
@@ -37,12 +37,12 @@ is_help word = bytes_eq word (codes "--help") || bytes_eq word (codes "-h")
 abbrev pub is_version : List ℕ → Bool
 is_version word = bytes_eq word (codes "--version") || bytes_eq word (codes "-V")
 
--- by the words behind `explain`
+-- what the arguments after `explain` ask for
 abbrev pub explained : List (List ℕ) → Purpose
 explained [] = Explains []
 explained (option ∷ more) = if bytes_eq option (codes "--audit") then AuditsInWords more else Explains (option ∷ more)
 
--- by the first word, and the second, if there is one
+-- what arguments ask for, by the first one and the second one, which may be empty
 abbrev pub purpose : List ℕ → List ℕ → List (List ℕ) → Purpose
 purpose first second more = if is_help first || is_help second then Helps
     else if is_version first || is_version second then TellsVersion
@@ -77,8 +77,8 @@ said (command.Lanes more) = Draws (map (λ w. w.now) more.now)
 said (command.Names more) = Names (map (λ w. w.now) more.now)
 said command.Other = AsksNothing
 
--- What a status means of words that are for this, with the files and the output from the call to the return. Of `show` it is
--- only said how great it may be.
+-- What an exit status means for arguments with this purpose, by the files, and the output before and after. For `show`,
+-- only the largest status is known.
 abbrev pub ServesAs : {S : Type 0} → Contents → S → S → Seen → Seen → ℕ → Purpose → Type 0
 ServesAs contents old new before after status Helps = IsToldAs HELP.now before after status
 ServesAs contents old new before after status TellsVersion = IsToldAs VERSION.now before after status

@@ -1,4 +1,4 @@
--- A command over a world and its events that may have names, and may stand in a folder.
+-- Commands on a world and events that have names, and may be in a folder.
 use Rattle.std.specs.Prelude.{◌≡◌, ◌⊎◌, ◌||◌, ◌&&◌, ◌==◌, ◌-◌, ℕ, Bool, false, List, [], ◌∷◌, ◌++◌, Option, None, Some, codes, get_or, if◌then◌else◌, length, map, option_map}
 use Rattle.std.specs.Option.{option_map_or}
 use Rattle.std.specs.Str.{bytes_eq}
@@ -13,19 +13,19 @@ use Rattle.commands.specs.declared.named.Place.{Place as DeclaredPlace}
 abbrev pub takes_names : Text → Bool
 takes_names word = bytes_eq word (codes "run") || bytes_eq word (codes "explore") || bytes_eq word (codes "show")
 
--- The command whose words have names, where the words are `COMMAND --names`, and the words behind these two.
+-- If the arguments begin with `COMMAND --names`, that command, and the arguments after these two.
 abbrev pub named_in : List Text → Option (Text × List Text)
 named_in [] = None
 named_in (command ∷ []) = None
 named_in (command ∷ option ∷ more) = if takes_names command && bytes_eq option (codes "--names") then Some (command, more) else None
 
--- it begins with `-`, and isn't that alone
+-- True if an argument begins with `-`, and is longer than that.
 abbrev pub is_option : Text → Bool
 is_option [] = false
 is_option (b ∷ []) = false
 is_option (b ∷ c ∷ more) = b == 45
 
--- a file or a folder that has the world, a file that has the events, if not the folder, and what stands behind them
+-- the file or the folder of the world, the file of the events, if it is not in the folder, and the options after them
 pub record Place : Type 0 where
   pub world : Text
   pub events : Option Text
@@ -47,18 +47,18 @@ place_in (world ∷ more) = if is_option world then None else Some (place_behind
 abbrev pub in_folder : Text → Text → Text
 in_folder folder file = if get_or folder (length folder - 1) 0 == 47 then folder ++ file else folder ++ 47 ∷ file
 
--- the words of a command over the files `world` and `events`
+-- the arguments of a command on the files `world` and `events`
 abbrev pub over_texts : Text → List Text → List Text
 over_texts command options = command ∷ codes "world" ∷ codes "events" ∷ options
 
--- The command was served over the files `world` and `events`, which have these texts, and over options that stand for the given ones.
+-- The command was run on the files `world` and `events` with these texts, and with options that replace the given ones.
 pub record ServesTexts {S : Type 0} (contents : Contents) (command : Text) (options : List Text) (old new : S) (before after : Seen) (status : ℕ) : Type 0 where
   pub plain : List Text
   pub are_plain : ArePlain (first_option command) options plain
   pub serves : ServesAs contents old new before after status (purpose_of (over_texts command plain))
 
--- The texts of this place were read, the world from one of the two files that its name can mean, and the command was
--- served over them with numbers for their names.
+-- The texts at this place were read, the world from one of the two files that its name can mean. The command was run on
+-- these texts, with numbers in place of their names.
 pub record ServesPlace {S : Type 0} (contents : Contents) (command : Text) (place : Place) (old new : S) (before after : Seen) (status : ℕ) : Type 0 where
   pub world : Input
   pub events : Input
@@ -68,7 +68,8 @@ pub record ServesPlace {S : Type 0} (contents : Contents) (command : Text) (plac
   pub of_events : IsInput contents events
   pub served : ServesTexts (files_with world.named events.named) command place.options old new before after status
 
--- or a file couldn't be read, or there was no memory; or no file is named
+-- If no file is named, the status is 2. Otherwise the command was run at this place; or the status is 3, because a file
+-- could not be read or there was no memory.
 abbrev pub ServesNamed : {S : Type 0} → Contents → Text → Option Place → S → S → Seen → Seen → ℕ → Type 0
 ServesNamed contents command None old new before after status = (status ≡ 2) × (new ≡ old)
 ServesNamed contents command (Some place) old new before after status = ServesPlace contents command place old new before after status ⊎ ((status ≡ 3) × (new ≡ old))

@@ -1,12 +1,12 @@
 //! The texts of `--help` and `--version`.
 
 /// The text that `--help` prints.
-/// `--help` and `--version` return 0, as scripts expect; any other unknown word returns 2 with the usage line.
+/// `--help` and `--version` exit with 0, as scripts expect. An unknown argument is a usage error.
 pub const HELP: &[u8] =
-    b"jobk: an exact reference of processes, signals and job control in a Unix kernel
+    b"jobk: an exact reference model of processes, signals and job control in a Unix kernel
 
     jobk run WORLD EVENTS      print the trace of a world
-    jobk audit TRACE           print ok, or the first line that breaks a law of traces
+    jobk audit TRACE           print ok, or the number of the first faulty line and its fault
     jobk explain TRACE         print a trace, with the meaning of its numbers after each line
     jobk explain TRACE WORLD EVENTS
                                check that TRACE is the trace of this world, and print what each line did
@@ -16,12 +16,12 @@ pub const HELP: &[u8] =
     jobk explore WORLD EVENTS  run every schedule: every way to insert ticks into EVENTS
         --ticks K              insert at most K ticks, 0 to 1000000 (default: 2)
         --upto N               insert only before the first N events (default: all)
-        --states N             keep at most N states before each event (default: 50000)
+        --states N             when schedules are merged: fail if an event has more than N states (default: 50000)
         --anywhere EVENT       also insert EVENT once, such as key 1 1A or hangup 1
         --find TEXT            count the schedules that have a line with these words, such as stop * SIGTSTP
         --must-halt            exit with 4 if a schedule does not halt
-        --all                  run every schedule separately, even more than 10000000
-        --outcomes             exit with 2 if there are too many schedules to list outcomes
+        --all                  run every schedule separately; otherwise more than 10000000 are merged
+        --outcomes             require the list of outcomes: exit with 2 if schedules would be merged
         --write WHICH          print only the events of one schedule: rest, going, find, or the number of an outcome
     jobk show WORLD EVENTS     print the state after the last event
         --at E                 print the state after event E
@@ -35,7 +35,7 @@ pub const HELP: &[u8] =
     jobk                       run a small built-in world
 
 Exit status: 0 success, 1 rejected input or faulty trace, 2 usage error, 3 I/O error or out of memory,
-4 explore found TEXT, or a schedule that does not halt.
+4 explore found TEXT or, with --must-halt, a schedule that does not halt.
 ";
 
 /// The line that `--version` prints.

@@ -1,5 +1,5 @@
-//! What the words of the command line are for, what each command serves, and what `run` and `audit` do. A host adds files,
-//! outputs and a person.
+//! The commands of the program, by the arguments of the command line, and what `run` and `audit` do. A host provides
+//! files, outputs and a user.
 //!
 //! `serve` says what an exit status means, for every command line (`Serves`); see docs/PROVED.md. `serve_run` and
 //! `serve_audit` have the headline (`MeansOfRun`, `MeansOfAudit`), `serve_named` what `--names` means (`ServesPlace`).

@@ -1,4 +1,4 @@
-//! A command over a world and its events that may have names, and may stand in a folder.
+//! Commands on a world and events that have names, and may be in a folder.
 
 ghost use Rattle.std.specs.Prelude.{◌≡◌, IfOk, OnErr, Some, map, option_map};
 ghost use Rattle.std.specs.String.{string_bytes};
@@ -19,31 +19,31 @@ const USAGE: &[u8] =
        where COMMAND is run, explore or show
 ";
 
-/// Whether a command takes `--names`.
+/// Returns true if a command accepts `--names`.
 pub fn takes_names(command: &str) -> bool
     ensures { result ≡ takes_names_of command.now }
 {
     matches!(command, "run" | "explore" | "show")
 }
 
-/// Whether a word is an option, and names no file.
+/// Returns true if an argument is an option, and not the name of a file.
 fn is_option(word: &str) -> bool
     ensures { result ≡ is_option_of word.now }
 {
     matches!(word.as_bytes(), [b'-', _, ..])
 }
 
-/// Where a world and its events stand, and the options behind them.
+/// Where a world and its events are, and the options after them.
 #[derive(Clone, Copy)]
 pub struct Place<'a> {
     /// A file, or a folder with a file `world`.
     world: &'a str,
-    /// A file; none where it is the file `events` of the folder.
+    /// A file; `None` if it is the file `events` of the folder.
     events: Option<&'a str>,
     options: &'a [&'a str],
 }
 
-/// What the words behind `--names` name; none where they begin with no file.
+/// Returns what the arguments after `--names` name; `None` if they do not begin with a file or a folder.
 fn place_in<'a>(words: &'a [&'a str]) -> Option<Place<'a>>
     ensures { option_map said result ≡ place_in_words (map (λ w. w.now) words.entry.now) }
 {
@@ -65,7 +65,7 @@ fn place_in<'a>(words: &'a [&'a str]) -> Option<Place<'a>>
     }
 }
 
-/// The name of a file in a folder, which may have `/` at its end.
+/// Returns the name of a file in a folder. The name of the folder may end with `/`.
 fn file_in(alloc: Global, folder: &str, file: &str) -> Result<String, AllocError>
     ensures { IfOk result (λ name. string_bytes name ≡ in_folder folder.now file.now) }
 {
@@ -75,7 +75,7 @@ fn file_in(alloc: Global, folder: &str, file: &str) -> Result<String, AllocError
     }
 }
 
-/// The words of a command over the files `world` and `events`.
+/// Returns the arguments of a command on the files `world` and `events`.
 fn words_over_texts<'a>(
     alloc: Global,
     command: &'a str,
@@ -93,14 +93,14 @@ fn words_over_texts<'a>(
     Ok(words)
 }
 
-/// Tells which word of a text is refused, as far as the error output takes it and there is memory.
+/// Writes which words of a text are rejected, as far as the error output takes it and there is memory.
 fn tell_refused<E: Sink>(texts: &Texts<'_>, err: &mut E) {
     if let Ok(Some(told)) = texts.told() {
         let _ = put_all(err, told.as_slice());
     }
 }
 
-/// Does what a command asks for, over texts, with numbers for the names in its options.
+/// Runs a command on texts, with numbers in place of the names in its options.
 fn serve_texts<'a, O: Sink, E: Sink, P: Progress + Ask>(
     alloc: Global,
     command: &'a str,
@@ -122,7 +122,7 @@ fn serve_texts<'a, O: Sink, E: Sink, P: Progress + Ask>(
     Ok(status)
 }
 
-/// Reads what the words name, and does what a command asks for.
+/// Reads the texts at a place, and runs a command on them.
 fn serve_place<'a, F: ReadFiles, O: Sink, E: Sink, P: Progress + Ask>(
     alloc: Global,
     command: &'a str,
@@ -148,9 +148,11 @@ fn serve_place<'a, F: ReadFiles, O: Sink, E: Sink, P: Progress + Ask>(
     serve_texts(alloc, command, place.options, &texts, out, err, person)
 }
 
-/// Serves a command that takes `--names`, by the words behind that option: a folder or a world, its events, if they are
-/// not those of the folder, and options. Where a text is refused, which word is told behind the command's own message.
-/// The status is the command's; 2 where no file is named, and 3 where a file can't be read or there is no memory.
+/// Runs a command with `--names`, by the arguments after that option: a folder or a world, its events, if they are not
+/// those of the folder, and options. If a text is rejected, the rejected words are written after the message of the
+/// command.
+///
+/// Returns the exit status of the command; 2 if no file is named; 3 if a file cannot be read or there is no memory.
 pub fn serve_named<'a, F: ReadFiles, O: Sink, E: Sink, P: Progress + Ask>(
     alloc: Global,
     command: &'a str,

@@ -1,4 +1,4 @@
-//! The options of a command over texts that may have names, with numbers for the names in the events among them.
+//! The options of a command on texts with names. Events among the options may have names, too.
 
 ghost use Rattle.std.specs.Prelude.{◌≡◌, ◌∷◌, ◌++◌, None, IfOk, List, [], MatchOption, map};
 ghost use Rattle.std.specs.String.{string_bytes};
@@ -10,10 +10,10 @@ use exploring::{Next, Texted};
 use naming::name_text;
 use std::alloc::{AllocError, Global};
 
-/// What stands before an event in a word, and the event, if it has one; and what the word behind it is.
+/// The part of an argument before its event, and the event, if it has one; and what the next argument is.
 type Read<'a> = (Option<(&'a str, &'a str)>, Next);
 
-/// What the option behind a word without `=` is.
+/// Returns what the argument after an argument without `=` is.
 fn behind_whole(word: &str) -> Next
     ensures { result ≡ (with_cut nothing_parted word.now (word.now, None)).next }
 {
@@ -24,7 +24,7 @@ fn behind_whole(word: &str) -> Next
     }
 }
 
-/// Reads an option, or its value.
+/// Reads an argument that may be an option.
 fn read_any<'a>(word: &'a str) -> Read<'a>
     ensures event { MatchOption result.0 ((read_as Any word.entry.now).anywhere ≡ []) (λ e. (word.entry.now ≡ e.0.now ++ e.1.now) × ((read_as Any word.entry.now).anywhere ≡ e.1.now ∷ [])) }
     ensures next { result.1 ≡ (read_as Any word.entry.now).next }
@@ -39,8 +39,8 @@ fn read_any<'a>(word: &'a str) -> Read<'a>
     }
 }
 
-/// What the first option of a command is. No other command than `explore` has events among its options: they all stay
-/// as they are, as the names of files do.
+/// Returns what the first option of a command is. Only `explore` has events among its options. The options of other
+/// commands stay as they are, so they are read like names of files.
 fn first_of(command: &str) -> Next
     ensures { result ≡ first_option command.now }
 {
@@ -51,7 +51,7 @@ fn first_of(command: &str) -> Next
     }
 }
 
-/// Reads a word that is this.
+/// Reads an argument. `next` says what it is.
 fn read<'a>(next: Next, word: &'a str) -> Read<'a>
     ensures event { MatchOption result.0 ((read_as next word.entry.now).anywhere ≡ []) (λ e. (word.entry.now ≡ e.0.now ++ e.1.now) × ((read_as next word.entry.now).anywhere ≡ e.1.now ∷ [])) }
     ensures next { result.1 ≡ (read_as next word.entry.now).next }
@@ -64,7 +64,7 @@ fn read<'a>(next: Next, word: &'a str) -> Read<'a>
     }
 }
 
-/// An event behind some text, with numbers for its names.
+/// Returns an event after the text before it, with numbers in place of its names.
 fn plain_event(alloc: Global, before: &str, event: &str) -> Result<String, AllocError>
     ensures { IfOk result (λ plain. EndsPlain before.now event.now (string_bytes plain)) }
 {
@@ -73,7 +73,7 @@ fn plain_event(alloc: Global, before: &str, event: &str) -> Result<String, Alloc
     format!(in alloc; "{before}{plain}")
 }
 
-/// The options of a command, with numbers for the names in the events among them.
+/// Returns the options of a command, with numbers in place of the names in the events among them.
 pub fn plain_options(
     alloc: Global,
     command: &str,

@@ -1,4 +1,4 @@
-//! What `run` and `audit` do: their texts and their statuses.
+//! The commands `run` and `audit`: their output, messages and exit statuses.
 
 ghost use Rattle.std.specs.Prelude.{◌≡◌, ◌≤◌, ◌++◌, IfErr, IfSome, OnErr, OnOk, Some, map};
 ghost use Rattle.trace.specs.Sinks.{BreaksOff, TakesAll};
@@ -17,29 +17,29 @@ use kernel::{RunError, Sink, SinkFault, put_all, run};
 use std::alloc::Global;
 use std::hash::RandomState;
 
-/// Why the program doesn't end with status 0.
+/// Why the exit status is not 0.
 #[derive(Clone, Copy)]
 enum Failure<'a> {
     Unread(ReadFault<'a>),
     Run(RunError),
-    /// An audit found a fault, and told it.
+    /// An audit found a fault, and wrote it.
     Faulty,
 }
 
-/// How `run` and `audit` are used.
+/// The usage line of `run` and `audit`.
 pub const USAGE: &[u8] = b"usage: jobk run WORLD EVENTS | jobk audit TRACE\n";
 
-/// How an audit in words is used.
+/// The usage line of `explain --audit`.
 const USAGE_IN_WORDS: &[u8] = b"usage: jobk explain --audit TRACE\n";
 
-/// The world that is run without any words: a program that notes a number and exits.
+/// The world that is run without arguments: a program that notes a number and exits.
 const STORED_WORLD: &[u8] =
     b"pidmax 40\nconsoles 1\nprogram init\nset r1, 7\nnote r1\nsys exit\nend\n";
 
 const STORED_EVENTS: &[u8] = b"step 3\n";
 
 impl Failure<'_> {
-    /// The status of the program.
+    /// Returns the exit status.
     fn status(self) -> u8
         ensures { result ≡ status_of self.entry }
     {
@@ -50,7 +50,7 @@ impl Failure<'_> {
     }
 }
 
-/// Runs the two texts.
+/// Runs a world and its events.
 fn run_texts<'a, O: Sink>(
     alloc: Global,
     world: &[u8],
@@ -66,7 +66,7 @@ fn run_texts<'a, O: Sink>(
     }
 }
 
-/// Runs two files. Both are read before either is judged, the world first.
+/// Runs two files. Reads both, the world first, before it checks either.
 fn run_files<'a, F: ReadFiles, O: Sink>(
     alloc: Global,
     files: &F,
@@ -82,7 +82,7 @@ fn run_files<'a, F: ReadFiles, O: Sink>(
     run_texts(alloc, world_bytes.as_slice(), event_bytes.as_slice(), out)
 }
 
-/// Puts the answer of an audit.
+/// Writes the answer of an audit.
 fn put_answer<'a, O: Sink>(answer: &[u8], out: &mut O) -> Result<(), Failure<'a>>
     ensures ok { OnOk result (TakesAll (O.seen out.old) (O.seen out.new) answer.now) }
     ensures err { IfErr result (λ why. why ≡ Failure.Run RunError.Write) }
@@ -115,7 +115,7 @@ fn law_line(fault: AuditFault) -> ArrayString<64>
     text
 }
 
-/// Puts the first faulty line of a trace, and the law that it breaks.
+/// Writes the first faulty line of a trace, and the law that it breaks.
 fn put_law<'a, O: Sink>(why: TraceFault, trace: &[u8], out: &mut O) -> Result<(), Failure<'a>>
     ensures ok { OnOk result (TakesAll (O.seen out.old) (O.seen out.new) (line_and_law trace.now why)) }
     ensures err { IfErr result (λ why. why ≡ Failure.Run RunError.Write) }
@@ -127,7 +127,7 @@ fn put_law<'a, O: Sink>(why: TraceFault, trace: &[u8], out: &mut O) -> Result<()
     ))
 }
 
-/// Puts the answer for the first fault of a trace, and after it the line and the law if `tells_law` is true.
+/// Writes the answer for the first fault of a trace. If `tells_law` is true, also writes the line and the law.
 fn put_fault<'a, O: Sink>(
     why: TraceFault,
     trace: &[u8],
@@ -146,7 +146,7 @@ fn put_fault<'a, O: Sink>(
     }
 }
 
-/// Audits a trace. If `tells_law` is true, puts the first faulty line and the law that it breaks, too.
+/// Audits a trace. If `tells_law` is true, also writes the first faulty line and the law that it breaks.
 fn audit_trace<'a, O: Sink>(
     alloc: Global,
     keys: Option<RandomState>,
@@ -170,7 +170,7 @@ fn audit_trace<'a, O: Sink>(
     }
 }
 
-/// Audits a file. If `tells_law` is true, puts the first faulty line and the law that it breaks, too.
+/// Audits a file. If `tells_law` is true, also writes the first faulty line and the law that it breaks.
 fn audit_file<'a, F: ReadFiles, O: Sink>(
     alloc: Global,
     files: &F,
@@ -186,7 +186,7 @@ fn audit_file<'a, F: ReadFiles, O: Sink>(
     audit_trace(alloc, keys, bytes.as_slice(), tells_law, out)
 }
 
-/// Tells a failure, as far as the error output takes it. It takes no memory.
+/// Writes the message about a failure, as far as the error output takes it. Allocates no memory.
 fn tell_failure<E: Sink>(failure: Failure<'_>, err: &mut E) {
     match failure {
         Failure::Unread(why) => {
@@ -197,7 +197,7 @@ fn tell_failure<E: Sink>(failure: Failure<'_>, err: &mut E) {
     }
 }
 
-/// The status of the program. A failure is told.
+/// Returns the exit status; reports a failure.
 fn ended<E: Sink>(done: Result<(), Failure<'_>>, err: &mut E) -> u8
     ensures { result ≡ answer_of done.entry }
 {
@@ -210,15 +210,17 @@ fn ended<E: Sink>(done: Result<(), Failure<'_>>, err: &mut E) -> u8
     }
 }
 
-/// Puts a text of the program's own, and gives the status of the program: 0, or 3 where a put failed.
+/// Writes a text of the program, such as its help. Returns the exit status: 0, or 3 if it cannot be written.
 pub fn put_own<O: Sink, E: Sink>(text: &[u8], out: &mut O, err: &mut E) -> u8
     ensures { IsToldAs text.now (O.seen out.old) (O.seen out.new) result }
 {
     ended(put_answer(text, out), err)
 }
 
-/// Runs the program's own stored world, and gives the status of the program: 0 when it is done, 3 for a device or memory.
-/// The trace goes to `out` and messages to `err`; a failing `err` changes no status.
+/// Runs the stored world. The trace goes to `out`, and messages go to `err`.
+///
+/// Returns the exit status: 0 on success, 3 for an I/O error or if there is no memory. A failing `err` changes no
+/// status.
 pub fn serve_stored<O: Sink, E: Sink>(alloc: Global, out: &mut O, err: &mut E) -> u8
     ensures status { result ≤ 3 }
     ensures meaning { MeansOfRun AreStored (Some STORED_WORLD.now) out.old out.new (O.seen out.old) (O.seen out.new) result }
@@ -226,9 +228,10 @@ pub fn serve_stored<O: Sink, E: Sink>(alloc: Global, out: &mut O, err: &mut E) -
     ended(run_texts(alloc, STORED_WORLD, STORED_EVENTS, out), err)
 }
 
-/// Runs the two files that the words behind `run` name, and gives the status of the program: 0 when it is done, 1 for a
-/// refused text, 2 for other words, 3 for a device or memory. The trace goes to `out` and messages to `err`; a failing
-/// `err` changes no status.
+/// Runs the two files that the arguments after `run` name. The trace goes to `out`, and messages go to `err`.
+///
+/// Returns the exit status: 0 on success, 1 for a rejected text, 2 for a usage error, 3 for an I/O error or if there is
+/// no memory. A failing `err` changes no status.
 pub fn serve_run<'a, F: ReadFiles, O: Sink, E: Sink>(
     alloc: Global,
     words: &'a [&'a str],
@@ -247,10 +250,10 @@ pub fn serve_run<'a, F: ReadFiles, O: Sink, E: Sink>(
 }
 
 /// Audits the file that the arguments after `audit` name. If `tells_law` is true, as for `explain --audit`, the answer
-/// for a fault also has the faulty line and the law that it breaks. The answer goes to `out` and messages to `err`.
+/// for a fault also has the faulty line and the law that it breaks. The answer goes to `out`, and messages go to `err`.
 ///
-/// Returns the exit status: 0 if the laws of a trace hold, 1 for a faulty trace, 2 for a usage error. It is 3 if a
-/// device fails, there is no memory, or the host has no random bytes for `keys`. A failing `err` changes no status.
+/// Returns the exit status: 0 if the laws of a trace hold, 1 for a faulty trace, 2 for a usage error. It is 3 for an
+/// I/O error, if there is no memory, or if the host has no random bytes for `keys`. A failing `err` changes no status.
 pub fn serve_audit<'a, F: ReadFiles, O: Sink, E: Sink>(
     alloc: Global,
     words: &'a [&'a str],

@@ -1,4 +1,4 @@
-//! The program's commands: what the words are for, and what each serves.
+//! The commands of the program, by the arguments of the command line.
 
 ghost use Rattle.std.specs.Prelude.{◌≡◌, map, option_map};
 ghost use Rattle.commands.specs.Commands.{ServesAs, explained, first_or_empty as first_or_empty_of, is_help as is_help_of, is_version as is_version_of, purpose_of, said};
@@ -17,55 +17,55 @@ use showing::{Ask, serve as serve_show};
 use std::alloc::Global;
 use std::hash::RandomState;
 
-/// What the words are for.
+/// What the arguments ask for.
 #[derive(Clone, Copy)]
 enum Command<'a> {
     Help,
     Version,
-    /// No words.
+    /// Run the stored world: no arguments.
     Stored,
-    /// `run`, and the words behind it.
+    /// `run`, with the arguments after it.
     Run(&'a [&'a str]),
-    /// `audit`, and the words behind it.
+    /// `audit`, with the arguments after it.
     Audit(&'a [&'a str]),
-    /// `explore`, and the words behind it.
+    /// `explore`, with the arguments after it.
     Explore(&'a [&'a str]),
-    /// `show`, and the words behind it.
+    /// `show`, with the arguments after it.
     Show(&'a [&'a str]),
-    /// `explain`, and the words behind it.
+    /// `explain`, with the arguments after it.
     Explain(&'a [&'a str]),
-    /// `explain --audit`, and the words behind it.
+    /// `explain --audit`, with the arguments after it.
     AuditInWords(&'a [&'a str]),
-    /// `lanes`, and the words behind it.
+    /// `lanes`, with the arguments after it.
     Lanes(&'a [&'a str]),
-    /// `names`, and the words behind it.
+    /// `names`, with the arguments after it.
     Names(&'a [&'a str]),
-    /// Any other words.
+    /// A usage error.
     Other,
 }
 
-/// Whether a word asks for help.
+/// Returns true if an argument asks for help.
 fn is_help(word: &str) -> bool
     ensures { result ≡ is_help_of word.now }
 {
     matches!(word, "--help" | "-h")
 }
 
-/// Whether a word asks for the program's version.
+/// Returns true if an argument asks for the version of the program.
 fn is_version(word: &str) -> bool
     ensures { result ≡ is_version_of word.now }
 {
     matches!(word, "--version" | "-V")
 }
 
-/// The first word, or an empty one.
+/// Returns the first argument; an empty one if there is none.
 fn first_or_empty<'a>(words: &[&'a str]) -> &'a str
     ensures { result.now ≡ first_or_empty_of (map (λ w. w.now) words.now) }
 {
     words.first().copied().unwrap_or("")
 }
 
-/// What the words behind `explain` are for.
+/// Returns what the arguments after `explain` ask for.
 fn explain_in<'a>(words: &'a [&'a str]) -> Command<'a>
     ensures { said result ≡ explained (map (λ w. w.now) words.entry.now) }
 {
@@ -75,7 +75,7 @@ fn explain_in<'a>(words: &'a [&'a str]) -> Command<'a>
     }
 }
 
-/// What the words are for.
+/// Returns what the arguments ask for.
 fn command_in<'a>(words: &'a [&'a str]) -> Command<'a>
     ensures { said result ≡ purpose_of (map (λ w. w.now) words.entry.now) }
 {
@@ -101,9 +101,9 @@ fn command_in<'a>(words: &'a [&'a str]) -> Command<'a>
     }
 }
 
-/// Does what words ask for that don't have names. Where the first or the second word asks for help or for the version,
-/// that is told. Without words the stored world is run. A command is served by the words behind it; other words are
-/// none, and have the status 2.
+/// Runs what arguments without `--names` ask for, and returns the exit status. If the first or the second argument asks
+/// for help or for the version, that is printed. Without arguments, the stored world is run. Otherwise the first
+/// argument is the command, and an unknown command is a usage error: status 2.
 pub fn serve_command<'a, F: ReadFiles, O: Sink, E: Sink, P: Progress + Ask>(
     alloc: Global,
     words: &'a [&'a str],
@@ -131,7 +131,7 @@ pub fn serve_command<'a, F: ReadFiles, O: Sink, E: Sink, P: Progress + Ask>(
     }
 }
 
-/// The command that has `--names` behind it, and the words behind that; none where there is no such command.
+/// Returns the command that `--names` follows, and the arguments after `--names`; `None` if there is no such command.
 fn named_in<'a>(words: &'a [&'a str]) -> Option<(&'a str, &'a [&'a str])>
     ensures { option_map (λ n. (n.0.now, map (λ w. w.now) n.1.now)) result ≡ named_in_words (map (λ w. w.now) words.entry.now) }
 {
@@ -143,11 +143,12 @@ fn named_in<'a>(words: &'a [&'a str]) -> Option<(&'a str, &'a [&'a str])>
     }
 }
 
-/// Does what the words of the command line ask for, without the program's name, and gives the status of the program.
-/// `run`, `explore` and `show` with `--names` behind them are served as [`serve_named`] says, all other words as
-/// [`serve_command`] does. Words that are no text in UTF-8 have the status 2; where there was no memory for them it is 3.
-/// `words` is a `Result`, because words that are not UTF-8 are a usage error, and want of memory for them is reported
-/// as such.
+/// Runs what the arguments of the command line ask for, without the name of the program, and returns the exit status.
+/// If `--names` directly follows `run`, `explore` or `show`, they run as [`serve_named`] says. Everything else runs as
+/// [`serve_command`] says.
+///
+/// `words` is a `Result`, because arguments that are not UTF-8 are a usage error, status 2. If there was no memory for
+/// the arguments, the status is 3.
 pub fn serve<'a, F: ReadFiles, O: Sink, E: Sink, P: Progress + Ask>(
     alloc: Global,
     words: Result<&'a [&'a str], WordsFault>,

@@ -1,4 +1,4 @@
--- What is told of the texts that are looked for.
+-- Laws of texts to find, and of books.
 use Rattle.std.proofs.Common.{Bor, ◌≡◌, ℕ, ◌+◌, ◌<◌, Bool, true, false, ◌||◌, List, [], ◌∷◌, ◌++◌, length, map, take, get_or, refl, ap, ap₂, sym, ◌∙◌, arith}
 use Rattle.std.proofs.Math.Bool.{or-false}
 use Rattle.std.specs.List.{list_any}
@@ -27,7 +27,7 @@ saw_more lines l f =
     ap (λ b. record f { is_there = b })
     (or_more f.is_there (list_any p lines) (p l) ∙ ap (λ b. f.is_there || b) (sym (list_any-append p lines (l ∷ []))))
 
--- over all texts
+-- Over all texts.
 each_saw_more : (lines : List Line) (l : Line) (finds : List FindView) → map (looked_at l.entry) (map (saw lines) finds) ≡ map (saw (lines ++ l ∷ [])) finds
 each_saw_more lines l [] = refl
 each_saw_more lines l (f ∷ fs) = ap₂ (λ x xs. x ∷ xs) (saw_more lines l f) (each_saw_more lines l fs)
@@ -42,11 +42,11 @@ pub none_seen : (finds : List FindView) → finds ≡ map (saw []) finds
 none_seen [] = refl
 none_seen (f ∷ fs) = ap₂ (λ x xs. x ∷ xs) (ap (λ b. record f { is_there = b }) (sym (or-false f.is_there))) (none_seen fs)
 
--- a part that was written back
+-- A part that was written back.
 pub written : {X : Type 0} (n : ℕ) (new rest : List X) → length new ≡ n → take n (new ++ rest) ≡ new
 written n new rest l = take-append-le n new rest (omega (arith, l)) ∙ take_all n new (omega (arith, l))
 
--- the order of the lines doesn't matter
+-- The order of the lines doesn't matter.
 saw_sorted : (lines sorted : List Line) (finds : List FindView) → IsPermutation lines sorted → map (saw sorted) finds ≡ map (saw lines) finds
 saw_sorted lines sorted [] p = refl
 saw_sorted lines sorted (f ∷ fs) p =

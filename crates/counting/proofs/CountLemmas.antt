@@ -1,4 +1,4 @@
--- What is counted with one more schedule, and what is known of the first that has a property.
+-- The counts with one more schedule, and properties of the first schedule that has a property.
 use Rattle.std.proofs.Common.{◌≡◌, ℕ, suc, ◌+◌, Bool, true, false, Option, Some, None, cond, List, [], ◌∷◌, ◌++◌, map, find, get_or, refl, ap, ap₂, sym, ◌∙◌, arith, length-append, add-zero, zero-add}
 use Rattle.std.specs.Prelude.{IfSome, count_by}
 use Rattle.std.specs.List.{All}
@@ -24,7 +24,7 @@ use Rattle.counting.proofs.CourseLemmas.{is_course}
 
 -- ---- the first that has a property
 
--- what holds of each schedule holds of the one that is found
+-- A property of all schedules is one of the schedule that is found.
 pub first_found : (P : Spots → Type 0) (p : Spots → Bool) (xs : List Spots) → All P xs → IfSome (find p xs) P
 first_found P p [] h = tt
 first_found P p (x ∷ xs) h = by (p x) (h 0 x (omega arith)) (first_found P p xs (λ k d l. h (suc k) d (omega (arith, l))))
@@ -33,7 +33,7 @@ first_found P p (x ∷ xs) h = by (p x) (h 0 x (omega arith)) (first_found P p x
     by true here later = here
     by false here later = later
 
--- each schedule of a family is one
+-- Each schedule of a family is one.
 pub members : (upto ticks loose : ℕ) → All (IsSchedule upto ticks loose) (family upto ticks loose)
 members upto ticks loose = λ k d l.
     schedule_of upto ticks loose (get_or (family upto ticks loose) k d) (k, l, get_or_default (family upto ticks loose) k (get_or (family upto ticks loose) k d) d l)

@@ -1,4 +1,4 @@
--- Runs where all memory is granted, and the lines that they add.
+-- Runs with all memory granted, and the lines that they add.
 use Rattle.std.proofs.Common.{Result, Ok, Err, OnOk, ◌≡◌, ℕ, ◌+◌, Bool, true, false, ◌||◌, List, [], ◌∷◌, ◌++◌, refl, ap, ap₂, sym, subst, ◌∙◌}
 use Rattle.std.specs.List.{list_any}
 use Rattle.std.specs.Result.{IfOk}
@@ -18,9 +18,9 @@ use Rattle.counting.specs.Endings.{ending_of}
 use Rattle.counting.specs.AddLaws.{added_then}
 use Rattle.counting.specs.Courses.{Adds, AddsGranted, Course, IsCourse, course_from, course_of, denies_memory, one_denies_memory}
 
--- ---- where all memory is granted
+-- ---- with all memory granted
 
--- so the run is that of the definitions
+-- Then the run is that of the definitions.
 
 pub denies_by_entries : (k : ℕ) (entries : List Entry) → one_denies_memory (numbered k entries) ≡ list_any denies_memory entries
 denies_by_entries k [] = refl
@@ -60,11 +60,11 @@ notes_grant : (p : ℕ) (notes : List Note) → one_denies_memory (noted_lines p
 notes_grant p [] = refl
 notes_grant p (x ∷ xs) = notes_grant p xs
 
--- the notes are added, and then the entries
+-- The notes are added, and then the entries.
 pub both_added : (p : ℕ) (notes : List Note) (before mid after ls : List Line) → mid ≡ before ++ noted_lines p notes → after ≡ mid ++ ls → one_denies_memory ls ≡ false → AddsGranted before after (noted_lines p notes ++ ls)
 both_added p notes before mid after ls first last granted = added_then before mid after (noted_lines p notes) ls (first, notes_grant p notes) (last, granted)
 
--- what is added to no lines from a world's start on is its course
+-- What is added to no lines from the start of a world is its course.
 pub adds_course : {E : Type 0} (r : Result Ending E) (world : World) (k : ℕ) (old last : State) (events : List Event) (lines : List Line) → k ≡ 1 → old ≡ boot world →
     OnOk r (Adds k old events last [] lines) → IfOk r (λ ending. ending ≡ ending_of last) → IfOk r (λ ending. IsCourse world events lines ending)
 adds_course (Ok ending) world k old last events lines first booted adds ends = record {
@@ -74,7 +74,7 @@ adds_course (Ok ending) world k old last events lines first booted adds ends = r
 }
 adds_course (Err e) world k old last events lines first booted adds ends = tt
 
--- two facts of a success give a third
+-- From two facts about a success follows a third.
 pub on_ok_both : {T E : Type 0} (r : Result T E) (A B C : Type 0) → OnOk r A → OnOk r B → (A → B → C) → OnOk r C
 on_ok_both (Ok x) A B C a b f = f a b
 on_ok_both (Err x) A B C a b f = tt

@@ -1,4 +1,4 @@
--- What stands in a line behind the number of its event.
+-- A line without its event number.
 use Rattle.std.proofs.Common.{◌≡◌, ℕ, ◌+◌, ◌-◌, ◌≤◌, List, [], ◌∷◌, ◌++◌, length, take, drop, ap, sym, ◌∙◌, arith, length-append}
 use Rattle.std.specs.Prelude.{decimal}
 use Rattle.std.proofs.lemmas.Fmt.{decimal_digit}
@@ -11,7 +11,7 @@ use Rattle.counting.specs.Patterns.{shown}
 printed_0 : (e : Entry) → printed 0 e ≡ 48 ∷ 32 ∷ (shown e ++ 10 ∷ [])
 printed_0 e = ap (λ (t : List ℕ). t ++ 10 ∷ []) (number_and_words (decimal 0) e ∙ ap (λ (d : List ℕ). d ++ 32 ∷ shown e) (decimal_digit 0 (omega arith)))
 
--- of a line that is written with number 0
+-- A line that is written with number 0.
 pub behind_number : (room : List ℕ) (end : ℕ) (e : Entry) → take end room ≡ printed 0 e → end ≤ length room → take (end - 1 - 2) (drop 2 room) ≡ shown e
 behind_number room end e text within =
     let whole = text ∙ printed_0 e in

@@ -1,4 +1,4 @@
--- Numbers by their decimal digits: the sum of two, and how a number is printed.
+-- Numbers by their decimal digits: the sum of two numbers, and how a number is printed.
 use Rattle.std.proofs.Common.{Bool, true, false, cond, ◌-◌, get_or, drop-cons, ◌==◌, nat_eq, ap₂, append-nil, ◌≡◌, ℕ, zero, suc, ◌+◌, ◌*◌, ◌^◌, ◌<◌, ◌≤◌, ◌⊎◌, inl, inr, List, [], ◌∷◌, ◌++◌, length, drop, slice_index_or, refl, ap, sym, ◌∙◌, append_assoc, add-one, arith, length-append, mul-add, mul_assoc, mul_left_comm, mul-zero, max, pow-suc, ◌/◌, ◌%◌}
 use Rattle.std.specs.List.{AllByRecursion}
 use Rattle.std.proofs.lemmas.Bool.{cases_lt, eq-eqb, eqb-true, lt-ltb, ne_eqb}
@@ -16,13 +16,13 @@ pub small_more : (ds : List ℕ) (d : ℕ) → AreSmall ds → d < 10 → AreSma
 small_more [] d h l = (l, tt)
 small_more (e ∷ ds) d h l = (h.0, small_more ds d h.1 l)
 
--- each digit is below 10, also past the first
+-- Each digit is below 10, also past the first one.
 pub digit_below : (ds : List ℕ) (i : ℕ) → AreDigits ds → slice_index_or ds i 0 < 10
 digit_below [] i h = omega arith
 digit_below (d ∷ ds) zero h = h.0
 digit_below (d ∷ ds) (suc i) h = digit_below ds i h.2
 
--- more digits than n are a number that is as great as 10 ^ n
+-- A number of more than n digits is at least 10 ^ n.
 are_long : (ds : List ℕ) (n : ℕ) → AreDigits ds → n < length ds → 10 ^ n ≤ number_of ds
 are_long [] n h l = absurd (omega arith)
 are_long (d ∷ []) zero h l = omega (arith, h.1 refl)
@@ -30,7 +30,7 @@ are_long (d ∷ []) (suc n) h l = absurd (omega arith)
 are_long (d ∷ e ∷ ds) zero h l = omega (arith, are_long (e ∷ ds) zero h.2 (omega arith))
 are_long (d ∷ e ∷ ds) (suc n) h l = omega (arith, are_long (e ∷ ds) n h.2 (omega arith), pow-suc 10 n)
 
--- so where it is, the first digit isn't 0
+-- If it is, the first digit isn't 0.
 are_digits : (ds : List ℕ) → AreSmall ds → ((n : ℕ) → length ds ≡ suc n → 10 ^ n ≤ number_of ds) → AreDigits ds
 are_digits [] small long = tt
 are_digits (d ∷ []) small long = (small.0, λ _. omega (arith, long 0 refl), tt)
@@ -42,21 +42,21 @@ are_digits (d ∷ e ∷ ds) small long = (
 
 -- ---- a sum
 
--- with one more digit in front
+-- With one more digit in front.
 number_more : (ds : List ℕ) (d : ℕ) → number_of (ds ++ d ∷ []) ≡ number_of ds + 10 ^ length ds * d
 number_more [] d = omega arith
 number_more (e ∷ ds) d =
     let more = number_more ds d in
     omega (arith, more, ap (λ p. p * d) (pow-suc 10 (length ds)), mul_assoc 10 (10 ^ length ds) d)
 
--- past the first digit there are none
+-- Past the first digit there are none.
 none_past : (ds : List ℕ) (i : ℕ) → length ds ≤ i → number_of (drop i ds) ≡ 0
 none_past [] zero l = refl
 none_past [] (suc i) l = refl
 none_past (d ∷ ds) zero l = absurd (omega arith)
 none_past (d ∷ ds) (suc i) l = none_past ds i (omega arith)
 
--- the digit at a place, and those behind it
+-- The digit at a place, and those after it.
 number_from : (ds : List ℕ) (i : ℕ) → number_of (drop i ds) ≡ slice_index_or ds i 0 + 10 * number_of (drop (i + 1) ds)
 number_from [] i = omega (arith, none_past [] i (omega arith), none_past [] (i + 1) (omega arith))
 number_from (d ∷ ds) zero = refl
@@ -66,7 +66,7 @@ carried : (number place next digit more total inside : ℕ) → inside ≡ digit
 carried number place next digit more total inside is pow before =
     omega (arith, before, ap (λ i. place * i) is, mul-add place digit (10 * more), mul_left_comm place 10 more, ap (λ q. q * more) pow, mul_assoc 10 place more)
 
--- one more place
+-- One more place.
 pub place_added : (digits others sum new : List ℕ) (place carry digit other total : ℕ) → digit ≡ slice_index_or digits place 0 → other ≡ slice_index_or others place 0 → length sum ≡ place
     → new ≡ sum ++ ((digit + other + carry) % 10) ∷ [] → number_of sum + 10 ^ place * (carry + number_of (drop place digits) + number_of (drop place others)) ≡ total
     → number_of new + 10 ^ (place + 1) * ((digit + other + carry) / 10 + number_of (drop (place + 1) digits) + number_of (drop (place + 1) others)) ≡ total
@@ -78,7 +78,7 @@ place_added digits others sum new place carry digit other total is others_is len
     let longer : number_of new ≡ number_of sum + 10 ^ place * (one % 10) = ap number_of more ∙ number_more sum (one % 10) ∙ ap (λ n. number_of sum + 10 ^ n * (one % 10)) len in
     omega (arith, longer, carried (number_of sum) (10 ^ place) (10 ^ (place + 1)) (one % 10) behind total _ inside pow before)
 
--- behind the last place there is what is carried alone
+-- After the last place there is only the carry.
 pub all_added : (digits others sum : List ℕ) (place carry total : ℕ) → length digits ≤ place → length others ≤ place
     → number_of sum + 10 ^ place * (carry + number_of (drop place digits) + number_of (drop place others)) ≡ total → number_of sum + 10 ^ place * carry ≡ total
 all_added digits others sum place carry total past others_past is =
@@ -95,7 +95,7 @@ carry_is_first (e ∷ ds) d h some l = (h.0, λ none. absurd (omega (arith, ap l
 pub none_carried : (sum : List ℕ) (place carry total : ℕ) → carry ≤ 0 → number_of sum + 10 ^ place * carry ≡ total → number_of sum ≡ total
 none_carried sum place carry total none is = let nothing : carry ≡ 0 = omega (arith, none) in omega (arith, is, ap (λ n. 10 ^ place * n) nothing, mul-zero (10 ^ place))
 
--- where none is carried, the sum is as long as the longer one
+-- Without a carry, the sum is as long as the longer number.
 pub sum_is_long : (digits others sum : List ℕ) → AreDigits digits → AreDigits others → AreSmall sum → length sum ≤ max (length digits) (length others) → number_of sum ≡ number_of digits + number_of others → AreDigits sum
 sum_is_long digits others sum are others_are small long is = by (cases_lt (length digits) (length sum))
   where
@@ -119,7 +119,7 @@ is_one (d ∷ e ∷ ds) h = let some = are_long (e ∷ ds) 0 h.2 (omega arith) i
 glyph : (n d : ℕ) → n % 10 ≡ d → d < 10 → digit_glyph false (n % 10) ≡ 48 + d
 glyph n d is l = ap (digit_glyph false) is ∙ ap (λ b. cond b (48 + d) (87 + d)) (lt-ltb d 10 l)
 
--- its digits, the first one first
+-- The digits of a number, the first one first.
 abbrev pub spelled : List ℕ → List ℕ
 spelled [] = []
 spelled (d ∷ ds) = spelled ds ++ (48 + d) ∷ []
@@ -150,7 +150,7 @@ nought_is : in_decimal 0 ≡ 48 ∷ []
 unfolding in_decimal
 nought_is = refl
 
--- of no digits
+-- A number without digits.
 pub nought_spelled : (ds : List ℕ) (n : ℕ) (b : Bool) → b ≡ (length ds == 0) → b ≡ true → number_of ds ≡ n → 48 ∷ [] ≡ in_decimal n
 nought_spelled [] n b is none same = sym nought_is ∙ ap in_decimal same
 nought_spelled (d ∷ ds) n b is none same = let no : length (d ∷ ds) ≡ 0 = eqb-true (length (d ∷ ds)) 0 (sym is ∙ none) in absurd (omega arith)
@@ -160,7 +160,7 @@ a_digit [] i x h l is = absurd (omega arith)
 a_digit (d ∷ ds) zero x h l is = omega (arith, is, h.0)
 a_digit (d ∷ ds) (suc i) x h l is = a_digit ds i x h.2 (omega arith) is
 
--- one more digit
+-- One more digit.
 pub spelled_more : (ds : List ℕ) (place x : ℕ) (old new : List ℕ) → 0 < place → place ≤ length ds → x ≡ get_or ds (place - 1) x → old ≡ spelled (drop place ds) → new ≡ old ++ (48 + x) ∷ []
     → new ≡ spelled (drop (place - 1) ds)
 spelled_more ds place x old new some within is before more =

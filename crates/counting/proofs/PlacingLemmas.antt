@@ -1,4 +1,5 @@
--- Places in a list of events, run by run: a schedule that is given, the event with a place, and the events from one place up to another.
+-- Places in a list of events, run by run: the events of a schedule, the event with a place, and the events from one
+-- place up to another.
 use Rattle.std.proofs.Common.{min, max, ap₂, zero, suc, Some, ◌≡◌, ℕ, ◌+◌, ◌-◌, ◌<◌, ◌≤◌, List, [], ◌∷◌, ◌++◌, length, map, replicate, take, drop, get_or, slice_get, refl, ap, sym, subst, ◌∙◌, arith, add-one, append_assoc, append-nil, drop-cons, length-append}
 use Rattle.std.specs.List.{All}
 use Rattle.std.specs.List.Sorted.{IsNonDecreasing}
@@ -10,7 +11,7 @@ use Rattle.schedules.proofs.ScheduledLemmas.{put_among, run_next}
 use Rattle.text.specs.EventLists.{CountedEvent, expanded}
 use Rattle.kernel.proofs.EventLemmas.{expanded_more, expanded_split}
 
--- a spot within a run: the events before its place are there, and what is put in
+-- A spot within a run: the events before its place are in the list, and so is the inserted event.
 pub spot_put : (loose : List Event) (done end place : ℕ) (x y : Event) (old mid new whole behind : List Event) (q : ℕ) (ps qs : Spots) → qs ≡ q ∷ ps
     → place ≡ place_of (length loose) q → done ≤ place → place ≤ end → y ≡ put_at loose q → mid ≡ old ++ replicate (place - done) x → new ≡ mid ++ replicate 1 y
     → old ++ from_front loose done (replicate (end - done) x ++ behind) qs ≡ whole → new ++ from_front loose place (replicate (end - place) x ++ behind) ps ≡ whole
@@ -29,7 +30,7 @@ pub put_length : (n : ℕ) (event x : Event) (old mid new : List Event) → mid 
 put_length n event x old mid new came last =
     ap length last ∙ length-append mid (replicate 1 x) ∙ omega (arith, length-replicate 1 x, ap length came, length-append old (replicate n event), length-replicate n event)
 
--- the rest of a run, where no other spot lies within it
+-- The rest of a run, if no other spot is within it.
 pub rest_put : (loose : List Event) (done end high : ℕ) (x : Event) (old new whole behind : List Event) (ps : Spots) → done ≤ end → RisesFrom (length loose) end high ps
     → new ≡ old ++ replicate (end - done) x → old ++ from_front loose done (replicate (end - done) x ++ behind) ps ≡ whole → new ++ from_front loose end behind ps ≡ whole
 rest_put loose done end high x old new whole behind ps within rises came before =
@@ -41,7 +42,7 @@ rest_put loose done end high x old new whole behind ps within rises came before 
     ∙ sym (run_next loose done (end - done) high x behind ps (subst (λ low. RisesFrom (length loose) low high ps) (sym all) rises)))
     ∙ before
 
--- behind the last run nothing is left
+-- After the last run nothing is left.
 pub all_put : (loose : List Event) (start high : ℕ) (list whole left : List Event) (ps : Spots) → high ≤ start → RisesFrom (length loose) start high ps → left ≡ []
     → list ++ from_front loose start left ps ≡ whole → list ≡ whole
 unfolding from_front
@@ -50,11 +51,11 @@ all_put loose start high list whole left (q ∷ ps) end rises none is = absurd (
 
 -- ---- runs among the events
 
--- the run at i is the first of those that are left
+-- The run at i is the first of those that are left.
 pub runs_left : (rs : List CountedEvent) (i : ℕ) (r : CountedEvent) → i < length rs → r ≡ get_or rs i r → expanded (drop i rs) ≡ replicate r.count r.event ++ expanded (drop (i + 1) rs)
 runs_left rs i r lt is = rw (add-one i) (ap expanded (drop-cons rs i r lt ∙ ap (λ q. q ∷ drop (suc i) rs) (sym is)))
 
--- all runs are all events
+-- All runs are all events.
 pub all_runs : (rs : List CountedEvent) (i now : ℕ) (all : List Event) → length rs ≤ i → expanded rs ≡ all → now ≡ length (expanded (take i rs)) → now ≡ length all
 all_runs rs i now all end same at = at ∙ ap (λ (qs : List CountedEvent). length (expanded qs)) (take_all i rs end) ∙ ap length same
 
@@ -75,7 +76,7 @@ got_behind [] ys q p e = let same : p ≡ q = omega (arith, e) in ap (slice_get 
 got_behind (x ∷ xs) ys q zero e = absurd (omega arith)
 got_behind (x ∷ xs) ys q (suc p) e = got_behind xs ys q p (omega arith)
 
--- it is that of the run that it lies within
+-- It is the event of the run that it is in.
 pub event_in_run : (rs : List CountedEvent) (i now place : ℕ) (r : CountedEvent) (all : List Event) → i < length rs → r ≡ get_or rs i r → expanded rs ≡ all → now ≡ length (expanded (take i rs)) → now ≤ place
     → place - now < r.count → Some r.event ≡ slice_get all place
 event_in_run rs i now place r all lt is same at from within =
@@ -101,7 +102,7 @@ drop_appended (suc n) (x ∷ xs) ys = drop_appended n xs ys ∙ ap (λ m. drop n
 take_replicated : (m n : ℕ) (x : Event) → take m (replicate n x) ≡ replicate (min m n) x
 take_replicated m n x = sym (take_min m (replicate n x)) ∙ ap (λ k. take (min m k) (replicate n x)) (length-replicate n x) ∙ take-replicate (min m n) n x (omega arith)
 
--- with those of one more run
+-- With the events of one more run.
 pub part_more : (rs : List CountedEvent) (i now from to n : ℕ) (r : CountedEvent) (event : Event) (old new : List Event) → i < length rs → r ≡ get_or rs i r → now ≡ length (expanded (take i rs)) → event ≡ r.event
     → n ≡ min to (now + r.count) - max from now → old ≡ take (to - from) (drop from (expanded (take i rs))) → new ≡ old ++ replicate n event → new ≡ take (to - from) (drop from (expanded (take (i + 1) rs)))
 part_more rs i now from to n r event old new lt is at its some was more =
@@ -116,17 +117,17 @@ part_more rs i now from to n r event old new lt is at its some was more =
     ∙ take_appended (to - from) (drop from before) (replicate left r.event)
     ∙ ap (λ ys. take (to - from) (drop from before) ++ ys) (take_replicated (to - from - length (drop from before)) left r.event))
 
--- what is pushed, with what is there, is not more than all events
+-- The events in the list and those to push are at most all events.
 pub part_fits : (part before : List Event) (now from to count n most : ℕ) → part ≡ take (to - from) (drop from before) → now ≡ length before → now + count ≤ most → n ≡ min to (now + count) - max from now → length part + n ≤ most
 part_fits part before now from to count n most is at fits some = omega (arith, ap length is, length-take (to - from) (drop from before), length-drop from before, at, fits, some)
 
--- all runs are gone through
+-- No run is left.
 pub part_of_all : (rs : List CountedEvent) (i from to : ℕ) (part all : List Event) → length rs ≤ i → expanded rs ≡ all → part ≡ take (to - from) (drop from (expanded (take i rs))) → part ≡ take (to - from) (drop from all)
 part_of_all rs i from to part all end same was = was ∙ ap (λ (qs : List CountedEvent). take (to - from) (drop from (expanded qs))) (take_all i rs end) ∙ ap (λ xs. take (to - from) (drop from xs)) same
 
 -- ---- schedules without loose events
 
--- the places of the spots are the spots
+-- The places of the spots are the spots.
 places_are : (spots : Spots) → map (place_of 0) spots ≡ spots
 places_are [] = refl
 places_are (q ∷ spots) = let here : place_of 0 q ≡ q = omega arith in ap (λ p. p ∷ map (place_of 0) spots) here ∙ ap (λ ps. q ∷ ps) (places_are spots)

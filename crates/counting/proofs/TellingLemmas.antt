@@ -1,4 +1,4 @@
--- A walk through a family, and what the book tells on the way.
+-- A walk through a family, and the book of the schedules so far.
 use Rattle.std.proofs.Common.{◌≡◌, ℕ, ◌+◌, ◌<◌, Bool, true, false, List, [], ◌∷◌, ◌++◌, length, ap, sym, ◌∙◌, arith, length-append, append_assoc}
 use Rattle.posix.specs.declared.event.Event.{Event}
 use Rattle.posix.specs.Common.{World, Line}
@@ -11,14 +11,14 @@ use Rattle.counting.specs.Counts.{book_over}
 use Rattle.counting.specs.Courses.{IsCourse}
 use Rattle.counting.proofs.CountLemmas.{book_more}
 
--- The walk has come to a schedule of the list, and the book tells of those before it.
+-- The walk is at a schedule of the list, and the book counts those before it.
 pub record HasCome (all : List Spots) (spots : Spots) (told : List Spots → BookView) (book : BookView) : Type 0 where
   pub done : List Spots
   pub late : List Spots
   pub whole : all ≡ done ++ spots ∷ late
   pub tells : book ≡ told done
 
--- It has come to one, or the book tells of all.
+-- The walk is at a schedule, or the book counts all of them.
 abbrev pub IsOnItsWay : Bool → List Spots → Spots → (List Spots → BookView) → BookView → Type 0
 IsOnItsWay true all spots told book = HasCome all spots told book
 IsOnItsWay false all spots told book = book ≡ told all
@@ -27,7 +27,7 @@ pub has_come : (b : Bool) (all : List Spots) (ps : Spots) (told : List Spots →
 has_come true all ps told book e h = h
 has_come false all ps told book e h = cc
 
--- before the last schedule there are fewer told of than there are
+-- Before the last schedule, fewer are counted than there are.
 pub fewer_told : (world : World) (loose events : List Event) (texts : List (List ℕ)) (all : List Spots) (ps : Spots) (book : BookView) → HasCome all ps (book_over world loose events texts) book → book.total < length all
 fewer_told world loose events texts all ps book h =
     let told : book.total ≡ length h.done = ap (λ (b : BookView). b.total) h.tells in
@@ -48,7 +48,7 @@ comes_on true all ps next told new done late whole is comes = record {
 }
 comes_on false all ps next told new done late whole is none = is ∙ ap told (sym (whole ∙ ap (λ xs. done ++ ps ∷ xs) none))
 
--- to the next schedule, after one was run
+-- To the next schedule, after one was run.
 pub goes_on : (world : World) (loose events : List Event) (texts : List (List ℕ)) (all : List Spots) (ps next : Spots) (book new : BookView) (lines : List Line) (ending : Ending) (more : Bool)
     → HasCome all ps (book_over world loose events texts) book → IsCourse world (scheduled loose events ps) lines ending → new ≡ with_run lines ending ps book
     → ((done late : List Spots) → all ≡ done ++ ps ∷ late → Comes more next late) → IsOnItsWay more all next (book_over world loose events texts) new

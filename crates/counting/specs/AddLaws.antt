@@ -1,4 +1,4 @@
--- Lines that are added, and those after them.
+-- Laws of lines that are added to others in several steps.
 use Rattle.std.proofs.Common.{◌≡◌, false, List, [], ◌++◌, refl, ap, sym, ◌∙◌, append_assoc, append-nil}
 use Rattle.std.proofs.lemmas.Bool.{or_from}
 use Rattle.std.proofs.lemmas.List.Folds.{list_any-append}

@@ -1,4 +1,4 @@
--- What is kept of the runs of schedules.
+-- Counts of runs of schedules.
 use Rattle.std.specs.Prelude.{ℕ, ◌+◌, Bool, false, List, map}
 use Rattle.posix.specs.Common.{Line}
 use Rattle.schedules.specs.Families.{Spots}
@@ -13,14 +13,14 @@ pub record BookView : Type 0 where
   pub finds : List FindView
   pub total : ℕ
 
--- a text that no schedule was seen to have
+-- A text that no schedule has so far.
 abbrev pub unseen : List ℕ → FindView
 unseen text = record { text = text; is_there = false; tally = no_schedules }
 
 abbrev pub empty_book : List (List ℕ) → BookView
 empty_book texts = record { endings = no_endings; finds = map unseen texts; total = 0 }
 
--- with one more schedule, whose run shows these lines and ends so
+-- With one more schedule, whose run shows these lines and ends in this way.
 abbrev pub with_run : List Line → Ending → Spots → BookView → BookView
 with_run lines ending ps b = record {
   endings = with_ending ending ps b.endings;
@@ -28,7 +28,7 @@ with_run lines ending ps b = record {
   total = b.total + 1;
 }
 
--- with the schedules of t, which end so, and whose lines have the texts that are marked
+-- With the schedules of t, which end in this way, and whose lines have the marked texts.
 abbrev pub with_many_runs : Ending → List Bool → TallyView → BookView → BookView
 with_many_runs ending marks t b = record {
   endings = with_many_endings ending t b.endings;

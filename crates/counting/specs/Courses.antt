@@ -1,4 +1,4 @@
--- The run of a list of events in a world, where all memory is granted.
+-- The run of a list of events in a world, with all memory granted.
 use Rattle.std.specs.Prelude.{◌≡◌, ℕ, ◌+◌, Bool, true, false, List, [], ◌∷◌, ◌++◌}
 use Rattle.std.specs.List.{list_any}
 use Rattle.posix.specs.declared.event.Event.{Event}
@@ -11,14 +11,14 @@ use Rattle.schedules.specs.Schedules.{scheduled}
 use Rattle.counting.specs.declared.ending.Ending.{Ending}
 use Rattle.counting.specs.Endings.{ending_of}
 
--- ---- what the definitions say
+-- ---- by the definition of an event
 
--- the lines and the last state of a run
+-- The lines and the last state of a run.
 pub record Course : Type 0 where
   pub lines : List Line
   pub last : State
 
--- The run of the events, numbered from k on, where all memory is granted.
+-- The run of the events, numbered from k, with all memory granted.
 abbrev pub course_from : ℕ → State → List Event → Course
 course_from k s [] = record { lines = []; last = s }
 course_from k s (event ∷ events) =
@@ -26,13 +26,13 @@ course_from k s (event ∷ events) =
     let rest = course_from (k + 1) one.state events in
     record { lines = numbered k one.entries ++ rest.lines; last = rest.last }
 
--- The run of a schedule: of a list of events with ticks and loose events put in.
+-- The run of a schedule: of a list of events with ticks and loose events inserted.
 unfoldable pub course_of : World → List Event → List Event → Spots → Course
 course_of world loose events ps = course_from 1 (boot world) (scheduled loose events ps)
 
--- ---- how it is told
+-- ---- as lines that are collected
 
--- it says of a call that there was no memory for it
+-- The entry says that the host had no memory for a call.
 abbrev pub denies_memory : Entry → Bool
 denies_memory (Noted pid value) = false
 denies_memory (Called pid call result) = false
@@ -48,19 +48,20 @@ denies_memory (Returned pid) = false
 denies_memory (Ended pid status) = false
 denies_memory Halted = false
 
--- a line says so
+-- A line says that the host had no memory for a call.
 abbrev pub one_denies_memory : List Line → Bool
 one_denies_memory lines = list_any (λ l. denies_memory l.entry) lines
 
--- To the lines before these were added, and none says that there was no memory.
+-- These lines were added to the lines before, and none says that the host had no memory for a call.
 abbrev pub AddsGranted : List Line → List Line → List Line → Type 0
 AddsGranted before after shows = (after ≡ before ++ shows) × (one_denies_memory shows ≡ false)
 
--- To the lines before, the events with the numbers from k on, where all memory is granted, add what they show, and lead from old to new.
+-- With all memory granted, the events, numbered from k, lead from old to new, and what they show was added to the
+-- lines before.
 abbrev pub Adds : ℕ → State → List Event → State → List Line → List Line → Type 0
 Adds k old events new before after = Shows k old events new (AddsGranted before after)
 
--- In a world the events show these lines, where all memory is granted, and the run ends so.
+-- In a world, with all memory granted, the events show these lines, and the run ends in this way.
 pub record IsCourse (world : World) (events : List Event) (lines : List Line) (ending : Ending) : Type 0 where
   pub last : State
   pub adds : Adds 1 (boot world) events last [] lines

@@ -1,4 +1,4 @@
--- How a run ends.
+-- How runs end.
 use Rattle.std.specs.Prelude.{Bool, true, false, Option, Some, None, if◌then◌else◌, ℕ}
 use Rattle.posix.specs.Common.{State, current, has_alarms}
 use Rattle.schedules.specs.Families.{Spots}
@@ -7,12 +7,12 @@ use Rattle.counting.specs.declared.ending.Ending.TheVariants.{Halted, AtRest, Aw
 use Rattle.counting.specs.declared.ending.Endings.{Endings}
 use Rattle.counting.specs.Tallies.{TallyView, both, no_schedules, with_schedule}
 
--- how it stands with a machine that hasn't halted, and has alarms or none
+-- How a run ends that leaves a machine not halted, by whether an alarm is set, and by the current process.
 abbrev pub going_or_at_rest : Bool → Option ℕ → Ending
 going_or_at_rest alarms (Some p) = Going
 going_or_at_rest alarms None = if alarms then AwaitsAlarm else AtRest
 
--- how it stands with a machine
+-- How a run ends that leaves a machine in this state.
 abbrev pub ending_of : State → Ending
 ending_of s = if s.halted then Halted else going_or_at_rest (has_alarms s) (current s)
 
@@ -43,14 +43,14 @@ is_going Going = true
 abbrev pub no_endings : Endings
 no_endings = record { halted = no_schedules; at_rest = no_schedules; alarmed = no_schedules; going = no_schedules }
 
--- with one more schedule, which ends so
+-- With one more schedule, which ends in this way.
 abbrev pub with_ending : Ending → Spots → Endings → Endings
 with_ending Halted ps e = record e { halted = with_schedule ps e.halted }
 with_ending AtRest ps e = record e { at_rest = with_schedule ps e.at_rest }
 with_ending AwaitsAlarm ps e = record e { at_rest = with_schedule ps e.at_rest; alarmed = with_schedule ps e.alarmed }
 with_ending Going ps e = record e { going = with_schedule ps e.going }
 
--- with the schedules of t, which end so
+-- With the schedules of t, which end in this way.
 abbrev pub with_many_endings : Ending → TallyView → Endings → Endings
 with_many_endings Halted t e = record e { halted = both e.halted t }
 with_many_endings AtRest t e = record e { at_rest = both e.at_rest t }

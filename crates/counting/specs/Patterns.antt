@@ -11,11 +11,11 @@ use Rattle.wording.specs.declared.table.Kind.{Kind}
 use Rattle.wording.specs.declared.table.Kind.TheVariants.{Signal, Errno}
 use Rattle.wording.specs.Names.{number_named}
 
--- a line without the event number and the space after it
+-- A line without the event number and the space after it.
 abbrev pub shown : Entry → List ℕ
 shown entry = join_with_byte 32 (words_of entry)
 
--- for each word of the line, which names can match it: those of signals, those of errors, or none
+-- For each word of the line, which names can match it: those of signals, those of errors, or none.
 abbrev pub kinds_of : Entry → List (Option Kind)
 kinds_of (Noted pid value) = None ∷ None ∷ None ∷ []
 kinds_of (Called pid call result) = None ∷ None ∷ None ∷ None ∷ Some Errno ∷ []
@@ -38,13 +38,14 @@ kinds_of Halted = None ∷ []
 abbrev pub is_number : List ℕ → ℤ → Bool
 is_number w z = decimal_value w == unsigned_abs z
 
--- The digits are those of the number of this kind that a name stands for.
+-- The name has a number of this kind, and the digits are those of its absolute value.
 abbrev pub is_named : Kind → Option (Kind × ℤ) → List ℕ → Bool
 is_named Signal (Some (Signal, z)) digits = is_number digits z
 is_named Errno (Some (Errno, z)) digits = is_number digits z
 is_named _ _ digits = false
 
--- A signal name matches its number if the word is a signal. An error name matches its negative number if the word is a result.
+-- If the word is a signal, the name of a signal matches its number. If the word is a result, the name of an error
+-- matches the negative of its number.
 abbrev pub is_number_of : List ℕ → Option Kind → List ℕ → Bool
 is_number_of name (Some Signal) w = is_named Signal (number_named name) w
 is_number_of name (Some Errno) (b ∷ digits) = b == 45 && is_named Errno (number_named name) digits

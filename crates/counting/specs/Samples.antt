@@ -1,4 +1,4 @@
--- Whether a line of a trace can match a pattern: the words of the pattern replace words of sample lines.
+-- Which patterns a trace line can match: the words of the pattern replace words of sample lines.
 use Rattle.std.specs.Prelude.{◌≡◌, ◌<◌, ◌==◌, ℕ, ◌*◌, zero, suc, true, false, List, [], ◌∷◌, ◌++◌, length, codes, replicate, ℤ, Option, Some, None, if◌then◌else◌}
 use Rattle.std.specs.List.{All}
 use Rattle.std.specs.Str.{bytes_eq}
@@ -20,17 +20,18 @@ CanBeShown pattern = (entry : Entry) × (is_entry entry ≡ true) × (has_patter
 abbrev pub IsWithout : List ℕ → List ℕ → Type 0
 IsWithout pattern text = (l : Line) → Says text l → has_pattern pattern l.entry ≡ false
 
--- a number in place of a name; for an error, the negative number
+-- The number of a name, negative for an error; any other word itself.
 abbrev pub as_number : List ℕ → Option (Kind × ℤ) → List ℕ
 as_number sought (Some (Errno, z)) = 45 ∷ signed_decimal z
 as_number sought (Some (kind, z)) = signed_decimal z
 as_number sought None = sought
 
--- what replaces a word of a sample
+-- What replaces a word of a sample.
 abbrev pub filled : List ℕ → List ℕ → List ℕ
 filled sought own = if bytes_eq sought (codes "*") then own else as_number sought (number_named sought)
 
--- The words of a sample, each after a space. The words of the pattern, while any are left, replace those after the first `skipped`.
+-- The words of a sample, each after a space. The words of the pattern, while any are left, replace those after the
+-- first `skipped`.
 unfoldable pub with_pattern : List ℕ → ℕ → List (List ℕ) → List ℕ
 with_pattern pattern skipped [] = []
 with_pattern pattern zero (own ∷ words) = if length pattern == 0 then 32 ∷ own ++ with_pattern pattern zero words else 32 ∷ filled (word pattern) own ++ with_pattern (behind pattern) zero words
@@ -40,11 +41,11 @@ with_pattern pattern (suc skipped) (own ∷ words) = 32 ∷ own ++ with_pattern 
 abbrev pub IsWithoutIn : List ℕ → List (List ℕ) → Type 0
 IsWithoutIn pattern words = (k : ℕ) → k < length words → IsWithout pattern (codes "1" ++ with_pattern pattern k words)
 
--- a `read` of so many bytes, whose number is written so
+-- A `read` that returned n bytes; the digits are those of n.
 abbrev pub read_of : List ℕ → ℕ → List (List ℕ)
 read_of digits n = codes "call" ∷ codes "1" ∷ codes "read" ∷ codes "=" ∷ digits ∷ codes "bytes" ∷ replicate (n * 2) 48 ∷ []
 
--- lines of each form, without the event number; where one word depends on another, a line for each case
+-- Lines of each form, without the event number. If one word depends on another, there is a line for each case.
 unfoldable pub samples : List (List (List ℕ))
 samples =
     (codes "halt" ∷ []) ∷
@@ -63,6 +64,6 @@ samples =
     read_of (codes "1") 1 ∷ read_of (codes "2") 2 ∷ read_of (codes "3") 3 ∷ read_of (codes "4") 4 ∷ read_of (codes "5") 5 ∷ read_of (codes "6") 6 ∷ read_of (codes "7") 7 ∷ read_of (codes "8") 8 ∷
     read_of (codes "9") 9 ∷ read_of (codes "10") 10 ∷ read_of (codes "11") 11 ∷ read_of (codes "12") 12 ∷ read_of (codes "13") 13 ∷ read_of (codes "14") 14 ∷ read_of (codes "15") 15 ∷ read_of (codes "16") 16 ∷ []
 
--- In no sample.
+-- No sample can be made to match the pattern.
 abbrev pub IsShownByNone : List ℕ → Type 0
 IsShownByNone pattern = All (IsWithoutIn pattern) samples

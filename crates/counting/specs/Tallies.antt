@@ -1,4 +1,4 @@
--- How many schedules have a property, and which is the first.
+-- How many schedules have a property, and which is the first of these.
 use Rattle.std.specs.Prelude.{ℕ, ◌+◌, ◌==◌, ◌&&◌, ◌||◌, nat_lt, Bool, true, false, List, [], ◌∷◌, length, Option, Some, None, if◌then◌else◌}
 use Rattle.std.specs.List.{sum_by}
 use Rattle.schedules.specs.Families.{Spots}
@@ -11,33 +11,33 @@ pub record TallyView : Type 0 where
 abbrev pub no_schedules : TallyView
 no_schedules = record { count = 0; first = None }
 
--- how many schedules have these outcomes
+-- How many schedules have these outcomes together.
 abbrev pub total_of : List Outcome → ℕ
 total_of outcomes = sum_by (λ o. o.count) outcomes
 
--- this one, where none was before
+-- The first one, or this one if there is none.
 abbrev pub or_else : Option Spots → Spots → Option Spots
 or_else (Some first) ps = Some first
 or_else None ps = Some ps
 
--- with one more schedule, which comes behind those that were counted
+-- With one more schedule, which comes after those that were counted.
 abbrev pub with_schedule : Spots → TallyView → TallyView
 with_schedule ps t = record { count = t.count + 1; first = or_else t.first ps }
 
--- the same, where it has the property
+-- With one more schedule if it has the property.
 abbrev pub with_schedule_if : Bool → Spots → TallyView → TallyView
 with_schedule_if true ps t = with_schedule ps t
 with_schedule_if false ps t = t
 
 -- ---- which comes first
 
--- of two lists of as many spots, where they first differ the one has the earlier spot
+-- The first of two equally long lists has the earlier spot where they first differ.
 abbrev pub is_earlier : Spots → Spots → Bool
 is_earlier [] qs = false
 is_earlier (p ∷ ps) [] = false
 is_earlier (p ∷ ps) (q ∷ qs) = nat_lt p q || (p == q && is_earlier ps qs)
 
--- a schedule comes before another in the family
+-- A schedule comes before another in the family.
 abbrev pub is_before : Spots → Spots → Bool
 is_before ps qs = nat_lt (length ps) (length qs) || (length ps == length qs && is_earlier ps qs)
 
@@ -51,6 +51,6 @@ first_of (Some ps) (Some qs) = Some (first_of_two ps qs)
 
 -- ---- of two tallies
 
--- of the schedules of both
+-- The tally of the schedules of both.
 abbrev pub both : TallyView → TallyView → TallyView
 both a b = record { count = a.count + b.count; first = first_of a.first b.first }

@@ -1,4 +1,4 @@
--- Texts that are looked for in the lines of a trace.
+-- Texts to find in the lines of a trace.
 use Rattle.std.specs.Prelude.{ℕ, ◌||◌, Bool, false, List, [], ◌∷◌, map, if◌then◌else◌}
 use Rattle.std.specs.List.{list_any}
 use Rattle.posix.specs.declared.entry.Entry.{Entry}
@@ -11,27 +11,27 @@ use Rattle.counting.specs.Tallies.{TallyView, both, with_schedule_if}
 abbrev pub have_text : List ℕ → List Line → Bool
 have_text text lines = list_any (λ l. has_pattern text l.entry) lines
 
--- What is known of a text: whether the lines that were looked at since the last schedule have it, and how many schedules have it.
+-- A text, whether a line so far of the current run has it, and the schedules that have it.
 pub record FindView : Type 0 where
   pub text : List ℕ
   pub is_there : Bool
   pub tally : TallyView
 
--- after a line was looked at
+-- After one more line of the current run.
 abbrev pub looked_at : Entry → FindView → FindView
 looked_at entry f = record f { is_there = f.is_there || has_pattern f.text entry }
 
--- after the last line of the run of a schedule
+-- After the last line of the run of a schedule.
 abbrev pub after_run : Spots → FindView → FindView
 after_run ps f = record f { is_there = false; tally = with_schedule_if f.is_there ps f.tally }
 
--- after the lines of a run were looked at
+-- After more lines of the current run.
 abbrev pub saw : List Line → FindView → FindView
 saw lines f = record f { is_there = f.is_there || have_text f.text lines }
 
 -- ---- texts that are marked
 
--- of each text whether it was marked, or one of these lines has it
+-- For each text, whether it was marked, or one of these lines has it.
 abbrev pub marked : List (List ℕ) → List Line → List Bool → List Bool
 marked [] lines marks = marks
 marked (t ∷ ts) lines [] = []
@@ -40,11 +40,11 @@ marked (t ∷ ts) lines (m ∷ marks) = (m || have_text t lines) ∷ marked ts l
 abbrev pub unmarked : List (List ℕ) → List Bool
 unmarked texts = map (λ t. false) texts
 
--- with the schedules of t
+-- With the schedules of t.
 abbrev pub with_many : TallyView → FindView → FindView
 with_many t f = record f { tally = both f.tally t }
 
--- with the schedules of t, whose lines have the texts that are marked
+-- With the schedules of t, whose lines have the marked texts.
 abbrev pub with_marked : TallyView → List Bool → List FindView → List FindView
 with_marked t marks [] = []
 with_marked t [] (f ∷ fs) = f ∷ fs

@@ -1,4 +1,4 @@
-//! What is kept of the runs of schedules.
+//! Counts of runs of schedules.
 
 ghost use Rattle.std.specs.Prelude.{◌≡◌, ◌+◌, ◌<◌, ◌≤◌, ◌^◌, ◌-◌, map, IfOk, OnOk, Some};
 ghost use Rattle.counting.specs.Endings.{with_ending};
@@ -13,7 +13,7 @@ use crate::outcomes::Outcomes;
 use std::alloc::{AllocError, Global};
 use std::marker::Model;
 
-/// Looks at the lines of a run in some order, and adds them to a text, a line each.
+/// Looks for each text in the lines of a run, and adds the lines to `text`.
 fn look_at(lines: &[Line], finds: &mut [Find<'_>], text: &mut Vec<u8>) -> Result<(), AllocError>
     ensures { OnOk result (finds.new ≡ map (saw lines.now) finds.old) }
 {
@@ -25,7 +25,7 @@ fn look_at(lines: &[Line], finds: &mut [Find<'_>], text: &mut Vec<u8>) -> Result
     Ok(())
 }
 
-/// What is looked for, by its texts.
+/// Returns the texts to find, before the first run.
 fn finds_of<'a>(alloc: Global, texts: &[&'a str]) -> Result<Vec<Find<'a>>, AllocError>
     ensures { IfOk result (λ finds. finds.items ≡ map (λ t. unseen t.now) texts.now) }
 {
@@ -36,8 +36,8 @@ fn finds_of<'a>(alloc: Global, texts: &[&'a str]) -> Result<Vec<Find<'a>>, Alloc
     Ok(finds)
 }
 
-/// Counts a schedule whose run shows these lines, in some order, and ends so; the text is room for them. After an error
-/// nothing is known of what was seen.
+/// Counts a schedule whose run shows these lines, in some order, and ends in this way. Uses `text` as room for the
+/// lines. After an error, some of the counts may include the schedule.
 fn count_run(
     lines: &[Line],
     ending: Ending,
@@ -59,15 +59,15 @@ fn count_run(
     end_run_all(finds, spots)
 }
 
-/// What is kept of the runs of schedules.
+/// The counts of schedules, by how they end, by the texts that their lines have, and by their outcomes.
 #[derive(Drop)]
 pub struct Book<'a> {
     endings: Endings,
     finds: Vec<Find<'a>>,
     outcomes: Outcomes,
-    /// How many schedules were counted, one by one or by the states in which they meet.
+    /// The number of schedules, both those that were run separately and those that were merged.
     total: Count,
-    /// How many states these were in where no more is put in.
+    /// How many states the schedules were merged into; 0 if they were run separately.
     states: u64,
     /// Room for the lines of a run.
     text: Vec<u8>,
@@ -85,7 +85,7 @@ impl<'a> Model for Book<'a> {
 }
 
 impl<'a> Book<'a> {
-    /// Before the first schedule, with the texts that are looked for.
+    /// Returns the book before the first schedule, with the texts to find.
     pub fn new(alloc: Global, texts: &[&'a str]) -> Result<Self, AllocError>
         ensures { IfOk result (λ b. b ≡ empty_book (map (λ t. t.now) texts.now)) }
     {
@@ -99,7 +99,7 @@ impl<'a> Book<'a> {
         })
     }
 
-    /// Counts a schedule whose run shows these lines, and ends so. The lines are sorted by their processes.
+    /// Counts a schedule whose run shows these lines, and ends in this way. Sorts the lines by process.
     pub fn add(
         &mut self,
         lines: &mut Vec<Line>,
@@ -123,15 +123,15 @@ impl<'a> Book<'a> {
         )
     }
 
-    /// How many schedules were counted.
+    /// Returns the number of schedules that were counted.
     pub fn total(&self) -> &Count
         ensures { result.now ≡ self.now.total }
     {
         &self.total
     }
 
-    /// Counts so many schedules that end so, and whose lines have the texts that are marked. The first of them has these
-    /// spots.
+    /// Counts `count` schedules that end in this way, and whose lines have the marked texts. The first of them has
+    /// these spots.
     pub fn add_many(
         &mut self,
         ending: Ending,
@@ -146,33 +146,33 @@ impl<'a> Book<'a> {
         add_to_marked(self.finds.as_mut_slice(), marks, spots, count)
     }
 
-    /// Notes that schedules are counted by so many states.
+    /// Notes that the schedules were merged into this many states.
     pub fn tell_states(&mut self, states: u64)
         ensures { self.new ≡ self.old }
     {
         self.states = states;
     }
 
-    /// By how many states schedules are counted; 0 where they are run one after another.
+    /// Returns how many states the schedules were merged into; 0 if they were run separately.
     pub fn states(&self) -> u64 {
         self.states
     }
 
-    /// The schedules that end in each way.
+    /// Returns the schedules that end in each way.
     pub fn endings(&self) -> &Endings
         ensures { result.now ≡ self.now.endings }
     {
         &self.endings
     }
 
-    /// What is looked for, with the schedules that have it.
+    /// Returns the texts to find, with the schedules that have them.
     pub fn finds(&self) -> &[Find<'a>]
         ensures { result.now ≡ self.now.finds }
     {
         self.finds.as_slice()
     }
 
-    /// The outcomes.
+    /// Returns the outcomes. They are empty if the schedules were merged.
     pub fn outcomes(&self) -> &Outcomes {
         &self.outcomes
     }

@@ -1,4 +1,4 @@
-//! How many there are of something: numbers of any size.
+//! Natural numbers of any size.
 
 ghost use Rattle.std.specs.Prelude.{◌≡◌, ◌+◌, ◌==◌, IfOk, OnErr, OnOk, slice_index_or};
 ghost use Rattle.std.specs.String.{string_bytes};
@@ -7,12 +7,11 @@ ghost use Rattle.counting.specs.Numbers.{AreDigits, in_decimal, number_of};
 use std::alloc::{AllocError, Global};
 use std::marker::Model;
 
-/// A number of any size.
-/// Decimal digits, because a count is only added and printed.
+/// A natural number of any size. It is kept in decimal, because it is only added and printed.
 #[derive(Drop)]
 pub struct Count {
     alloc: Global,
-    /// Its decimal digits, the last one first; none for 0.
+    /// The decimal digits, the last one first; none for 0.
     digits: Vec<u8>,
 }
 
@@ -27,14 +26,14 @@ impl Model for Count {
     ghost invariant = { λ c. AreDigits c.digits.items };
 }
 
-/// The digit with this place, from the last one on; 0 before the first.
+/// Returns the digit with this place, counted from the last digit; 0 if there is none.
 fn digit_at(digits: &[u8], place: usize) -> u8
     ensures { result ≡ slice_index_or digits.now place 0 }
 {
     digits.get(place).copied().unwrap_or(0)
 }
 
-/// The digits of the sum of two numbers.
+/// Returns the digits of the sum of two numbers.
 fn sum_of(alloc: Global, digits: &[u8], others: &[u8]) -> Result<Vec<u8>, AllocError>
     requires digits { AreDigits digits.now }
     requires others { AreDigits others.now }
@@ -55,7 +54,7 @@ fn sum_of(alloc: Global, digits: &[u8], others: &[u8]) -> Result<Vec<u8>, AllocE
 }
 
 impl Count {
-    /// Nought. It takes no memory.
+    /// Returns 0, which needs no memory.
     pub fn zero(alloc: Global) -> Count
         ensures { result ≡ 0 }
     {
@@ -65,7 +64,7 @@ impl Count {
         }
     }
 
-    /// One.
+    /// Returns 1.
     pub fn one(alloc: Global) -> Result<Count, AllocError>
         ensures { IfOk result (λ count. count ≡ 1) }
     {
@@ -75,7 +74,7 @@ impl Count {
         })
     }
 
-    /// The same number once more.
+    /// Returns a copy.
     pub fn try_clone(&self) -> Result<Count, AllocError>
         ensures { IfOk result (λ count. count ≡ self.now) }
     {
@@ -85,21 +84,21 @@ impl Count {
         })
     }
 
-    /// Whether it is 0.
+    /// Returns true if the number is 0.
     pub fn is_zero(&self) -> bool
         ensures { result ≡ (self.now == 0) }
     {
         self.digits.is_empty()
     }
 
-    /// Whether it is 1.
+    /// Returns true if the number is 1.
     pub fn is_one(&self) -> bool
         ensures { result ≡ (self.now == 1) }
     {
         self.digits.as_slice() == [1].as_slice()
     }
 
-    /// Adds another number. At the error that there is no memory for it this one stays.
+    /// Adds another number. If memory runs out, the number stays unchanged.
     pub fn add(&mut self, other: &Count) -> Result<(), AllocError>
         ensures ok { OnOk result (self.new ≡ self.old + other.now) }
         ensures err { OnErr result (self.new ≡ self.old) }
@@ -108,7 +107,7 @@ impl Count {
         Ok(())
     }
 
-    /// Adds 1. At the error that there is no memory for it the number stays.
+    /// Adds 1. If memory runs out, the number stays unchanged.
     pub fn add_one(&mut self) -> Result<(), AllocError>
         ensures ok { OnOk result (self.new ≡ self.old + 1) }
         ensures err { OnErr result (self.new ≡ self.old) }
@@ -117,7 +116,7 @@ impl Count {
         Ok(())
     }
 
-    /// Its decimal digits, the first one first.
+    /// Returns the number in decimal.
     pub fn to_text(&self) -> Result<String, AllocError>
         ensures { IfOk result (λ text. string_bytes text ≡ in_decimal self.now) }
     {

@@ -1,4 +1,4 @@
-//! The run of a list of events in a world.
+//! Runs a list of events in a world.
 
 ghost use Rattle.std.specs.Prelude.{◌≡◌, ◌+◌, ◌<◌, ◌≤◌, ◌++◌, [], ◌∷◌, ⊤, length, IfOk, OnOk, false};
 ghost use Rattle.std.specs.List.{list_any};
@@ -17,7 +17,7 @@ use posix::{Entry, Event, Pid};
 use std::alloc::{AllocError, Global};
 use text::{EventList, World};
 
-/// How it stands with a machine.
+/// Returns how a run ends that leaves the machine in this state.
 fn ending_of(kernel: &Kernel) -> Ending
     ensures { result ≡ ending_in kernel.now.state }
 {
@@ -32,7 +32,7 @@ fn ending_of(kernel: &Kernel) -> Ending
     }
 }
 
-/// Adds the notes of a process.
+/// Adds the notes of a process as lines.
 fn add_notes(lines: &mut Vec<Line>, pid: Pid, notes: &[Note]) -> Result<(), AllocError>
     ensures { OnOk result (lines.new.items ≡ lines.old.items ++ noted_lines pid notes.now) }
 {
@@ -46,14 +46,14 @@ fn add_notes(lines: &mut Vec<Line>, pid: Pid, notes: &[Note]) -> Result<(), Allo
     Ok(())
 }
 
-/// Whether one of the entries tells that the host had no memory for a call.
+/// Returns true if one of the entries says that the host had no memory for a call.
 fn deny_memory(entries: &[Entry]) -> bool
     ensures { result ≡ list_any denies entries.now }
 {
     entries.iter().any(denies_memory)
 }
 
-/// Adds the entries of an event, none of which tells of no memory: one that does is an error, too.
+/// Adds the entries of an event as lines. Fails if one of them says that the host had no memory for a call.
 fn add_entries(lines: &mut Vec<Line>, event: u64, entries: &[Entry]) -> Result<(), AllocError>
     ensures lines { OnOk result (lines.new.items ≡ lines.old.items ++ numbered event entries.now) }
     ensures granted { OnOk result (one_denies_memory (numbered event entries.now) ≡ false) }
@@ -67,7 +67,7 @@ fn add_entries(lines: &mut Vec<Line>, event: u64, entries: &[Entry]) -> Result<(
     Ok(())
 }
 
-/// Adds the lines that it hears to others. One that tells of no memory is an error.
+/// An observer that adds the lines of a run to others. Fails if one says that the host had no memory for a call.
 #[derive(Drop)]
 struct Collector;
 
@@ -97,7 +97,7 @@ impl Observer<Vec<Line>> for Collector {
     }
 }
 
-/// Gives one event, and adds what it shows.
+/// Runs one event, and adds what it shows. Fails if memory runs out, also for a call of a process.
 pub fn run_one(kernel: &mut Kernel, event: Event, lines: &mut Vec<Line>) -> Result<(), AllocError>
     requires { kernel.old.events < most_events }
     ensures adds { OnOk result (Adds (kernel.old.events + 1) kernel.old.state (event ∷ []) kernel.new.state lines.old.items lines.new.items) }
@@ -111,8 +111,8 @@ pub fn run_one(kernel: &mut Kernel, event: Event, lines: &mut Vec<Line>) -> Resu
     done
 }
 
-/// Gives all events of a list, and adds what they show to lines, of which there are none. How it stands with the machine
-/// then.
+/// Runs all events of a list, adds what they show to the empty `lines`, and returns how the run ends. Fails if memory
+/// runs out, also for a call of a process.
 pub fn run_all(
     kernel: &mut Kernel,
     events: &EventList,
@@ -132,8 +132,8 @@ pub fn run_all(
     Ok(ending_of(kernel))
 }
 
-/// Runs a list of events in a world, from its start on; the lines are those of its trace. An error where there is no
-/// memory for it, or for what a process of the world asks.
+/// Runs a list of events in a world from its start, and returns how the run ends; `lines` then has its trace. Fails if
+/// memory runs out, also for a call of a process.
 pub fn run_list(
     alloc: Global,
     world: &World,
@@ -146,7 +146,7 @@ pub fn run_list(
     lines.clear();
     let mut kernel = Kernel::boot(alloc, world)?;
     let ending = run_all(&mut kernel, events, lines);
-    // A kernel that is dropped by its name is dropped by one function, whose proof is short.
+    // A kernel is dropped explicitly, by one function whose proof is short.
     drop(kernel);
     ending
 }

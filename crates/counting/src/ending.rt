@@ -1,4 +1,4 @@
-//! How a run ends.
+//! How runs end.
 
 ghost use Rattle.std.specs.Prelude.{◌≡◌, OnOk, Some};
 ghost use Rattle.counting.specs.Endings.{no_endings, with_ending, with_many_endings};
@@ -7,16 +7,16 @@ use crate::count::Count;
 use crate::tally::Tally;
 use std::alloc::{AllocError, Global};
 
-/// How it stands with a machine when the list of events ends.
+/// How a run ends: the state of the machine after the last event.
 #[derive(Clone, Copy)]
 pub enum Ending {
-    /// It has halted.
+    /// The machine has halted.
     Halted,
-    /// It hasn't halted, no process can act, and none has an alarm.
+    /// The machine has not halted, no process is runnable, and no alarm is set.
     AtRest,
-    /// It hasn't halted, and no process can act before an alarm.
+    /// The machine has not halted, no process is runnable, and an alarm is set.
     AwaitsAlarm,
-    /// A process can act.
+    /// A process is runnable.
     Going,
 }
 
@@ -24,15 +24,15 @@ pub enum Ending {
 #[derive(Drop)]
 pub struct Endings {
     pub halted: Tally,
-    /// No process can act.
+    /// No process is runnable, with or without an alarm.
     pub at_rest: Tally,
-    /// Those of them in which a process has an alarm.
+    /// Those at rest in which an alarm is set.
     pub alarmed: Tally,
     pub going: Tally,
 }
 
 impl Endings {
-    /// Before the first schedule.
+    /// Returns the counts before the first schedule.
     pub fn new(alloc: Global) -> Self
         ensures { result ≡ no_endings }
     {
@@ -44,7 +44,7 @@ impl Endings {
         }
     }
 
-    /// Counts a schedule that ends so.
+    /// Counts a schedule that ends in this way.
     pub fn add(&mut self, ending: Ending, spots: &[u64]) -> Result<(), AllocError>
         ensures { OnOk result (self.new ≡ with_ending ending spots.now self.old) }
     {
@@ -59,7 +59,7 @@ impl Endings {
         }
     }
 
-    /// Counts so many schedules that end so, the first of which has these spots.
+    /// Counts `count` schedules that end in this way. The first of them has these spots.
     pub fn add_many(
         &mut self,
         ending: Ending,

@@ -1,4 +1,4 @@
-//! All schedules of a family, run one after another, and counted.
+//! Runs all schedules of a family separately, and counts them.
 
 ghost use Rattle.std.specs.Prelude.{◌≡◌, ◌≤◌, ◌<◌, ◌+◌, [], All, length, map, IsTrue, IfOk};
 ghost use Rattle.std.specs.List.Sorted.{IsNonDecreasing};
@@ -18,27 +18,27 @@ use schedules::Schedule;
 use std::alloc::{AllocError, Global};
 use text::{EventList, World};
 
-/// Hears how far the schedules have come.
+/// An observer of progress.
 pub trait Progress {
-    /// So many of them have been run, of so many.
+    /// Called when `done` of `size` schedules have been run.
     fn run(&mut self, done: u64, size: u64);
 
-    /// So many events were gone through, of so many, and so many states are there.
+    /// Called when the merged schedules have passed `events` of `upto` events, and are in this many states.
     fn reach(&mut self, events: u64, upto: u64, states: u64);
 }
 
-/// What is explored: the schedules of a world, by its events, and by what is put in before them.
+/// What is explored: the schedules that insert ticks and loose events into a list of events.
 #[derive(Drop)]
 pub struct Family<'a> {
     pub world: &'a World,
     pub events: &'a EventList,
-    /// Each of these is put in once; there are `schedules::MOST_LOOSE` at most.
+    /// Each of these is inserted once; at most `schedules::MOST_LOOSE`.
     pub loose: &'a [Event],
-    /// Something is put in before the first so many events alone.
+    /// Schedules insert only before the first `upto` events.
     pub upto: u64,
-    /// At most so many ticks are put in, of which there are `schedules::MOST_TICKS` at most.
+    /// The most ticks that a schedule inserts; at most `schedules::MOST_TICKS`.
     pub ticks: usize,
-    /// At most so many states are kept before one event.
+    /// The most states that are kept before one event.
     pub states: usize,
     ghost within: { upto ≤ length events.now },
     ghost placed: { upto ≡ 0 → loose.now ≡ [] },
@@ -47,21 +47,21 @@ pub struct Family<'a> {
     ghost short: { length events.now + (ticks + length loose.now) ≤ most_events },
 }
 
-/// Whether the spots rise, not strictly.
+/// Returns true if the spots don't decrease.
 fn do_rise(spots: &[u64]) -> bool
     ensures { IsTrue result → IsNonDecreasing spots.now }
 {
     spots.is_sorted()
 }
 
-/// Whether all spots are below `upto`.
+/// Returns true if all spots are below `upto`.
 fn are_below(spots: &[u64], upto: u64) -> bool
     ensures { IsTrue result → All (λ p. p < upto) spots.now }
 {
     spots.iter().all(|place| *place < upto)
 }
 
-/// Whether the family has no loose events, and these are the spots of one of its schedules.
+/// Returns true if the family has no loose events, and these are the spots of one of its schedules.
 pub fn is_schedule(family: &Family<'_>, spots: &[u64]) -> bool
     ensures { IsTrue result → IsSchedule family.now.upto family.now.ticks (length family.now.loose.now) spots.now }
 {
@@ -71,7 +71,7 @@ pub fn is_schedule(family: &Family<'_>, spots: &[u64]) -> bool
     do_rise(spots) && are_below(spots, family.upto)
 }
 
-/// The events of a schedule of the family.
+/// Returns the events of a schedule of the family.
 pub fn events_of(alloc: Global, family: &Family<'_>, spots: &[u64]) -> Result<EventList, AllocError>
     requires { IsSchedule family.now.upto family.now.ticks (length family.now.loose.now) spots.now }
     ensures events { IfOk result (λ list. list ≡ scheduled_events family.now.loose.now family.now.events.now spots.now) }
@@ -80,7 +80,8 @@ pub fn events_of(alloc: Global, family: &Family<'_>, spots: &[u64]) -> Result<Ev
     scheduled(alloc, family.loose, family.events, spots)
 }
 
-/// Runs a schedule of the family; the lines are those of its trace.
+/// Runs a schedule of the family, and returns how the run ends; `lines` then has its trace. Fails if memory runs out,
+/// also for a call of a process.
 pub fn run_schedule(
     alloc: Global,
     family: &Family<'_>,
@@ -94,8 +95,8 @@ pub fn run_schedule(
     run_list(alloc, family.world, &events, lines)
 }
 
-/// Runs all schedules of a family without loose events, of which there are so many, with texts that are looked for in
-/// their lines. The book tells of all of them, in the family's order.
+/// Runs all schedules of a family without loose events separately, in the family's order, and counts them. Fails if
+/// memory runs out, also for a call of a process.
 pub fn explore<'a, P: Progress>(
     alloc: Global,
     family: &Family<'_>,

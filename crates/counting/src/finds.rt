@@ -1,4 +1,4 @@
-//! Texts that are looked for in the lines of runs.
+//! Texts to find in the lines of runs.
 
 ghost use Rattle.std.specs.Prelude.{◌≡◌, OnOk, Some, false, map};
 ghost use Rattle.counting.specs.Tallies.{no_schedules};
@@ -12,11 +12,11 @@ use posix::Entry;
 use std::alloc::{AllocError, Global};
 use std::marker::Model;
 
-/// A text that is looked for, and what is known of it from the runs so far.
+/// A text to find, and the schedules so far that have it in a line.
 #[derive(Drop)]
 pub struct Find<'a> {
     text: &'a str,
-    /// Whether a line of the run that is looked at has it.
+    /// Whether a line so far of the current run has it.
     is_there: bool,
     tally: Tally,
 }
@@ -51,7 +51,7 @@ pub fn mark(texts: &[&str], lines: &[Line], marks: &mut [bool])
 }
 
 impl<'a> Find<'a> {
-    /// Before the first run.
+    /// Returns a text before the first run.
     pub fn new(alloc: Global, text: &'a str) -> Self
         ensures { result ≡ record { text = text.entry.now; is_there = false; tally = no_schedules } }
     {
@@ -62,21 +62,21 @@ impl<'a> Find<'a> {
         }
     }
 
-    /// The text.
+    /// Returns the text.
     pub fn text(&self) -> &'a str
         ensures { result.now ≡ self.now.text }
     {
         self.text
     }
 
-    /// The schedules that have it in a line of their run.
+    /// Returns the schedules that have the text in a line of their run.
     pub fn tally(&self) -> &Tally
         ensures { result.now ≡ self.now.tally }
     {
         &self.tally
     }
 
-    /// Looks at a line.
+    /// Looks for the text in a line of the current run.
     fn look(&mut self, entry: &Entry)
         ensures { self.new ≡ looked_at entry.now self.old }
     {
@@ -85,7 +85,7 @@ impl<'a> Find<'a> {
         }
     }
 
-    /// Counts the schedule whose run was looked at.
+    /// Counts the schedule of the current run if one of its lines has the text. The next line begins another run.
     fn end_run(&mut self, spots: &[u64]) -> Result<(), AllocError>
         ensures { OnOk result (self.new ≡ after_run spots.now self.old) }
     {
@@ -96,7 +96,7 @@ impl<'a> Find<'a> {
         Ok(())
     }
 
-    /// Counts so many schedules that have it, the first of which has these spots.
+    /// Counts `count` schedules that have the text. The first of them has these spots.
     fn add_many(&mut self, spots: &[u64], count: &Count) -> Result<(), AllocError>
         ensures { OnOk result (self.new ≡ with_many (record { count = count.now; first = Some spots.now }) self.old) }
     {
@@ -104,7 +104,7 @@ impl<'a> Find<'a> {
     }
 }
 
-/// Looks for each text in a line.
+/// Looks for each text in a line of the current run.
 pub fn look_all(finds: &mut [Find<'_>], entry: &Entry)
     ensures { finds.new ≡ map (looked_at entry.now) finds.old }
 {
@@ -113,7 +113,7 @@ pub fn look_all(finds: &mut [Find<'_>], entry: &Entry)
     }
 }
 
-/// Counts the schedule whose run was looked at with each text.
+/// Counts the schedule of the current run for each text that one of its lines has. The next line begins another run.
 pub fn end_run_all(finds: &mut [Find<'_>], spots: &[u64]) -> Result<(), AllocError>
     ensures { OnOk result (finds.new ≡ map (after_run spots.now) finds.old) }
 {
@@ -123,7 +123,7 @@ pub fn end_run_all(finds: &mut [Find<'_>], spots: &[u64]) -> Result<(), AllocErr
     Ok(())
 }
 
-/// Counts so many schedules with each text that is marked; the first of them has these spots.
+/// Counts `count` schedules for each marked text. The first of them has these spots.
 pub fn add_to_marked(
     finds: &mut [Find<'_>],
     marks: &[bool],

@@ -1,5 +1,5 @@
-//! Counts the schedules of a family by how they end, and by the patterns that their lines match. The schedules are run
-//! one after another.
+//! Counts the schedules of a family by how they end, and by the patterns that their lines match. Each schedule is run
+//! separately.
 //!
 //! `run_schedule` returns the lines of a run of the schedule's events with all memory granted, and how its last state
 //! ends; otherwise an error. `explore` counts how many schedules halt, come to rest or go on, and how many have a line

@@ -1,4 +1,4 @@
-//! Lines of a trace that are kept.
+//! Lines of a trace, kept as values.
 
 ghost use Rattle.std.specs.Prelude.{◌≡◌};
 ghost use Rattle.posix.specs.Common.{line};
@@ -9,7 +9,7 @@ use posix::{Entry, Pid};
 use std::marker::Model;
 use trace::write_entry;
 
-/// What an event shows, with the number of the event.
+/// A trace line: what an event shows, with the number of the event.
 #[derive(Clone, Copy)]
 pub struct Line {
     event: u64,
@@ -27,21 +27,21 @@ impl Model for Line {
 }
 
 impl Line {
-    /// What an event shows, with the number of the event.
+    /// Returns the line of an event.
     pub fn new(event: u64, entry: Entry) -> Line
         ensures { result ≡ line event entry }
     {
         Line { event, entry }
     }
 
-    /// The number of the event.
+    /// Returns the number of the event.
     pub fn event(&self) -> u64
         ensures { result ≡ self.now.event }
     {
         self.event
     }
 
-    /// What it shows.
+    /// Returns what the event shows.
     pub fn entry(&self) -> &Entry
         ensures { result.now ≡ self.now.entry }
     {
@@ -49,12 +49,12 @@ impl Line {
     }
 }
 
-/// The number of the process whose line it is; 0 for a halt.
+/// Returns the ID of the process that a line belongs to; 0 for a halt.
 pub fn process_number(line: &Line) -> u32 {
     line.entry().process().map_or(0, Pid::number)
 }
 
-/// Whether an entry tells that the host had no memory for a call.
+/// Returns true if an entry says that the host had no memory for a call.
 pub fn denies_memory(entry: &Entry) -> bool
     ensures { result ≡ denies entry.now }
 {
@@ -64,8 +64,7 @@ pub fn denies_memory(entry: &Entry) -> bool
 /// Room for a printed line.
 pub type Room = [u8; 128];
 
-/// Prints what an event shows as a line of a trace has it behind the event's number and a space, without a line
-/// feed.
+/// Prints what an event shows as a trace line does, without the event number, the space after it and the line feed.
 pub fn shown<'a>(entry: &Entry, room: &'a mut Room) -> &'a [u8]
     ensures { result.now ≡ shown_of entry.now }
 {

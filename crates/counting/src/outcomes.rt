@@ -1,4 +1,5 @@
-//! The outcomes of schedules: schedules are alike where each process shows the same lines, without their numbers.
+//! The outcomes of schedules. Two schedules have the same outcome if each process has the same lines, apart from event
+//! numbers.
 
 ghost use Rattle.std.specs.Prelude.{◌≡◌, ◌+◌, ◌<◌, ◌^◌, ◌-◌, length, map, IfOk, OnOk, OnErr};
 ghost use Rattle.counting.specs.Tallies.{total_of};
@@ -15,14 +16,14 @@ pub struct Outcome {
 }
 
 impl Outcome {
-    /// How many schedules have it, one at least.
+    /// Returns how many schedules have the outcome.
     pub fn count(&self) -> u64
         ensures { result ≡ self.now.count }
     {
         self.count
     }
 
-    /// The spots of the first of them.
+    /// Returns the spots of the first schedule that has the outcome.
     pub fn first(&self) -> &[u64]
         ensures { result.now ≡ self.now.first.items }
     {
@@ -30,7 +31,7 @@ impl Outcome {
     }
 }
 
-/// Counts a schedule to the outcome that has this number.
+/// Counts a schedule for the outcome with this index.
 fn add_to(outcomes: &mut [Outcome], number: usize)
     requires there { number < length outcomes.old }
     requires total { total_of outcomes.old < 2 ^ 64 - 1 }
@@ -43,10 +44,10 @@ fn add_to(outcomes: &mut [Outcome], number: usize)
 #[derive(Drop)]
 pub struct Outcomes {
     alloc: Global,
-    /// Which outcome has these lines.
+    /// The index of the outcome with each text of lines.
     numbers: HashMap<Vec<u8>, usize>,
     outcomes: Vec<Outcome>,
-    /// How many schedules have been counted.
+    /// The number of schedules that were counted.
     total: u64,
 }
 
@@ -62,7 +63,7 @@ impl Model for Outcomes {
 }
 
 impl Outcomes {
-    /// No outcomes.
+    /// Returns no outcomes.
     pub fn new(alloc: Global) -> Self
         ensures { result ≡ 0 }
     {
@@ -74,8 +75,7 @@ impl Outcomes {
         }
     }
 
-    /// Counts a schedule whose run has these lines: those of each process after those of the processes with lesser
-    /// numbers.
+    /// Counts a schedule whose run has these lines, sorted by process. If memory runs out, the total stays unchanged.
     pub fn add(&mut self, lines: &[u8], spots: &[u64]) -> Result<(), AllocError>
         requires { self.old < 2 ^ 64 - 1 }
         ensures ok { OnOk result (self.new ≡ self.old + 1) }
@@ -97,15 +97,15 @@ impl Outcomes {
         Ok(())
     }
 
-    /// How many schedules were counted.
+    /// Returns the number of schedules that were counted.
     pub fn total(&self) -> u64
         ensures { result ≡ self.now }
     {
         self.total
     }
 
-    /// The outcomes, the most frequent first, and else in the order of their first schedules. Together they count all
-    /// schedules.
+    /// Returns the outcomes, the most frequent first; equally frequent ones in the order of their first schedules.
+    /// Together they count all schedules.
     pub fn by_count(&self) -> Result<Vec<&Outcome>, AllocError>
         ensures { IfOk result (λ sorted. total_of (map (λ t. t.now) sorted.items) ≡ self.now) }
     {

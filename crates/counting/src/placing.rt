@@ -1,4 +1,4 @@
-//! Places in a list of events: what stands there, and the ticks and loose events that are put in there.
+//! Places in a list of events: the events there, and the ticks and loose events that are inserted there.
 
 ghost use Rattle.std.specs.Prelude.{◌≡◌, ℕ, ◌+◌, ◌-◌, ◌<◌, ◌≤◌, ◌^◌, ◌∷◌, ◌++◌, List, All, length, map, IsNone, OnOk, IfOk, IfSome, take, drop, replicate, slice_get};
 ghost use Rattle.std.specs.List.Sorted.{IsNonDecreasing};
@@ -12,7 +12,7 @@ use schedules::{MOST_LOOSE, place_of, put_at};
 use std::alloc::{AllocError, Global};
 use text::{EventList, EventRun};
 
-/// The event with a place in a list; none where the list is over.
+/// Returns the event with this place, if the list has one.
 pub fn event_at(events: &EventList, place: u64) -> Option<Event>
     ensures { result ≡ slice_get events.now place }
 {
@@ -26,7 +26,7 @@ pub fn event_at(events: &EventList, place: u64) -> Option<Event>
     None
 }
 
-/// The events from one place up to another, or up to the end of the list.
+/// Returns the events from one place up to another, or up to the end of the list.
 pub fn events_between(
     alloc: Global,
     events: &EventList,
@@ -46,7 +46,7 @@ pub fn events_between(
     Ok(part)
 }
 
-/// The events from a place on.
+/// Returns the events from a place on.
 pub fn events_from(alloc: Global, events: &EventList, place: u64) -> Result<EventList, AllocError>
     requires { length events.now ≤ most_events }
     ensures { IfOk result (λ rest. rest ≡ drop place events.now) }
@@ -54,7 +54,7 @@ pub fn events_from(alloc: Global, events: &EventList, place: u64) -> Result<Even
     events_between(alloc, events, place, events.len())
 }
 
-/// Adds one event so many times, which may be none.
+/// Adds an event `count` times, which may be 0.
 fn push(list: &mut EventList, event: Event, count: u64) -> Result<(), AllocError>
     requires { length list.old + count < 2 ^ 40 }
     ensures { OnOk result (list.new ≡ list.old ++ replicate count event) }
@@ -65,7 +65,7 @@ fn push(list: &mut EventList, event: Event, count: u64) -> Result<(), AllocError
     list.push(event, count)
 }
 
-/// The first spot and those behind it, if it lies before the event with place `end`.
+/// Returns the first spot and those after it, if the place of the first is below `end`.
 fn first_before(loose: usize, spots: &[u64], end: u64) -> Option<(u64, &[u64])>
     requires { loose ≤ MOST_LOOSE }
     ensures some { IfSome result (λ first. (spots.now ≡ first.0 ∷ first.1.now) × (place_of_spot loose first.0 < end)) }
@@ -79,8 +79,8 @@ fn first_before(loose: usize, spots: &[u64], end: u64) -> Option<(u64, &[u64])>
     }
 }
 
-/// Adds a run whose first event has place `start`, with what is put in at each of the spots that lie within it: at the
-/// first ones. The spots behind its end.
+/// Adds a run whose first event has place `start`, with what is inserted at the spots within it. Returns the spots
+/// after its end.
 fn push_run<'s>(
     list: &mut EventList,
     loose: &[Event],
@@ -111,7 +111,7 @@ fn push_run<'s>(
     Ok(rest)
 }
 
-/// The events with what is put in at each of the spots, whose places rise and are below their number.
+/// Returns the events with what is inserted at each of the spots.
 pub fn scheduled(
     alloc: Global,
     loose: &[Event],

@@ -1,4 +1,4 @@
-//! Whether a line of a trace can match a pattern: the words of the pattern replace words of sample lines.
+//! Decides whether a trace line can match a pattern: the words of the pattern replace words of sample lines.
 
 ghost use Rattle.std.specs.Prelude.{◌≡◌, ◌++◌, All, IfOk, OnOk, false, map, true};
 ghost use Rattle.counting.specs.Samples.{CanBeShown, IsShownByNone, IsWithout, IsWithoutIn, filled as filled_of, with_pattern};

@@ -7,7 +7,7 @@ use crate::count::Count;
 use std::alloc::{AllocError, Global};
 use std::marker::Model;
 
-/// Whether the one list, of as many spots, has the earlier spot where they first differ.
+/// Returns true if the first of two equally long lists has the earlier spot where they first differ.
 fn is_earlier(spots: &[u64], others: &[u64]) -> bool
     ensures { result ≡ has_earlier spots.now others.now }
 {
@@ -18,7 +18,7 @@ fn is_earlier(spots: &[u64], others: &[u64]) -> bool
     place < other || (place == other && is_earlier(spots, others))
 }
 
-/// Whether a schedule comes before another in a family.
+/// Returns true if a schedule comes before another in a family.
 fn is_before(spots: &[u64], others: &[u64]) -> bool
     ensures { result ≡ comes_before spots.now others.now }
 {
@@ -43,7 +43,7 @@ impl Model for Tally {
 }
 
 impl Tally {
-    /// Before the first schedule.
+    /// Returns the tally of no schedules.
     pub fn new(alloc: Global) -> Self
         ensures { result ≡ no_schedules }
     {
@@ -54,14 +54,14 @@ impl Tally {
         }
     }
 
-    /// How many schedules have the property.
+    /// Returns the number of schedules that have the property.
     pub fn count(&self) -> &Count
         ensures { result.now ≡ self.now.count }
     {
         &self.count
     }
 
-    /// The spots of the first of them.
+    /// Returns the spots of the first schedule that has the property.
     pub fn first(&self) -> Option<&[u64]>
         ensures { option_map (λ ps. ps.now) result ≡ self.now.first }
     {
@@ -71,7 +71,7 @@ impl Tally {
         }
     }
 
-    /// Counts a schedule that has the property.
+    /// Counts a schedule that has the property, and comes after those that were counted.
     pub fn add(&mut self, spots: &[u64]) -> Result<(), AllocError>
         ensures { OnOk result (self.new ≡ with_schedule spots.now self.old) }
     {
@@ -82,7 +82,7 @@ impl Tally {
         Ok(())
     }
 
-    /// Counts so many schedules that have the property, the first of which has these spots.
+    /// Counts `count` schedules that have the property. The first of them has these spots.
     pub fn add_many(&mut self, spots: &[u64], count: &Count) -> Result<(), AllocError>
         ensures { OnOk result (self.new ≡ both self.old (record { count = count.now; first = Some spots.now })) }
     {

@@ -1,4 +1,4 @@
--- How far a text is a trace, line by line.
+-- Proofs of how far a text is a trace, line by line.
 use Rattle.std.proofs.Common.{◌≡◌, ℕ, ◌+◌, ◌==◌, true, false, List, [], ◌∷◌, ◌++◌, length, inl, inr, refl, ap, sym, ◌∙◌, arith, append_assoc, append-nil, length-append, Bool, Option, Some, None, Bor, codes, option_map}
 use Rattle.std.proofs.lemmas.Bool.{eqb-true}
 use Rattle.std.proofs.lemmas.Grind.{flat_map-append}
@@ -10,7 +10,7 @@ use Rattle.posix.specs.Common.{Line, print, print_line}
 use Rattle.trace.specs.Lines.{IsCut, is_one_line}
 use Rattle.explaining.specs.Drawings.{BeginsOther, IsFirstOther, IsTrace, asked_in, command_line}
 
--- So many lines of a trace, but one, stand before the rest of a text.
+-- The lines before the line with this number are trace lines, and the rest of the text follows them.
 pub record IsReadTo (text : List ℕ) (number : ℕ) (rest : List ℕ) : Type 0 where
   pub before : List ℕ
   pub is : text ≡ before ++ rest
@@ -20,7 +20,7 @@ pub record IsReadTo (text : List ℕ) (number : ℕ) (rest : List ℕ) : Type 0 
 pub none_read : (text : List ℕ) → IsReadTo text 1 text
 none_read text = record { before = []; is = refl; trace = record { lines = []; is = refl; forms = refl }; counted = refl }
 
--- a line more is read
+-- one more line is read
 unfoldable one_longer : (before line : List ℕ) (l : Line) (t : IsTrace before) → Says line l → IsTrace (before ++ (line ++ 10 ∷ []))
 one_longer before line l t says = record {
   lines = t.lines ++ l ∷ [];
@@ -44,7 +44,7 @@ more_read text number rest line more l h cut says = record {
   counted = omega (arith, h.counted, length-append h.trace.lines (l ∷ []));
 }
 
--- all lines are read, or another one comes
+-- all lines are read
 pub all_read : (text : List ℕ) (number : ℕ) (rest : List ℕ) → IsReadTo text number rest → (length rest == 0) ≡ true → IsTrace text
 all_read text number [] h none = record { lines = h.trace.lines; is = h.is ∙ append-nil h.before ∙ h.trace.is; forms = h.trace.forms }
 all_read text number (b ∷ bs) h none = absurd (omega (arith, eqb-true (length (b ∷ bs)) 0 none))
@@ -59,7 +59,7 @@ pub some_left : (rest : List ℕ) → (length rest == 0) ≡ false → is_one_li
 some_left [] h one = absurd (cc)
 some_left (b ∷ bs) h one = inr ((λ e. cc), one)
 
--- ---- what words ask for
+-- ---- requests
 
 pub is_simple : is_simple_and_free command_line ≡ true
 is_simple = refl

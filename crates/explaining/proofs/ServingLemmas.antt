@@ -1,4 +1,4 @@
--- What a status means.
+-- Proofs of what the exit statuses mean.
 use Rattle.std.proofs.Common.{◌≡◌, Some, List, ℕ, refl, inl, inr, Result, Ok, Err}
 use Rattle.std.specs.Prelude.{IfSome}
 use Rattle.inputs.proofs.MeaningLemmas.{means_cut_short, means_done}

@@ -1,4 +1,4 @@
--- What the words behind `explain` ask for.
+-- Proofs about the arguments of `explain`.
 use Rattle.std.proofs.Common.{◌≡◌, true, List, Option, Bor, codes, option_map, refl, sym}
 use Rattle.clap.specs.Words.{Row, Text, first_of, is_simple_and_free}
 use Rattle.explaining.specs.Words.{asked_by_names, asked_in, command_line, said}

@@ -1,4 +1,4 @@
--- What the program does with its words, and what its status means.
+-- What the exit statuses of `explain` mean.
 use Rattle.std.specs.Prelude.{◌≡◌, ℕ, List, Option, Result, Ok, Err, IfSome, IsSomeAnd}
 use Rattle.inputs.specs.Failures.{MeansOf, status_of}
 use Rattle.inputs.specs.Reads.{Contents, Text}
@@ -8,7 +8,7 @@ use Rattle.showing.specs.Comparing.{IsOther, OfSame}
 use Rattle.showing.specs.Explanations.{IsCutShort, OfExplained}
 use Rattle.explaining.specs.Words.{Asked, OfTrace, OfRun}
 
--- the status of any end
+-- the exit status of a result
 abbrev pub answer_of : Result (Unit {0}) FileFailure → ℕ
 answer_of (Ok done) = 0
 answer_of (Err why) = status_of why
@@ -25,8 +25,8 @@ abbrev pub IsRefused : {S : Type 0} → Contents → S → S → Asked → Type 
 IsRefused contents old new (OfTrace name) = ⊥
 IsRefused contents old new (OfRun names) = IsOther contents names × (new ≡ old)
 
--- What a status means: all of such a text was put, or nothing, or a beginning of it. The arguments are the files, what
--- is asked for, if something is, and the output at the call and at the return.
+-- What a status means: all of such a text was put, or nothing, or a beginning of it. The arguments are the files, the
+-- request, if there is one, and the output at the call and at the return.
 abbrev pub Means : {S : Type 0} → Contents → Option Asked → S → S → Seen → Seen → ℕ → Type 0
 Means contents asked old new before after status =
     MeansOf (IsSomeAnd asked (OfAsked contents (TakesAll before after))) (IsSomeAnd asked (IsRefused contents old new)) (IsSomeAnd asked (OfAsked contents (IsCutShort before after))) asked old new status

@@ -1,4 +1,4 @@
--- What the words behind `explain` ask for.
+-- The arguments of `explain`.
 use Rattle.std.specs.Prelude.{List, Option, None, Some, codes}
 use Rattle.clap.specs.Words.{App, Row, Rule, fault_of, first_of, matches_of, new_rule, with_rule}
 use Rattle.clap.specs.declared.builder.action.ArgAction.TheVariants.{Set}
@@ -9,14 +9,14 @@ use Rattle.explaining.specs.declared.words.Asked.{Asked as DeclaredAsked}
 use Rattle.explaining.specs.declared.words.Asked.TheVariants as declared
 
 pub data Asked : Type 0 where
-  OfTrace : Text → Asked  -- a trace alone
-  OfRun : Named → Asked  -- beside what a world writes
+  OfTrace : Text → Asked  -- explain a trace
+  OfRun : Named → Asked  -- compare a trace with a run of a world, and explain it
 
 abbrev pub said : DeclaredAsked → Asked
 said (declared.Trace name) = OfTrace name.now
 said (declared.Beside names) = OfRun (said_names names)
 
--- the name of a file, which may be missing
+-- an optional argument that names a file
 abbrev pub more_rule : Text → Rule
 more_rule name = record (new_rule name) { action = Some Set }
 
@@ -24,7 +24,7 @@ more_rule name = record (new_rule name) { action = Some Set }
 abbrev pub command_line : App
 command_line = with_rule (with_rule (command_with_file (codes "explain") (codes "trace")) (more_rule (codes "world"))) (more_rule (codes "events"))
 
--- the world and the events are named both, or neither
+-- Either both the world and the events are named, or neither is.
 abbrev pub asked_by_names : Option Text → Option Text → Option Text → Option Asked
 asked_by_names None world events = None
 asked_by_names (Some trace) None None = Some (OfTrace trace)

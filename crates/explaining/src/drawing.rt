@@ -1,4 +1,4 @@
-//! A trace that is drawn.
+//! Pictures of traces.
 
 ghost use Rattle.std.specs.Prelude.{IfErr, IfOk};
 ghost use Rattle.explaining.specs.Drawings.{IsCutOff, IsTraceUpTo};
@@ -11,7 +11,8 @@ use inputs::FileFailure;
 use std::alloc::{AllocError, Global};
 use trace::{Sink, next_line, read_line};
 
-/// Adds a row for each line of a trace, up to the first line that is none. The number of that line, if there is one.
+/// Adds a row for each line of a trace, up to the first line that is not a trace line. Returns the number of that line,
+/// or `None` if there is none.
 fn read_rows(alloc: Global, rows: &mut Rows, trace: &[u8]) -> Result<Option<u64>, AllocError>
     ensures { IfOk result (λ other. IsTraceUpTo trace.now other) }
 {
@@ -32,8 +33,9 @@ fn read_rows(alloc: Global, rows: &mut Rows, trace: &[u8]) -> Result<Option<u64>
     Ok(Some(number))
 }
 
-/// Puts a picture of a trace, as a text or as SVG: a lane for each process, a row for each line, and arrows from lane to
-/// lane. It ends above the first line that has none of the forms of a trace, whose number is the result.
+/// Puts a picture of a trace, as text or SVG: a lane for each process, a row for each line, and arrows from lane to
+/// lane. The picture ends before the first line that is not a trace line. Returns the number of that line, or `None` if
+/// there is none. Fails if `out` fails or memory runs out.
 pub fn draw_trace<'a, O: Sink>(
     alloc: Global,
     trace: &[u8],

@@ -1,43 +1,43 @@
-//! What the lines of a trace told of the processes so far.
+//! What the lines of a trace have shown about the processes so far.
 
 use posix::Pid;
 use std::alloc::{AllocError, Global};
 use std::collections::BTreeMap;
 use wording::Prose;
 
-/// What the lines so far told of a number.
+/// What the lines so far have shown about a process ID.
 #[derive(Clone, Copy, Default)]
 struct Told {
-    /// It bore a child or was born, and hasn't ended since.
+    /// It forked or was forked, and has not terminated since.
     lives: bool,
-    /// It has called sigqueue.
+    /// It has called `sigqueue` successfully.
     queues: bool,
     is_marked: bool,
     parent: Option<Pid>,
-    /// The places of its children in [`Known`].
+    /// The indexes of its first and last child in [`Known`].
     first: Option<usize>,
     last: Option<usize>,
 }
 
-/// A child among those of its parent. One that ended, or went to another parent, may still stand here.
+/// An entry in the list of a process's children. The child may have terminated or been reparented since.
 #[derive(Clone, Copy)]
 struct Child {
     pid: Pid,
     next: Option<usize>,
 }
 
-/// What the lines so far told of each number.
+/// What the lines so far have shown about each process ID.
 #[derive(Drop)]
 pub struct Known {
     told: BTreeMap<u32, Told>,
-    /// The children of each process but 1, in the order in which it got them.
+    /// The children of each process except 1, in the order in which it got them.
     children: Vec<Child>,
-    /// Whether there may be child subreapers: none are looked for before the first one is marked.
+    /// True after the first `subreaper` line. Before it, there are no child subreapers to look for.
     may_be_marked: bool,
 }
 
 impl Known {
-    /// What no lines say: process 1 lives.
+    /// Returns what is known before the first line: process 1 is alive.
     pub fn new(alloc: Global) -> Result<Known, AllocError> {
         let mut known = Known {
             told: BTreeMap::new(alloc),
@@ -54,7 +54,7 @@ impl Known {
         Ok(known)
     }
 
-    /// What was told of a number.
+    /// Returns what is known about a process ID.
     fn of(&self, pid: Pid) -> Told {
         match self.told.get(&pid.number()) {
             Some(told) => *told,
@@ -62,25 +62,25 @@ impl Known {
         }
     }
 
-    /// Sets what was told of a number.
+    /// Sets what is known about a process ID.
     fn set(&mut self, pid: Pid, told: Told) -> Result<(), AllocError> {
         self.told.insert(pid.number(), told)?;
         Ok(())
     }
 
-    /// Whether a process has called sigqueue.
+    /// Returns true if a process has called `sigqueue` successfully.
     pub fn queues(&self, pid: Pid) -> bool {
         self.of(pid).queues
     }
 
-    /// A process has called sigqueue.
+    /// Records that a process has called `sigqueue` successfully.
     pub fn queue(&mut self, pid: Pid) -> Result<(), AllocError> {
         let mut told = self.of(pid);
         told.queues = true;
         self.set(pid, told)
     }
 
-    /// A process has become a child subreaper, or is none any more.
+    /// Records that a process has become a child subreaper, or is no longer one.
     pub fn mark(&mut self, pid: Pid, mark: bool) -> Result<(), AllocError> {
         self.may_be_marked = true;
         let mut told = self.of(pid);
@@ -88,7 +88,7 @@ impl Known {
         self.set(pid, told)
     }
 
-    /// Puts a child behind the others of its parent.
+    /// Appends a child to the list of its parent.
     fn put(&mut self, parent: Pid, child: Pid) -> Result<(), AllocError> {
         let place = self.children.len();
         self.children.push(Child {
@@ -104,14 +104,15 @@ impl Known {
         self.set(parent, told)
     }
 
-    /// Lets a child be followed by another one.
+    /// Links a child to the next one in the list.
     fn link(&mut self, place: usize, next: usize) {
         if let Some(child) = self.children.get_mut(place) {
             child.next = Some(next);
         }
     }
 
-    /// Gives a child to a parent, or to nobody. The children of process 1 aren't kept, as its end leaves them to nobody.
+    /// Sets the parent of a child; [`Pid::NONE`] means process 1 or no parent. The children of process 1 are not
+    /// listed, because they are not reparented when it terminates.
     fn give(&mut self, parent: Pid, child: Pid) -> Result<(), AllocError> {
         let mut told = self.of(child);
         told.parent = Some(parent);
@@ -123,8 +124,8 @@ impl Known {
         }
     }
 
-    /// A process bears a child, unless that lives; none bears itself. So parents are older than their children, whatever
-    /// the lines are.
+    /// Records a fork. Sets the parent only if the child was not alive, and is not the forking process. So parents are
+    /// older than their children in any trace, even in a faulty one.
     pub fn bear(&mut self, parent: Pid, child: Pid) -> Result<(), AllocError> {
         let mut told = self.of(child);
         let lives = told.lives;
@@ -141,13 +142,13 @@ impl Known {
         self.give(parent, child)
     }
 
-    /// The parent of a process; [`Pid::NONE`] where none is known.
+    /// Returns the parent of a process, or [`Pid::NONE`] if it is not known.
     fn parent(&self, pid: Pid) -> Pid {
         let told = self.of(pid);
         told.parent.unwrap_or(Pid::NONE)
     }
 
-    /// The subreaper that gets the children of a process; [`Pid::NONE`] where they go to process 1, or to nobody.
+    /// Returns the child subreaper that becomes the parent of a process's children, or [`Pid::NONE`] if there is none.
     fn heir(&self, pid: Pid) -> Pid {
         if !self.may_be_marked {
             return Pid::NONE;
@@ -165,8 +166,8 @@ impl Known {
         Pid::NONE
     }
 
-    /// Gives the children of a process to its heir, but for those that have another parent by now. Writes which go to
-    /// which subreaper.
+    /// Reparents the children of a process to `heir`, except those that have another parent by now. Writes them if
+    /// `heir` is a subreaper.
     fn give_on(
         &mut self,
         pid: Pid,
@@ -175,7 +176,7 @@ impl Known {
         text: &mut Prose,
     ) -> Result<(), AllocError> {
         let mut next = first;
-        let mut before = ", leaves ";
+        let mut before = ", reparents ";
         for _ in 0..self.children.len() {
             let Some(child) = self.child_at(next) else {
                 break;
@@ -193,12 +194,12 @@ impl Known {
         Ok(())
     }
 
-    /// The child at a place, if there is one.
+    /// Returns the child at an index, if there is one.
     fn child_at(&self, place: Option<usize>) -> Option<Child> {
         self.children.get(place?).copied()
     }
 
-    /// A process ends. Writes which of its children go to which subreaper, if they go to one.
+    /// Records that a process terminates. Writes which of its children are reparented to a subreaper, if there is one.
     pub fn end(&mut self, pid: Pid, text: &mut Prose) -> Result<(), AllocError> {
         let heir = self.heir(pid);
         let mut told = self.of(pid);
@@ -211,7 +212,7 @@ impl Known {
     }
 }
 
-/// Writes a child that goes to a subreaper, if it goes to one.
+/// Writes a child that is reparented, if `heir` is a subreaper.
 fn put_left(text: &mut Prose, before: &str, child: Pid, heir: Pid) {
     if heir != Pid::NONE {
         text.push_with(before, child.number());

@@ -1,25 +1,25 @@
-//! What a line of a trace says beyond what its numbers show.
+//! The meaning of the numbers in a line of a trace.
 
 use crate::known::Known;
 use posix::{Bytes, Call, Entry, Pid, Sig, Status};
 use std::alloc::AllocError;
 use wording::{Kind, Prose, name_of, process_in, put_byte, put_signal, put_status};
 
-/// Whether a status word is that of an end, of a stop by any signal, or of a continuation.
+/// Returns true if a wait status is that of a termination, of a stop by any signal, or of a continue.
 fn is_status(status: Status) -> bool {
     let word = status.word();
     let by = u8::try_from(word / 256).ok().and_then(Sig::new);
     status.is_end() || status.is_continuation() || (word % 256 == 127 && by.is_some())
 }
 
-/// Writes what a status word says, if it is one.
+/// Writes the meaning of a wait status, if it has one.
 fn put_if_status(text: &mut Prose, status: Status) {
     if is_status(status) {
         put_status(text, status);
     }
 }
 
-/// Writes bytes between quotation marks, as a text in C has them, and a carriage return by its number.
+/// Writes bytes as a string in C, in quotation marks. A carriage return is written `\x0d`.
 fn put_bytes(text: &mut Prose, bytes: &Bytes) {
     text.push_str("\"");
     for byte in bytes.as_slice() {
@@ -31,18 +31,18 @@ fn put_bytes(text: &mut Prose, bytes: &Bytes) {
     text.push_str("\"");
 }
 
-/// Writes why a call was refused, if it was.
+/// Writes the name of the error with which a call failed, if the error has a name.
 fn put_refusal(text: &mut Prose, call: Call, value: i64) {
     let Some(name) = name_of(Kind::Errno, value.saturating_neg()) else {
         return;
     };
     text.push_str(name);
     if name == "EAGAIN" && matches!(call, Call::Kill | Call::Sigqueue) {
-        text.push_str(", a full queue");
+        text.push_str(", the queue is full");
     }
 }
 
-/// Writes what the result of a call says.
+/// Writes the meaning of the result of a call, if it has one, and records what later lines need.
 fn put_called(
     text: &mut Prose,
     known: &mut Known,
@@ -68,7 +68,7 @@ fn put_called(
     Ok(())
 }
 
-/// Writes who sent a signal: the machine, or behind these words a process.
+/// Writes the sender of a signal: that it is the machine, or `words` and the process ID.
 pub fn put_sender(text: &mut Prose, words: &str, sender: Pid) {
     if sender == Pid::NONE {
         text.push_str(" from the machine");
@@ -77,7 +77,8 @@ pub fn put_sender(text: &mut Prose, words: &str, sender: Pid) {
     }
 }
 
-/// Writes what the value of SIGCHLD says, where it may be a child's notice.
+/// Writes the meaning of the value of SIGCHLD as a wait status, if it can be one. If the sender has called
+/// `sigqueue` (`queues`), the value may also come from there.
 fn put_notice(text: &mut Prose, value: i64, queues: bool) {
     if value == 0 {
         text.push_str(", exit 0 or sent by kill");
@@ -99,20 +100,20 @@ fn put_notice(text: &mut Prose, value: i64, queues: bool) {
     }
 }
 
-/// Writes what the value of a signal says, where it may be a child's notice.
+/// Writes the meaning of the value of a signal, if it is SIGCHLD and a child may have caused it.
 pub fn put_notice_of(text: &mut Prose, known: &Known, pid: Pid, sig: Sig, value: i64, sender: Pid) {
     if sig == Sig::CHLD && sender != pid && sender > Pid::INIT {
         put_notice(text, value, known.queues(sender));
     }
 }
 
-/// Writes what the mark of a process says.
+/// Writes whether a process is a child subreaper.
 fn put_mark(text: &mut Prose, mark: bool) {
-    text.push_str(if mark { "a" } else { "no" });
+    text.push_str(if mark { "a" } else { "not a" });
     text.push_str(" child subreaper");
 }
 
-/// Writes what a line says, if it says more than it shows, and keeps what later lines need.
+/// Writes the meaning of a line, if it is more than the line shows, and records what later lines need.
 pub fn put_meaning(text: &mut Prose, known: &mut Known, entry: &Entry) -> Result<(), AllocError> {
     match *entry {
         Entry::Called { pid, call, result } => put_called(text, known, pid, call, result)?,

@@ -1,4 +1,4 @@
-//! What a row of a picture says of its line: what the line says, with names in place of numbers.
+//! The words of a row of a picture: those of its trace line, with names in place of numbers.
 
 use crate::known::Known;
 use crate::meaning::{put_meaning, put_notice_of, put_sender};
@@ -6,21 +6,22 @@ use posix::{Call, Entry, Pid, Sig, Status, WaitCall};
 use std::alloc::AllocError;
 use wording::{Prose, put_signal};
 
-/// Writes a call and the value that it gives, and what that means, if it means more than it shows.
+/// Writes a call, its result, and the meaning of the result, if it has one.
 fn put_called(text: &mut Prose, call: Call, value: i64, meaning: &[u8]) {
     text.push_bytes(call.name());
     text.push_with(" = ", value);
     put_behind(text, ": ", meaning);
 }
 
-/// Writes words behind others, if there are some.
+/// Writes `before` and the words, if there are any words.
 fn put_behind(text: &mut Prose, before: &str, words: &[u8]) {
     if !words.is_empty() {
         text.push_word(before, words);
     }
 }
 
-/// Writes a signal that is handled, and whom it is from.
+/// Writes a signal that is handled, and its sender. Then writes the meaning of its value, or the value itself if it has
+/// no meaning and is not 0.
 fn put_handled(text: &mut Prose, known: &Known, pid: Pid, sig: Sig, value: i64, sender: Pid) {
     text.push_str("handle ");
     put_signal(text, sig);
@@ -32,7 +33,7 @@ fn put_handled(text: &mut Prose, known: &Known, pid: Pid, sig: Sig, value: i64, 
     }
 }
 
-/// Writes a child, and what its status means; the status itself where it means nothing.
+/// Writes a child, and the meaning of its status, or the status itself if it has no meaning.
 fn put_child(text: &mut Prose, child: Pid, status: Status, meaning: &[u8]) {
     text.push_number(child.number());
     if meaning.is_empty() {
@@ -41,7 +42,7 @@ fn put_child(text: &mut Prose, child: Pid, status: Status, meaning: &[u8]) {
     put_behind(text, ": ", meaning);
 }
 
-/// Writes what a line says, with its meaning in place of its numbers.
+/// Writes the words of a line, with its meaning in place of its numbers.
 fn put_with_meaning(text: &mut Prose, entry: &Entry, meaning: &[u8]) {
     match *entry {
         Entry::Noted { value, .. } => text.push_with("note ", value),
@@ -76,7 +77,7 @@ fn put_with_meaning(text: &mut Prose, entry: &Entry, meaning: &[u8]) {
     }
 }
 
-/// Writes what a line says, and keeps what later lines need.
+/// Writes the words of a line, and records what later lines need.
 pub fn put_phrase(text: &mut Prose, known: &mut Known, entry: &Entry) -> Result<(), AllocError> {
     if let Entry::Handled {
         pid,

@@ -1,4 +1,4 @@
-//! A picture of a trace as a text: a lane for each process, side by side, and arrows from lane to lane.
+//! A picture of a trace as text: a lane for each process, side by side, and arrows from lane to lane.
 
 ghost use Rattle.std.specs.Prelude.{IfErr};
 ghost use Rattle.explaining.specs.Drawings.{IsCutOff};
@@ -10,18 +10,18 @@ use std::alloc::AllocError;
 use trace::{Sink, put_all};
 use wording::Prose;
 
-/// A picture that is written row by row.
+/// A picture, written row by row.
 #[derive(Drop)]
 pub struct Picture<'r> {
     rows: &'r Rows,
-    /// What each lane is above the next row.
+    /// The state of each lane above the next row.
     states: Vec<State>,
     text: Prose,
-    /// The place in the text at which the line begins.
+    /// The index in the text at which the line begins.
     start: usize,
 }
 
-/// What an arrow is drawn with.
+/// Returns the character of which an arrow is drawn.
 fn stroke(arrow: Option<Arrow>) -> u8 {
     if arrow.is_some_and(|arrow| matches!(arrow.cause, Cause::Look)) {
         b'.'
@@ -30,7 +30,7 @@ fn stroke(arrow: Option<Arrow>) -> u8 {
     }
 }
 
-/// The lane at which an arrow points, if there is one.
+/// Returns the lane to which the arrow of a row points, if the row has an arrow.
 fn tip(row: &Row) -> Option<usize> {
     let arrow = row.arrow?;
     match arrow.cause {
@@ -39,7 +39,8 @@ fn tip(row: &Row) -> Option<usize> {
     }
 }
 
-/// What stands in a lane that isn't that of the row's process, and is so above the row.
+/// Returns the character of a row in a lane other than that of its process. `state` is the state of the lane above the
+/// row.
 fn cell(row: &Row, lane: usize, state: State) -> u8 {
     let (left, right) = row.ends();
     match (row.arrow, row.mark, state) {
@@ -56,7 +57,7 @@ fn cell(row: &Row, lane: usize, state: State) -> u8 {
 }
 
 impl<'r> Picture<'r> {
-    /// Of no row so far.
+    /// Returns a picture without rows.
     fn new(rows: &'r Rows) -> Result<Picture<'r>, AllocError> {
         let mut states = Vec::new(rows.alloc);
         for lane in &rows.lanes {
@@ -70,12 +71,12 @@ impl<'r> Picture<'r> {
         })
     }
 
-    /// Writes bytes up to a column of the line.
+    /// Fills the line with a byte up to a column.
     fn pad(&mut self, column: usize, byte: u8) {
         self.text.pad_to(self.start.saturating_add(column), byte);
     }
 
-    /// Writes the heads of the lanes.
+    /// Writes the headings of the lanes.
     fn put_head(&mut self) {
         self.pad(self.rows.margin.saturating_sub(5), b' ');
         self.text.push_str("event");
@@ -86,7 +87,7 @@ impl<'r> Picture<'r> {
         self.text.push_str("\n");
     }
 
-    /// Writes what a row has in the lane of its process.
+    /// Writes the mark and the words of a row, in the lane of its process.
     fn put_own(&mut self, row: &Row) {
         self.pad(self.rows.column(row.lane), b' ');
         self.text.push_str(match row.mark {
@@ -100,7 +101,7 @@ impl<'r> Picture<'r> {
         }
     }
 
-    /// Writes what a row has in a lane.
+    /// Writes the part of a row in a lane.
     fn put_cell(&mut self, row: &Row, lane: usize, state: State) {
         if lane == row.lane {
             return self.put_own(row);
@@ -112,7 +113,7 @@ impl<'r> Picture<'r> {
         }
     }
 
-    /// Writes the part of an arrow that leads from a lane to the next one.
+    /// Writes the part of an arrow between a lane and the next one.
     fn put_stroke(&mut self, row: &Row, lane: usize) {
         let (left, right) = row.ends();
         if lane < left || lane >= right {
@@ -145,7 +146,7 @@ impl<'r> Picture<'r> {
         self.text.push_str("\n");
     }
 
-    /// A lane becomes what a row makes of it.
+    /// Sets the state of a lane below a row, if the row changes it.
     fn turn(&mut self, lane: usize, made: Option<State>) {
         if let (Some(state), Some(made)) = (self.states.get_mut(lane), made) {
             *state = made;
@@ -153,7 +154,7 @@ impl<'r> Picture<'r> {
     }
 }
 
-/// Puts what was written so far once it is 8 KiB or more.
+/// Puts and clears the text if it holds 8 KiB or more.
 pub fn put_if_full<'a, O: Sink>(text: &mut Prose, out: &mut O) -> Result<(), FileFailure<'a>>
     ensures { IfErr result IsCutOff }
 {
@@ -164,7 +165,7 @@ pub fn put_if_full<'a, O: Sink>(text: &mut Prose, out: &mut O) -> Result<(), Fil
     Ok(())
 }
 
-/// Puts the picture of rows as a text.
+/// Puts the picture of rows as text.
 pub fn put_picture<'a, O: Sink>(rows: &Rows, out: &mut O) -> Result<(), FileFailure<'a>>
     ensures { IfErr result IsCutOff }
 {

@@ -1,4 +1,4 @@
-//! The rows of a picture of a trace, and its lanes.
+//! The rows and lanes of a picture of a trace.
 
 use crate::known::Known;
 use crate::phrases::put_phrase;
@@ -7,63 +7,63 @@ use std::alloc::{AllocError, Global};
 use std::collections::BTreeMap;
 use wording::{Prose, process_in};
 
-/// What stands in a row beside the words, in the lane of its process.
+/// The mark before the words of a row, in the lane of its process.
 #[derive(Clone, Copy)]
 pub enum Mark {
     /// The process does what the words say.
     Does,
-    /// It ends.
+    /// The process terminates.
     Ends,
     /// The machine halts.
     Halts,
 }
 
-/// Why an arrow is drawn.
+/// The reason for an arrow.
 #[derive(Clone, Copy)]
 pub enum Cause {
-    /// The process of the other lane is born: the arrow leads there. All others come from there.
+    /// The process of the other lane is forked. The arrow points to it; all other arrows come from the other lane.
     Birth,
-    /// The process of the other lane sent a signal, or a wait collected what it tells of that.
+    /// The process of the other lane sent a signal, or a wait consumed a status change of that process.
     News,
-    /// A wait looked, and left what it tells of the other process: the arrow is of dots.
+    /// A `waitid` with WNOWAIT reported a status change of the other process. The arrow is dotted.
     Look,
 }
 
 /// An arrow between the lane of a row and another one.
 #[derive(Clone, Copy)]
 pub struct Arrow {
-    /// The place of the other lane.
+    /// The index of the other lane.
     pub lane: usize,
     pub cause: Cause,
 }
 
-/// What a lane is below a row.
+/// The state of a lane below a row.
 #[derive(Clone, Copy, PartialEq, Eq)]
 pub enum State {
     Empty,
     Lives,
-    /// The process has ended, and a row further down tells that.
+    /// The process is a zombie, and a row further down reports its termination.
     Ended,
 }
 
-/// A line of the trace.
+/// A row, which shows a line of the trace.
 #[derive(Drop)]
 pub struct Row {
     /// The number of its event.
     pub event: u64,
-    /// The place of the lane of its process; the first lane at a halt.
+    /// The index of the lane of its process, or of the first lane if the machine halts.
     pub lane: usize,
     pub mark: Mark,
     pub words: Vec<u8>,
     pub arrow: Option<Arrow>,
-    /// A row further down tells this end.
+    /// True if a row further down reports this termination.
     is_told: bool,
-    /// It is the last row that tells the end of the process of the other lane.
+    /// True if this is the last row that reports the termination of the process in the other lane.
     is_last: bool,
 }
 
 impl State {
-    /// What the lane of a number is above the first row.
+    /// Returns the state of a process's lane above the first row.
     pub fn first(pid: Pid) -> State {
         if pid == Pid::INIT {
             State::Lives
@@ -74,7 +74,7 @@ impl State {
 }
 
 impl Row {
-    /// The places of its leftmost and of its rightmost lane.
+    /// Returns the indexes of its leftmost and rightmost lanes.
     pub fn ends(&self) -> (usize, usize) {
         match self.arrow {
             Some(arrow) if arrow.lane < self.lane => (arrow.lane, self.lane),
@@ -83,7 +83,7 @@ impl Row {
         }
     }
 
-    /// What the lane of its process is below it. At a halt all lanes are empty.
+    /// Returns the state of the lane of its process below the row. After a halt all lanes are empty.
     fn below(&self) -> State {
         match self.mark {
             Mark::Does => State::Lives,
@@ -92,7 +92,7 @@ impl Row {
         }
     }
 
-    /// What the other lane of its arrow is below it, if the row changes that.
+    /// Returns the new state of the other lane of its arrow, if the row changes it.
     fn other_below(&self) -> Option<State> {
         match self.arrow?.cause {
             Cause::Birth => Some(State::Lives),
@@ -101,7 +101,7 @@ impl Row {
         }
     }
 
-    /// What a lane becomes by the row, if it changes that.
+    /// Returns the new state of a lane, if the row changes it.
     pub fn makes(&self, lane: usize) -> Option<State> {
         match (self.mark, self.arrow) {
             (Mark::Halts, _) => Some(State::Empty),
@@ -112,17 +112,17 @@ impl Row {
     }
 }
 
-/// The lane of a number. Above the first row that of process 1 lives, and all others are empty.
+/// The lane of a process ID. Above the first row, process 1 is alive and all other lanes are empty.
 #[derive(Clone, Copy)]
 pub struct Lane {
     pub pid: Pid,
-    /// How many columns it has.
+    /// The number of its columns.
     pub width: usize,
-    /// How many of these its number and its words take.
+    /// The number of columns that its heading and words take.
     pub reach: usize,
-    /// The row of an end that no row has told as collected.
+    /// The row of a termination, until a row reports that a wait reaped the process.
     ended: Option<usize>,
-    /// The last row that told this end.
+    /// The last row that reported this termination.
     told: Option<usize>,
 }
 
@@ -131,23 +131,23 @@ pub struct Lane {
 pub struct Rows {
     pub alloc: Global,
     pub rows: Vec<Row>,
-    /// In the order in which the processes come up.
+    /// In the order in which the processes first act or are forked.
     pub lanes: Vec<Lane>,
-    /// The place of the lane of each number.
+    /// The index of the lane of each process ID.
     places: BTreeMap<u32, usize>,
-    /// The column at which each lane begins, and the one behind the last.
+    /// The column at which each lane begins, and the column after the last lane.
     columns: Vec<usize>,
-    /// How many columns the numbers of events and the word above them take.
+    /// The number of columns for the event numbers and their heading.
     pub margin: usize,
 }
 
-/// How many digits a number has.
+/// Returns the number of digits of a number.
 pub fn digits(number: u64) -> usize {
     let log = number.checked_ilog10().unwrap_or(0);
     (log as usize).saturating_add(1)
 }
 
-/// The other process that a line names, and why an arrow is drawn.
+/// Returns the other process that a line names, and the reason for an arrow.
 fn named(entry: &Entry) -> Option<(Pid, Cause)> {
     match *entry {
         Entry::Called {
@@ -163,7 +163,7 @@ fn named(entry: &Entry) -> Option<(Pid, Cause)> {
 }
 
 impl Rows {
-    /// No row, and the lane of process 1.
+    /// Returns a picture without rows, and with the lane of process 1.
     pub fn new(alloc: Global) -> Result<Rows, AllocError> {
         let mut rows = Rows {
             alloc,
@@ -177,7 +177,7 @@ impl Rows {
         Ok(rows)
     }
 
-    /// The place of the lane of a number, which gets one where it has none.
+    /// Returns the index of the lane of a process ID. Adds a lane if it has none.
     fn lane_of(&mut self, pid: Pid) -> Result<usize, AllocError> {
         if let Some(place) = self.place_of(pid) {
             return Ok(place);
@@ -195,7 +195,7 @@ impl Rows {
         Ok(place)
     }
 
-    /// The place of the lane of a number, if it has one.
+    /// Returns the index of the lane of a process ID, if it has one.
     fn place_of(&self, pid: Pid) -> Option<usize> {
         self.places.get(&pid.number()).copied()
     }
@@ -227,7 +227,8 @@ impl Rows {
         Ok(())
     }
 
-    /// Makes room in a lane for the next row, of its process. What its process told before is no end any more.
+    /// Makes room in a lane for the next row, and records a termination. Forgets an earlier termination in this lane,
+    /// because the process ID is in use again.
     fn begin(&mut self, lane: usize, mark: Mark, words: usize) {
         let row = self.rows.len();
         if let Some(lane) = self.lanes.get_mut(lane) {
@@ -241,7 +242,8 @@ impl Rows {
         }
     }
 
-    /// The arrow of a line, in a lane: none to a process that has no lane, but for a birth, nor to the lane itself.
+    /// Returns the arrow of a line in a lane. There is none to the lane itself. There is none to a process without a
+    /// lane, unless it is forked.
     fn arrow_of(&mut self, lane: usize, entry: &Entry) -> Result<Option<Arrow>, AllocError> {
         let Some((pid, cause)) = named(entry) else {
             return Ok(None);
@@ -254,7 +256,8 @@ impl Rows {
         Ok(other.map(|lane| Arrow { lane, cause }))
     }
 
-    /// The next row has an arrow of a line. Whether it tells an end, as the last row so far.
+    /// Records what the next row, with this arrow, reports of the other process. Returns true if it reports a
+    /// termination: it is the last such row so far.
     fn tell(&mut self, arrow: Option<Arrow>, entry: &Entry) -> bool {
         let Some(arrow) = arrow else {
             return false;
@@ -282,8 +285,8 @@ impl Rows {
         }
     }
 
-    /// An end, if there is one, is told by the next row, and not at last by the one that told it before. Whether there is
-    /// one.
+    /// Records that the next row reports a termination, if there is one, and that `told` is no longer the last row to
+    /// do so. Returns true if there is one.
     fn turn_told(&mut self, ended: Option<usize>, told: Option<usize>) -> bool {
         let Some(ended) = ended else {
             return false;
@@ -299,7 +302,7 @@ impl Rows {
         true
     }
 
-    /// Lays the lanes out side by side, once all rows are added.
+    /// Lays out the lanes side by side, after all rows are added.
     pub fn lay_out(&mut self) -> Result<(), AllocError> {
         let mut column = self.margin.saturating_add(2);
         for lane in &self.lanes {
@@ -310,7 +313,7 @@ impl Rows {
         Ok(())
     }
 
-    /// The column at which a lane begins.
+    /// Returns the column at which a lane begins.
     pub fn column(&self, lane: usize) -> usize {
         self.columns.get(lane).copied().unwrap_or(0)
     }

@@ -1,4 +1,4 @@
-//! What the program does: its text and its statuses.
+//! The commands `explain` and `lanes`: their output and exit statuses.
 
 ghost use Rattle.std.specs.Prelude.{◌≡◌, ◌≤◌, IfOk, IfErr, Some, map};
 ghost use Rattle.explaining.specs.Drawings.{Draws, FileIsTraceUpTo, IsCutOff, MeansOfDrawing, drawing_asked, status_of_drawing};
@@ -13,7 +13,7 @@ use showing::serve_beside;
 use std::alloc::Global;
 use trace::Sink;
 
-/// Explains a file.
+/// Explains the trace in a file.
 fn explain_file<'a, F: ReadFiles, O: Sink>(
     alloc: Global,
     files: &F,
@@ -26,7 +26,7 @@ fn explain_file<'a, F: ReadFiles, O: Sink>(
     explain_trace(alloc, trace.as_slice(), out)
 }
 
-/// The status of the program. A failure is told.
+/// Returns the exit status, and reports a failure.
 fn told<E: Sink>(done: Result<(), FileFailure<'_>>, err: &mut E) -> u8
     ensures most { result ≤ 3 }
     ensures is { result ≡ answer_of done.entry }
@@ -37,7 +37,7 @@ fn told<E: Sink>(done: Result<(), FileFailure<'_>>, err: &mut E) -> u8
     }
 }
 
-/// Does what is asked for, and gives the status of the program.
+/// Serves a request, and returns the exit status.
 fn serve_asked<'a, F: ReadFiles, O: Sink, E: Sink>(
     alloc: Global,
     asked: Asked<'a>,
@@ -54,9 +54,11 @@ fn serve_asked<'a, F: ReadFiles, O: Sink, E: Sink>(
     }
 }
 
-/// Explains the trace that the words of the command line name, without the program's name, or compares it with what a
-/// world writes as [`serve_beside`] does, and gives the status of the program: 0 when it is done, 1 where the world writes
-/// another trace or is refused, 2 for other words, 3 for a device or memory. A failing `err` changes no status.
+/// Runs `explain` with these arguments, without the program's name. Explains a trace, or compares it with a run of a
+/// world as [`serve_beside`] does.
+///
+/// Returns the exit status: 0 on success, 1 if the traces differ or an input is rejected, 2 for a usage error, 3 if a
+/// file cannot be read, `out` fails or memory runs out. A failure of `err` does not change the status.
 pub fn serve_explain<'a, F: ReadFiles, O: Sink, E: Sink>(
     alloc: Global,
     words: &'a [&'a str],
@@ -73,7 +75,7 @@ pub fn serve_explain<'a, F: ReadFiles, O: Sink, E: Sink>(
     }
 }
 
-/// Draws a file.
+/// Draws the trace in a file.
 fn draw_file<'a, F: ReadFiles, O: Sink>(
     alloc: Global,
     files: &F,
@@ -88,7 +90,7 @@ fn draw_file<'a, F: ReadFiles, O: Sink>(
     draw_trace(alloc, text.as_slice(), is_svg, out)
 }
 
-/// Draws what the words ask for.
+/// Parses the arguments, and draws the trace that they name.
 fn draw_words<'a, F: ReadFiles, O: Sink>(
     alloc: Global,
     words: &'a [&'a str],
@@ -101,7 +103,7 @@ fn draw_words<'a, F: ReadFiles, O: Sink>(
     draw_file(alloc, files, name, is_svg, out)
 }
 
-/// The status of the program. A failure is told, and a line that is none of a trace.
+/// Returns the exit status. Reports a failure, or the first line that is not a trace line.
 fn drawn<E: Sink>(done: Result<Option<u64>, FileFailure<'_>>, err: &mut E) -> u8
     ensures most { result ≤ 3 }
     ensures is { result ≡ status_of_drawing done.entry }
@@ -109,16 +111,19 @@ fn drawn<E: Sink>(done: Result<Option<u64>, FileFailure<'_>>, err: &mut E) -> u8
     match done {
         Ok(None) => 0,
         Ok(Some(number)) => {
-            tell(format_args!("jobk: line {number}: no line of a trace"), err);
+            tell(format_args!("jobk: line {number}: not a trace line"), err);
             1
         }
         Err(failure) => failure.end(b"usage: jobk lanes TRACE [--svg]\n", err),
     }
 }
 
-/// Draws the trace that the words name, without the command's name, as [`draw_trace`] does, and gives the status of the
-/// program: 0 where all lines are drawn, 1 where one is none of a trace, which is told, and the picture ends above it; 2
-/// for other words, 3 for a device or memory. A failing `err` changes no status.
+/// Runs `lanes` with these arguments, without the command's name. Draws a trace as [`draw_trace`] does, and reports the
+/// first line that is not a trace line.
+///
+/// Returns the exit status: 0 if all lines are drawn, 1 if the picture ends before a line that is not a trace line, 2
+/// for a usage error, 3 if the file cannot be read, `out` fails or memory runs out. A failure of `err` does not change
+/// the status.
 pub fn serve_lanes<'a, F: ReadFiles, O: Sink, E: Sink>(
     alloc: Global,
     words: &'a [&'a str],

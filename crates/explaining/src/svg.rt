@@ -1,4 +1,4 @@
-//! A picture of a trace as SVG, in which each column of the text takes 8 pixels, and each of its lines takes 20.
+//! A picture of a trace as SVG. A column of the text is 8 pixels wide, and a line is 20 pixels high.
 
 ghost use Rattle.std.specs.Prelude.{IfErr};
 ghost use Rattle.explaining.specs.Drawings.{IsCutOff};
@@ -10,7 +10,7 @@ use std::alloc::AllocError;
 use trace::{Sink, put_all};
 use wording::Prose;
 
-/// A place in the picture.
+/// A point in the picture, in pixels.
 #[derive(Clone, Copy)]
 struct Point {
     x: usize,
@@ -18,7 +18,7 @@ struct Point {
 }
 
 impl Point {
-    /// The place so far to the right, and so far down.
+    /// Returns the point this far to the right and this far down.
     fn by(self, right: isize, down: isize) -> Point {
         Point {
             x: self.x.saturating_add_signed(right),
@@ -27,7 +27,7 @@ impl Point {
     }
 }
 
-/// The place so many columns to the right.
+/// Returns the point this many columns to the right.
 fn behind(place: Point, columns: usize) -> Point {
     Point {
         x: place.x.saturating_add(columns.saturating_mul(8)),
@@ -35,12 +35,12 @@ fn behind(place: Point, columns: usize) -> Point {
     }
 }
 
-/// So far to the right, or to the left.
+/// Returns `by` for the direction to the right, and its negation for the left.
 fn toward(is_right: bool, by: isize) -> isize {
     if is_right { by } else { by.saturating_neg() }
 }
 
-/// Writes a line.
+/// Writes a straight line.
 fn put_wire(text: &mut Prose, from: Point, to: Point, dashes: &str) {
     text.push_with("<line x1=\"", from.x);
     text.push_with("\" y1=\"", from.y);
@@ -51,13 +51,13 @@ fn put_wire(text: &mut Prose, from: Point, to: Point, dashes: &str) {
     text.push_str("/>\n");
 }
 
-/// Writes a corner of the point of an arrow.
+/// Writes `before` and a corner of an arrowhead.
 fn put_corner(text: &mut Prose, before: &str, corner: Point) {
     text.push_with(before, corner.x);
     text.push_with(",", corner.y);
 }
 
-/// Writes the point of an arrow, with its tip and the middle of its back.
+/// Writes an arrowhead with this tip, and with `back` as the middle of its back.
 fn put_point(text: &mut Prose, tip: Point, back: Point) {
     put_corner(text, "<polygon points=\"", tip);
     put_corner(text, " ", back.by(0, -4));
@@ -74,7 +74,7 @@ fn put_dot(text: &mut Prose, middle: Point, fill: &str) {
     text.push_str("\" stroke=\"#000000\"/>\n");
 }
 
-/// Writes the end of a lane.
+/// Writes the bar at the end of a lane.
 fn put_bar(text: &mut Prose, middle: Point) {
     let corner = middle.by(-5, -2);
     text.push_with("<rect x=\"", corner.x);
@@ -82,7 +82,7 @@ fn put_bar(text: &mut Prose, middle: Point) {
     text.push_str("\" width=\"10\" height=\"4\"/>\n");
 }
 
-/// Writes the beginning of words, which take so many columns.
+/// Writes the beginning of a text that takes this many columns.
 fn begin_words(text: &mut Prose, place: Point, columns: usize) {
     text.push_with("<text x=\"", place.x);
     text.push_with("\" y=\"", place.by(0, 4).y);
@@ -90,7 +90,7 @@ fn begin_words(text: &mut Prose, place: Point, columns: usize) {
     text.push_str("\">");
 }
 
-/// Writes words.
+/// Writes a text.
 fn put_words(text: &mut Prose, place: Point, words: &[u8]) {
     begin_words(text, place, words.len());
     for byte in words {
@@ -111,19 +111,20 @@ fn put_number(text: &mut Prose, place: Point, number: u64) {
     text.push_str("</text>\n");
 }
 
-/// How low a row stands: the heads of the lanes count as the one before the first, and a lane begins half a row below them.
+/// Returns the height of a row, measured downward. Row 0 has the headings of the lanes, which begin half a row below
+/// it.
 fn height(row: usize) -> usize {
     row.saturating_mul(20).saturating_add(18)
 }
 
-/// What a lane is, and since which height.
+/// The state of a lane, and the height at which it begins.
 #[derive(Clone, Copy)]
 struct Since {
     state: State,
     height: usize,
 }
 
-/// A picture that is written piece by piece.
+/// A picture, written piece by piece.
 #[derive(Drop)]
 pub struct Svg<'r> {
     rows: &'r Rows,
@@ -132,7 +133,7 @@ pub struct Svg<'r> {
 }
 
 impl<'r> Svg<'r> {
-    /// The empty picture.
+    /// Returns an empty picture.
     fn new(rows: &'r Rows) -> Result<Svg<'r>, AllocError> {
         let mut lanes = Vec::new(rows.alloc);
         for lane in &rows.lanes {
@@ -146,7 +147,7 @@ impl<'r> Svg<'r> {
         })
     }
 
-    /// The place of a lane at a height.
+    /// Returns the point of a lane at a height.
     fn at(&self, lane: usize, height: usize) -> Point {
         Point {
             x: self.rows.column(lane).saturating_mul(8),
@@ -155,7 +156,7 @@ impl<'r> Svg<'r> {
         .by(12, 0)
     }
 
-    /// A lane is so from a height on.
+    /// Changes the state of a lane from a height on, and draws the lane above it.
     fn turn(&mut self, lane: usize, state: State, height: usize) {
         let Some(since) = self.lanes.get(lane).copied() else {
             return;
@@ -174,7 +175,7 @@ impl<'r> Svg<'r> {
         }
     }
 
-    /// Draws the ends of the lanes that live at a height.
+    /// Draws the end, at a height, of each lane with a live process.
     fn end_lanes(&mut self, height: usize) {
         for lane in 0..self.lanes.len() {
             if matches!(self.lanes.get(lane), Some(since) if since.state == State::Lives) {
@@ -184,21 +185,21 @@ impl<'r> Svg<'r> {
         }
     }
 
-    /// All lanes are empty from a height on.
+    /// Makes all lanes empty from a height on.
     fn empty_lanes(&mut self, height: usize) {
         for lane in 0..self.lanes.len() {
             self.turn(lane, State::Empty, height);
         }
     }
 
-    /// A lane becomes what a row makes of it.
+    /// Changes the state of a lane as a row does.
     fn pass(&mut self, row: &Row, lane: usize, height: usize) {
         if let Some(state) = row.makes(lane) {
             self.turn(lane, state, height);
         }
     }
 
-    /// Draws the lanes as far as a row ends them.
+    /// Changes the states of the lanes as a row does, and draws what ends there.
     fn draw_beside(&mut self, row: &Row, height: usize) {
         if matches!(row.mark, Mark::Halts) {
             self.end_lanes(height);
@@ -234,7 +235,7 @@ impl<'r> Svg<'r> {
         }
     }
 
-    /// Draws a row, but for the other lanes.
+    /// Draws a row: its event number, its words, its arrow and its mark.
     fn draw_row(&mut self, row: &Row, height: usize) {
         let place = self.at(row.lane, height);
         let indent = self.rows.margin.saturating_sub(digits(row.event));
@@ -250,7 +251,7 @@ impl<'r> Svg<'r> {
         }
     }
 
-    /// Draws the heads of the lanes.
+    /// Draws the headings of the lanes.
     fn draw_heads(&mut self) {
         let top = height(0);
         put_words(&mut self.text, Point { x: 8, y: top }, b"event");
@@ -260,14 +261,14 @@ impl<'r> Svg<'r> {
         }
     }
 
-    /// How many columns the picture has.
+    /// Returns the number of columns of the picture.
     fn width(&self) -> usize {
         let lanes = self.rows.lanes.iter().enumerate();
         let ends = lanes.map(|(place, lane)| self.rows.column(place).saturating_add(lane.reach));
         ends.max().unwrap_or(0)
     }
 
-    /// Writes the beginning of the picture: its size, and a white ground.
+    /// Writes the beginning of the picture: its size, and a white background.
     fn begin(&mut self) {
         let width = self.width().saturating_add(2).saturating_mul(8);
         let height = height(self.rows.rows.len()).saturating_add(20);

@@ -1,4 +1,4 @@
-//! Explains the lines of a trace by what their numbers mean.
+//! Explains the lines of a trace: the meaning of their numbers.
 
 ghost use Rattle.showing.specs.Explanations.{Explains};
 
@@ -19,10 +19,10 @@ impl Explain for Known {
     }
 }
 
-/// Puts a trace, and after each line what its numbers mean, if that is more than the line shows. A line that has no
-/// form of a trace line is put unchanged.
+/// Puts a trace. After each line it puts the meaning of the line's numbers, if it is more than the line shows. A line
+/// that is not a trace line is put unchanged.
 ///
-/// At an error the output took a beginning of such a text.
+/// On failure, only a beginning of such a text was put.
 pub fn explain_trace<'a, O: Sink>(
     alloc: Global,
     trace: &[u8],

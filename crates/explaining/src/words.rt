@@ -1,4 +1,4 @@
-//! The words behind `explain` and `lanes`.
+//! The arguments of `explain` and `lanes`.
 
 ghost use Rattle.std.specs.Prelude.{◌≡◌, IfOk, MatchResult, None, Some, false, map, option_map};
 ghost use Rattle.clap.specs.Words.{app_of, rule_of};
@@ -11,16 +11,16 @@ use inputs::{NoRequest, command_with_file, command_with_flag, is_used, value_of}
 use showing::Named;
 use std::alloc::{AllocError, Global};
 
-/// What the words behind `explain` ask for.
+/// The request that the arguments of `explain` make.
 #[derive(Clone, Copy)]
 pub enum Asked<'a> {
-    /// A trace alone.
+    /// Explains this trace.
     Trace(&'a str),
-    /// A trace beside what a world writes.
+    /// Compares a trace with a run of a world, and explains it.
     Beside(Named<'a>),
 }
 
-/// The name of a file, which may be missing.
+/// Returns an optional argument that names a file.
 fn more<'a>(alloc: Global, name: &'a str) -> Arg<'a>
     ensures rule { rule_of result ≡ more_rule name.entry.now }
     ensures local { result.global ≡ false }
@@ -28,7 +28,7 @@ fn more<'a>(alloc: Global, name: &'a str) -> Arg<'a>
     Arg::new(alloc, name).action(ArgAction::Set)
 }
 
-/// The command line `explain TRACE [WORLD EVENTS]`.
+/// Returns the command line `explain TRACE [WORLD EVENTS]`.
 fn command<'a>(alloc: Global) -> Result<Command<'a>, AllocError>
     ensures { IfOk result (λ c. app_of c ≡ command_line) }
 {
@@ -37,7 +37,8 @@ fn command<'a>(alloc: Global) -> Result<Command<'a>, AllocError>
         .arg(more(alloc, "events"))
 }
 
-/// What the names of files ask for.
+/// Returns the request that these file names make. Returns `None` without a trace, or with only one of world and
+/// events.
 fn asked_by<'a>(
     trace: Option<&'a str>,
     world: Option<&'a str>,
@@ -56,7 +57,7 @@ fn asked_by<'a>(
     }
 }
 
-/// What the words behind `explain` ask for.
+/// Parses the arguments of `explain`. Fails for a usage error, or if there is no memory.
 pub fn request<'a>(alloc: Global, words: &'a [&'a str]) -> Result<Asked<'a>, NoRequest>
     ensures { MatchResult result
         (λ asked. asked_in_words (map (λ w. w.now) words.entry.now) ≡ Some (said asked))
@@ -71,7 +72,8 @@ pub fn request<'a>(alloc: Global, words: &'a [&'a str]) -> Result<Asked<'a>, NoR
     .ok_or(NoRequest::Usage)
 }
 
-/// The name of the trace that the words ask to draw, and whether the picture is to be SVG.
+/// Parses the arguments of `lanes`. Returns the name of the trace, and whether the picture is SVG. Fails for a usage
+/// error, or if there is no memory.
 pub fn requested<'a>(alloc: Global, words: &'a [&'a str]) -> Result<(&'a str, bool), NoRequest>
     ensures { MatchResult result
         (λ asked. drawing_asked (map (λ w. w.now) words.entry.now) ≡ Some (asked.0.now, asked.1))

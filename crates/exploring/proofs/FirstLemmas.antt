@@ -1,4 +1,4 @@
--- The first schedules that are counted are schedules of the family.
+-- The first schedules of tallies are schedules of the family.
 use Rattle.std.proofs.Common.{◌≡◌, ℕ, List, length, sym, subst, get_or}
 use Rattle.std.proofs.lemmas.List.Elements.{All-map}
 use Rattle.posix.specs.declared.event.Event.{Event}

@@ -1,4 +1,4 @@
--- The first schedule with the first of the texts that a schedule has is one of the family.
+-- The first schedule with the first text that any schedule has is one of the family.
 use Rattle.std.proofs.Common.{ℕ, suc, List, [], ◌∷◌, Option, Some, None, arith}
 use Rattle.std.specs.Prelude.{IfSome}
 use Rattle.std.specs.List.{All}

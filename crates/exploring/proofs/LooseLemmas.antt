@@ -16,7 +16,7 @@ with_rest : (first : Option Event) (rest : Option (List Event)) → rest ≡ Non
 with_rest None rest none = refl
 with_rest (Some event) rest none = rw none refl
 
--- where one word isn't an event, they aren't
+-- If one word isn't an event, the words aren't events.
 pub no_loose : (consoles : ℕ) (words : List (Bor Text)) (i : ℕ) (d : Bor Text) → i < length words → only (event_text consoles (get_or words i d).now) ≡ None
     → loose_asked consoles (map (λ w. w.now) words) ≡ None
 no_loose consoles [] i d within none = absurd (omega (arith, within))
@@ -39,7 +39,7 @@ one_more consoles (w ∷ words) word loose event h is =
     behind (only (event_text consoles w)) (only (event_text consoles word)) (loose_asked consoles words) (loose_asked consoles (words ++ word ∷ [])) event loose is
     (λ events so_far. one_more consoles words word events event so_far is) h
 
--- with the event of one more word
+-- With the event of one more word.
 pub loose_more : (consoles : ℕ) (words : List (Bor Text)) (i : ℕ) (d : Bor Text) (loose new : List Event) (event : Event) (ok : Bool) → i < length words → ok ≡ true
     → loose_asked consoles (map (λ w. w.now) (take i words)) ≡ Some loose → only (event_text consoles (get_or words i d).now) ≡ Some event → new ≡ (if ok then loose ++ event ∷ [] else loose)
     → loose_asked consoles (map (λ w. w.now) (take (i + 1) words)) ≡ Some new
@@ -48,7 +48,7 @@ loose_more consoles words i d loose new event ok within is_ok h is grown =
     ap (λ ws. loose_asked consoles (map now ws)) (take_more words i d within) ∙ ap (loose_asked consoles) (map-append now (take i words) (get_or words i d ∷ []))
     ∙ one_more consoles (map now (take i words)) (get_or words i d).now loose event h is ∙ ap Some (sym (grown ∙ ap (λ b. if b then loose ++ event ∷ [] else loose) is_ok))
 
--- a failure is told, as it was
+-- A failure is passed on unchanged.
 pub told_word : {T : Type 0} (r : Result T Failure) (P : T → Type 0) (A B : Type 0) (e : Failure) → IsErrAnd r (λ why. why ≡ e) → (A → B) → (status_of e ≡ 3) ⊎ ((status_of e ≡ 2) × A)
     → MatchResult r P (λ why. (status_of why ≡ 3) ⊎ ((status_of why ≡ 2) × B))
 told_word (Ok x) P A B e h from why = absurd h

@@ -23,48 +23,48 @@ means_cut_short : {S : Type 0} (contents : Contents) (asked : Option Asked) (old
     → (new ≡ old) ⊎ IsSomeAnd asked (λ a. (told : Bool) × IsExplored contents a told (BreaksOff before after)) → Means contents asked old new before after status
 means_cut_short contents asked old new before after status is h = record { done = λ e. absurd (omega (arith, e, is)); told = λ e. absurd (omega (arith, e, is)); refused = λ e. absurd (omega (arith, e, is)); other_words = λ e. absurd (omega (arith, e, is)); cut_short = λ e. h }
 
--- memory was refused
+-- Memory ran out.
 pub means_memory : {S : Type 0} (contents : Contents) (asked : Option Asked) (old : S) (before after : Seen) (r : Result Bool Failure) → IsErrAnd r (λ why. why ≡ failure.Memory)
     → Means contents asked old old before after (answer_of r)
 means_memory contents asked old before after (Ok told) h = absurd h
 means_memory contents asked old before after (Err why) h = rw h (means_cut_short contents asked old old before after 3 refl (inl refl))
 
--- a put failed behind all runs
+-- Writing failed after all runs.
 pub means_unwritten : {S : Type 0} (contents : Contents) (a : Asked) (old new : S) (before after : Seen) (told : Bool) (r : Result Bool Failure) → IsErrAnd r (λ why. why ≡ failure.Write)
     → IsExplored contents a told (BreaksOff before after) → Means contents (Some a) old new before after (answer_of r)
 means_unwritten contents a old new before after told (Ok other) h explored = absurd h
 means_unwritten contents a old new before after told (Err why) h explored = rw h (means_cut_short contents (Some a) old new before after 3 refl (inr (told, explored)))
 
--- the words' parts are known, and the status
+-- The separated arguments and the status are known.
 pub means_alike : {S : Type 0} (contents : Contents) (p q : Parted) (old new : S) (before after : Seen) (status known : ℕ) → p ≡ q → status ≡ known
     → Means contents (asked_by_parts p) old new before after known → Means contents (asked_by_parts q) old new before after status
 means_alike contents p q old new before after status known same is h =
     subst (λ n. Means contents (asked_by_parts q) old new before after n) (sym is) (subst (λ x. Means contents (asked_by_parts x) old new before after known) same h)
 
--- ---- what is put in
+-- ---- what is inserted
 
 pub in_range : (a : Asked) (consoles n : ℕ) (p : Put) (states : ℕ) → ticks_asked a.ticks ≡ Some p.ticks → upto_asked n a.upto ≡ Some p.upto → states_asked a.states ≡ Some states
     → loose_asked consoles a.anywhere ≡ Some p.loose → can_be_put (a.all || a.outcomes) p.upto (length p.loose) ≡ true
     → are_run a.all a.outcomes (length (schedules_of p)) (n + (p.ticks + length p.loose)) ≡ true → family_asked a consoles n ≡ Some p
 in_range a consoles n p states ticks_are upto_is states_are loose_are put run = rw (ticks_are, upto_is, states_are, loose_are, put, run) refl
 
--- a word isn't an event
+-- A word isn't an event.
 pub no_event : (a : Asked) (consoles n ticks upto states : ℕ) → ticks_asked a.ticks ≡ Some ticks → upto_asked n a.upto ≡ Some upto → states_asked a.states ≡ Some states
     → loose_asked consoles a.anywhere ≡ None → family_asked a consoles n ≡ None
 no_event a consoles n ticks upto states ticks_are upto_is states_are none = rw (ticks_are, upto_is, states_are, none) refl
 
--- the loose events can't be put in
+-- The loose events can't be inserted.
 pub no_place : (a : Asked) (consoles n : ℕ) (p : Put) (states : ℕ) → ticks_asked a.ticks ≡ Some p.ticks → upto_asked n a.upto ≡ Some p.upto → states_asked a.states ≡ Some states
     → loose_asked consoles a.anywhere ≡ Some p.loose → can_be_put (a.all || a.outcomes) p.upto (length p.loose) ≡ false → family_asked a consoles n ≡ None
 no_place a consoles n p states ticks_are upto_is states_are loose_are put = rw (ticks_are, upto_is, states_are, loose_are, put) refl
 
--- there are too many schedules
+-- There are too many schedules.
 pub too_many : (a : Asked) (consoles n : ℕ) (p : Put) (states : ℕ) → ticks_asked a.ticks ≡ Some p.ticks → upto_asked n a.upto ≡ Some p.upto → states_asked a.states ≡ Some states
     → loose_asked consoles a.anywhere ≡ Some p.loose → can_be_put (a.all || a.outcomes) p.upto (length p.loose) ≡ true
     → are_run a.all a.outcomes (length (schedules_of p)) (n + (p.ticks + length p.loose)) ≡ false → family_asked a consoles n ≡ None
 too_many a consoles n p states ticks_are upto_is states_are loose_are put run = rw (ticks_are, upto_is, states_are, loose_are, put, run) refl
 
--- words that are out of range, or memory was refused
+-- A value is out of range, or memory ran out.
 pub means_refused : {S : Type 0} (contents : Contents) (a : Asked) (old : S) (before after : Seen) (world : World) (events : List Event) (r : Result Bool Failure) (e : Failure) (A : Type 0)
     → IsErrAnd r (λ why. why ≡ e) → AreRead contents (a.world, a.events) world events → (A → family_asked a world.consoles (length events) ≡ None) → (status_of e ≡ 3) ⊎ ((status_of e ≡ 2) × A)
     → Means contents (Some a) old old before after (answer_of r)
@@ -107,7 +107,7 @@ means_unmatchable contents a old before after (Err f) e h (inr two) = by (status
       cut_short = λ e. absurd (omega (arith, e, is));
     }
 
--- all schedules of the family were run, and the text was put that is asked for
+-- All schedules of the family were run, and the text that is asked for was written.
 pub explored : (contents : Contents) (a : Asked) (world : World) (events : List Event) (p : Put) (states : ℕ) (written : Written) (book : BookView) (told : Bool) (text : List ℕ) (IsPut : List ℕ → Type 0)
     → AreRead contents (a.world, a.events) world events → All CanBeShown a.finds → ticks_asked a.ticks ≡ Some p.ticks → upto_asked (length events) a.upto ≡ Some p.upto → states_asked a.states ≡ Some states
     → loose_asked world.consoles a.anywhere ≡ Some p.loose → can_be_put (a.all || a.outcomes) p.upto (length p.loose) ≡ true

@@ -1,4 +1,4 @@
--- What the program answers.
+-- What the program does for its arguments, and what its exit status means.
 use Rattle.std.specs.Prelude.{◌≡◌, ◌⊎◌, All, ℕ, ◌==◌, ◌||◌, ◌&&◌, not, Bool, true, false, List, length, Option, None, Some, Result, Ok, Err, IfSome, IsSomeAnd, slice_get}
 use Rattle.std.specs.List.{list_any}
 use Rattle.posix.specs.declared.event.Event.{Event}
@@ -22,7 +22,8 @@ use Rattle.exploring.specs.Words.{Asked, Put, family_asked, ticks_asked, written
 
 -- ---- statuses
 
--- The status of a failure: 1 for a refused text, 2 for other words, 3 for a device or memory.
+-- The status of a failure: 1 for a rejected input, 2 for a usage error, 3 for an I/O error, for too many states, or if
+-- memory ran out.
 abbrev pub status_of : Failure → ℕ
 status_of (Input why) = status_of_input why
 status_of Usage = 2
@@ -44,7 +45,7 @@ status_of (ManyStates most place) = 3
 status_of Memory = 3
 status_of Write = 3
 
--- and of any end
+-- The status of any result.
 abbrev pub answer_of : Result Bool Failure → ℕ
 answer_of (Ok false) = 0
 answer_of (Ok true) = 4
@@ -58,20 +59,20 @@ abbrev pub failure_at : Stop → Failure
 failure_at stop.Memory = Memory
 failure_at (stop.States most place) = ManyStates most place
 
--- ---- what is told
+-- ---- what makes the status 4
 
--- a schedule has a text
+-- A schedule has a text of `--find`.
 abbrev pub is_found : BookView → Bool
 is_found b = list_any (λ f. not (f.tally.count == 0)) b.finds
 
 abbrev pub all_halt : BookView → Bool
 all_halt b = b.endings.at_rest.count == 0 && b.endings.going.count == 0
 
--- A schedule has a text that is looked for, or doesn't halt where all have to.
+-- A schedule has a text of `--find`, or one doesn't halt although all must.
 abbrev pub is_told : Bool → BookView → Bool
 is_told must_halt b = is_found b || must_halt && not (all_halt b)
 
--- what is put in, in all ways
+-- All schedules that insert these events.
 abbrev pub schedules_of : Put → List Spots
 schedules_of p = family p.upto p.ticks (length p.loose)
 
@@ -82,8 +83,9 @@ book_asked world events texts p = book_over world p.loose events texts (schedule
 abbrev pub OneIsUnmatchable : List Text → Type 0
 OneIsUnmatchable texts = (i : ℕ) × (t : Text) × (slice_get texts i ≡ Some t) × IsShownByNone t
 
--- The request was explored, with this answer. The files are a world and events for it, and all schedules of the family were counted. The text for
--- the output is the report, or the schedule that `--write` asks for. For each text of `--find`, a line can match it.
+-- The request was explored, with this answer. The files are a world and events for it, and all schedules of the family
+-- were counted. The text for the output is the report, or the schedule that `--write` asks for. For each text of
+-- `--find`, a line can match it.
 pub record IsExplored (contents : Contents) (a : Asked) (told : Bool) (IsPut : List ℕ → Type 0) : Type 0 where
   pub world : World
   pub events : List Event
@@ -98,21 +100,22 @@ pub record IsExplored (contents : Contents) (a : Asked) (told : Bool) (IsPut : L
   pub is_as_asked : IsAsFor written put_in.loose events put_in.upto put_in.ticks (book_asked world events a.finds put_in) text
   pub put : IsPut text
 
--- A number is out of range, a word isn't an event or a schedule, no sample line can be made to match a text of `--find`, or there are too many
--- schedules.
+-- A number is out of range, a word is not an event or names no schedule, no sample line can be made to match a text of
+-- `--find`, or there are too many schedules.
 abbrev pub IsOutOfRange : Contents → Asked → Type 0
 IsOutOfRange contents a = (ticks_asked a.ticks ≡ None) ⊎ ((written_asked a.write ≡ None) ⊎ (OneIsUnmatchable a.finds
     ⊎ ((world : World) × (events : List Event) × AreRead contents (a.world, a.events) world events × (family_asked a world.consoles (length events) ≡ None))))
 
 -- ---- what a status means
 
--- What a status means, with what is asked for, if something is, the files, and the output from the call to the return.
+-- What a status means, by the files, what the arguments ask for if they are accepted, and the output before and after
+-- the call.
 pub record Means {S : Type 0} (contents : Contents) (asked : Option Asked) (old new : S) (before after : Seen) (status : ℕ) : Type 0 where
   pub done : status ≡ 0 → IsSomeAnd asked (λ a. IsExplored contents a false (TakesAll before after))
   pub told : status ≡ 4 → IsSomeAnd asked (λ a. IsExplored contents a true (TakesAll before after))
-  -- a text is refused
+  -- An input is rejected.
   pub refused : status ≡ 1 → IsSomeAnd asked (λ a. AreRefused contents (a.world, a.events)) × (new ≡ old)
-  -- other words, or a number out of range
+  -- The arguments are a usage error, or a number is out of range.
   pub other_words : status ≡ 2 → IfSome asked (IsOutOfRange contents) × (new ≡ old)
-  -- nothing was put, or a beginning of the text after all schedules were counted
+  -- Nothing was written, or only a beginning of the text, after all schedules were counted.
   pub cut_short : status ≡ 3 → (new ≡ old) ⊎ IsSomeAnd asked (λ a. (told : Bool) × IsExplored contents a told (BreaksOff before after))

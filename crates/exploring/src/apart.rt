@@ -1,4 +1,4 @@
-//! What sets the lines of a run apart from those of another one: the lines of each process are compared in their order.
+//! The first difference between the lines of two runs. The lines are compared process by process.
 
 ghost use Rattle.std.specs.Prelude.{◌≡◌, ◌↔◌, IfSome, IsNone, IsTrue, Some, option_map};
 ghost use Rattle.std.specs.Option.{option_copied};
@@ -8,14 +8,14 @@ use counting::{Line, process_number, shown};
 use std::alloc::{AllocError, Global};
 use std::collections::HashMap;
 
-/// A line of a run, and what another run has in its place, if anything.
+/// A line of a run, and the line of another run in its place, if there is one.
 #[derive(Clone, Copy)]
 pub struct Unlike {
     pub line: Line,
     pub other: Option<Line>,
 }
 
-/// Whether two lines are the same but for the numbers of their events.
+/// Returns true if two lines are equal except for their event numbers.
 fn is_alike(line: &Line, other: &Line) -> bool
     ensures { IsTrue result ↔ (shown_of line.now.entry ≡ shown_of other.now.entry) }
 {
@@ -23,7 +23,7 @@ fn is_alike(line: &Line, other: &Line) -> bool
     shown(line.entry(), &mut room) == shown(other.entry(), &mut other_room)
 }
 
-/// A line, where another run has none like it in its place.
+/// Returns a line with the other run's line in its place, unless they are equal except for their event numbers.
 fn unlike_of(line: &Line, other: Option<&Line>) -> Option<Unlike>
     ensures alike { IsNone result ↔ (option_map (λ l. shown_of l.entry) (option_copied other.entry) ≡ Some (shown_of line.now.entry)) }
     ensures unlike { IfSome result (λ unlike. (unlike.line ≡ line.now) × (unlike.other ≡ option_copied other.entry)) }
@@ -39,7 +39,7 @@ fn unlike_of(line: &Line, other: Option<&Line>) -> Option<Unlike>
     }
 }
 
-/// Where the lines of each process begin among lines that are sorted by processes.
+/// Returns, for each process, where its lines begin among lines that are sorted by process.
 fn starts_of(alloc: Global, sorted: &[Line]) -> Result<HashMap<u32, usize>, AllocError> {
     let mut starts = HashMap::new(alloc);
     for (place, line) in sorted.iter().enumerate() {
@@ -51,7 +51,7 @@ fn starts_of(alloc: Global, sorted: &[Line]) -> Result<HashMap<u32, usize>, Allo
     Ok(starts)
 }
 
-/// The next line of a process among lines that are sorted by processes, if it has one more.
+/// Returns the next line of a process among lines that are sorted by process, if there is one.
 fn next_of<'a>(
     places: &mut HashMap<u32, usize>,
     sorted: &'a [Line],
@@ -67,7 +67,9 @@ fn next_of<'a>(
     }
 }
 
-/// The first line of a run that another run doesn't have in its place.
+/// Returns the first line of a run that differs from the other run's line in its place, if there is one.
+///
+/// The place of a line is its process and its number among the lines of that process.
 pub fn first_unlike(
     alloc: Global,
     lines: &[Line],

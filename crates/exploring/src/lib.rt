@@ -1,5 +1,5 @@
-//! What `explore` does: all schedules of a family are counted, by how they end and by texts that their lines have, and a
-//! text tells of them. The program adds the host alone.
+//! Implements `explore`: counts all schedules of a family, by how they end and by the texts that their lines have, and
+//! writes a report. The program adds only the host.
 //!
 //! `serve` says what an exit status means (`Means`), by what the arguments ask for (`request_of_words`). All schedules
 //! of the family were counted with status 0 or 4; the output has their counts and the first of each kind (`Reports`),

@@ -1,4 +1,4 @@
-//! What is told of a family whose schedules were counted.
+//! The report on a family whose schedules were counted.
 
 ghost use Rattle.std.specs.Prelude.{◌≡◌, ◌++◌, All, IfOk, OnOk, length};
 ghost use Rattle.std.specs.String.{string_bytes};
@@ -20,20 +20,20 @@ use std::fmt::Write;
 use trace::print_entry;
 use wording::{Listing, plural};
 
-/// So many outcomes are shown at most.
+/// The most outcomes that are shown.
 const MOST_SHOWN: usize = 20;
 
-/// So many of the last lines of an outcome's first schedule are shown at most.
+/// The most lines that are shown from the end of the trace of an outcome's first schedule.
 const LAST_LINES: usize = 6;
 
-/// `s`, or nothing behind one.
+/// Returns the ending of a plural: `s`, or nothing after 1.
 fn plural_behind(count: &Count) -> &'static str
     ensures { result.now ≡ plural_of count.now }
 {
     if count.is_one() { "" } else { "s" }
 }
 
-/// How a run ends, in words.
+/// Returns how a run ends, in words.
 fn ending_words(ending: Ending) -> &'static str {
     match ending {
         Ending::Halted => "halts",
@@ -42,7 +42,7 @@ fn ending_words(ending: Ending) -> &'static str {
     }
 }
 
-/// Writes the text of the events of a schedule, with comments that say whose turns the ticks take that are put in.
+/// Writes the events of a schedule as a text. A comment on each inserted tick says which process the tick preempts.
 pub fn write_schedule(
     alloc: Global,
     text: &mut String,
@@ -79,7 +79,7 @@ fn write_size(text: &mut String, size: &Count, family: &Family<'_>) -> Result<()
     )
 }
 
-/// Writes a count in digits, behind blanks up to eight places.
+/// Writes a count in digits, right-aligned in eight columns.
 fn write_to_the_right(text: &mut String, count: &Count) -> Result<(), AllocError>
     ensures { OnOk result (string_bytes text.new ≡ string_bytes text.old ++ right_aligned count.now) }
 {
@@ -90,7 +90,7 @@ fn write_to_the_right(text: &mut String, count: &Count) -> Result<(), AllocError
     text.push_str(digits.as_str())
 }
 
-/// Writes how many of them end so.
+/// Writes how many schedules end in one way.
 fn write_ending(text: &mut String, count: &Count, words: &str) -> Result<(), AllocError>
     ensures { OnOk result (string_bytes text.new ≡ string_bytes text.old ++ ending_line count.now words.now) }
 {
@@ -98,17 +98,17 @@ fn write_ending(text: &mut String, count: &Count, words: &str) -> Result<(), All
     writeln!(text, " {words}")
 }
 
-/// Writes how many come to rest, and how many of these wait for an alarm, if any do.
+/// Writes how many schedules come to rest, and if some of these wait for an alarm, how many do.
 fn write_at_rest(text: &mut String, endings: &Endings) -> Result<(), AllocError>
     ensures { OnOk result (string_bytes text.new ≡ string_bytes text.old ++ at_rest_lines endings.now) }
 {
     let resting = endings.at_rest.count();
-    write_ending(text, resting, "come to rest: no process can act")?;
+    write_ending(text, resting, "come to rest: no process is runnable")?;
     let alarmed = endings.alarmed.count();
     if alarmed.is_zero() {
         return Ok(());
     }
-    write_ending(text, alarmed, "of these wait for an alarm: give ticks")
+    write_ending(text, alarmed, "of these wait for an alarm: try more ticks")
 }
 
 /// Writes how many schedules there are, and how they end.
@@ -126,7 +126,7 @@ fn write_endings(
     write_ending(text, endings.going.count(), "are still going")
 }
 
-/// Writes how many states schedules were told apart by that met in them, if any were.
+/// Writes how many states the schedules were merged into, if they were merged.
 fn write_states(text: &mut String, states: u64) -> Result<(), AllocError>
     ensures { OnOk result (string_bytes text.new ≡ string_bytes text.old ++ states_line states) }
 {
@@ -136,11 +136,11 @@ fn write_states(text: &mut String, states: u64) -> Result<(), AllocError>
     let s = plural(states);
     writeln!(
         text,
-        "told apart by {states} state{s} where no more is put in"
+        "merged into {states} state{s} after the last possible insertion"
     )
 }
 
-/// Writes the first schedule that does something, if one does.
+/// Writes the first schedule of a tally, if there is one, with a heading that says what the schedule does.
 fn write_first(
     alloc: Global,
     text: &mut String,
@@ -159,7 +159,7 @@ fn write_first(
     write_schedule(alloc, text, family, listing, spots)
 }
 
-/// Writes which schedules have a text in a line.
+/// Writes how many schedules have a text in a line, and the first of them.
 fn write_find(
     alloc: Global,
     text: &mut String,
@@ -182,7 +182,7 @@ fn write_find(
     write_schedule(alloc, text, family, listing, spots)
 }
 
-/// Writes which schedules have each text in a line.
+/// Writes, for each text, how many schedules have it in a line, and the first of them.
 fn write_finds(
     alloc: Global,
     text: &mut String,
@@ -199,7 +199,7 @@ fn write_finds(
     Ok(())
 }
 
-/// Writes a line as a trace has it, behind four blanks.
+/// Writes a trace line, indented by four spaces.
 fn write_line(text: &mut String, line: &Line) -> Result<(), AllocError> {
     text.push_str("    ")?;
     let printed = print_entry(line.event(), line.entry());
@@ -209,7 +209,7 @@ fn write_line(text: &mut String, line: &Line) -> Result<(), AllocError> {
     Ok(())
 }
 
-/// Writes lines as a trace has them, each behind four blanks.
+/// Writes trace lines, each indented by four spaces.
 fn write_lines(text: &mut String, lines: &[Line]) -> Result<(), AllocError> {
     for line in lines {
         write_line(text, line)?;
@@ -220,25 +220,25 @@ fn write_lines(text: &mut String, lines: &[Line]) -> Result<(), AllocError> {
 /// Writes the last lines of a run.
 fn write_last(text: &mut String, lines: &[Line]) -> Result<(), AllocError> {
     if lines.is_empty() {
-        return text.push_str("  without a line\n");
+        return text.push_str("  no lines\n");
     }
-    text.push_str("  with the last lines\n")?;
+    text.push_str("  last lines\n")?;
     let from = lines.len().saturating_sub(LAST_LINES);
     write_lines(text, &lines[from..])
 }
 
-/// Writes a line that the first outcome's run doesn't have, and what it has in its place.
+/// Writes the first line of a run that differs from the run of the first outcome, and that run's line, if it has one.
 fn write_unlike(text: &mut String, unlike: &Unlike) -> Result<(), AllocError> {
-    text.push_str("  the first line unlike those of 1\n")?;
+    text.push_str("  first difference from outcome 1\n")?;
     write_line(text, &unlike.line)?;
     let Some(other) = &unlike.other else {
         return Ok(());
     };
-    text.push_str("  in place of\n")?;
+    text.push_str("  where outcome 1 has\n")?;
     write_line(text, other)
 }
 
-/// Writes what sets the lines of a run apart from those of the first outcome's run.
+/// Writes the first difference between the lines of a run and those of the run of the first outcome.
 fn write_apart(
     alloc: Global,
     text: &mut String,
@@ -251,12 +251,12 @@ fn write_apart(
     let Some(missing) = first_unlike(alloc, first, lines)? else {
         return Ok(());
     };
-    text.push_str("  without the line of 1\n")?;
+    text.push_str("  lacks this line of outcome 1\n")?;
     write_line(text, &missing.line)
 }
 
-/// Writes the first schedule of an outcome, what sets its run apart from that of the first outcome, if it is another, and
-/// its last lines. The lines of its run.
+/// Writes the first schedule of an outcome and the last lines of its run, and returns the lines of the run. If `first`
+/// has the lines of the first outcome, writes the first difference from them, too.
 fn write_run(
     alloc: Global,
     text: &mut String,
@@ -280,7 +280,7 @@ fn write_run(
     Ok(lines)
 }
 
-/// Writes how many schedules have an outcome, and the run of the first of them. The lines of that run.
+/// Writes how many schedules have an outcome, and the run of the first of them. Returns the lines of that run.
 fn write_outcome(
     alloc: Global,
     text: &mut String,
@@ -296,7 +296,7 @@ fn write_outcome(
     write_run(alloc, text, family, listing, outcome.first(), first)
 }
 
-/// Writes the most frequent outcomes.
+/// Writes these outcomes, numbered from 1.
 fn write_some(
     alloc: Global,
     text: &mut String,
@@ -315,7 +315,7 @@ fn write_some(
     Ok(())
 }
 
-/// What is told of the outcomes: nothing, where schedules were told apart by states.
+/// Returns the part of the report on the outcomes, which is empty if the schedules were merged.
 fn outcomes_of(
     alloc: Global,
     family: &Family<'_>,
@@ -345,7 +345,7 @@ fn outcomes_of(
     Ok(text)
 }
 
-/// What is told of a family.
+/// Returns the report on a family whose schedules were counted.
 pub fn report(
     alloc: Global,
     family: &Family<'_>,

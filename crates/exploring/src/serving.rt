@@ -1,4 +1,4 @@
-//! What the program does: its texts and its statuses.
+//! Serves the command line: the output, the messages and the exit status.
 
 ghost use Rattle.std.specs.Prelude.{◌≡◌, ◌⊎◌, ◌+◌, ◌≤◌, ◌||◌, All, false, true, Bool, ℕ, List, [], length, Result, MatchResult, IfOk, IfSome, IsNone, None, OnErr, OnOk, Some, map, option_map};
 ghost use Rattle.std.specs.String.{string_bytes};
@@ -27,40 +27,40 @@ use std::alloc::{AllocError, Global};
 use text::{TextFault, read_events};
 use thiserror::Error;
 
-/// Why the program doesn't end with status 0.
+/// A failure, with its message. The exit status is 1, 2 or 3.
 #[derive(Clone, Copy, Debug, Error)]
 enum Failure<'a> {
     #[error("usage: jobk explore WORLD EVENTS [--ticks K] [--upto N] [--states N] [--anywhere EVENT].. [--find TEXT].. [--must-halt] [--all] [--outcomes] [--write WHICH]")]
     Usage,
-    #[error("jobk: --ticks takes a number from 0 to {0}")]
+    #[error("jobk: --ticks: expected a number from 0 to {0}")]
     Ticks(usize),
-    #[error("jobk: --upto takes a number")]
+    #[error("jobk: --upto: expected a number of events")]
     Upto,
-    #[error("jobk: --states takes a number up to {0}")]
+    #[error("jobk: --states: expected a number from 0 to {0}")]
     States(u64),
-    #[error("jobk: --upto {0} is above the number of events, which is {1}")]
+    #[error("jobk: --upto {0}: expected at most {1}, the number of events")]
     UptoAbove(u64, u64),
-    #[error("jobk: --anywhere takes one event, as a line of an event text has it")]
+    #[error("jobk: --anywhere: expected one event of this world, such as `key 1 1A`")]
     NotOneEvent,
-    #[error("jobk: --anywhere is for at most {0} events")]
+    #[error("jobk: --anywhere: expected at most {0} events")]
     TooManyAnywhere(usize),
-    #[error("jobk: --anywhere needs an event to stand before")]
+    #[error("jobk: --anywhere: expected an event to insert before; there are no events, or --upto is 0")]
     NoEventBehind,
-    #[error("jobk: --all runs schedules one after another, which --anywhere doesn't")]
+    #[error("jobk: --all cannot be combined with --anywhere")]
     AllAnywhere,
-    #[error("jobk: --outcomes runs schedules one after another, which --anywhere doesn't")]
+    #[error("jobk: --outcomes cannot be combined with --anywhere")]
     OutcomesAnywhere,
-    #[error("jobk: --write takes rest, going, find, or the number of an outcome")]
+    #[error("jobk: --write: expected rest, going, find, or the number of an outcome")]
     Which,
     #[error("jobk: --find: {0}")]
     Unmatchable(Unmatchable<'a>),
-    #[error("jobk: --outcomes tells of up to {0} schedules and {1} events in all: say fewer by --ticks or --upto")]
+    #[error("jobk: --outcomes: expected at most {0} schedules and {1} events in all; lower --ticks or --upto")]
     TooManyOutcomes(u64, u64),
-    #[error("jobk: --outcomes tells of up to {0} schedules with --all: say fewer by --ticks or --upto")]
+    #[error("jobk: --outcomes: expected at most {0} schedules with --all; lower --ticks or --upto")]
     TooManyForAll(u64),
-    #[error("jobk: more than {0} states behind event {1}: say more by --states, or fewer ticks or places by --ticks or --upto")]
+    #[error("jobk: --states {0} is too low after event {1}; raise it, or lower --ticks or --upto")]
     ManyStates(usize, u64),
-    #[error("jobk: schedules of up to {0} events: a run has at most {1}; say fewer by --ticks")]
+    #[error("jobk: schedules would have up to {0} events, but a run has at most {1}; lower --ticks")]
     TooManyEvents(u64, u64),
     #[error("jobk: {0}")]
     Input(InputFault<'a>),
@@ -70,19 +70,19 @@ enum Failure<'a> {
     Write,
 }
 
-/// No more states than this can be kept before one event.
+/// The largest number that `--states` accepts.
 const MOST_STATES: u64 = 10_000_000;
 
-/// More schedules than this aren't run one after another.
+/// The most schedules that are run separately.
 const MOST_OF_ALL: u64 = u64::MAX;
 
-/// More schedules than this are run one after another with `--all` alone.
+/// The most schedules that are run separately without `--all`.
 const MOST_SCHEDULES: u64 = 10_000_000;
 
-/// More events of all schedules than this are given one after another with `--all` alone.
+/// The most events of all schedules together, if they are run separately without `--all`.
 const MOST_GIVEN: u64 = 10_000_000_000;
 
-/// A run has at most so many events.
+/// The most events of a run.
 const MOST_EVENTS: u64 = 1_000_000_000_000;
 
 impl From<AllocError> for Failure<'_> {
@@ -142,7 +142,7 @@ impl<'a> From<InputFault<'a>> for Failure<'a> {
 }
 
 impl Failure<'_> {
-    /// The status of the program.
+    /// Returns the exit status.
     fn status(self) -> u8
         ensures least { 1 ≤ result }
         ensures most { result ≤ 3 }
@@ -170,7 +170,7 @@ impl Failure<'_> {
     }
 }
 
-/// How many ticks are put in at most: 2, if not named.
+/// Returns the most ticks that a schedule inserts (default: 2). Fails if the word is not a number up to `MOST_TICKS`.
 fn ticks_of<'a>(word: Option<&str>) -> Result<usize, Failure<'a>>
     ensures { MatchResult result
         (λ ticks. (ticks ≤ MOST_TICKS) × (ticks_asked (option_map (λ w. w.now) word.entry) ≡ Some ticks))
@@ -182,7 +182,8 @@ fn ticks_of<'a>(word: Option<&str>) -> Result<usize, Failure<'a>>
     }
 }
 
-/// Before how many events ticks are put in: all, if not named.
+/// Returns before how many events a schedule can insert (default: all). Fails if the word is not a number, or if there
+/// are fewer events.
 fn upto_of<'a>(word: Option<&str>, events: u64) -> Result<u64, Failure<'a>>
     ensures { MatchResult result
         (λ upto. (upto ≤ events) × (upto_asked events (option_map (λ w. w.now) word.entry) ≡ Some upto))
@@ -195,7 +196,8 @@ fn upto_of<'a>(word: Option<&str>, events: u64) -> Result<u64, Failure<'a>>
     }
 }
 
-/// How many states are kept before one event: 50,000, if not named.
+/// Returns the most states that are kept before one event (default: 50,000). Fails if the word is not a number up to
+/// `MOST_STATES`.
 fn states_of<'a>(word: Option<&str>) -> Result<usize, Failure<'a>>
     ensures { MatchResult result
         (λ states. states_asked (option_map (λ w. w.now) word.entry) ≡ Some states)
@@ -207,7 +209,7 @@ fn states_of<'a>(word: Option<&str>) -> Result<usize, Failure<'a>>
     }
 }
 
-/// What is put: the report, if nothing is named.
+/// Returns what is written (default: the report). Fails if the word names no schedule.
 fn written_of<'a>(word: Option<&str>) -> Result<Written, Failure<'a>>
     ensures { MatchResult result
         (λ written. written_asked (option_map (λ w. w.now) word.entry) ≡ Some written)
@@ -232,7 +234,7 @@ fn check_finds<'a>(alloc: Global, texts: &[&'a str]) -> Result<(), Failure<'a>>
     }
 }
 
-/// Why a word isn't the text of an event: want of memory is no fault of it.
+/// Returns the failure for a word that was not read as one event. If memory ran out, the word itself may be right.
 fn failure_of_word<'a>(fault: TextFault) -> Failure<'a>
     ensures { (meaning : Result (List EventValue) TextFaultValue) → IsFaultOf meaning fault
         → (status_of result ≡ 3) ⊎ ((status_of result ≡ 2) × (only meaning ≡ None)) }
@@ -240,7 +242,7 @@ fn failure_of_word<'a>(fault: TextFault) -> Failure<'a>
     fault.unless_memory(Failure::NotOneEvent, Failure::Memory)
 }
 
-/// The one event of a text, in a world of so many consoles.
+/// Returns the event of a word, in a world with this many consoles. Fails if the word is not the text of one event.
 fn event_of<'a>(alloc: Global, consoles: u8, word: &str) -> Result<Event, Failure<'a>>
     ensures { MatchResult result
         (λ event. only (event_text consoles word.now) ≡ Some event)
@@ -256,7 +258,7 @@ fn event_of<'a>(alloc: Global, consoles: u8, word: &str) -> Result<Event, Failur
     event_at(&events, 0).ok_or(Failure::NotOneEvent)
 }
 
-/// The events of words, each of which is the text of one.
+/// Returns the events of words. Fails if a word is not the text of one event.
 fn events_of_words<'a>(
     alloc: Global,
     consoles: u8,
@@ -276,8 +278,8 @@ fn events_of_words<'a>(
     Ok(loose)
 }
 
-/// Refuses loose events that can't be put in: too many, before no event, or into schedules that are run one after
-/// another, as they are with `--all` and `--outcomes`.
+/// Rejects loose events that can't be inserted: more than `MOST_LOOSE`, if there is no event to insert before, or with
+/// `--all` or `--outcomes`, for which schedules are run separately.
 fn fit_in<'a>(loose: &[Event], upto: u64, all: bool, outcomes: bool) -> Result<(), Failure<'a>>
     ensures fit { MatchResult result
         (λ _. can_be_put (all || outcomes) upto (length loose.now) ≡ true)
@@ -303,8 +305,8 @@ fn fit_in<'a>(loose: &[Event], upto: u64, all: bool, outcomes: bool) -> Result<(
     Ok(())
 }
 
-/// Whether so many schedules, the longest of so many events, are run one after another: all that can be counted so, or those
-/// that take little time.
+/// Returns true if this many schedules, the longest with this many events, are run separately: with `--all`, or if
+/// that takes little time.
 fn are_run_each(size: u64, longest: u64, all: bool) -> bool
     requires { longest ≤ most_events }
     ensures { result ≡ each_is_run all size longest }
@@ -312,7 +314,7 @@ fn are_run_each(size: u64, longest: u64, all: bool) -> bool
     all || (size <= MOST_SCHEDULES && size * longest <= MOST_GIVEN)
 }
 
-/// How many schedules there are, the longest of so many events, if they are run one after another.
+/// Returns the number of schedules, the longest with this many events, if they are run separately.
 fn size_of_each(upto: u64, ticks: usize, loose: usize, longest: u64, all: bool) -> Option<u64>
     requires ticks { ticks ≤ MOST_TICKS }
     requires loose { loose ≤ MOST_LOOSE }
@@ -329,7 +331,7 @@ fn size_of_each(upto: u64, ticks: usize, loose: usize, longest: u64, all: bool) 
     }
 }
 
-/// Why the outcomes of schedules that aren't run one after another can't be told.
+/// Returns why `--outcomes` is rejected for schedules that are not run separately: there are too many.
 fn no_outcomes<'a>(all: bool) -> Failure<'a>
     ensures { status_of result ≡ 2 }
 {
@@ -340,8 +342,8 @@ fn no_outcomes<'a>(all: bool) -> Failure<'a>
     }
 }
 
-/// How many schedules are run one after another; none where states are gone on with in which they meet. Refuses schedules of
-/// which one is too long, and those whose outcomes are to be told and that aren't run one after another.
+/// Returns the number of schedules if they are run separately, and `None` if they are merged. Fails if a schedule would
+/// be too long for a run, or if there are too many schedules for `--outcomes`.
 fn size_of<'a>(
     upto: u64,
     ticks: usize,
@@ -370,7 +372,8 @@ fn size_of<'a>(
     }
 }
 
-/// The book of a family, by so many schedules one after another, or else by the states in which they meet.
+/// Returns the book of a family. Runs `size` schedules separately; if that is `None`, merges the schedules that reach
+/// the same state.
 fn book_of<'w, P: Progress>(
     alloc: Global,
     family: &Family<'_>,
@@ -389,7 +392,7 @@ fn book_of<'w, P: Progress>(
     }
 }
 
-/// Whether a schedule has a text that is looked for.
+/// Returns true if a schedule has a text of `--find`.
 fn is_found(book: &Book<'_>) -> bool
     ensures { result ≡ has_found book.now }
 {
@@ -398,32 +401,32 @@ fn is_found(book: &Book<'_>) -> bool
         .any(|find| !find.tally().count().is_zero())
 }
 
-/// Whether all schedules halt.
+/// Returns true if all schedules halt.
 fn all_halt(book: &Book<'_>) -> bool
     ensures { result ≡ have_halted book.now }
 {
     book.endings().at_rest.count().is_zero() && book.endings().going.count().is_zero()
 }
 
-/// Whether a schedule has a text that is looked for, or doesn't halt where all have to.
+/// Returns true if a schedule has a text of `--find`, or if one doesn't halt although all must.
 fn is_told(must_halt: bool, book: &Book<'_>) -> bool
     ensures { result ≡ told_by must_halt book.now }
 {
     is_found(book) || (must_halt && !all_halt(book))
 }
 
-/// Tells that there is no schedule to be written, as far as the error output takes it. It takes no memory.
+/// Prints to `err` that no schedule is what `--write` asks for. Needs no memory; ignores a failing `err`.
 fn tell_missing<E: Sink>(written: Written, err: &mut E) {
     match written {
         Written::Report => {}
         Written::Rest => tell("jobk: no schedule comes to rest", err),
         Written::Going => tell("jobk: no schedule is still going", err),
-        Written::Find => tell("jobk: no schedule has a text that is looked for", err),
+        Written::Find => tell("jobk: no schedule matches --find", err),
         Written::Outcome(number) => tell(format_args!("jobk: there is no outcome {number}"), err),
     }
 }
 
-/// Puts a text. Where there is none, the error output is told so; if that fails, nothing changes.
+/// Writes a text to `out`. If there is none, prints a message to `err`, and ignores it if `err` fails.
 fn put_text<O: Sink, E: Sink>(
     text: &Option<String>,
     written: Written,
@@ -440,7 +443,7 @@ fn put_text<O: Sink, E: Sink>(
     put_all(out, text.as_str().as_bytes())
 }
 
-/// Does what is asked for. Whether a schedule has a text that is looked for, or doesn't halt where all have to.
+/// Serves a request. Returns true if a schedule has a text of `--find`, or if one doesn't halt although all must.
 fn serve_request<'a, 'w, F: ReadFiles, O: Sink, E: Sink, P: Progress>(
     alloc: Global,
     request: &Request<'a, 'w>,
@@ -474,14 +477,14 @@ fn serve_request<'a, 'w, F: ReadFiles, O: Sink, E: Sink, P: Progress>(
     let world_text = inputs.world_text.as_slice();
     let made = text_of(alloc, &family, world_text, &book, written);
     let is_told = is_told(request.must_halt, &book);
-    // What is large is dropped by its name, by one function whose proof is short.
+    // A large value is dropped explicitly, by one function whose proof is short.
     drop(book);
     let text = made?;
     put_text(&text, written, out, err)?;
     Ok(is_told)
 }
 
-/// Tells a failure, as far as the error output takes it. It takes no memory.
+/// Prints a failure to `err`. Needs no memory; ignores a failing `err`.
 fn tell_failure<E: Sink>(failure: Failure<'_>, err: &mut E) {
     match failure {
         Failure::Input(why) => why.tell(err),
@@ -489,7 +492,7 @@ fn tell_failure<E: Sink>(failure: Failure<'_>, err: &mut E) {
     }
 }
 
-/// Does what the words ask for, whose texts are told apart.
+/// Serves the arguments, after `parts_of` has separated the texts of options.
 fn serve_parts<'a, 'w, F: ReadFiles, O: Sink, E: Sink, P: Progress>(
     alloc: Global,
     parts: &'a Parts<'w>,
@@ -504,7 +507,7 @@ fn serve_parts<'a, 'w, F: ReadFiles, O: Sink, E: Sink, P: Progress>(
     serve_request(alloc, &request, files, out, err, progress)
 }
 
-/// The status of the program. A failure is told.
+/// Returns the exit status. Prints a failure to `err`.
 fn told<E: Sink>(done: Result<bool, Failure<'_>>, err: &mut E) -> u8
     ensures most { result ≤ 4 }
     ensures is { result ≡ answer_of done.entry }
@@ -519,9 +522,11 @@ fn told<E: Sink>(done: Result<bool, Failure<'_>>, err: &mut E) -> u8
     }
 }
 
-/// Does what the words of the command line ask for, without the program's name, and gives the status of the program: 0
-/// when it is done, 1 for a refused text, 2 for other words, 3 for a device or memory, and 4 where a text was found, or
-/// a schedule doesn't halt that must. A failing `err` changes no status.
+/// Serves the arguments of the command line, without the program's name, and returns the exit status.
+///
+/// The status is 0 if all schedules were run, 1 for a rejected input, 2 for a usage error, and 3 for an I/O error, for
+/// too many states, or if memory ran out. It is 4 if all schedules were run, and one has a text of `--find`, or doesn't
+/// halt although all must. A failing `err` changes no status.
 pub fn serve<'a, F: ReadFiles, O: Sink, E: Sink, P: Progress>(
     alloc: Global,
     words: &[&'a str],

@@ -1,4 +1,4 @@
-//! Whose turn each tick takes that is put into a schedule.
+//! Comments on the ticks that a schedule inserts: which process each of them preempts.
 
 ghost use Rattle.std.specs.Prelude.{◌≡◌, ◌+◌, ◌≤◌, length};
 ghost use Rattle.posix.specs.Common.{IsRegular, IsSettled};
@@ -12,7 +12,7 @@ use schedules::{Remark, is_tick, place_of, put_at};
 use std::alloc::{AllocError, Global};
 use wording::{Listing, Prose, put_place};
 
-/// Writes whose turn it is, and where that process stands.
+/// Writes which process a tick preempts now, and the line of the world that this process has reached.
 fn put_turn(text: &mut Prose, kernel: &mut Kernel, listing: &Listing<'_>)
     ensures state { kernel.new.state ≡ kernel.old.state }
     ensures events { kernel.new.events ≡ kernel.old.events }
@@ -23,17 +23,18 @@ fn put_turn(text: &mut Prose, kernel: &mut Kernel, listing: &Listing<'_>)
         kernel.current()
     };
     let Some(pid) = acting else {
-        return text.push_str("while no process can act");
+        return text.push_str("while no process is runnable");
     };
     if let Some(it) = kernel.snapshot(pid) {
-        text.push_with("takes the turn of process ", pid.number());
+        text.push_with("preempts process ", pid.number());
         text.push_str(" ");
         let source = listing.program(usize::from(it.program));
         put_place(text, source, kernel.look(pid).cpu.frame(SigSet::EMPTY).pc);
     }
 }
 
-/// Adds whose turn it is, if a tick is put in at a spot; this is the place of the tick in the schedule.
+/// Adds a comment on the tick that is inserted at a spot; adds nothing for a loose event. `place` is the place of the
+/// tick in the schedule.
 fn add_turn(
     alloc: Global,
     turns: &mut Vec<Remark>,
@@ -56,7 +57,7 @@ fn add_turn(
     Ok(())
 }
 
-/// Runs a schedule of a family up to its last spot, and adds whose turn each tick takes.
+/// Runs a schedule of a family up to its last spot, and adds a comment on each inserted tick.
 fn add_turns(
     alloc: Global,
     turns: &mut Vec<Remark>,
@@ -92,8 +93,8 @@ fn add_turns(
     Ok(())
 }
 
-/// The turns that the ticks put into a schedule take: whose each is, and where that process stands, as the world of this
-/// listing writes it. An error where there is no memory for it, or for what a process of the world asks.
+/// Returns a comment on each tick that a schedule inserts: which process the tick preempts, and the line of the world
+/// that this process has reached. Fails if memory runs out, also for a call of a process.
 pub fn turns_of(
     alloc: Global,
     family: &Family<'_>,
@@ -105,7 +106,7 @@ pub fn turns_of(
     let mut turns = Vec::new(alloc);
     let mut kernel = Kernel::boot(alloc, family.world)?;
     let added = add_turns(alloc, &mut turns, family, listing, &mut kernel, spots);
-    // A kernel that is dropped by its name is dropped by one function, whose proof is short.
+    // A kernel is dropped explicitly, by one function whose proof is short.
     drop(kernel);
     added?;
     Ok(turns)

@@ -1,4 +1,4 @@
-//! The words of the command line.
+//! The arguments of the command line.
 
 ghost use Rattle.std.specs.Prelude.{◌≡◌, IfOk, MatchResult, None, OnOk, Some, map, option_map};
 ghost use Rattle.clap.specs.Lexer.{name_and_value};
@@ -9,17 +9,17 @@ use clap::{ArgAction, ArgMatches, Command};
 use inputs::{NoRequest, command, is_used, named_files, number, value_of};
 use std::alloc::{AllocError, Global};
 
-/// An option with a text behind it, which may begin with a hyphen.
+/// An option whose value is a text, which may begin with a hyphen.
 #[derive(Clone, Copy)]
 pub enum Texted {
-    /// A text that is looked for.
+    /// A text to find in the lines of traces.
     Find,
-    /// An event that is put in anywhere.
+    /// An event to insert anywhere.
     Anywhere,
 }
 
 impl Texted {
-    /// The option as a word.
+    /// Returns the option as it is written.
     fn word(self) -> &'static str
         ensures { result.now ≡ word_of self }
     {
@@ -29,7 +29,7 @@ impl Texted {
         }
     }
 
-    /// The option of this name, if there is one.
+    /// Returns the option with this name, if there is one.
     pub fn named(name: &str) -> Option<Texted>
         ensures { result ≡ option_named name.now }
     {
@@ -41,19 +41,19 @@ impl Texted {
     }
 }
 
-/// What the next word is.
+/// What the next argument is.
 #[derive(Clone, Copy)]
 pub enum Next {
     /// An option, its value, or the name of a file.
     Any,
-    /// The text of an option.
+    /// The text of this option.
     Behind(Texted),
-    /// The name of a file, behind `--`.
+    /// The name of a file, after `--`.
     File,
 }
 
 impl Next {
-    /// Whether it is a text of an option.
+    /// Returns true if it is the text of an option.
     fn is_text(self) -> bool
         ensures { result ≡ awaits_text self }
     {
@@ -64,17 +64,18 @@ impl Next {
     }
 }
 
-/// Words, with the texts behind `--find` and `--anywhere` told apart: they may begin with a hyphen.
+/// Arguments, with the texts of `--find` and `--anywhere` separated from the others.
 #[derive(Drop)]
 pub struct Parts<'a> {
     finds: Vec<&'a str>,
     anywhere: Vec<&'a str>,
-    /// All other words; each use of `--find` and `--anywhere` is left as a flag.
+    /// All other arguments; each use of `--find` and `--anywhere` is left as a flag.
     others: Vec<&'a str>,
     next: Next,
 }
 
-/// What stands before the first `=` of a word, and what stands behind it, if there is one.
+/// Returns what comes before the first `=` of an argument, and what comes after it. Without a `=`, returns the whole
+/// argument.
 fn name_and_text<'a>(word: &'a str) -> (&'a str, Option<&'a str>)
     ensures { (result.0.now, option_map (λ text. text.now) result.1) ≡ name_and_value word.entry.now }
 {
@@ -85,7 +86,7 @@ fn name_and_text<'a>(word: &'a str) -> (&'a str, Option<&'a str>)
 }
 
 impl<'a> Parts<'a> {
-    /// Before the first word.
+    /// Returns the parts before the first argument.
     fn new(alloc: Global) -> Self
         ensures { parted_as result ≡ nothing_parted }
     {
@@ -97,7 +98,7 @@ impl<'a> Parts<'a> {
         }
     }
 
-    /// Takes the text of an option.
+    /// Adds the text of an option.
     fn take_text(&mut self, option: Texted, text: &'a str) -> Result<(), AllocError>
         ensures { OnOk result (parted_as self.new ≡ with_text option (parted_as self.old) text.entry.now) }
     {
@@ -108,7 +109,7 @@ impl<'a> Parts<'a> {
         Ok(())
     }
 
-    /// Takes a use of an option, with its text if that stands in the same word.
+    /// Adds a use of an option, with its text if that is in the same argument.
     fn take_use(&mut self, option: Texted, text: Option<&'a str>) -> Result<(), AllocError>
         ensures { OnOk result (parted_as self.new ≡ with_use (parted_as self.old) option (option_map (λ t. t.now) text.entry)) }
     {
@@ -120,7 +121,7 @@ impl<'a> Parts<'a> {
         Ok(())
     }
 
-    /// Takes an option, its value, or the name of a file.
+    /// Adds an option, its value, or the name of a file.
     fn take_any(&mut self, word: &'a str) -> Result<(), AllocError>
         ensures { OnOk result (parted_as self.new ≡ with_any (parted_as self.old) word.entry.now) }
     {
@@ -135,7 +136,7 @@ impl<'a> Parts<'a> {
         Ok(())
     }
 
-    /// Takes one more word.
+    /// Adds the next argument.
     fn take(&mut self, word: &'a str) -> Result<(), AllocError>
         ensures { OnOk result (parted_as self.new ≡ with_word (parted_as self.old) word.entry.now) }
     {
@@ -151,8 +152,9 @@ impl<'a> Parts<'a> {
     }
 }
 
-/// Tells the texts behind `--find` and `--anywhere` apart from the other words.
-/// Before clap sees the words, because clap's definitions have no options whose values begin with a hyphen.
+/// Separates the texts of `--find` and `--anywhere` from the other arguments.
+///
+/// Clap gets only the other arguments, because its definitions have no options whose values begin with a hyphen.
 pub fn parts_of<'a>(alloc: Global, words: &[&'a str]) -> Result<Parts<'a>, AllocError>
     ensures { IfOk result (λ parts. parted_as parts ≡ parted (map (λ w. w.now) words.now)) }
 {
@@ -163,23 +165,23 @@ pub fn parts_of<'a>(alloc: Global, words: &[&'a str]) -> Result<Parts<'a>, Alloc
     Ok(parts)
 }
 
-/// What is put.
+/// What is written to the output.
 #[derive(Clone, Copy)]
 pub enum Written {
-    /// What is told of all schedules.
+    /// The report on all schedules.
     Report,
     /// The first schedule that comes to rest.
     Rest,
     /// The first schedule that is still going.
     Going,
-    /// The first schedule that has the first of the texts that any has.
+    /// The first schedule with the first text of `--find` that any schedule has.
     Find,
     /// The first schedule of the outcome with this number, from 1.
     Outcome(u64),
 }
 
 impl Written {
-    /// The schedule that a word names, if it names one.
+    /// Returns the schedule that a word names, if it names one.
     pub fn named(word: &str) -> Option<Written>
         ensures { result ≡ written_named word.now }
     {
@@ -195,29 +197,29 @@ impl Written {
     }
 }
 
-/// What the words ask for.
+/// What the arguments ask for.
 #[derive(Drop)]
 pub struct Request<'a, 'w> {
     pub world: &'a str,
     pub events: &'a str,
-    /// What stands behind `--ticks`, as a word.
+    /// The value of `--ticks`, as it is written.
     pub ticks: Option<&'a str>,
-    /// What stands behind `--upto`, as a word.
+    /// The value of `--upto`, as it is written.
     pub upto: Option<&'a str>,
-    /// What stands behind `--states`, as a word.
+    /// The value of `--states`, as it is written.
     pub states: Option<&'a str>,
-    /// What stands behind each `--find`.
+    /// The text of each `--find`.
     pub finds: &'a [&'w str],
-    /// What stands behind each `--anywhere`.
+    /// The text of each `--anywhere`.
     pub anywhere: &'a [&'w str],
     pub must_halt: bool,
     pub all: bool,
     pub outcomes: bool,
-    /// What stands behind `--write`, as a word.
+    /// The value of `--write`, as it is written.
     pub write: Option<&'a str>,
 }
 
-/// The program's options, each with what its use does.
+/// The program's options, each with the action of its use.
 const OPTIONS: [(&str, ArgAction); 9] = [
     ("ticks", ArgAction::Set),
     ("upto", ArgAction::Set),
@@ -230,14 +232,14 @@ const OPTIONS: [(&str, ArgAction); 9] = [
     ("write", ArgAction::Set),
 ];
 
-/// The program's command line.
+/// Returns the definition of the command line.
 fn command_line<'a>(alloc: Global) -> Result<Command<'a>, AllocError>
     ensures { IfOk result (λ c. app_of c ≡ command_line_asked) }
 {
     command(alloc, "explore", &OPTIONS)
 }
 
-/// What the texts behind `--find` and `--anywhere` and the matches of the other words ask for.
+/// Returns what the texts of `--find` and `--anywhere` and the matches of the other arguments ask for.
 fn request_of<'a, 'w>(
     finds: &'a [&'w str],
     anywhere: &'a [&'w str],
@@ -263,7 +265,7 @@ fn request_of<'a, 'w>(
     })
 }
 
-/// What the words ask for; the program's name isn't one of them.
+/// Returns what the arguments ask for; they don't include the program's name.
 pub fn requested<'a, 'w>(alloc: Global, parts: &'a Parts<'w>) -> Result<Request<'a, 'w>, NoRequest>
     ensures { MatchResult result
         (λ r. asked_by_parts (parted_as parts.entry.now) ≡ Some (said r))

@@ -1,4 +1,4 @@
-//! The text that is put: the report, or the events of one schedule.
+//! The text for the output: the report, or the events of one schedule.
 
 ghost use Rattle.std.specs.Prelude.{◌≡◌, IfOk, IfSome, length, option_map};
 ghost use Rattle.std.specs.String.{string_bytes};
@@ -13,7 +13,7 @@ use counting::{Book, Family, Find, Outcome, is_schedule};
 use std::alloc::{AllocError, Global};
 use wording::Listing;
 
-/// The text of the events of a schedule.
+/// Returns the events of a schedule as a text.
 fn schedule_text(
     alloc: Global,
     family: &Family<'_>,
@@ -28,7 +28,7 @@ fn schedule_text(
     Ok(text)
 }
 
-/// The text of the events of a schedule, if there is one.
+/// Returns the events of a schedule as a text, if there is a schedule.
 fn text_of_first(
     alloc: Global,
     family: &Family<'_>,
@@ -44,7 +44,7 @@ fn text_of_first(
     }
 }
 
-/// The first schedule that has the first of the texts that any has.
+/// Returns the first schedule with the first text that any schedule has.
 fn first_found<'a>(finds: &'a [Find<'_>]) -> Option<&'a [u64]>
     ensures { option_map (λ ps. ps.now) result ≡ first_that_is_found finds.now }
 {
@@ -55,14 +55,14 @@ fn first_found<'a>(finds: &'a [Find<'_>]) -> Option<&'a [u64]>
     }
 }
 
-/// The first schedule of the outcome with this number, from 1, if there is such an outcome.
+/// Returns the first schedule of the outcome with this number, from 1, if there is such an outcome.
 fn first_numbered<'a>(outcomes: &[&'a Outcome], number: u64) -> Option<&'a [u64]> {
     let place = number.checked_sub(1)?;
     let outcome = outcomes.get(place as usize)?;
     Some(outcome.first())
 }
 
-/// The text of the events of the first schedule of an outcome, if there is such an outcome.
+/// Returns the events of the first schedule of an outcome as a text, if there is such an outcome.
 fn text_of_outcome(
     alloc: Global,
     family: &Family<'_>,
@@ -81,7 +81,8 @@ fn text_of_outcome(
     }
 }
 
-/// The text that is put: the report, or the events of one schedule, if there is such a one.
+/// Returns the text for the output: the report, or the events of one schedule. Returns `None` if there is no such
+/// schedule.
 pub fn text_of(
     alloc: Global,
     family: &Family<'_>,

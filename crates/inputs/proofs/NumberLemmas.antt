@@ -1,4 +1,4 @@
--- The number that a word stands for.
+-- The number that a word denotes.
 use Rattle.std.proofs.Common.{◌≡◌, ◌≢◌, ℕ, ◌<◌, ◌^◌, Bool, true, false, List, Some, None, Result, Ok, Err, length, refl, ap, nat_lt, lt-ltb, ltb-true, slice_index}
 use Rattle.std.specs.Result.{OkIff, result_ok}
 use Rattle.std.specs.Str.{all_ascii_digits}

@@ -1,4 +1,4 @@
--- What the words of a command line ask for.
+-- What the arguments of a command line ask for.
 use Rattle.std.proofs.Common.{◌≡◌, ◌≢◌, ◌⊎◌, ◌∙◌, List, [], ◌∷◌, Option, Some, None, true, ap, sym, refl, subst, inl, inr, Result, Ok, Err, MatchResult, option_map}
 use Rattle.std.specs.Prelude.{IsErrAnd, ok_or}
 use Rattle.std.proofs.lemmas.Bool.{and_parts}
@@ -16,7 +16,7 @@ where_refused : {A : Type 0} (kinds : Kinds) (k : ErrorKind) (asked : Option A) 
 where_refused [] k asked h = absurd h
 where_refused (x ∷ xs) k asked h = refl
 
--- Words that are taken ask for what their matches do.
+-- Accepted arguments ask for the same as their matches.
 pub taken_words : {A : Type 0} (a command : App) (words : List Text) (m : ArgMatches) (asked : List Row → Option A)
     → is_simple_and_free command ≡ true → a ≡ command → (is_simple_and_free a ≡ true → FailsBy (fault_of a words) (Ok m)) → HasMatchesOf a words m
     → unless_refused (fault_of command words) (asked (matches_of command words)) ≡ asked (rows_of (found_of m))
@@ -27,7 +27,7 @@ taken_words a command words m asked free is_command fails matches =
     let read = subst Q is_command matches (and_parts (is_simple command) _ free).0 in
     ap (λ kinds. unless_refused kinds (asked (matches_of command words))) none ∙ ap asked (sym read.0)
 
--- Words that are refused for their own sake ask for nothing.
+-- Arguments that are rejected for a usage error ask for nothing.
 pub refused_words : {A : Type 0} (a command : App) (words : List Text) (e : Error) (asked : Option A) → is_simple_and_free command ≡ true → a ≡ command
     → (is_simple_and_free a ≡ true → HasKind (fault_of a words) e) → (kind_of e ≡ kind.OutOfMemory) ⊎ (unless_refused (fault_of command words) asked ≡ None)
 refused_words a command words e asked free is_command fails =
@@ -37,14 +37,14 @@ refused_words a command words e asked free is_command fails =
       | inr among ↦ inr (where_refused (fault_of command words) (kind_of e) asked among)
     ]
 
--- Of words that are refused it is told that they ask for nothing, unless memory was refused.
+-- Rejected arguments ask for nothing, unless there was no memory.
 pub told_refused : {A R : Type 0} (result : Result R NoRequest) (P : R → Type 0) (asked : Option A) (e : Error) → IsErrAnd result (λ why. why ≡ Usage → kind_of e ≢ kind.OutOfMemory)
     → (kind_of e ≡ kind.OutOfMemory) ⊎ (asked ≡ None) → MatchResult result P (λ why. why ≡ Usage → asked ≡ None)
 told_refused (Ok r) P asked e h none = absurd h
 told_refused (Err why) P asked e h (inl memory) = λ usage. absurd (h usage memory)
 told_refused (Err why) P asked e h (inr none) = λ usage. none
 
--- What the matches ask for the words do, too.
+-- The arguments ask for what their matches ask for.
 pub asked_alike : {A R : Type 0} (f : R → A) (result : Result R NoRequest) (by_matches by_words : Option A) → by_words ≡ by_matches
     → MatchResult result (λ r. by_matches ≡ Some (f r)) (λ why. by_matches ≡ None)
     → MatchResult result (λ r. by_words ≡ Some (f r)) (λ why. why ≡ Usage → by_words ≡ None)
@@ -59,7 +59,7 @@ files_are_simple program = refl
 pub file_is_simple : (program file : Text) → is_simple_and_free (command_with_file program file) ≡ true
 file_is_simple program file = refl
 
--- what is asked for is told
+-- the result is what the arguments ask for
 pub told_asked : {A B : Type 0} (f : A → B) (result : Result A NoRequest) (found : Option A) (asked : Option B) → result ≡ ok_or found Usage → asked ≡ option_map f found
     → MatchResult result (λ n. asked ≡ Some (f n)) (λ why. why ≡ Usage → asked ≡ None)
 told_asked f result (Some n) asked is same = rw is same

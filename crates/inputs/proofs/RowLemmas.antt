@@ -1,4 +1,4 @@
--- What words have on a command line.
+-- The arguments of a command line.
 use Rattle.std.proofs.Common.{◌≡◌, ◌∙◌, Option, Some, None, ap, refl, option_and_then, option_map, slice_get, find}
 use Rattle.std.specs.Str.{bytes_eq}
 use Rattle.std.proofs.lemmas.Option.{slice_get-map}
@@ -14,7 +14,7 @@ value_of_row : (o : Option Entry)
 value_of_row None = refl
 value_of_row (Some e) = slice_get-map (λ s. s.now) e.1.vals.items 0
 
--- the first value of an argument is that of its row
+-- the first value of an argument is the first value of its row
 pub first_value_of_row : (f : Found) (id : Text) → first_of id (rows_of f) ≡ first_value f id
 first_value_of_row f id =
     ap (option_and_then (λ r. slice_get r.values 0)) (find_row f.entries.items id)

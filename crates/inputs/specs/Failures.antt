@@ -1,4 +1,4 @@
--- The failures of programs that are given one file, what is told of them, and their statuses.
+-- The failures of programs that are given one file, their messages, and the exit statuses.
 use Rattle.std.specs.Prelude.{◌≡◌, ◌⊎◌, ℕ, List, [], ◌∷◌, ◌++◌, codes, None, Option}
 use Rattle.std.specs.Borrow.{Bor}
 use Rattle.inputs.specs.declared.files.ReadFault.{ReadFault}
@@ -10,7 +10,7 @@ use Rattle.inputs.specs.declared.failure.FileFailure.TheVariants.{Usage, Unread,
 use Rattle.inputs.specs.declared.words.NoRequest.{NoRequest}
 use Rattle.inputs.specs.declared.words.NoRequest.TheVariants as no_request
 
--- why the file with this name isn't read
+-- why the file with this name cannot be read
 abbrev pub IsReadFault : Bor Text → ReadFault → Type 0
 IsReadFault name (fault.CannotRead other) = other ≡ name
 IsReadFault name fault.Memory = Unit {0}
@@ -19,33 +19,33 @@ abbrev pub failure_of_words : NoRequest → FileFailure
 failure_of_words no_request.Usage = Usage
 failure_of_words no_request.Memory = Memory
 
--- 2 for other words, 3 for a device or memory
+-- 2 for a usage error, 3 for an I/O error or if there is no memory
 abbrev pub status_of : FileFailure → ℕ
 status_of Usage = 2
 status_of (Unread why) = 3
 status_of Memory = 3
 status_of Write = 3
 
--- what is told of a file that isn't read
+-- the message about a file that cannot be read
 abbrev pub message_unread : ReadFault → List ℕ
 message_unread (fault.CannotRead name) = codes "jobk: cannot read " ++ (name.now ++ 10 ∷ [])
 message_unread fault.Memory = codes "jobk: out of memory\n"
 
--- and of a failure, by a program that is used so
+-- the message about a failure of a program with this usage line
 abbrev pub message_of : List ℕ → FileFailure → List ℕ
 message_of usage Usage = usage
 message_of usage (Unread why) = message_unread why
 message_of usage Memory = codes "jobk: out of memory\n"
 message_of usage Write = codes "jobk: cannot write\n"
 
--- A message was taken, or a beginning of it, and a put failed.
+-- The whole message was written; or a put failed, and a prefix of it was written.
 abbrev pub Tells : Seen → Seen → List ℕ → Type 0
 Tells before after message = TakesAll before after message ⊎ BreaksOff before after message
 
--- What a status means, with what is asked for, if something is, and the output from the call to the return.
+-- What an exit status means, by what is asked for, if anything, and the output before and after.
 pub record MeansOf {A S : Type 0} (Done Refused IsBegun : Type 0) (asked : Option A) (old new : S) (status : ℕ) : Type 0 where
   pub done : status ≡ 0 → Done
   pub refused : status ≡ 1 → Refused
   pub other_words : status ≡ 2 → (asked ≡ None) × (new ≡ old)
-  -- nothing was put, or a beginning
+  -- nothing or a prefix was written
   pub cut_short : status ≡ 3 → (new ≡ old) ⊎ IsBegun

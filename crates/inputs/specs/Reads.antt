@@ -13,16 +13,16 @@ use Rattle.inputs.specs.declared.InputFault.TheVariants as fault
 abbrev pub Text : Type 0
 Text = List ℕ
 
--- of some files, the bytes of each name, where they are known
+-- the bytes of the file with each name, if they are known
 abbrev pub Contents : Type 0
 Contents = Text → Option (List ℕ)
 
--- These texts can be those of the two files, as far as it is known what they hold.
+-- These texts can be the contents of the two files, as far as the contents are known.
 abbrev pub AreInFiles : Contents → Text × Text → List ℕ → List ℕ → Type 0
 AreInFiles contents names world events =
     IfSome (contents names.0) (λ known. world ≡ known) × IfSome (contents names.1) (λ known. events ≡ known)
 
--- The two files hold this world, and these events for it.
+-- The two files describe this world, and these events for it.
 pub record AreRead (contents : Contents) (names : Text × Text) (world : World) (events : List Event) : Type 0 where
   pub world_bytes : List ℕ
   pub event_bytes : List ℕ
@@ -30,7 +30,7 @@ pub record AreRead (contents : Contents) (names : Text × Text) (world : World) 
   pub world_is : world_text world_bytes ≡ Ok world
   pub events_are : event_text world.consoles event_bytes ≡ Ok events
 
--- The world that one of two files holds is refused, or the events of the other one are.
+-- The text of the world in one of two files is rejected, or the text of the events in the other file is.
 pub record AreRefused (contents : Contents) (names : Text × Text) : Type 0 where
   pub world_bytes : List ℕ
   pub event_bytes : List ℕ
@@ -40,7 +40,7 @@ pub record AreRefused (contents : Contents) (names : Text × Text) : Type 0 wher
   pub refused : (world_text world_bytes ≡ Err why)
       ⊎ ((world : World) × (world_text world_bytes ≡ Ok world) × (event_text world.consoles event_bytes ≡ Err why))
 
--- why a text isn't read whose meaning is this: the world's, and the events'
+-- why the text of a world with this meaning is rejected; `RefusesEvents` is the same for the text of events
 abbrev pub RefusesWorld : Result World TextFault → InputFault → Type 0
 RefusesWorld meaning (fault.World why) = (why.reason ≢ Memory) × (meaning ≡ Err why)
 RefusesWorld meaning (fault.Events why) = ⊥
@@ -53,7 +53,7 @@ RefusesEvents meaning (fault.Events why) = (why.reason ≢ Memory) × (meaning �
 RefusesEvents meaning (fault.Unread other) = ⊥
 RefusesEvents meaning fault.Memory = Unit {0}
 
--- How it ends where the two files are read.
+-- How reading the two files ends.
 abbrev pub Reads : Contents → Text × Text → Result Inputs InputFault → Type 0
 Reads contents names (Ok inputs) = AreRead contents names inputs.world inputs.events
 Reads contents names (Err (fault.World why)) = AreRefused contents names

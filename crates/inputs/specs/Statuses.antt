@@ -1,9 +1,9 @@
--- The statuses of programs whose world and events aren't read.
+-- The exit statuses of programs whose world and events cannot be read.
 use Rattle.std.specs.Prelude.{ℕ}
 use Rattle.inputs.specs.declared.InputFault.{InputFault}
 use Rattle.inputs.specs.declared.InputFault.TheVariants.{Unread, World, Events, Memory}
 
--- 1 for a refused text, 3 for a device or memory
+-- 1 for a rejected text, 3 for an I/O error or if there is no memory
 abbrev pub status_of : InputFault → ℕ
 status_of (World fault) = 1
 status_of (Events fault) = 1

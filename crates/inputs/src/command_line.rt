@@ -1,4 +1,4 @@
-//! The words of the command line.
+//! The arguments of the command line.
 
 ghost use Rattle.std.specs.Prelude.{◌≡◌, IfOk, map};
 ghost use Rattle.std.specs.String.{string_bytes};
@@ -7,17 +7,17 @@ use std::alloc::Global;
 use std::rt::Env;
 use std::{env, io};
 
-/// Why the words aren't known.
+/// Why the arguments cannot be read.
 #[derive(Clone, Copy)]
 pub enum WordsFault {
-    /// A word is no text in UTF-8.
+    /// An argument is not UTF-8.
     NotText,
-    /// There was no memory for the words.
+    /// There was no memory for the arguments.
     Memory,
 }
 
-/// The words of the command line behind the program's name. An error where a word is no text in UTF-8, or the host has
-/// no memory for them.
+/// Returns the arguments of the command line, without the name of the program. Fails if an argument is not UTF-8, or if
+/// the host has no memory for them.
 pub fn read_words<R: Env + AllocGlobal>(rt: &R) -> Result<Vec<String>, WordsFault> {
     let args = env::args(rt).map_err(|e| {
         if e.kind() == io::ErrorKind::OutOfMemory {
@@ -31,7 +31,7 @@ pub fn read_words<R: Env + AllocGlobal>(rt: &R) -> Result<Vec<String>, WordsFaul
         .map_err(|_| WordsFault::Memory)
 }
 
-/// The texts of the words, in their order. An error where the host has no memory for the list of them.
+/// Returns the arguments as string slices, in their order. Fails if the host has no memory for the list.
 pub fn as_texts(alloc: Global, words: &[String]) -> Result<Vec<&str>, WordsFault>
     ensures { IfOk result (λ texts. map (λ t. t.now) texts.items ≡ map string_bytes words.now) }
 {

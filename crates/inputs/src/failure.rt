@@ -1,4 +1,4 @@
-//! Why a program that is given one file fails, and how failures are told.
+//! Failures of a program that is given one file, and their messages.
 
 ghost use Rattle.std.specs.Prelude.{◌≡◌, ◌++◌, OnErr, OnOk};
 ghost use Rattle.trace.specs.Sinks.{BreaksOff, TakesAll};
@@ -14,13 +14,13 @@ use trace::{Sink, SinkFault, put_all};
 /// Why a program that is given one file fails.
 #[derive(Clone, Copy)]
 pub enum FileFailure<'a> {
-    /// The words ask for no file.
+    /// A usage error: the arguments ask for no file.
     Usage,
-    /// The file isn't read.
+    /// The file cannot be read.
     Unread(ReadFault<'a>),
     /// There was no memory.
     Memory,
-    /// The output took no more.
+    /// The output cannot be written.
     Write,
 }
 
@@ -58,8 +58,8 @@ impl From<NoRequest> for FileFailure<'_> {
 }
 
 impl FileFailure<'_> {
-    /// Tells it, and how the program is used where the words ask for no file. At an `Err` a beginning was taken, and a put
-    /// failed. It takes no memory.
+    /// Writes the message: the usage line for a usage error. If it fails, a put failed, and a prefix of the message was
+    /// written. Allocates no memory.
     pub fn tell<E: Sink>(self, usage: &[u8], err: &mut E) -> Result<(), SinkFault>
         ensures ok { OnOk result (TakesAll (E.seen err.old) (E.seen err.new) (message_of usage.now self.entry)) }
         ensures err { OnErr result (BreaksOff (E.seen err.old) (E.seen err.new) (message_of usage.now self.entry)) }
@@ -72,8 +72,8 @@ impl FileFailure<'_> {
         }
     }
 
-    /// The status of a program that ends by it: 2 for other words, 3 for a device or memory. It is told, as far as the
-    /// error output takes it.
+    /// Writes the message, as far as the error output takes it. Returns the exit status: 2 for a usage error, 3 for an
+    /// I/O error or if there is no memory.
     pub fn end<E: Sink>(self, usage: &[u8], err: &mut E) -> u8
         ensures status { result ≡ status_of self.entry }
         ensures told { Tells (E.seen err.old) (E.seen err.new) (message_of usage.now self.entry) }
@@ -86,7 +86,7 @@ impl FileFailure<'_> {
     }
 }
 
-/// Puts bytes, and then others. At an `Err` a beginning of them was taken, and a put failed.
+/// Writes two texts, one after the other. If it fails, a put failed, and a prefix of both together was written.
 pub fn put_both<O: Sink>(out: &mut O, first: &[u8], second: &[u8]) -> Result<(), SinkFault>
     ensures ok { OnOk result (TakesAll (O.seen out.old) (O.seen out.new) (first.now ++ second.now)) }
     ensures err { OnErr result (BreaksOff (O.seen out.old) (O.seen out.new) (first.now ++ second.now)) }
@@ -95,8 +95,8 @@ pub fn put_both<O: Sink>(out: &mut O, first: &[u8], second: &[u8]) -> Result<(),
     put_all(out, second)
 }
 
-/// Tells a value in a line, as far as the error output takes it. A line of more than 256 bytes isn't told to its end; the
-/// longest that is told has less than 200. It takes no memory.
+/// Writes a value as a line, as far as the error output takes it. A line of more than 256 bytes is cut off; the longest
+/// that is written has fewer than 200. Allocates no memory.
 pub fn tell<D: Display + Drop, E: Sink>(what: D, err: &mut E) {
     let mut line = ArrayString::<256>::new();
     let _ = writeln!(line, "{what}");

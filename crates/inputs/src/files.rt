@@ -12,10 +12,10 @@ use std::rt::Files;
 use thiserror::Error;
 use trace::{Sink, SinkFault, put_all};
 
-/// Why a file isn't read.
+/// Why a file cannot be read.
 #[derive(Clone, Copy, Debug, Error)]
 pub enum ReadFault<'a> {
-    /// There is no file with this name, or the device failed.
+    /// The host cannot read the file with this name.
     #[error("cannot read {0}")]
     CannotRead(&'a str),
     /// There was no memory for its bytes.
@@ -24,7 +24,7 @@ pub enum ReadFault<'a> {
 }
 
 impl<'a> ReadFault<'a> {
-    /// Why the host doesn't read what has this name.
+    /// Returns why the host cannot read the file with this name.
     pub fn of(error: &io::Error, name: &'a str) -> Self
         ensures memory { error_kind error.now ≡ ErrorKind.OutOfMemory → result ≡ ReadFault.Memory }
         ensures other { error_kind error.now ≢ ErrorKind.OutOfMemory → result ≡ ReadFault.CannotRead name.entry }
@@ -37,7 +37,7 @@ impl<'a> ReadFault<'a> {
         }
     }
 
-    /// Tells it. At an `Err` a beginning was taken, and a put failed. It takes no memory.
+    /// Writes the message. If it fails, a put failed, and a prefix of the message was written. Allocates no memory.
     pub fn tell<E: Sink>(self, err: &mut E) -> Result<(), SinkFault>
         ensures ok { OnOk result (TakesAll (E.seen err.old) (E.seen err.new) (message_unread self.entry)) }
         ensures err { OnErr result (BreaksOff (E.seen err.old) (E.seen err.new) (message_unread self.entry)) }
@@ -52,12 +52,12 @@ impl<'a> ReadFault<'a> {
     }
 }
 
-/// Reads named files.
+/// Reads files by their names.
 pub trait ReadFiles {
-    // The bytes of each name, where they are known.
+    // The bytes of the file with each name, if they are known.
     ghost contents: { Self → List ℕ → Option (List ℕ) };
 
-    /// The bytes of a file.
+    /// Returns the bytes of a file, or why it cannot be read.
     fn read_file<'a>(&self, name: &'a str) -> Result<Vec<u8>, ReadFault<'a>>
         ensures ok { IfOk result (λ read. IfSome (contents self.now name.entry.now) (λ known. read.items ≡ known)) }
         ensures err { IfErr result (IsReadFault name.entry) };

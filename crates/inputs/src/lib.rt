@@ -1,10 +1,11 @@
-//! What the commands are given: words of the command line, files of the host, a world and its events by the names of
+//! The inputs of the commands: arguments of the command line, files of the host, a world and its events by the names of
 //! their files, and numbers.
 //!
 //! `as_texts` returns the arguments in their order. `command`, `value_of`, `words_behind`, `is_used`, `named_file`,
 //! `named_files` follow clap's definition of a command line. `read_inputs` returns the world and events that two files
-//! stand for. `ReadFiles::read_file` returns the bytes of a file, or why not (`IsReadFault`); it may say `Memory` of
-//! any file, although `ReadFault::of`, which the host's uses, distinguishes it. `FileFailure::end`: message and status.
+//! describe. `ReadFiles::read_file` returns the bytes of a file, or why it cannot be read (`IsReadFault`). It may fail
+//! with `Memory` for any file; the host's implementation distinguishes the two faults (`ReadFault::of`).
+//! `FileFailure::end` writes the message, and returns the exit status.
 //! No clause: `read_words`, and the function `tell`.
 #![tactic(auto)]
 
@@ -41,16 +42,16 @@ pub struct Inputs {
     pub events: EventList,
 }
 
-/// Why a world and its events aren't read.
+/// Why a world and its events cannot be read.
 #[derive(Clone, Copy, Debug, Error)]
 pub enum InputFault<'a> {
-    /// One of the files isn't read.
+    /// One of the files cannot be read.
     #[error("{0}")]
     Unread(ReadFault<'a>),
-    /// The world is refused.
+    /// The text of the world is rejected.
     #[error("world: {0}")]
     World(TextFault),
-    /// The events are refused.
+    /// The text of the events is rejected.
     #[error("events: {0}")]
     Events(TextFault),
     /// There was no memory.
@@ -59,7 +60,7 @@ pub enum InputFault<'a> {
 }
 
 impl InputFault<'_> {
-    /// The status of a program: 1 for a refused text, 3 for a device or memory.
+    /// Returns the exit status: 1 for a rejected text, 3 for an I/O error or if there is no memory.
     pub fn status(self) -> u8
         ensures { result ≡ status_of self.entry }
     {
@@ -69,7 +70,7 @@ impl InputFault<'_> {
         }
     }
 
-    /// Tells it, as far as the error output takes it. It takes no memory.
+    /// Writes the message, as far as the error output takes it. Allocates no memory.
     pub fn tell<E: Sink>(self, err: &mut E) {
         match self {
             InputFault::Unread(why) => {
@@ -80,7 +81,7 @@ impl InputFault<'_> {
     }
 }
 
-/// The world of a text.
+/// Returns the world that a text describes.
 fn world_of<'a>(alloc: Global, text: &[u8]) -> Result<World, InputFault<'a>>
     ensures { MatchResult result (λ world. world_of_text text.now ≡ Ok world) (RefusesWorld (world_of_text text.now)) }
 {
@@ -90,7 +91,7 @@ fn world_of<'a>(alloc: Global, text: &[u8]) -> Result<World, InputFault<'a>>
     }
 }
 
-/// The events of a text for a world.
+/// Returns the events that a text describes, for a world.
 fn events_of<'a>(alloc: Global, world: &World, text: &[u8]) -> Result<EventList, InputFault<'a>>
     ensures events { MatchResult result (λ events. event_text world.now.consoles text.now ≡ Ok events) (RefusesEvents (event_text world.now.consoles text.now)) }
     ensures within { IfOk result (λ events. length events ≤ most_events) }
@@ -101,8 +102,8 @@ fn events_of<'a>(alloc: Global, world: &World, text: &[u8]) -> Result<EventList,
     }
 }
 
-/// Reads a world and its events from files with these names. Both files are read before either text is judged, the
-/// world first. An error where a file isn't read, a text is refused, or there is no memory.
+/// Reads a world and its events from files with these names. Reads both files, the world first, before it checks either
+/// text. Fails if a file cannot be read, if a text is rejected, or if there is no memory.
 pub fn read_inputs<'a, F: ReadFiles>(
     alloc: Global,
     files: &F,
@@ -124,7 +125,8 @@ pub fn read_inputs<'a, F: ReadFiles>(
     })
 }
 
-/// The number that a word of digits stands for; none where the word has another form, or the number 2^64 or more.
+/// Returns the number that a word of decimal digits denotes. `None` if the word is empty or has another byte, or if
+/// the number is 2^64 or more.
 pub fn number(word: &str) -> Option<u64>
     ensures { result ≡ number_of word.now }
 {
@@ -134,16 +136,16 @@ pub fn number(word: &str) -> Option<u64>
     word.parse::<u64>().ok()
 }
 
-/// Why a word isn't a number of at most so much.
+/// Why a word is not a number up to a limit.
 #[derive(Clone, Copy)]
 pub enum NumberFault {
-    /// It is no number below 2^64 in digits.
+    /// It is not a number below 2^64 in decimal digits.
     NoNumber,
-    /// It is this number, which is more.
+    /// It is this number, which is above the limit.
     Above(u64),
 }
 
-/// The number of at most `most` that a word stands for; `unnamed`, where there is no word.
+/// Returns the number that a word denotes, if it is at most `most`; `unnamed` if there is no word.
 pub fn number_up_to(word: Option<&str>, unnamed: u64, most: u64) -> Result<u64, NumberFault>
     ensures is { result ≡ number_up_to_of unnamed most (option_map (λ w. w.now) word.entry) }
     ensures within { unnamed ≤ most → IfOk result (λ n. n ≤ most) }

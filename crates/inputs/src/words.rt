@@ -1,4 +1,4 @@
-//! The words of a command line that names one file, or a world and its events, and has options.
+//! The arguments of a command line that names one file, or a world and its events, and has options.
 
 ghost use Rattle.std.specs.Prelude.{◌≡◌, ◌≢◌, [], IfOk, MatchResult, None, Some, false, map, option_map, unwrap_or};
 ghost use Rattle.clap.specs.Words.{app_of, first_of, found_of, kind_of, matched_of, raw_values, rows_of, rule_of};
@@ -8,12 +8,12 @@ use clap::error::ErrorKind;
 use clap::{Arg, ArgAction, ArgMatches, Command, Error};
 use std::alloc::{AllocError, Global};
 
-/// Why the words ask for nothing.
+/// Why the arguments ask for nothing.
 #[derive(Clone, Copy)]
 pub enum NoRequest {
-    /// Any other words, those that ask for help included.
+    /// A usage error, or a request for help.
     Usage,
-    /// There was no memory to parse the words.
+    /// There was no memory to parse the arguments.
     Memory,
 }
 
@@ -42,7 +42,7 @@ impl From<Error> for NoRequest {
     }
 }
 
-/// An option, and what its use does.
+/// Returns an option, with the action that its use has.
 fn option<'a>(alloc: Global, name: &'a str, action: ArgAction) -> Arg<'a>
     ensures rule { rule_of result ≡ option_rule (name.entry.now, action) }
     ensures local { result.global ≡ false }
@@ -50,7 +50,7 @@ fn option<'a>(alloc: Global, name: &'a str, action: ArgAction) -> Arg<'a>
     Arg::new(alloc, name).long(name).action(action)
 }
 
-/// The name of a file, which is required.
+/// Returns a required argument, which names a file.
 fn file<'a>(alloc: Global, name: &'a str) -> Arg<'a>
     ensures rule { rule_of result ≡ file_rule name.entry.now }
     ensures local { result.global ≡ false }
@@ -58,7 +58,8 @@ fn file<'a>(alloc: Global, name: &'a str) -> Arg<'a>
     Arg::new(alloc, name).required(true).action(ArgAction::Set)
 }
 
-/// The command line of a program that is given a world and its events, with these options: each with what its use does.
+/// Returns the command line of a program that is given a world and its events, with these options, each with its
+/// action.
 pub fn command<'a>(
     alloc: Global,
     program: &'a str,
@@ -76,14 +77,14 @@ pub fn command<'a>(
     Ok(command)
 }
 
-/// What stands behind an option, or for the name of a file.
+/// Returns the first value of an option, or the name of a file; `None` if it is absent.
 pub fn value_of<'a>(matches: &ArgMatches<'a>, name: &str) -> Option<&'a str>
     ensures { option_map (λ value. value.now) result ≡ first_of name.now (rows_of (found_of matches.now)) }
 {
     matches.get_str(name)
 }
 
-/// Whether a flag is used.
+/// Returns true if a flag is used.
 pub fn is_used(matches: &ArgMatches<'_>, flag: &str) -> bool
     ensures { result ≡ is_used_in flag.now (rows_of (found_of matches.now)) }
 {
@@ -93,7 +94,7 @@ pub fn is_used(matches: &ArgMatches<'_>, flag: &str) -> bool
     }
 }
 
-/// The names of the world and of the events.
+/// Returns the names of the world and of the events.
 pub fn named_files<'a>(matches: &ArgMatches<'a>) -> Result<(&'a str, &'a str), NoRequest>
     ensures { MatchResult result (λ names. files_in (rows_of (found_of matches.now)) ≡ Some (names.0.now, names.1.now)) (λ why. files_in (rows_of (found_of matches.now)) ≡ None) }
 {
@@ -103,8 +104,8 @@ pub fn named_files<'a>(matches: &ArgMatches<'a>) -> Result<(&'a str, &'a str), N
     }
 }
 
-/// The names of the world and of the events that the words ask for, on a command line without options; the program's
-/// name isn't one of the words.
+/// Returns the names of the world and of the events, from a command line without options. `words` does not have the
+/// name of the program.
 pub fn named_world_and_events<'a>(
     alloc: Global,
     program: &'a str,
@@ -118,7 +119,7 @@ pub fn named_world_and_events<'a>(
     named_files(&matches)
 }
 
-/// The command line of a program that is given one file.
+/// Returns the command line of a program that is given one file.
 pub fn command_with_file<'a>(
     alloc: Global,
     program: &'a str,
@@ -131,7 +132,7 @@ pub fn command_with_file<'a>(
         .arg(file(alloc, file_name))
 }
 
-/// The command line of a program that is given one file, and has a flag.
+/// Returns the command line of a program that is given one file, and has a flag.
 pub fn command_with_flag<'a>(
     alloc: Global,
     program: &'a str,
@@ -144,8 +145,8 @@ pub fn command_with_flag<'a>(
     command_with_file(alloc, program, file_name)?.arg(flag)
 }
 
-/// The name of the one file that the words ask for, which is called `file` on the command line; the program's name isn't
-/// one of the words.
+/// Returns the name of the one file that the arguments name, as the argument `file`. `words` does not have the name of
+/// the program.
 pub fn named_file<'a>(
     alloc: Global,
     program: &'a str,
@@ -160,7 +161,7 @@ pub fn named_file<'a>(
     value_of(&matches, file).ok_or(NoRequest::Usage)
 }
 
-/// What stands behind each use of an option, in the order of the words.
+/// Returns the value of each use of an option, in the order of the arguments.
 pub fn words_behind<'a>(
     alloc: Global,
     matches: &ArgMatches<'a>,

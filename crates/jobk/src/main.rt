@@ -1,9 +1,9 @@
 //! `jobk`: runs a world of small programs over a list of events, and prints the trace; audits and explains a trace;
 //! explores all schedules; shows the state at an event.
 //!
-//! No clause: that `main` hands the host's arguments, files and outputs to `serve`, and exits with its answer. Every
-//! case of `tests/run` tests it. Branches that lend different things cannot meet again, so `main` calls `serve_host` in
-//! three places.
+//! No clause: that `main` hands the host's arguments, files and outputs to `serve`, and exits with the status that it
+//! returns. Every case of `tests/run` tests it. Branches that lend different things cannot meet again, so `main` calls
+//! `serve_host` in three places.
 #![tactic(auto)]
 
 mod person;
@@ -15,7 +15,7 @@ use person::Person;
 use std::hash::RandomState;
 use std::process::ExitCode;
 
-/// Serves the words.
+/// Runs what the arguments ask for, and returns the exit status.
 fn serve_host(rt: &HostRuntime, words: Result<&[&str], WordsFault>) -> u8 {
     let mut out = WriteSink::new(rt.stdout());
     let mut err = WriteSink::new(rt.stderr());

@@ -1,4 +1,4 @@
-//! The person at the terminal, if there is one.
+//! The user at the terminal, if there is one.
 
 use exploring::Progress;
 use inputs::ReadFault;
@@ -7,13 +7,13 @@ use std::io::{Input, IsTerminal};
 use std::rt::Clock;
 use std::time::{Duration, Instant};
 
-/// Is told how far the schedules have come: once a second where the error output is a terminal, else every ten seconds. And
-/// is asked for commands.
+/// A user, who sees the progress of schedules: once a second if the error output is a terminal, otherwise every ten
+/// seconds. Also reads the commands of the user.
 #[derive(Drop)]
 pub struct Person<'a> {
     rt: &'a HostRuntime,
     every: Duration,
-    /// When the program began, and when it told last; none where the clock fails.
+    /// When the program started, and when it last printed its progress; `None` if the clock fails.
     times: Option<(Instant, Instant)>,
 }
 
@@ -32,7 +32,7 @@ impl<'a> Person<'a> {
     }
 }
 
-/// How many seconds the others take, where so many took so long.
+/// Estimates how many seconds the rest takes, if `done` of `size` took `passed`.
 fn seconds_left(passed: Duration, done: u64, size: u64) -> u128 {
     let left = size.saturating_sub(done);
     let all = u128::from(passed.as_secs()) * u128::from(left);
@@ -40,7 +40,7 @@ fn seconds_left(passed: Duration, done: u64, size: u64) -> u128 {
 }
 
 impl Person<'_> {
-    /// How long the program runs, if it is time to tell something.
+    /// Returns how long the program has run, if it is time to print its progress.
     fn passed(&mut self) -> Option<Duration> {
         let (began, told) = self.times?;
         let Ok(now) = Instant::now(self.rt) else {
@@ -60,7 +60,7 @@ impl Progress for Person<'_> {
         if let Some(passed) = self.passed() {
             let left = seconds_left(passed, done, size);
             let _ = eprintln!(self.rt;
-                "jobk: {done} of {size} schedules, some {left} seconds left"
+                "jobk: {done} of {size} schedules, about {left} seconds left"
             );
         }
     }
@@ -69,7 +69,7 @@ impl Progress for Person<'_> {
         if let Some(passed) = self.passed() {
             let left = seconds_left(passed, events, upto);
             let _ = eprintln!(self.rt;
-                "jobk: {events} of {upto} events, {states} states, some {left} seconds left"
+                "jobk: {events} of {upto} events, {states} states, about {left} seconds left"
             );
         }
     }

@@ -1,4 +1,4 @@
--- The children of processes, by their index, and their adoption.
+-- The children of processes, by their index, and their reparenting.
 use Rattle.std.proofs.Common.{Bool, true, false, cond, ◌≡◌, ◌≢◌, ℕ, ◌≤◌, ◌==◌, ◌&&◌, refl, ap, sym, ◌∙◌, arith, subst, List, [], ◌∷◌, filter, Option, Some, None, ◌⊎◌, ⊎_elim, inl, inr}
 use Rattle.std.specs.Prelude.{is_some, not, option_and_then, option_map}
 use Rattle.std.specs.Option.{IfSome, IsSome, option_map_or, unwrap_or}
@@ -26,16 +26,16 @@ use Rattle.posix.proofs.ResultLemmas.{there}
 
 -- ---- reading
 
--- those that stand under a process are its children
+-- the processes whose key is a process are its children
 kids_are : (k : ℕ) → k ≢ 0 → (rs : List Process) → filter (λ r. is_key k (parent_key r)) rs ≡ children_in k rs
 unfolding children_in
 kids_are k some rs = filter_agree _ (is_child k) (λ r. grind (arith, nat_tests, some)) rs
 
--- the next under one that is there is its next child
+-- the next one with the key of an existing process is its next child
 pub next_kid : (k n : ℕ) (rs : List Process) (pairs : List Pair) (next : Option ℕ) → AreKin rs pairs → IsSome (lookup k rs) → IsNextPair k n pairs next → next ≡ first_pid (above n (children_in k rs))
 next_kid k n rs pairs next kin there i = next_pair parent_key rs pairs k n next kin.rising kin.index i ∙ ap (λ l. first_pid (above n l)) (kids_are k (λ none. let no = rw (none, kin.none) at there in absurd (cc)) rs)
 
--- it has none where nobody stands under it
+-- it has no child if no process has that key
 pub childless : (k : ℕ) (rs : List Process) (pairs : List Pair) (next : Option ℕ) (none : Bool) → AreKin rs pairs → k ≢ 0 → IsNextPair k 0 pairs next → is_some next ≡ not none → none ≡ not (is_some (first_pid (children_in k rs)))
 unfolding children_in
 childless k rs pairs next none kin some i e =
@@ -50,12 +50,12 @@ none_at : (l : List Process) → not (is_some (first_pid l)) ≡ true → l ≡ 
 none_at [] e = refl
 none_at (r ∷ rest) e = absurd (cc)
 
--- then no child of it is wanted
+-- then it has no child that a wait wants
 pub none_wanted : (k n options : ℕ) (rs : List Process) → not (is_some (first_pid (children_in k rs))) ≡ true → None ≡ first_pid (above n (wanted_in options k rs))
 unfolding wanted_in
 none_wanted k n options rs none = rw (none_at (children_in k rs) none) refl
 
--- where a process has no child, nobody gets another parent
+-- if a process has no child, no process gets another parent
 pub all_adopted : (from to : ℕ) (rs : List Process) → children_in from rs ≡ [] → adopted from to rs ≡ rs
 unfolding children_in adopted
 all_adopted from to [] e = refl
@@ -64,27 +64,27 @@ all_adopted from to (r ∷ rs) e = grind (arith, all_adopted from to rs)
 pub none_adopted : (from to : ℕ) (rs : List Process) → not (is_some (first_pid (children_in from rs))) ≡ true → rs ≡ adopted from to rs
 none_adopted from to rs none = sym (all_adopted from to rs (none_at (children_in from rs) none))
 
--- and above 0 its first one, from which on all are left
+-- and above 0 is its first child, from which on all are left
 pub first_kid : (k : ℕ) (rs : List Process) (pairs : List Pair) (next : Option ℕ) → AreKin rs pairs → IsSome (lookup k rs) → (AreKin rs pairs → IsSome (lookup k rs) → next ≡ first_pid (above 0 (children_in k rs))) → (next ≡ first_pid (children_in k rs)) × (left_of next (children_in k rs) ≡ children_in k rs)
 unfolding children_in
 first_kid k rs pairs next kin there first =
     let is : next ≡ first_pid (children_in k rs) = first kin there ∙ ap first_pid (passing_above (is_child k) rs kin.rising (least_number rs kin.none)) in
     (is, rw (← is) at (at_first rs kin.rising k))
 
--- there is memory for the list of a parent
+-- there is room for the list of a parent
 pub list_inside : (sizes : List ℕ) (parent : ℕ) → (parent ≡ 0) ⊎ ((1 ≤ parent) × HasRoom sizes parent) → IfSome (list_of_parent parent) (λ k. (1 ≤ k) × HasRoom sizes k)
 list_inside sizes parent h = cond_both (parent == 0) None (Some parent) (λ o. IfSome o (λ k. (1 ≤ k) × HasRoom sizes k)) (λ e. tt) (λ e. ⊎_elim (λ none. absurd (eqb-false parent 0 e none)) (λ there. there) h)
 
--- the list in which a process stands tells its parent
+-- the list that contains a process is that of its parent
 pub parent_listed : (p : ℕ) (rs : List Process) (pairs : List Pair) (list : Option ℕ) → IsIndex parent_key rs pairs → IsAt p list pairs → IsSome (lookup p rs) → unwrap_or list 0 ≡ parent_of p rs
 parent_listed p rs pairs list index stands here =
     let me = there (lookup p rs) here in
     ap (λ o. unwrap_or o 0) (at_once p list (list_of_parent me.what.parent) pairs stands (λ k. index p k ∙ ap (λ o. is_key k (option_and_then parent_key o)) me.found)) ∙ cond_both (me.what.parent == 0) None (Some me.what.parent) (λ o. unwrap_or o 0 ≡ me.what.parent) (λ none. sym (eqb-true me.what.parent 0 none)) (λ some. refl)
     ∙ sym (ap (λ o. option_map_or (λ (r : Process). r.parent) o 0) me.found)
 
--- ---- a birth
+-- ---- a new process
 
--- the parent of a child that is born is there
+-- the parent of a new child exists
 pub parent_there : (parent group : ℕ) (rs : List Process) → IsParentIn parent group rs → ((parent ≡ 0) × (rs ≡ [])) ⊎ IsSome (lookup parent rs)
 parent_there parent group rs h = ⊎_elim (λ first. inl first) (λ above. inr (rw above.1 refl)) h
 
@@ -97,16 +97,16 @@ no_anchor parent w rs h = ap (λ b. cond (not (is_zombie w.life) && b) (Some w.g
     inside h = ⊎_elim (λ first. ap (λ l. option_map_or (is_outside w) (option_map seen_of (lookup parent l)) false) first.1)
         (λ above. ap (λ o. option_map_or (is_outside w) (option_map seen_of o) false) above.1 ∙ ap (λ b. (above.0.session == w.session) && not b) (eq-eqb above.0.group w.group above.2) ∙ and-false (above.0.session == w.session)) h
 
--- ---- adoption
+-- ---- reparenting
 
--- a child that gets the parent before the others do
+-- a child that gets its new parent before the others
 pub one_adopted : (from to c : ℕ) (rs ts : List Process) (me : Process) → IsRising rs → lookup c rs ≡ Some me → me.parent ≡ from → adopted from to ts ≡ adopted from to rs → adopted from to (changed c (with_parent to) ts) ≡ adopted from to rs
 unfolding adopted
 one_adopted from to c rs ts me up found its same =
     sym (adopted_changed from to c (with_parent to) (λ r. grind (arith, nat_tests)) ts) ∙ ap (changed c (with_parent to)) same
     ∙ changed_id c (with_parent to) (adopted from to rs) (rising_adopted from to rs up) (reparented from to me) (lookup_on (reparented from to) (pid_reparented from to) c rs me found) (rw (eq-eqb me.parent from its) refl)
 
--- is no more among those of the other
+-- is no longer a child of the old one
 child_moved : (from to c : ℕ) → to ≢ from → (ts : List Process) → children_in from (changed c (with_parent to) ts) ≡ removed c (children_in from ts)
 unfolding children_in changed removed
 child_moved from to c ne [] = refl
@@ -116,7 +116,7 @@ first_gone : (r : Process) (rs : List Process) → IsRising (r ∷ rs) → remov
 unfolding IsRising removed
 first_gone r rs up = rw (eq-eqb r.pid r.pid refl) (remove_above r.pid rs up.0)
 
--- and those behind it are left
+-- and the children after it are left
 pub one_left : (from to c : ℕ) (rs ts : List Process) → from ≢ to → IsRising rs → (i : AtChild rs from c) → children_in from ts ≡ left_of (Some c) (children_in from rs) → children_in from (changed c (with_parent to) ts) ≡ left_of (first_pid (above c (children_in from rs))) (children_in from rs)
 unfolding children_in
 one_left from to c rs ts ne up i left =
@@ -128,21 +128,21 @@ pub still_there : (from c : ℕ) (rs ts : List Process) → IsRising ts → (i :
 unfolding children_in lookup
 still_there from c rs ts up i left = (in_filter (is_child from) ts up c i.what (ap (lookup c) (left ∙ i.left) ∙ rw (eq-eqb i.what.pid c i.named) refl)).found
 
--- so is its key among the anchors, by what was read of it as it got its parent
+-- so is its anchor key, from the snapshot that was read when it got its new parent
 pub key_read : (from to c : ℕ) (rs ts : List Process) (heir : IndexedFields) (f : Snapshot) → IsRising ts → (i : AtChild rs from c) → children_in from ts ≡ left_of (Some c) (children_in from rs) → IfSome (lookup c ts) (λ r. f ≡ snapshot_of (with_parent to r))
     → anchor_in (snapshot_seen f) (Some heir) ≡ child_key heir i.what
 key_read from to c rs ts heir f up i left read = ap (λ f. anchor_in (snapshot_seen f) (Some heir)) (rw (still_there from c rs ts up i left) at read)
 
--- and there is memory for that
+-- and there is room for that key
 pub key_within : (sizes : List ℕ) (c : ℕ) (rs : List Process) (r : Process) (heir : IndexedFields) → AreWithin sizes rs → lookup c rs ≡ Some r → IfSome (child_key heir r) (λ k. (1 ≤ k) × HasRoom sizes k)
 key_within sizes c rs r heir h e = let w = h c r e in anchor_inside sizes (seen_of r) (Some heir) (w.1.0, w.2)
 
--- the children of one process stand under another
+-- the children of one process have the key of another
 pub kin_adopted : (from to : ℕ) → from ≢ to → from ≢ 0 → to ≢ 0 → (rs : List Process) (old new : List Pair) → IsIndex parent_key rs old → ArePairsRekeyed from to old new → IsIndex parent_key (adopted from to rs) new
 unfolding adopted
 kin_adopted from to ne some heir rs old new h is = index_map parent_key (λ r. rekeyed from to (parent_key r)) (reparented from to) (pid_reparented from to) (λ r. grind (arith, nat_tests, ne, some, heir)) rs new (index_rekeyed parent_key from to ne rs old new h is)
 
--- ---- another record, births, removals and adoptions
+-- ---- another record, insertions, removals and reparenting
 
 -- another record keeps the parent
 pub kin_record : (rs : List Process) (p : ℕ) (b : Record) (pairs : List Pair) → IsIndex parent_key rs pairs → IsIndex parent_key (with_record rs p b) pairs

@@ -1,4 +1,4 @@
--- What keeps the indexes of a table right, one line for each of them.
+-- What keeps the indexes of a table right, with one line for each index.
 use Rattle.std.proofs.Common.{◌≡◌, ◌≢◌, ℕ, ◌+◌, ◌<◌, ◌≤◌, Bool, true, false, cond, refl, ap, sym, ◌∙◌, arith, not, is_some, List, [], ◌∷◌, length, filter, Option, Some, None, IfSome, option_map, nat_lt, ◌==◌, ◌&&◌, ◌||◌, inl, inr}
 use Rattle.std.specs.Prelude.{option_and_then}
 use Rattle.std.specs.List.{list_any}
@@ -26,7 +26,7 @@ use Rattle.jobs.specs.Indexes.{AreIndexes, CanMove, AreMoved, lesser, room_in, s
 
 -- ---- one process
 
--- p with this parent is so among the processes
+-- p with this parent has these fields in the list
 pub record Sees (p parent : ℕ) (it : Option IndexedFields) (rs : List Process) : Type 0 where
   pub members : key_of member_key p rs ≡ member_in it
   pub reporting : key_of report_key p rs ≡ report_in parent it
@@ -40,7 +40,7 @@ sees p r rs e = record { members = ap (option_and_then member_key) e; reporting 
 pub sees_none : (p parent : ℕ) (rs : List Process) → lookup p rs ≡ None → Sees p parent None rs
 sees_none p parent rs e = record { members = ap (option_and_then member_key) e; reporting = ap (option_and_then report_key) e; stopped = ap (option_and_then stopped_key) e; alarmed = ap (option_and_then alarm_key) e; subreapers = ap (option_and_then marked_key) e }
 
--- so many processes have room in each
+-- each index has room for this many processes
 abbrev pub Fits : ℕ → Indexes → Type 0
 Fits n b = (n ≤ b.reporting.room) × (n ≤ b.stopped.room) × (n ≤ b.alarmed.room) × (n ≤ b.subreapers.room)
 
@@ -55,11 +55,11 @@ can_move p parent it rs b up h s free = record {
 pub fits : (rs : List Process) (n : ℕ) (b : Indexes) → AreIndexes rs b → n ≤ length rs → Fits n b
 fits rs n b h e = (omega (arith, e, h.reporting.room), omega (arith, e, h.stopped.room), omega (arith, e, h.alarmed.room), omega (arith, e, h.subreapers.room))
 
--- where there is room for one more, one more has room in each
+-- if there is room for one more process, each index has it
 pub fits_more : (k n : ℕ) (b : Indexes) → 0 < lesser k (room_in n b) → Fits (n + 1) b
 fits_more k n b h = (grind (arith, nat_tests, h), grind (arith, nat_tests, h), grind (arith, nat_tests, h), grind (arith, nat_tests, h))
 
--- one process more takes the room of one
+-- one more process takes the room of one
 pub room_less : {p parent : ℕ} {it : Option IndexedFields} (k j n : ℕ) (old new : Indexes) → k ≤ j + 1 → AreMoved p parent it old new → lesser k (room_in n old) ≤ lesser j (room_in (n + 1) new) + 1
 room_less k j n old new few m =
     let a = m.reporting.room in
@@ -68,7 +68,7 @@ room_less k j n old new few m =
     let e = m.subreapers.room in
     grind (arith, nat_tests, few, a, b, d, e)
 
--- the record of p is changed, comes or goes, and p moves
+-- the record of p is changed, removed or inserted, and the keys of p change
 pub indexes_moved : (p parent : ℕ) (it : Option IndexedFields) (rs ts : List Process) (old new : Indexes) (anchors children : ListsView) → IsElsewhere p rs ts → Fits (length ts) old → AreIndexes rs old → Sees p parent it ts → AreMoved p parent it old new → AreIndexes ts (record new { anchors = anchors; children = children })
 indexes_moved p parent it rs ts old new anchors children same fits h s k = record {
   members = index_moved member_key p rs ts old.members.pairs new.members.pairs same h.members (rw s.members k.members);
@@ -78,7 +78,7 @@ indexes_moved p parent it rs ts old new anchors children same fits h s k = recor
   subreapers = indexed_moved marked_key p rs ts old.subreapers new.subreapers same fits.3 h.subreapers (rw s.subreapers k.subreapers);
 }
 
--- where p is seen as before, it moves in none
+-- if the fields of p are as before, no key changes
 pub indexes_unmoved : (p parent : ℕ) (it : Option IndexedFields) (rs : List Process) (b : Indexes) → AreIndexes rs b → Sees p parent it rs → AreMoved p parent it b b
 indexes_unmoved p parent it rs b h s = record {
   members = unmoved member_key p rs b.members.pairs _ h.members (sym s.members);
@@ -91,7 +91,7 @@ indexes_unmoved p parent it rs b h s = record {
 
 -- ---- all processes
 
--- the children of a process become those of another, sort by sort
+-- the children of a process become those of another, for one kind of status change
 abbrev pub IsSortRekeyed : Sort → ℕ → ℕ → IndexView → IndexView → Type 0
 IsSortRekeyed sort from to old new = IsRekeyed (sorted from sort) (sorted to sort) old new
 
@@ -116,7 +116,7 @@ indexes_adopted from to ne rs old new ended stopped k0 k1 k2 m e g u h = record 
     reports : (r : Process) → report_key (reparented from to r) ≡ moved Continue (moved Stop (moved End (report_key r)))
     reports r = grind arith
 
--- nobody stands under a sort of a parent of whom no child reports
+-- if no child of a parent reports, no process has a key of that parent
 silent : (parent : ℕ) (sort : Sort) (c : ℕ) (b : Indexes) → has_within (sorted parent End) (sorted parent Continue) b.reporting.pairs ≡ false → is_pair_in (sorted parent sort) c b.reporting.pairs ≡ false
 silent parent sort c b none = let few = by sort in none_within _ _ (sorted parent sort) c b.reporting.pairs (omega arith) (omega (arith, few)) none
   where
@@ -125,7 +125,7 @@ silent parent sort c b none = let few = by sort in none_within _ _ (sorted paren
     by Stop = omega arith
     by Continue = omega arith
 
--- so nothing moves where its children become those of another
+-- and nothing changes if its children become those of another
 pub indexes_silent : (from to : ℕ) → from ≢ to → (rs : List Process) (b : Indexes) → has_within (sorted from End) (sorted from Continue) b.reporting.pairs ≡ false → AreIndexes rs b → AreIndexes (adopted from to rs) b
 indexes_silent from to ne rs b none h = indexes_adopted from to ne rs b b b.reporting b.reporting (still End) (still Stop) (still Continue) refl refl refl refl h
   where
@@ -134,28 +134,28 @@ indexes_silent from to ne rs b none h = indexes_adopted from to ne rs b b b.repo
 
 -- ---- reading
 
--- the next of the members of a process group
+-- the next member of a process group
 pub next_in_group : (group n : ℕ) (rs : List Process) (b : Indexes) (next : Option ℕ) → IsRising rs → AreIndexes rs b → IsNextPair group n b.members.pairs next → next ≡ first_pid (above n (members_in group rs))
 unfolding members_in
 next_in_group group n rs b next up h i = next_pair member_key rs b.members.pairs group n next up h.members i
 
--- the list in which a process stands says whether it is a member of a process group
+-- the list that contains a process says whether it is a member of a process group
 pub is_listed : (group p : ℕ) (rs : List Process) (b : Indexes) (list : Option ℕ) → AreIndexes rs b → IsAt p list b.members.pairs → is_key group list ≡ option_map_or (is_member group) (lookup p rs) false
 is_listed group p rs b list h at = sym (at group) ∙ h.members p group ∙ elim (lookup p rs) as (λ o. is_key group (option_and_then member_key o) ≡ option_map_or (is_member group) o false) [ None ↦ refl | Some r ↦ refl ]
 
--- nobody is stopped where none stands in the index of these
+-- no process is stopped if the index of stopped processes is empty
 pub none_stopped : (rs : List Process) (b : Indexes) → IsRising rs → AreIndexes rs b → (length b.stopped.pairs == 0) ≡ not (list_any (λ r. is_stopped r.life) rs)
 none_stopped rs b up h = index_empty stopped_key (λ r. is_stopped r.life) (λ r. elim (is_stopped r.life) as (λ s. is_some (cond s (Some r.group) None) ≡ s) [ true ↦ refl | false ↦ refl ]) rs b.stopped.pairs up h.stopped.index
 
--- so nobody living is a child subreaper
+-- the same for living child subreapers
 pub none_marked : (rs : List Process) (b : Indexes) → IsRising rs → AreIndexes rs b → (length b.subreapers.pairs == 0) ≡ not (list_any is_living_subreaper rs)
 none_marked rs b up h = index_empty marked_key is_living_subreaper (λ r. elim (is_living_subreaper r) as (λ s. is_some (cond {A = Option ℕ} s (Some 0) None) ≡ s) [ true ↦ refl | false ↦ refl ]) rs b.subreapers.pairs up h.subreapers.index
 
--- so nobody has an alarm
+-- the same for alarms
 pub none_alarmed : (rs : List Process) (b : Indexes) → IsRising rs → AreIndexes rs b → (length b.alarmed.pairs == 0) ≡ not (list_any (λ r. is_some r.alarm) rs)
 none_alarmed rs b up h = index_empty alarm_key (λ r. is_some r.alarm) (λ r. refl) rs b.alarmed.pairs up h.alarmed.index
 
--- the next of the children that report a sort
+-- the next child that reports a kind of status change
 pub next_sorted : (parent : ℕ) (sort : Sort) (n : ℕ) (rs : List Process) (b : Indexes) (next : Option ℕ) (is_wanted : Bool) → is_wanted ≡ true → IsRising rs → AreIndexes rs b → IsNextPair (sorted parent sort) n b.reporting.pairs next → next ≡ first_pid (above n (filter (λ r. is_wanted && is_of_sort sort r) (children_in parent rs)))
 unfolding children_in
 next_sorted parent sort n rs b next is_wanted e up h i =
@@ -177,7 +177,7 @@ next_sorted parent sort n rs b next is_wanted e up h i =
       | inr ne ↦ rw (ne_eqb (sorted p s) (sorted parent sort) (λ k. ne (omega (arith, k, few s, few sort))), ne_eqb p parent ne) refl
     ]
 
--- or none does that is wanted
+-- or none, if that kind isn't wanted
 pub none_sorted : (sort : Sort) (n parent : ℕ) (rs : List Process) (is_wanted : Bool) → is_wanted ≡ false → None ≡ first_pid (above n (filter (λ r. is_wanted && is_of_sort sort r) (children_in parent rs)))
 none_sorted sort n parent rs is_wanted e = rw e (none (children_in parent rs))
   where
@@ -185,7 +185,7 @@ none_sorted sort n parent rs is_wanted e = rw e (none (children_in parent rs))
     none [] = refl
     none (k ∷ ks) = none ks
 
--- of two tests, the least that passes either is the lesser of the least of each
+-- the lowest process that passes either of two tests is the lower of the lowest for each test
 least_first : (f g : Process → Bool) (rs : List Process) → IsRising rs → least (first_pid (filter f rs)) (first_pid (filter g rs)) ≡ first_pid (filter (λ r. f r || g r) rs)
 unfolding IsRising
 least_first f g [] up = refl
@@ -204,17 +204,17 @@ least_first f g (x ∷ xs) up = by (least_first f g xs up.1) (f x) (g x)
     by rest false true = (first _ (behind f)).1
     by rest false false = rest
 
--- so of those above n
+-- the same above n
 least_above : (f g : Process → Bool) (n : ℕ) (rs : List Process) → IsRising rs → least (first_pid (above n (filter f rs))) (first_pid (above n (filter g rs))) ≡ first_pid (above n (filter (λ r. f r || g r) rs))
 least_above f g n rs up =
     let high : Process → Bool = λ r. nat_lt n r.pid in
     rw (filters_commute high f rs, filters_commute high g rs, filters_commute high (λ r. f r || g r) rs) (least_first f g (filter high rs) (rising_filter high rs up))
 
--- a child of this sort, where a wait with these options wants it
+-- a child with this kind of status change, if a wait with these options wants it
 abbrev pub is_wanted_sort : ℕ → ℕ → Sort → Process → Bool
 is_wanted_sort options option sort r = has_option options option && is_of_sort sort r
 
--- who reports is of one of the sorts that are wanted
+-- a child reports if it has one of the wanted kinds
 wanted_sorts : (options : ℕ) (r : Process) → ((is_wanted_sort options WEXITED End r || is_wanted_sort options WSTOPPED Stop r) || is_wanted_sort options WCONTINUED Continue r) ≡ reports options r
 unfolding report_of
 wanted_sorts options r = by r.life r.news
@@ -234,7 +234,7 @@ wanted_sorts options r = by r.life r.news
     by Halted news.Continued = grind arith
     by (Zombie w) n = grind arith
 
--- the next that a wait wants is the least of the next of each sort
+-- the next child that a wait wants is the lowest of the next ones of each kind
 pub next_wanted : (parent n options : ℕ) (rs : List Process) (ended stopped continued : Option ℕ) → IsRising rs → ended ≡ first_pid (above n (filter (is_wanted_sort options WEXITED End) (children_in parent rs))) → stopped ≡ first_pid (above n (filter (is_wanted_sort options WSTOPPED Stop) (children_in parent rs)))
     → continued ≡ first_pid (above n (filter (is_wanted_sort options WCONTINUED Continue) (children_in parent rs))) → least (least ended stopped) continued ≡ first_pid (above n (wanted_in options parent rs))
 unfolding wanted_in children_in
@@ -245,7 +245,7 @@ next_wanted parent n options rs ended stopped continued up e s c =
     let all : least (least ended stopped) continued ≡ first_pid (above n (filter (λ r. (is_wanted_sort options WEXITED End r || is_wanted_sort options WSTOPPED Stop r) || is_wanted_sort options WCONTINUED Continue r) kids)) = rw (two, c) (least_above _ _ n kids kids_up) in
     all ∙ ap (λ l. first_pid (above n l)) (filter_agree _ (reports options) (wanted_sorts options) kids)
 
--- there is none where no child reports
+-- there is none if no child reports
 pub none_wanted : (parent n options : ℕ) (rs : List Process) (b : Indexes) → IsRising rs → AreIndexes rs b → has_within (sorted parent End) (sorted parent Continue) b.reporting.pairs ≡ false → None ≡ first_pid (above n (wanted_in options parent rs))
 none_wanted parent n options rs b up h none = next_wanted parent n options rs None None None up (no WEXITED End) (no WSTOPPED Stop) (no WCONTINUED Continue)
   where
@@ -255,7 +255,7 @@ none_wanted parent n options rs b up h none = next_wanted parent n options rs No
       | false ↦ λ e. none_sorted sort n parent rs (has_option options option) e
     ] refl
 
--- the next of those whose alarm is due at a tick
+-- the next process whose alarm is due at a tick
 pub next_due : (tick n : ℕ) (rs : List Process) (b : Indexes) (next : Option ℕ) → IsRising rs → AreIndexes rs b → IsNextPair tick n b.alarmed.pairs next → next ≡ first_pid (above n (filter (λ r. is_due tick r.alarm) rs))
 next_due tick n rs b next up h i =
     next_pair alarm_key rs b.alarmed.pairs tick n next up h.alarmed.index i

@@ -1,4 +1,4 @@
--- What a table keeps of its processes, where one changes, comes or goes.
+-- The invariant of a table when a process is changed, inserted or removed.
 use Rattle.std.proofs.Common.{◌≡◌, ℕ, false, true, is_some, ◌+◌, ◌<◌, ◌≤◌, ◌⊎◌, subst, option_map, Option, refl, ◌-◌, ◌≢◌, ap, sym, ◌∙◌, arith, List, [], length, Some, None, ⊎_elim, inl, inr}
 use Rattle.std.specs.Borrow.{MutBor}
 use Rattle.std.specs.Fn.{Once}
@@ -33,22 +33,22 @@ use Rattle.pidset.proofs.ParentLemmas.{no_child, parents_map, parents_inserted, 
 use Rattle.jobs.proofs.NumberLemmas.{absent_changed}
 use Rattle.jobs.proofs.RoomLemmas.{anchors_room}
 
--- ---- few enough to be counted
+-- ---- how many processes there are
 
 number_range : (rs : List Process) → AreNumbers rs → (p : ℕ) (r : Process) → lookup p rs ≡ Some r → (1 ≤ p) × (p ≤ greatest_pid)
 number_range rs numbers p r e = (elim (cases_eq p 0) [ inl none ↦ let no = numbers p (inl none) in absurd (cc) | inr some ↦ omega (arith, some) ], elim (cases_lt greatest_pid p) [ inl above ↦ let no = numbers p (inr above) in absurd (cc) | inr low ↦ low ])
 
--- there are no more processes than numbers
+-- there are no more processes than IDs
 pub size_of : (rs : List Process) → IsRising rs → AreNumbers rs → length rs ≤ greatest_pid
 size_of rs up numbers = subst (λ n. n ≤ greatest_pid) (length-map rs (λ (r : Process). r.pid)) (few greatest_pid (pids rs) (rises_pids rs up) (λ q e. let r = pid_found q rs e in number_range rs numbers q r.0 r.1))
 
--- ---- where one process changes, comes or goes
+-- ---- one process is changed, inserted or removed
 
--- there is memory for all numbers where there is more
+-- there is room for all IDs if there is more than before
 pub widen : (old new : List ℕ) (rs : List Process) → Grows old new → AreWithin old rs → AreWithin new rs
 widen old new rs grows h q r e = let w = h q r e in (grows r.pid w.0, w.1, grows r.group w.2)
 
--- there is memory for all numbers, where there is for that of p
+-- there is room for all IDs if there is room for that of p
 within_at : (sizes : List ℕ) (p : ℕ) (it : Option IndexedFields) (rs ts : List Process) → IsElsewhere p rs ts → HasRoom sizes p × IfSome (member_in it) (λ k. IsNumber k × HasRoom sizes k) → key_of member_key p ts ≡ member_in it → AreWithin sizes rs → AreWithin sizes ts
 within_at sizes p it rs ts same inside s h q r e = elim (cases_eq q p) [
   | inl here ↦
@@ -57,7 +57,7 @@ within_at sizes p it rs ts same inside s h q r e = elim (cases_eq q p) [
   | inr ne ↦ h q r (sym (same q ne) ∙ e)
 ]
 
--- where p moves in the indexes, and all others stay, all is kept
+-- the invariant holds if the indexes get the new keys of p, and all others stay
 kept_at : (n m p parent : ℕ) (it : Option IndexedFields) (rs ts : List Process) (old now : Indexes) (set kin : ListsView) → IsElsewhere p rs ts → ((p ≡ 0) ⊎ (greatest_pid < p) → lookup p ts ≡ None) → IsInside p it old → IsRising ts → m ≡ length ts → Fits m old → Sees p parent it ts → AreMoved p parent it old now
     → IsAnchorIndex ts set.pairs → set.sizes ≡ old.anchors.sizes → HaveParents HasParent ts → IsIndex parent_key ts kin.pairs → kin.sizes ≡ old.children.sizes → IsKept n old rs → IsKept m (record now { anchors = set; children = kin }) ts
 kept_at n m p parent it rs ts old now set kin same named inside up count free s moved index set_sizes parents children kin_sizes k = record {
@@ -70,25 +70,25 @@ kept_at n m p parent it rs ts old now set kin same named inside up count free s 
   children = children;
 }
 
--- who is there has a number, and there is memory for it
+-- an existing process has an ID other than 0, and there is room for it
 pub number_kept : {n p : ℕ} {rs : List Process} {indexes : Indexes} → IsKept n indexes rs → IsSome (lookup p rs) → (1 ≤ p) × HasRoom (sizes_in indexes) p
 number_kept {p = p} {rs = rs} k there = number_within _ p rs k.within (k.numbers 0 (inl refl)) there
 
--- none above the greatest
+-- its ID is at most the largest
 number_most : {n p : ℕ} {rs : List Process} {indexes : Indexes} → IsKept n indexes rs → IsSome (lookup p rs) → p ≤ greatest_pid
 number_most {p = p} k there = elim (cases_lt greatest_pid p) [ inl above ↦ let no : false ≡ true = sym (ap is_some (k.numbers p (inr above))) ∙ there in absurd (cc) | inr low ↦ low ]
 
--- it isn't 0
+-- its ID isn't 0
 pub some_number : {n p : ℕ} {rs : List Process} {indexes : Indexes} → IsKept n indexes rs → IsSome (lookup p rs) → p ≢ 0
 some_number k there none = let least = (number_kept k there).0 in omega (arith, least, none)
 
--- its children stand under it
+-- its children have it as their key
 pub kin_kept : {n : ℕ} {rs : List Process} {indexes : Indexes} → IsKept n indexes rs → AreKin rs indexes.children.pairs
 kin_kept k = record { rising = k.rising; none = k.numbers 0 (inl refl); index = k.children }
 
 -- ---- another record
 
--- as many processes are there
+-- the number of processes stays
 pub length_record : (rs : List Process) (p : ℕ) (c : Record) → length (with_record rs p c) ≡ length rs
 unfolding changed
 length_record rs p c = length-map rs (at p (give_record c))
@@ -98,7 +98,7 @@ pub record_found : (rs : List Process) (p : ℕ) (b c : Record) → lookup p rs 
 unfolding give_record
 record_found rs p b c e = lookup_changed p p (give_record c) (λ r. refl) rs ∙ rw (eq-eqb p p refl, e) refl
 
--- and still nobody has number 0
+-- and still no process has ID 0
 pub none_record : (rs : List Process) (p : ℕ) (c : Record) → AreNumbers rs → lookup 0 (with_record rs p c) ≡ None
 unfolding give_record
 none_record rs p c numbers = absent_changed p (give_record c) (λ r. refl) 0 rs (numbers 0 (inl refl))
@@ -107,11 +107,12 @@ pub elsewhere_record : (rs : List Process) (p : ℕ) (c : Record) → IsElsewher
 unfolding give_record
 elsewhere_record rs p c = elsewhere_changed p (give_record c) (λ r. refl) rs
 
--- what is asked before p moves: it stands as it was seen, and there is memory for its number and that of its process group, and for all numbers
+-- what is required before p moves: the indexes have its old keys, and there is room for its ID, for that of its process
+-- group, and for all IDs
 abbrev pub AreReady : ℕ → List Process → List Process → Record → Record → Indexes → Type 0
 AreReady p rs ts b c indexes = CanMove p (parent_of p rs) (Some (record_seen b)) indexes × IsInside p (Some (record_seen c)) indexes × AreWithin indexes.anchors.sizes ts
 
--- so it is where p stays in its process group, or comes into one in which it may be
+-- this holds if p stays in its process group, or moves to one in which it may be
 ready_record : (n p : ℕ) (rs : List Process) (b c : Record) (indexes : Indexes) → lookup p rs ≡ Some (process_of p (parent_of p rs) b) → (c.group ≡ b.group) ⊎ IsGroupFor p c.group rs → IsKept n indexes rs → AreReady p rs (with_record rs p c) b c indexes
 ready_record n p rs b c indexes found group k = (
   can_move p _ _ rs indexes k.rising k.indexes (sees p _ rs found) (λ none. let no = sym none ∙ found in absurd (cc)),
@@ -131,12 +132,12 @@ ready_record n p rs b c indexes found group k = (
           rw (← eqb-true it.0.group c.group it.2) (is.1, is.2))) group,
     )
 
--- as a closure does that may change it so
+-- the same for a closure that may make such a change
 pub ready_run : {F T : Type 0} {g : Once F (MutBor Record × Unit {0}) (T × (MutBor Record × Unit {0}))} {change : F} {rs ts vs : List Process} {n p : ℕ} {x : T} {indexes : Indexes} → (r : IsRun g change rs ts p x) → rs ≡ vs → StaysGrouped g change vs p → IsKept n indexes rs
     → AreReady p rs ts r.before r.after indexes
 ready_run {g = g} {change = change} {rs = rs} {n = n} {p = p} {indexes = indexes} r e stays k = rw r.is (ready_record n p rs r.before r.after indexes r.found (subst (λ vs. StaysGrouped g change vs p) (sym e) stays _ _ _ r.found r.ran) k)
 
--- p moves in the indexes
+-- the indexes get the new keys of p
 pub kept_moved : (n : ℕ) (rs new : List Process) (p : ℕ) (b c : Record) (old now : Indexes) (set : ListsView) → lookup p rs ≡ Some (process_of p (parent_of p rs) b) → new ≡ with_record rs p c → AreMoved p (parent_of p rs) (Some (record_seen c)) old now
     → IsInside p (Some (record_seen c)) old → IsAnchorIndex (with_record rs p c) set.pairs → set.sizes ≡ old.anchors.sizes → now.children ≡ old.children → IsKept n old rs → IsKept n (record now { anchors = set }) new
 unfolding give_record changed
@@ -146,11 +147,11 @@ kept_moved n rs new p b c old now set found is moved inside index sizes same k =
     (parents_map HasParent (at p (give_record c)) (at_pid p (give_record c) (λ r. refl)) (at_keeps (λ r. r.parent) p (give_record c) (λ r. refl)) (λ q r some none. some (at_keeps (λ r. r.parent) p (give_record c) (λ r. refl) r ∙ none)) rs k.anchors.parents)
     (rw same (kin_record rs p c old.children.pairs k.children)) (ap (λ (l : ListsView). l.sizes) same) k)
 
--- the indexes see at most an alarm of a change of signals
+-- a change of signals changes at most the alarm among the indexed fields
 pub seen_same : (b c : Record) → c ≡ record b { alarm = c.alarm; own = record (b.own) { signals = c.own.signals } } → record (record_seen c) { alarm = b.alarm } ≡ record_seen b
 seen_same b c e = ap (λ (c : Record). record (record_seen c) { alarm = b.alarm }) e
 
--- or an index sees at most its alarm, which moves
+-- or only the alarm changes, and the index of alarms follows
 pub kept_alarmed : (n : ℕ) (rs new : List Process) (p : ℕ) (b c : Record) (indexes : Indexes) (set : IndexView) → lookup p rs ≡ Some (process_of p (parent_of p rs) b) → new ≡ with_record rs p c → record (record_seen c) { alarm = b.alarm } ≡ record_seen b
     → IsReplaced p c.alarm indexes.alarmed set → IsKept n indexes rs → IsKept n (record indexes { alarmed = set }) new
 kept_alarmed n rs new p b c indexes set found is same moved k =
@@ -160,12 +161,12 @@ kept_alarmed n rs new p b c indexes set found is same moved k =
     (ready_record n p rs b c indexes found (inl (ap (λ (w : IndexedFields). w.group) same)) k).1
     (anchors_same p rs (with_record rs p c) (record_seen b) (record_seen c) indexes.anchors.pairs (elsewhere_record rs p c) (ap (option_map seen_of) found) (ap (option_map seen_of) now) (rw now refl) (ap stance_in same) (ap (λ (w : IndexedFields). is_zombie w.life) same) k.anchors.index) refl refl k
 
--- or no index sees it
+-- or no indexed field changes
 pub kept_unseen : (n : ℕ) (rs new : List Process) (p : ℕ) (b c : Record) (indexes : Indexes) → lookup p rs ≡ Some (process_of p (parent_of p rs) b) → new ≡ with_record rs p c → record_seen c ≡ record_seen b → IsKept n indexes rs → IsKept n indexes new
 kept_unseen n rs new p b c indexes found is same k =
     kept_alarmed n rs new p b c indexes indexes.alarmed found is (ap (λ (w : IndexedFields). record w { alarm = b.alarm }) same) (indexes_unmoved p (parent_of p rs) (Some (record_seen c)) rs indexes k.indexes (rw same (sees p _ rs found))).alarmed k
 
--- ---- births, removals and adoptions
+-- ---- insertions, removals and reparenting
 
 pub kept_inserted : (n : ℕ) (rs new : List Process) (r : Process) (old now : Indexes) (set kin : ListsView) → (1 ≤ r.pid) × (r.pid ≤ greatest_pid) → IsInside r.pid (Some (seen_of r)) old → lookup r.pid rs ≡ None → ((r.parent ≡ 0) × (rs ≡ [])) ⊎ IsSome (lookup r.parent rs) → new ≡ inserted r rs → Fits (n + 1) old
     → AreMoved r.pid r.parent (Some (seen_of r)) old now → IsMoved r.pid (anchor_in (seen_of r) (seen_at r.parent rs)) old.anchors.pairs set.pairs → set.sizes ≡ old.anchors.sizes → IsMoved r.pid (list_of_parent r.parent) old.children.pairs kin.pairs → kin.sizes ≡ old.children.sizes
@@ -183,10 +184,10 @@ kept_inserted n rs new r old now set kin named inside fresh parent is free moved
     (anchors_apart r.pid rs (inserted r rs) old.anchors.pairs set.pairs (elsewhere_inserted r rs) apart (rw (key_at r.pid (inserted r rs) (seen_of r) (ap (option_map seen_of) here), here, up) anchor) k.anchors.index) sizes (parents_inserted HasParent r rs fresh (λ some. ⊎_elim (λ first. absurd (some first.0)) (λ there. there) parent) k.anchors.parents)
     (index_moved parent_key r.pid rs (inserted r rs) old.children.pairs kin.pairs (elsewhere_inserted r rs) k.children (rw here child)) wide k)
 
--- where p was read as nobody nothing goes, and else one process less is there
+-- if p wasn't found, nothing is removed; otherwise there is one process less
 pub ruleset leave_rules = (none_mapped, remove_none, length_removed)
 
--- a process of which this snapshot was read may go
+-- a process may be removed after this snapshot of it was read
 pub can_leave : {n p : ℕ} {rs : List Process} {f : Snapshot} {indexes : Indexes} → Some f ≡ option_map snapshot_of (lookup p rs) → IsKept n indexes rs → CanMove p f.parent (Some (snapshot_seen f)) indexes × ((1 ≤ p) × HasRoom (sizes_in indexes) p) × (n ≡ length (removed p rs) + 1)
 can_leave {p = p} {rs = rs} {f = f} {indexes = indexes} read k =
     let it = back _ _ f read in

@@ -1,4 +1,4 @@
--- For which numbers the lists of a table have memory, and what goes with a page.
+-- For which IDs the lists of a table have room, and what is freed with a page.
 use Rattle.std.proofs.Common.{◌≡◌, ℕ, ◌/◌, refl, ap, sym, ◌∙◌, arith, true, List, [], ◌∷◌, Option, Some, None, slice_index_or, slice_set, ◌≤◌, ◌==◌, zero, suc}
 use Rattle.std.specs.Prelude.{option_and_then}
 use Rattle.std.specs.Option.{IfSome}
@@ -17,7 +17,7 @@ use Rattle.jobs.specs.Indexes.{IsInside, common, lesser, member_in, member_key, 
 use Rattle.jobs.specs.IndexedTables.{AreOnOtherPages, IsKept}
 use Rattle.posix.proofs.ResultLemmas.{there}
 
--- ---- the memory that all have
+-- ---- the room that all lists have
 
 common_at : (ms ns : List ℕ) (i : ℕ) → slice_index_or (common ms ns) i 0 ≡ lesser (slice_index_or ms i 0) (slice_index_or ns i 0)
 unfolding common
@@ -44,18 +44,18 @@ children_room b p room = (both_room _ _ p room).1
 pub all_room : (b : Indexes) (p : ℕ) → HasRoom b.members.sizes p → HasRoom b.anchors.sizes p → HasRoom b.children.sizes p → HasRoom (sizes_in b) p
 all_room b p members anchors children = common_room _ _ p (common_room _ _ p members anchors) children
 
--- p is inside the members
+-- the list of members has room for p
 pub inside_members : (p : ℕ) (it : Option IndexedFields) (b : Indexes) → IsInside p it b → HasRoom b.members.sizes p × IfSome (member_in it) (λ k. (1 ≤ k) × HasRoom b.members.sizes k)
 inside_members p None b h = (members_room b p h.0, tt)
 inside_members p (Some w) b h = (members_room b p h.0, (h.1.0.0, members_room b w.group h.1.1))
 
--- all have memory for more where each has
+-- there is more room in common if each list has more
 pub grown : (old new : Indexes) → Grows old.members.sizes new.members.sizes → Grows old.anchors.sizes new.anchors.sizes → Grows old.children.sizes new.children.sizes → Grows (sizes_in old) (sizes_in new)
 grown old new members anchors children p room = all_room new p (members p (members_room old p room)) (anchors p (anchors_room old p room)) (children p (children_room old p room))
 
--- ---- a page goes
+-- ---- a page is freed
 
--- where no process is on the page of n nobody stands in an index of these under a number on it, where none has such a key
+-- if no process and no key is on the page of n, this index doesn't use the page
 stays_apart : (key : Process → Option ℕ) (n : ℕ) (rs : List Process) (pairs : List Pair) → AreOnOtherPages n rs → ((p : ℕ) (r : Process) → lookup p rs ≡ Some r → IfSome (key r) (λ k. IsOnAnotherPage k n)) → IsIndex key rs pairs → IsPageUnused n pairs
 stays_apart key n rs pairs apart keyed index k p e = by (lookup p rs) refl (sym (index p k) ∙ e)
   where
@@ -67,7 +67,7 @@ stays_apart key n rs pairs apart keyed index k p e = by (lookup p rs) refl (sym 
     by None f h = absurd (cc)
     by (Some r) f h = (under (key r) (keyed p r f) h, rw (pid_looked p rs r f) at (apart p r f).0)
 
--- nor in one of those of a table
+-- and neither does an index of the table
 pub members_unused : {m : ℕ} (n : ℕ) (rs : List Process) (b : Indexes) → AreOnOtherPages n rs → IsKept m b rs → IsPageUnused n b.members.pairs
 members_unused n rs b apart k = stays_apart member_key n rs b.members.pairs apart (λ p r f. (apart p r f).1) k.indexes.members
 
@@ -81,7 +81,7 @@ children_unused n rs b apart k = stays_apart parent_key n rs b.children.pairs ap
 
 -- ---- the room that is left
 
--- what goes in both goes in common
+-- if a size becomes 0 in both, it becomes 0 in common
 common_set : (ms ns : List ℕ) (i : ℕ) → common (slice_set ms i 0) (slice_set ns i 0) ≡ slice_set (common ms ns) i 0
 unfolding common
 common_set [] ns i = refl
@@ -96,7 +96,7 @@ indexes_left n b = record b { members = without_page_of n b.members; anchors = w
 pub sizes_left : (n : ℕ) (b : Indexes) → sizes_in (indexes_left n b) ≡ sizes_without (sizes_in b) n
 sizes_left n b = ap (λ ms. common ms (sizes_without b.children.sizes n)) (common_set b.members.sizes b.anchors.sizes (n / 1024)) ∙ common_set (common b.members.sizes b.anchors.sizes) b.children.sizes (n / 1024)
 
--- all is kept without the room for that page
+-- the invariant holds without the room for that page
 pub kept_left : (m n : ℕ) (rs : List Process) (b : Indexes) → AreOnOtherPages n rs → IsKept m b rs → IsKept m (indexes_left n b) rs
 kept_left m n rs b apart k = record {
   rising = k.rising;

@@ -1,4 +1,4 @@
--- Who is there with its number, and numbers that were compared.
+-- Lookups by ID, and IDs that were compared.
 use Rattle.std.proofs.Common.{◌≡◌, ◌≢◌, ◌==◌, ℕ, true, false, not, ap, sym, ◌∙◌, List, Some}
 use Rattle.std.specs.Option.{IsSome}
 use Rattle.std.proofs.lemmas.Bool.{eqb-true, eq-eqb, not-false}
@@ -6,7 +6,7 @@ use Rattle.posix.specs.Common.{Process, lookup}
 use Rattle.posix.proofs.ResultLemmas.{there}
 use Rattle.posix.proofs.TableLemmas.{pid_looked}
 
--- who is looked up, with its number
+-- a process that was found, with its ID
 pub record Named (p : ℕ) (rs : List Process) : Type 0 where
   pub what : Process
   pub found : lookup p rs ≡ Some (record what { pid = p })
@@ -14,7 +14,7 @@ pub record Named (p : ℕ) (rs : List Process) : Type 0 where
 pub named_there : (p : ℕ) (rs : List Process) → IsSome (lookup p rs) → Named p rs
 named_there p rs h = let r = there (lookup p rs) h in record { what = r.what; found = r.found ∙ ap (λ n. Some (record (r.what) { pid = n })) (pid_looked p rs r.what r.found) }
 
--- ---- numbers that were compared
+-- ---- IDs that were compared
 
 pub differs : (a b : ℕ) → not (a == b) ≡ true → a ≢ b
 differs a b e = λ x. let t : (a == b) ≡ true = eq-eqb a b x in let no : false ≡ true = ap not (sym t) ∙ e in absurd (cc)

@@ -1,4 +1,4 @@
-//! Who keeps a process group from being orphaned (XBD 3): what moves in their index where a process changes.
+//! Anchors, the processes that keep their process groups from being orphaned (XBD 3): updates of their index.
 
 ghost use Rattle.std.specs.Prelude.{◌≡◌, ◌≢◌, ℕ, ◌+◌, ◌*◌, ◌<◌, ◌≤◌, ◌⊎◌, List, length, None, Some, IsSome, option_map, if◌then◌else◌};
 ghost use Rattle.posix.specs.Common.{Process, lookup, children_in, parent_of};
@@ -12,7 +12,7 @@ use pidset::Lists;
 use posix::Pid;
 use proctable::ProcessTable;
 
-/// What the indexes see of a process; none where it isn't there.
+/// Returns the indexed fields of a process, if it exists.
 fn seen_in<K: ProcessTable>(table: &mut K, pid: Pid) -> Option<IndexedFields>
     ensures value { result ≡ option_map seen_of (lookup pid (K.contents table.old)) }
     ensures contents { K.contents table.new ≡ K.contents table.old }
@@ -21,7 +21,7 @@ fn seen_in<K: ProcessTable>(table: &mut K, pid: Pid) -> Option<IndexedFields>
     Some(of_snapshot(&table.get(pid)?))
 }
 
-/// What the indexes see of a process that is there.
+/// Returns the indexed fields of an existing process.
 #[tactic(auto, using(proctable::proofs::RecordLemmas::same_record))]
 #[inline]
 pub(crate) fn seen_there<K: ProcessTable>(table: &mut K, pid: Pid) -> IndexedFields
@@ -33,7 +33,7 @@ pub(crate) fn seen_there<K: ProcessTable>(table: &mut K, pid: Pid) -> IndexedFie
     of_record(table.update(pid))
 }
 
-/// Whether a process stays in its process group and its session, and isn't revived.
+/// Returns true if a process stays in its process group and its session, and isn't revived.
 fn keeps_group_and_session(before: &IndexedFields, after: &IndexedFields) -> bool
     ensures { result ≡ keeps_group_and_session_in before.now after.now }
 {
@@ -42,7 +42,7 @@ fn keeps_group_and_session(before: &IndexedFields, after: &IndexedFields) -> boo
         && (is_dead(after) || !is_dead(before))
 }
 
-/// The index of anchors follows a process that is there, whose parent is in this state.
+/// Updates the index of anchors for an existing process whose parent has these fields.
 fn update_anchor<K: ProcessTable>(
     table: &mut K,
     anchors: &mut Lists,
@@ -61,7 +61,7 @@ fn update_anchor<K: ProcessTable>(
     anchors.put(pid, anchor_key(&it, &Some(*parent)));
 }
 
-/// The index of anchors follows the children of a process that is there, and now is in this state.
+/// Updates the index of anchors for the children of an existing process that has these fields now.
 pub(crate) fn update_anchors_of_children<K: ProcessTable>(
     table: &mut K,
     children: &Lists,
@@ -84,7 +84,7 @@ pub(crate) fn update_anchors_of_children<K: ProcessTable>(
     }
 }
 
-/// The index of anchors follows a change of a process, which has happened, and with it the children of the process.
+/// Updates the index of anchors for a process that has changed, and for its children.
 pub(crate) fn update_anchors<K: ProcessTable>(
     table: &mut K,
     children: &Lists,

@@ -1,4 +1,4 @@
-//! The children of processes, one after another, and their adoption.
+//! The children of processes, in rising order, and their reparenting.
 
 ghost use Rattle.std.specs.Prelude.{◌≡◌, ◌≢◌, ◌+◌, ◌≤◌, List, length, None, IsSome};
 ghost use Rattle.posix.specs.Common.{Process, lookup, above, adopted, children_in, first_pid};
@@ -11,7 +11,7 @@ use pidset::Lists;
 use posix::Pid;
 use proctable::ProcessTable;
 
-/// The child of a process that is there with the least number above `after`, zombies included.
+/// Returns the child of an existing process with the lowest ID above `after`, zombies included.
 #[tactic(auto, using(crate::proofs::ChildLemmas::next_kid))]
 #[inline]
 pub(crate) fn next_child(children: &Lists, parent: Pid, after: Pid) -> Option<Pid>
@@ -20,8 +20,8 @@ pub(crate) fn next_child(children: &Lists, parent: Pid, after: Pid) -> Option<Pi
     children.next(parent, after)
 }
 
-/// Gives the children of one process, of which this is the index, to another, which is in this state, and the index of
-/// anchors follows them. Each of them is read once.
+/// Reparents the children of `from` to `to`, which has the fields `heir`, and updates the index of anchors. Reads each
+/// child once. The caller updates `children`.
 pub(crate) fn give_children<K: ProcessTable>(
     table: &mut K,
     children: &Lists,

@@ -1,5 +1,5 @@
-//! Process groups: their members, one after another; how many members are stopped; and how many keep the group from
-//! being orphaned (XBD 3).
+//! Process groups: their members, in rising order; how many members are stopped; and how many keep the group from being
+//! orphaned (XBD 3).
 
 ghost use Rattle.std.specs.Prelude.{◌≡◌, false};
 ghost use Rattle.std.specs.Option.{option_map_or};
@@ -14,8 +14,8 @@ use posix::Pid;
 use proctable::ProcessTable;
 
 impl<K: ProcessTable> IndexedTable<K> {
-    /// The member of a process group with the least number above `after`, zombies included (XBD 3 Process
-    /// Group). No slot is read.
+    /// Returns the member of a process group with the lowest ID above `after`, zombies included (XBD 3 Process Group).
+    /// Reads no slot.
     #[tactic(auto, using(crate::proofs::IndexLemmas::next_in_group))]
     #[inline]
     pub fn next_member(&self, group: Pid, after: Pid) -> Option<Pid>
@@ -24,7 +24,7 @@ impl<K: ProcessTable> IndexedTable<K> {
         self.indexes.members.next(group, after)
     }
 
-    /// Whether a process is there, and a member of a process group. No slot is read.
+    /// Returns true if a process exists and is a member of a process group. Reads no slot.
     #[inline]
     pub fn is_member(&self, group: Pid, pid: Pid) -> bool
         ensures { result ≡ option_map_or (is_member_of group) (lookup pid self.now.processes) false }
@@ -32,7 +32,7 @@ impl<K: ProcessTable> IndexedTable<K> {
         self.indexes.members.list(pid) == Some(group)
     }
 
-    /// The member of a process group with the least number. No slot is read.
+    /// Returns the member of a process group with the lowest ID. Reads no slot.
     #[tactic(auto, using(crate::proofs::GroupLemmas::passing_above), unfolding(posix::specs::Tables::members_in))]
     #[inline]
     pub(crate) fn first_member(&self, group: Pid) -> Option<Pid>
@@ -44,16 +44,16 @@ impl<K: ProcessTable> IndexedTable<K> {
         self.next_member(group, Pid::NONE)
     }
 
-    /// The process group that a process keeps from being orphaned: it is there, lives, and has a parent in another
-    /// group of the same session. No slot is read.
+    /// Returns the process group that a process keeps from being orphaned. Such a process is alive, and its parent is
+    /// in another group of the same session. Reads no slot.
     pub fn group_kept(&self, pid: Pid) -> Option<Pid>
         ensures { result ≡ key_of (anchor_key self.now.processes) pid self.now.processes }
     {
         self.indexes.anchors.list(pid)
     }
 
-    /// Whether a process group is orphaned: no living member of it has a parent in another group of the same
-    /// session (XBD 3 Orphaned Process Group). No slot is read.
+    /// Returns true if a process group is orphaned: no living member has a parent in another group of the same session
+    /// (XBD 3 Orphaned Process Group). Reads no slot.
     #[tactic(auto, using(crate::proofs::GroupLemmas::some_anchor), unfolding(posix::specs::Groups::is_orphaned))]
     pub fn is_orphaned(&self, group: Pid) -> bool
         ensures { result ≡ is_orphaned_of group self.now.processes }
@@ -61,7 +61,7 @@ impl<K: ProcessTable> IndexedTable<K> {
         self.indexes.anchors.next(group, Pid::NONE).is_none()
     }
 
-    /// Whether a member of a process group is stopped. No slot is read.
+    /// Returns true if a member of a process group is stopped. Reads no slot.
     #[tactic(auto, using(crate::proofs::GroupLemmas::some_stopped), unfolding(posix::specs::Groups::has_stopped))]
     pub fn has_stopped(&self, group: Pid) -> bool
         ensures { result ≡ has_stopped_of group self.now.processes }

@@ -1,4 +1,4 @@
-//! The table: who is there.
+//! The table of jobs, with its indexes.
 
 ghost use Rattle.std.specs.Prelude.{◌≡◌, ◌≢◌, ◌+◌, ◌*◌, ◌<◌, ◌≤◌, ◌^◌, [], ⊤, ℕ, Some, IfOk, IfSome, IsSome, OnOk, None, not, is_some, length, filter, option_map};
 ghost use mathlib.Core.Option.{none};
@@ -21,20 +21,20 @@ use proctable::{GrantedPools, OwnPart, ProcessTable, Record, Snapshot};
 use std::alloc::{AllocError, Global};
 use std::marker::Model;
 
-/// The processes of a machine, zombies included, seen as the list of their records in rising order of their
-/// numbers. None has number 0.
+/// The processes of a machine, zombies included, modelled as the list of their records in rising order of their IDs.
+/// None has ID 0.
 ///
 /// Methods that only read leave the processes and the room unchanged.
 #[derive(Drop)]
 pub struct IndexedTable<K: ProcessTable> {
     pub(crate) table: K,
-    /// How many processes there are.
+    /// The number of processes.
     pub(crate) count: usize,
     pub(crate) indexes: Indexes,
 }
 
-/// What a closure gave, what the indexes see of the process before and after, and whether a signal is chosen for it
-/// afterwards.
+/// The result of a closure, the indexed fields of the process before and after it, and whether the process has a signal
+/// to act on afterwards.
 #[derive(Drop)]
 struct Run<T> {
     before: IndexedFields,
@@ -55,7 +55,7 @@ impl<K: ProcessTable> Model for IndexedTable<K> {
 }
 
 impl<K: ProcessTable> IndexedTable<K> {
-    /// A table without processes. It takes no memory.
+    /// Creates a table without processes. Allocates nothing.
     #[tactic(auto, using(crate::proofs::NumberLemmas::nobody_there), unfolding(posix::specs::Tables::IsRising, posix::specs::Tables::lookup, pidset::specs::Indexes::is_pair_in))]
     pub fn empty(alloc: Global) -> Self
         ensures processes { result.processes ≡ [] }
@@ -68,8 +68,8 @@ impl<K: ProcessTable> IndexedTable<K> {
         }
     }
 
-    /// Makes room for one more process, with this number. At an error the host has no memory for it, and the processes
-    /// are unchanged.
+    /// Makes room for one more process, with this ID. Fails if the host has no memory for it. The processes are
+    /// unchanged.
     #[tactic(auto, using(crate::proofs::KeptLemmas::size_of))]
     pub fn reserve(&mut self, pid: Pid) -> Result<(), AllocError>
         ensures ok { OnOk result (0 < self.new.room) }
@@ -81,8 +81,8 @@ impl<K: ProcessTable> IndexedTable<K> {
         self.indexes.reserve(self.count + 1, pid)
     }
 
-    /// The room for a number goes, and that for all others on its page of 1,024 numbers, where no process has one of
-    /// them, or is in a process group that has.
+    /// Frees the room for an ID and for all others on its page of 1,024 IDs. No process may have one of them, or be in
+    /// a process group that has one.
     pub fn give_up_page(&mut self, pid: Pid)
         requires { AreOnOtherPages pid self.old.processes }
         ensures { self.new ≡ record (self.old) { sizes = sizes_without self.old.sizes pid } }
@@ -90,7 +90,7 @@ impl<K: ProcessTable> IndexedTable<K> {
         self.indexes.give_up_page(pid);
     }
 
-    /// How many processes there are. No slot is read.
+    /// Returns the number of processes. Reads no slot.
     #[tactic(auto, using(crate::proofs::KeptLemmas::size_of))]
     pub fn len(&self) -> usize
         ensures value { result ≡ length self.now.processes }
@@ -99,8 +99,8 @@ impl<K: ProcessTable> IndexedTable<K> {
         self.count
     }
 
-    /// Makes so many pools wait for the queues of real-time signals, where fewer do. At an error the host has no memory
-    /// for them, and none is gone. The processes are unchanged.
+    /// Makes sure that at least `count` pools are ready for the queues of real-time signals. Fails if the host has no
+    /// memory for them; pools that were ready stay so. The processes are unchanged.
     pub fn reserve_pools(
         &mut self,
         granted_pools: &mut GrantedPools,
@@ -113,9 +113,9 @@ impl<K: ProcessTable> IndexedTable<K> {
         self.table.reserve_pools(granted_pools, count)
     }
 
-    /// Puts in a process that isn't there, where there is room for one with this number. Its number isn't 0, its parent
-    /// is there, and in the same process group, or, for the first process, number 0, and there is room for the number of
-    /// the group. The others are unchanged.
+    /// Adds a process that doesn't exist, within reserved room for its ID, which isn't 0. Its parent exists and is in
+    /// the same process group, or is 0 for the first process. There is room for the ID of the group. Other processes
+    /// are unchanged.
     #[tactic(auto, using(crate::proofs::KeptLemmas::size_of))]
     pub fn insert(&mut self, pid: Pid, parent: Pid, fields: Record)
         requires room { 0 < self.old.room }
@@ -130,7 +130,7 @@ impl<K: ProcessTable> IndexedTable<K> {
         ensures visits { self.new.visits ≤ self.old.visits + 1 }
         ensures no_fewer { self.old.visits ≤ self.new.visits }
     {
-        // Neither number is above the greatest.
+        // Neither ID is above the largest.
         prove!(pid.number() <= Pid::MAX);
         prove!(fields.group.number() <= Pid::MAX);
         let after = of_record(&fields);
@@ -142,7 +142,7 @@ impl<K: ProcessTable> IndexedTable<K> {
         self.count += 1;
     }
 
-    /// The small fields of a process; none where it isn't there.
+    /// Returns the small fields of a process, if it exists.
     #[inline(always)]
     pub fn get(&mut self, pid: Pid) -> Option<Snapshot>
         ensures finds { Finds 1 self.old self.new (result ≡ option_map snapshot_of (lookup pid self.old.processes)) }
@@ -152,7 +152,8 @@ impl<K: ProcessTable> IndexedTable<K> {
         self.table.get(pid)
     }
 
-    /// Takes out a process without children. Its small fields; none, and nothing changes, where it isn't there.
+    /// Removes a process without children and returns its small fields. Returns `None` and changes nothing if it
+    /// doesn't exist.
     #[tactic(auto, using(crate::proofs::KeptLemmas::leave_rules))]
     pub fn remove(&mut self, pid: Pid) -> Option<Snapshot>
         requires { children_in pid self.old.processes ≡ [] }
@@ -175,7 +176,7 @@ impl<K: ProcessTable> IndexedTable<K> {
         Some(snapshot)
     }
 
-    /// Whether a process has no children, zombies included. No slot is read.
+    /// Returns true if a process has no children, zombies included. Reads no slot.
     #[inline(always)]
     fn is_childless(&self, pid: Pid) -> bool
         requires { pid ≢ 0 }
@@ -184,7 +185,7 @@ impl<K: ProcessTable> IndexedTable<K> {
         self.indexes.children.next(pid, Pid::NONE).is_none()
     }
 
-    /// The child of a process that is there with the least number above `after`, zombies included. No slot is read.
+    /// Returns the child of an existing process with the lowest ID above `after`, zombies included. Reads no slot.
     #[tactic(auto, using(crate::proofs::KeptLemmas::kin_kept))]
     pub fn next_child(&self, parent: Pid, after: Pid) -> Option<Pid>
         requires { IsSome (lookup parent self.now.processes) }
@@ -193,7 +194,7 @@ impl<K: ProcessTable> IndexedTable<K> {
         next_child(&self.indexes.children, parent, after)
     }
 
-    /// The parent of a process that is there; number 0 for none. No slot is read.
+    /// Returns the parent of an existing process; 0 for none. Reads no slot.
     pub fn parent(&self, pid: Pid) -> Pid
         requires { IsSome (lookup pid self.now.processes) }
         ensures { result ≡ parent_of pid self.now.processes }
@@ -201,14 +202,14 @@ impl<K: ProcessTable> IndexedTable<K> {
         self.indexes.children.list(pid).unwrap_or(Pid::NONE)
     }
 
-    /// The process with the least number above `pid`, which need not be there; none where there is none.
+    /// Returns the process with the lowest ID above `pid`, which need not exist.
     pub fn next_after(&mut self, pid: Pid) -> Option<Pid>
         ensures { Finds 1 self.old self.new (result ≡ next_above pid self.old.processes) }
     {
         self.table.next_after(pid)
     }
 
-    /// Gives the children of one process that is there to another, which is there. Each of them is read once.
+    /// Reparents the children of `from` to `to`. Both processes exist. Reads each child once.
     pub fn adopt(&mut self, from: Pid, to: Pid)
         requires giver { IsSome (lookup from self.old.processes) }
         requires there { IsSome (lookup to self.old.processes) }
@@ -232,7 +233,7 @@ impl<K: ProcessTable> IndexedTable<K> {
         self.indexes.reparent(from, to);
     }
 
-    /// Whether no process is stopped. No slot is read.
+    /// Returns true if no process is stopped. Reads no slot.
     #[tactic(auto, using(crate::proofs::IndexLemmas::none_stopped))]
     pub fn nobody_stopped(&self) -> bool
         ensures { result ≡ not (list_any (λ r. is_stopped_by r.life) self.now.processes) }
@@ -240,7 +241,7 @@ impl<K: ProcessTable> IndexedTable<K> {
         self.indexes.stopped.is_empty()
     }
 
-    /// Whether no living process is a child subreaper. No slot is read.
+    /// Returns true if no living process is a child subreaper. Reads no slot.
     #[tactic(auto, using(crate::proofs::IndexLemmas::none_marked))]
     pub fn nobody_marked(&self) -> bool
         ensures { result ≡ not (list_any is_living_subreaper self.now.processes) }
@@ -248,7 +249,7 @@ impl<K: ProcessTable> IndexedTable<K> {
         self.indexes.subreapers.is_empty()
     }
 
-    /// Whether no process has an alarm. No slot is read.
+    /// Returns true if no process has an alarm. Reads no slot.
     #[tactic(auto, using(crate::proofs::IndexLemmas::none_alarmed))]
     pub fn nobody_alarmed(&self) -> bool
         ensures { result ≡ not (list_any (λ r. is_some r.alarm) self.now.processes) }
@@ -256,19 +257,19 @@ impl<K: ProcessTable> IndexedTable<K> {
         self.indexes.alarmed.is_empty()
     }
 
-    /// The child of a process that has something to report to a wait with these options, with the least number above
-    /// `after`. No slot is read, and no child looked at whose sort isn't wanted.
+    /// Returns the child with the lowest ID above `after` that has a status change to report to a wait with these
+    /// options. Reads no slot, and looks only at children with a wanted kind of status change.
     pub fn next_wanted(&self, parent: Pid, options: WaitidOptions, after: Pid) -> Option<Pid>
         ensures { result ≡ first_pid (above after (wanted_in options.0 parent self.now.processes)) }
     {
-        // Mostly it has no children, and then its list tells it.
+        // Usually it has no children, and its list shows that.
         if parent != Pid::NONE && self.is_childless(parent) {
             return None;
         }
         self.indexes.next_wanted(parent, options, after)
     }
 
-    /// The process whose alarm is due at a tick, with the least number above `after`. No slot is read.
+    /// Returns the process with the lowest ID above `after` whose alarm is due at a tick. Reads no slot.
     pub fn next_due(&self, tick: u64, after: Pid) -> Option<Pid>
         ensures { result ≡ first_pid (above after (filter (λ r. is_due tick r.alarm) self.now.processes)) }
     {
@@ -277,8 +278,8 @@ impl<K: ProcessTable> IndexedTable<K> {
 
     // ---- changes
 
-    /// What a child of a process that is there would be, with this birth number (XSH fork). The processes are
-    /// unchanged. An error where the host has no memory for it.
+    /// Returns the record of a child of an existing process, with this birth number (XSH fork). Fails if the host has
+    /// no memory for it. The processes are unchanged.
     pub fn newborn(&mut self, pid: Pid, birth: u64) -> Result<Record, AllocError>
         requires { IsSome (lookup pid self.old.processes) }
         ensures child { IfOk result (λ b. (me : Process) → lookup pid self.old.processes ≡ Some me → (n : ℕ) → process_of n pid b ≡ child_of birth me n) }
@@ -290,8 +291,9 @@ impl<K: ProcessTable> IndexedTable<K> {
         self.table.update(pid).fork(birth, spare)
     }
 
-    /// Changes the signals of a process that is there, and its alarm, which moves in the index. Each such change goes
-    /// by this, but a loan. What the closure gave, and whether a signal is chosen for the process now.
+    /// Changes the signals and the alarm of an existing process, and updates the index of alarms. All such changes go
+    /// through this method, except by a loan. Returns the closure's result, and whether the process has a signal to act
+    /// on now.
     #[inline(always)]
     pub fn change<T, F: FnOnce(&mut Record) -> T>(&mut self, pid: Pid, change: F) -> (T, bool)
         requires there { IsSome (lookup pid self.old.processes) }
@@ -311,8 +313,8 @@ impl<K: ProcessTable> IndexedTable<K> {
         (result, takes_signal)
     }
 
-    /// Changes a process that is there, and moves it in the indexes, and its children where they see a change of it.
-    /// Each change goes by this that the parent of the process sees. What was seen of it before and after.
+    /// Changes an existing process, and updates the indexes, also for its children if necessary. All changes that the
+    /// parent of the process sees go through this method. Returns the indexed fields before and after.
     pub fn change_seen<F: FnOnce(&mut Record)>(&mut self, pid: Pid, change: F) -> Change
         requires there { IsSome (lookup pid self.old.processes) }
         requires callable { F.IsAlwaysCallable change }
@@ -327,7 +329,7 @@ impl<K: ProcessTable> IndexedTable<K> {
         let parent = self.indexes.children.list(pid).unwrap_or(Pid::NONE);
         let seen = change_in(&mut self.table, pid, parent, change);
         if seen.before == seen.after {
-            // It stands in each index as it did.
+            // All its keys are as before.
             return seen;
         }
         let (before, after) = (Some(seen.before), Some(seen.after));
@@ -344,14 +346,14 @@ impl<K: ProcessTable> IndexedTable<K> {
 
     // ---- loans
 
-    /// How many slots have been read, up to the greatest u128; 0 over a table that doesn't count them.
+    /// Returns how many slots have been read, at most `u128::MAX`; 0 if the process table doesn't count them.
     pub fn visits(&self) -> u128
         ensures { result ≡ self.now.visits }
     {
         self.table.visits()
     }
 
-    /// Lends what a process that is there may change of itself. Nothing else changes.
+    /// Lends the part of its record that an existing process may change itself. Nothing else changes.
     #[inline]
     pub fn own(&mut self, pid: Pid) -> &mut OwnPart
         requires { IsSome (lookup pid self.old.processes) }
@@ -362,7 +364,7 @@ impl<K: ProcessTable> IndexedTable<K> {
         &mut fields.own
     }
 
-    /// Shows the record of a process that is there. Nothing changes.
+    /// Returns the record of an existing process. Changes no process.
     #[inline(always)]
     pub fn look(&mut self, pid: Pid) -> &Record
         requires { IsSome (lookup pid self.old.processes) }
@@ -373,7 +375,7 @@ impl<K: ProcessTable> IndexedTable<K> {
     }
 }
 
-/// Runs a closure on the record of a process that is there.
+/// Runs a closure on the record of an existing process.
 #[inline(always)]
 fn run_on<K: ProcessTable, T, F: FnOnce(&mut Record) -> T>(
     table: &mut K,
@@ -398,7 +400,7 @@ fn run_on<K: ProcessTable, T, F: FnOnce(&mut Record) -> T>(
     }
 }
 
-/// Runs a closure on the record of a process that is there, and has this parent. What the indexes see of this change.
+/// Runs a closure on the record of an existing process that has this parent. Returns the change of its indexed fields.
 #[inline(always)]
 fn change_in<K: ProcessTable, F: FnOnce(&mut Record)>(
     table: &mut K,

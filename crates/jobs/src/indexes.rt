@@ -13,16 +13,16 @@ use posix::{Life, News, Pid, WaitidOptions};
 use proctable::{Record, Snapshot};
 use std::alloc::{AllocError, Global};
 
-/// What the indexes see of a process, but its parent.
+/// The fields of a process that the indexes use, except its parent.
 #[derive(Clone, Copy, PartialEq, Eq)]
 pub struct IndexedFields {
     /// Its process group.
     pub group: Pid,
-    /// Its session, by the number of the leader.
+    /// Its session, by the ID of the leader.
     pub session: Pid,
-    /// Whether it runs, is stopped or has ended.
+    /// Whether it is running, stopped or a zombie.
     pub life: Life,
-    /// What no wait has reported of it yet.
+    /// The status change that no wait has reported yet.
     pub news: News,
     /// The tick at which its alarm is due.
     pub alarm: Option<u64>,
@@ -30,21 +30,21 @@ pub struct IndexedFields {
     pub is_subreaper: bool,
 }
 
-/// A change of a process, as its parent and the indexes see it.
+/// A change of a process that its parent and the indexes see.
 #[derive(Clone, Copy)]
 pub struct Change {
-    /// The parent of the process; number 0 for none.
+    /// The parent of the process; 0 for none.
     pub parent: Pid,
-    /// What was seen of the process before.
+    /// The fields before the change.
     pub before: IndexedFields,
-    /// What is seen of it afterwards.
+    /// The fields after the change.
     pub after: IndexedFields,
 }
 
-/// The sort of what a child can report.
+/// A kind of status change that a child can report.
 #[derive(Clone, Copy)]
 enum Sort {
-    /// Its end.
+    /// Termination.
     End,
     /// A stop that no wait has reported yet.
     Stop,
@@ -52,28 +52,29 @@ enum Sort {
     Continue,
 }
 
-/// The indexes.
-/// `insert` and `remove` change all of these, `change_seen` all but `children`, `adopt` `anchors`, `reporting` and
-/// `children`, and `change` only `alarmed`.
+/// The indexes of a table of jobs.
+///
+/// `insert` and `remove` update all of these. `change_seen` updates all but `children`; `adopt` updates only `anchors`,
+/// `reporting` and `children`; `change` updates only `alarmed`.
 #[derive(Drop)]
 pub struct Indexes {
-    /// The processes by their parents, zombies included; one without a parent stands in no list.
+    /// The processes by parent, zombies included. A process without a parent is in no list.
     pub children: Lists,
-    /// The processes by their process groups, zombies included.
+    /// The processes by process group, zombies included.
     pub members: Lists,
-    /// The processes that keep their process groups from being orphaned, by these groups.
+    /// The processes that keep their process groups from being orphaned, by group.
     pub anchors: Lists,
-    /// The children that have something to report, by their parents and the sorts of what they report.
+    /// The children that have a status change to report, by parent and kind of change.
     pub reporting: Index,
-    /// The processes that are stopped, by their process groups.
+    /// The stopped processes, by process group.
     pub stopped: Index,
     /// The processes whose alarm is set, by the tick at which it is due.
     pub alarmed: Index,
-    /// The child subreapers that live, all under one key.
+    /// The living child subreapers, all under one key.
     pub subreapers: Index,
 }
 
-/// What the indexes see of a record.
+/// Returns the indexed fields of a record.
 #[inline(always)]
 pub(crate) fn of_record(fields: &Record) -> IndexedFields
     ensures { result ≡ record_seen fields.now }
@@ -88,7 +89,7 @@ pub(crate) fn of_record(fields: &Record) -> IndexedFields
     }
 }
 
-/// What the indexes see of the process with these fields.
+/// Returns the indexed fields of a snapshot.
 pub(crate) fn of_snapshot(snapshot: &Snapshot) -> IndexedFields
     ensures { result ≡ snapshot_seen snapshot.now }
 {
@@ -102,7 +103,7 @@ pub(crate) fn of_snapshot(snapshot: &Snapshot) -> IndexedFields
     }
 }
 
-/// Whether a process has ended.
+/// Returns true if a process is a zombie.
 #[inline(always)]
 pub(crate) fn is_dead(it: &IndexedFields) -> bool
     ensures { result ≡ is_zombie it.now.life }
@@ -110,7 +111,7 @@ pub(crate) fn is_dead(it: &IndexedFields) -> bool
     matches!(it.life, Life::Zombie(_))
 }
 
-/// A number as a key.
+/// Returns a process ID as a key.
 #[inline(always)]
 pub(crate) fn key(pid: Pid) -> u64
     ensures { result ≡ pid }
@@ -118,7 +119,7 @@ pub(crate) fn key(pid: Pid) -> u64
     u64::from(pid.number())
 }
 
-/// The key of a process among the members of process groups.
+/// Returns the list of a process among the members of process groups.
 #[inline(always)]
 fn member_key(it: &Option<IndexedFields>) -> Option<Pid>
     ensures { result ≡ member_in it.now }
@@ -126,7 +127,7 @@ fn member_key(it: &Option<IndexedFields>) -> Option<Pid>
     Some(it.as_ref()?.group)
 }
 
-/// The list of the children of a process; none for number 0.
+/// Returns the list of the children of a process; `None` for 0.
 #[inline(always)]
 pub(crate) fn parent_list(parent: Pid) -> Option<Pid>
     ensures { result ≡ list_of_parent parent }
@@ -138,8 +139,8 @@ pub(crate) fn parent_list(parent: Pid) -> Option<Pid>
     }
 }
 
-/// The key of a process among those that keep their process groups from being orphaned: it lives, and has a parent in
-/// another group of the same session.
+/// Returns the list of a process among the anchors, which keep their process groups from being orphaned. An anchor is
+/// alive, and its parent is in another group of the same session.
 #[inline(always)]
 pub(crate) fn anchor_key(it: &IndexedFields, parent: &Option<IndexedFields>) -> Option<Pid>
     ensures { result ≡ anchor_in it.now parent.now }
@@ -151,7 +152,7 @@ pub(crate) fn anchor_key(it: &IndexedFields, parent: &Option<IndexedFields>) -> 
     }
 }
 
-/// The sort of what a process has to report, if it has something.
+/// Returns the kind of status change that a process has to report, if any.
 #[inline(always)]
 fn sort_to_report(it: &IndexedFields) -> Option<Sort>
     ensures { result ≡ sort_of it.now.life it.now.news }
@@ -164,9 +165,10 @@ fn sort_to_report(it: &IndexedFields) -> Option<Sort>
     }
 }
 
-/// The key of the children of a process that report this sort. Ends have the least, since the least keys stand where
-/// little is moved.
-/// One index with kinds costs no more at a birth than one without; an adoption moves three keys.
+/// Returns the key of the children of a process that report this kind of status change.
+///
+/// Terminations have the lowest key, because changes at low keys move little. One index of all kinds costs no more at a
+/// fork than an index without kinds; reparenting changes three keys.
 #[inline(always)]
 fn sorted_key(parent: Pid, sort: Sort) -> u64
     ensures { result ≡ sorted parent sort }
@@ -179,7 +181,7 @@ fn sorted_key(parent: Pid, sort: Sort) -> u64
     }
 }
 
-/// The key of a process among those that have something to report.
+/// Returns the key of a process among those that have a status change to report.
 #[inline(always)]
 fn report_key(parent: Pid, it: &Option<IndexedFields>) -> Option<u64>
     ensures { result ≡ report_in parent it.now }
@@ -187,7 +189,7 @@ fn report_key(parent: Pid, it: &Option<IndexedFields>) -> Option<u64>
     Some(sorted_key(parent, sort_to_report(it.as_ref()?)?))
 }
 
-/// The key of a process among those that are stopped.
+/// Returns the key of a process among the stopped processes.
 #[inline(always)]
 fn stopped_key(it: &Option<IndexedFields>) -> Option<u64>
     ensures { result ≡ stopped_in it.now }
@@ -198,7 +200,7 @@ fn stopped_key(it: &Option<IndexedFields>) -> Option<u64>
     }
 }
 
-/// The key of a process in the index of set alarms.
+/// Returns the key of a process in the index of set alarms.
 #[inline(always)]
 fn alarm_key(it: &Option<IndexedFields>) -> Option<u64>
     ensures { result ≡ alarm_in it.now }
@@ -206,7 +208,7 @@ fn alarm_key(it: &Option<IndexedFields>) -> Option<u64>
     it.as_ref()?.alarm
 }
 
-/// The key of a process among the child subreapers that live, all of which have one key.
+/// Returns the key of a process among the living child subreapers, which all have the same key.
 #[inline(always)]
 fn marked_key(it: &Option<IndexedFields>) -> Option<u64>
     ensures { result ≡ marked_in it.now }
@@ -217,7 +219,7 @@ fn marked_key(it: &Option<IndexedFields>) -> Option<u64>
     }
 }
 
-/// The lesser of two numbers; where one isn't there the other.
+/// Returns the lower of two IDs, or the only one.
 fn lesser(a: Option<Pid>, b: Option<Pid>) -> Option<Pid>
     ensures { result ≡ least a b }
 {
@@ -229,7 +231,7 @@ fn lesser(a: Option<Pid>, b: Option<Pid>) -> Option<Pid>
 }
 
 impl Indexes {
-    /// Of no processes. They take no memory.
+    /// Creates the indexes of no processes. Allocates nothing.
     #[tactic(auto, using(pidset::proofs::IndexLemmas::indexed_none), unfolding(posix::specs::Tables::lookup, pidset::specs::Indexes::is_pair_in))]
     pub(crate) fn new(alloc: Global) -> Indexes
         ensures indexes { AreIndexes [] result }
@@ -247,8 +249,8 @@ impl Indexes {
         }
     }
 
-    /// Makes room for `most` processes, one of which may have this number. What the indexes hold stays, also at the
-    /// error that there is no memory.
+    /// Makes room for `most` processes, one of which may have this ID. The indexes are unchanged, even if this fails
+    /// for lack of memory.
     pub(crate) fn reserve(&mut self, most: usize, pid: Pid) -> Result<(), AllocError>
         requires { most < 2 ^ 63 }
         ensures members { self.new.members.pairs ≡ self.old.members.pairs }
@@ -276,7 +278,7 @@ impl Indexes {
         self.subreapers.reserve(most)
     }
 
-    /// The memory for a number goes, and that for all others on its page of 1,024 numbers.
+    /// Frees the memory for an ID and for all others on its page of 1,024 IDs.
     pub(crate) fn give_up_page(&mut self, pid: Pid)
         requires members { IsPageUnused pid self.old.members.pairs }
         requires anchors { IsPageUnused pid self.old.anchors.pairs }
@@ -288,8 +290,8 @@ impl Indexes {
         self.children.give_up_page(pid);
     }
 
-    /// The indexes follow a process with this parent from one state to another; none is the state of a process that
-    /// isn't there. But for adoptions they change in no other way.
+    /// Updates the indexes except `anchors` and `children` for a process with this parent whose fields change. `None`
+    /// is a process that doesn't exist. Otherwise only `change` and reparenting change these indexes.
     #[inline(always)]
     pub(crate) fn reindex(
         &mut self,
@@ -316,7 +318,7 @@ impl Indexes {
             .replace(pid, marked_key(before), marked_key(after));
     }
 
-    /// Whether a child of a process has something to report.
+    /// Returns true if a child of a process has a status change to report.
     fn has_report(&self, parent: Pid) -> bool
         ensures { result ≡ has_within (sorted parent Sort.End) (sorted parent Sort.Continue) self.now.reporting.pairs }
     {
@@ -327,7 +329,7 @@ impl Indexes {
         self.reporting.has_within(least, greatest)
     }
 
-    /// The children of one process that have something to report become those of another. Mostly there are none.
+    /// Moves the children that have a status change to report from one parent to another. Usually there are none.
     pub(crate) fn reparent(&mut self, from: Pid, to: Pid)
         requires { from ≢ to }
         ensures indexes { (rs : List Process) → AreIndexes rs self.old → AreIndexes (adopted from to rs) self.new }
@@ -347,7 +349,8 @@ impl Indexes {
         );
     }
 
-    /// The child of a process that reports this sort, with the least number above `after`, where that sort is wanted.
+    /// Returns the child with the lowest ID above `after` that reports this kind of status change, if that kind is
+    /// wanted.
     fn next_of_sort(&self, parent: Pid, sort: Sort, is_wanted: bool, after: Pid) -> Option<Pid>
         ensures { (rs : List Process) → IsRising rs → AreIndexes rs self.now → result ≡ first_pid (above after (filter (λ r. is_wanted && is_of_sort sort r) (children_in parent rs))) }
     {
@@ -358,15 +361,15 @@ impl Indexes {
         }
     }
 
-    /// The child of a process that has something to report to a wait with these options, with the least number above
-    /// `after`. No child is looked at whose sort isn't wanted.
+    /// Returns the child with the lowest ID above `after` that has a status change to report to a wait with these
+    /// options. Looks only at children with a wanted kind of status change.
     pub(crate) fn next_wanted(&self, parent: Pid, options: WaitidOptions, after: Pid) -> Option<Pid>
         ensures { (rs : List Process) → IsRising rs → AreIndexes rs self.now → result ≡ first_pid (above after (wanted_in options.0 parent rs)) }
     {
         let ends = options.contains(WaitidOptions::WEXITED);
         let stops = options.contains(WaitidOptions::WSTOPPED);
         let continues = options.contains(WaitidOptions::WCONTINUED);
-        // Mostly no child reports, and then one search tells it.
+        // Usually no child has a status change to report, and one search shows that.
         if ends && stops && continues && !self.has_report(parent) {
             return None;
         }

@@ -1,4 +1,4 @@
-//! Who may move from one process group to another, or lead a session (XSH setpgid, setsid).
+//! The rules for joining a process group and for leading a session (XSH setpgid, setsid).
 
 ghost use Rattle.std.specs.Prelude.{◌≡◌, ◌==◌, ◌&&◌, ◌||◌, not, if◌then◌else◌, Option, Some, None, IsSome, IfSome, IfErr, ◌<◌, is_ok, option_map};
 ghost use Rattle.posix.specs.declared.errno.Errno.TheVariants.{EPERM};
@@ -10,7 +10,7 @@ use crate::indexed_table::IndexedTable;
 use posix::{Errno, Pid};
 use proctable::{ProcessTable, Snapshot};
 
-/// The process group that is meant by a number: 0 stands for that of the process itself.
+/// Returns the process group that a number selects: 0 selects the one with the ID of the process itself.
 fn group_meant(it: &Snapshot, group: u64) -> u64
     ensures { (r : Process) → it.now ≡ snapshot_of r → result ≡ group_meant_by r group }
 {
@@ -21,7 +21,7 @@ fn group_meant(it: &Snapshot, group: u64) -> u64
     }
 }
 
-/// A number as that of a process group; none above the greatest.
+/// Returns a number as the ID of a process group, or `None` if it is above the largest ID.
 fn group_number(group: u64) -> Option<Pid>
     ensures some { IfSome result (λ g. g ≡ group) }
     ensures none { result ≡ None → 2147483647 < group }
@@ -30,7 +30,7 @@ fn group_number(group: u64) -> Option<Pid>
 }
 
 impl<K: ProcessTable> IndexedTable<K> {
-    /// The process group of a process, where it has this number and is one of this session.
+    /// Returns the process group of a process, if it has this ID and is in this session.
     fn group_at(&mut self, pid: Pid, session: Pid, group: u64) -> Option<Pid>
         ensures { Finds 1 self.old self.new ((it : Process) → lookup pid self.old.processes ≡ Some it → result ≡ (if it.session == session && it.group == group then Some group else None)) }
     {
@@ -42,8 +42,8 @@ impl<K: ProcessTable> IndexedTable<K> {
         }
     }
 
-    /// The process group with this number, where it is one of this session, zombies being members: its first
-    /// member decides, as all are in one session.
+    /// Returns the process group with this ID, if it is in this session. Zombies are members. The first member decides,
+    /// because all members are in one session.
     #[tactic(auto, using(crate::proofs::MoveLemmas::group_rules))]
     pub fn group_of(&mut self, session: Pid, group: u64) -> Option<Pid>
         requires { AreGrouped self.old.processes }
@@ -55,8 +55,8 @@ impl<K: ProcessTable> IndexedTable<K> {
         self.group_at(first, session, group)
     }
 
-    /// Which process group a process would join, or why not, for a caller of this session: one of its own
-    /// number, or one of that session, unless it leads a session or is in another one.
+    /// Returns the process group that a process would join for a caller in this session: that of its own ID, or one in
+    /// the session. Fails with EPERM if the process leads its session or is in another, or for any other group.
     fn can_join(&mut self, session: Pid, it: &Snapshot, group: u64) -> Result<Pid, Errno>
         requires { AreGrouped self.old.processes }
         ensures { Finds 1 self.old self.new ((caller r : Process) → session ≡ caller.session → it.now ≡ snapshot_of r → result ≡ can_join_by caller r group self.old.processes) }
@@ -71,8 +71,8 @@ impl<K: ProcessTable> IndexedTable<K> {
         self.group_of(session, group).ok_or(Errno::EPERM)
     }
 
-    /// Which process group a process would move to for a caller, or why not: the caller may move itself, and a
-    /// child of its session that hasn't run exec since its birth.
+    /// Returns the process group that a process would move to for a caller. The caller may move itself, and a child in
+    /// its session that has not run exec since its fork.
     fn can_move(&mut self, me: Pid, session: Pid, it: &Snapshot, group: u64) -> Result<Pid, Errno>
         requires { AreGrouped self.old.processes }
         ensures { Finds 1 self.old self.new ((caller r : Process) → me ≡ caller.pid → session ≡ caller.session → it.now ≡ snapshot_of r → result ≡ can_move_by caller r group self.old.processes) }
@@ -92,11 +92,12 @@ impl<K: ProcessTable> IndexedTable<K> {
         self.can_join(session, it, group)
     }
 
-    /// Which process group the process that a caller of this session names would move to, or none where nobody has
-    /// that number; 0 as the group stands for the number of the process itself. EINVAL where the group is negative; ESRCH
-    /// where the process isn't there, or is neither the caller nor its child; EPERM where the child is in another session,
-    /// the process leads its session, or the group is neither its own nor one of that session; EACCES where the child has
-    /// run exec (XSH setpgid).
+    /// Returns the process group that the process named by a caller in this session would move to. `target` is `None`
+    /// if no process has the ID, and `group` 0 stands for the ID of the process itself.
+    ///
+    /// Fails with EINVAL if the group is negative; with ESRCH if the process doesn't exist, or is neither the caller
+    /// nor its child; with EPERM if the child is in another session, the process leads its session, or the group is
+    /// neither its own nor in that session; with EACCES if the child has run exec (XSH setpgid).
     pub fn group_to_join(
         &mut self,
         me: Pid,
@@ -120,8 +121,8 @@ impl<K: ProcessTable> IndexedTable<K> {
         }
     }
 
-    /// Whether a process is there in the process group with the number of another, zombies included. No slot is
-    /// read.
+    /// Returns true if another process is in the process group with the ID of this one, zombies included. Reads no
+    /// slot.
     fn is_group_of_others(&self, pid: Pid) -> bool
         ensures { (it : Process) → lookup pid self.now.processes ≡ Some it → result ≡ is_group_of_others_by it self.now.processes }
     {
@@ -132,8 +133,8 @@ impl<K: ProcessTable> IndexedTable<K> {
         first != pid || self.next_member(pid, pid).is_some()
     }
 
-    /// Whether a process that is there may lead a session of its own. EPERM where it leads a process group, or
-    /// another process is in one with its number (XSH setsid).
+    /// Checks that an existing process may lead a new session. Fails with EPERM if it leads a process group, or if
+    /// another process is in a process group with its ID (XSH setsid).
     #[tactic(auto, using(crate::proofs::MoveLemmas::lead_rules))]
     pub fn can_lead(&mut self, me: Pid) -> Result<(), Errno>
         requires { IsSome (lookup me self.old.processes) }

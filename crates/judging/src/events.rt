@@ -6,7 +6,7 @@ use crate::numbers::{judge_end, judge_number};
 use crate::words::is_byte;
 use text::{MAX_LINE_LEN, Reason};
 
-/// Judges a line `key`.
+/// Checks a line `key`.
 fn judge_keys<'a>(line: Line<'a>, consoles: u8) -> Verdict<'a> {
     judge_number(line, 1, Number::KeyConsole(consoles))?;
     let count = line.count();
@@ -19,7 +19,7 @@ fn judge_keys<'a>(line: Line<'a>, consoles: u8) -> Verdict<'a> {
     }
 }
 
-/// Judges a line `hangup`.
+/// Checks a line `hangup`.
 fn judge_hangup<'a>(line: Line<'a>, consoles: u8) -> Verdict<'a> {
     judge_number(line, 1, Number::HangupConsole(consoles))?;
     if line.count() > 2 {
@@ -28,7 +28,7 @@ fn judge_hangup<'a>(line: Line<'a>, consoles: u8) -> Verdict<'a> {
     Ok(())
 }
 
-/// Judges a line of events in a world of so many consoles.
+/// Checks a line of events for a world with so many consoles.
 fn judge_line(text: &[u8], consoles: u8) -> Verdict<'_> {
     if text.len() > MAX_LINE_LEN {
         return refuse(Reason::LineTooLong, 0, Fault::LongLine);
@@ -48,7 +48,8 @@ fn judge_line(text: &[u8], consoles: u8) -> Verdict<'_> {
     }
 }
 
-/// Why a line of events is refused, for this reason. Where nothing is wrong with it there are too many events.
+/// Returns why a line of events is rejected. If nothing is wrong with the line itself, there are too many events, and
+/// the result has the given reason.
 pub fn refusal_of(text: &[u8], consoles: u8, reason: Reason) -> Refusal<'_> {
     match judge_line(text, consoles) {
         Err(Stop::Refused(refusal)) => refusal,

@@ -1,29 +1,29 @@
-//! What is wrong with a word.
+//! Faults of words and lines.
 
 use std::alloc::AllocError;
 use text::Reason;
 
-/// What a name is of.
+/// What a name belongs to.
 #[derive(Clone, Copy, Debug, PartialEq, Eq)]
 pub enum Named {
     Label,
     Program,
 }
 
-/// A number that stands at a place of a line.
+/// A number in a line, by the word before it.
 #[derive(Clone, Copy, Debug, PartialEq, Eq)]
 pub enum Number {
-    /// Behind `pidmax`.
+    /// After `pidmax`.
     Pidmax,
-    /// Behind `consoles`.
+    /// After `consoles`.
     Consoles,
-    /// Behind `setuid` or `setgid`.
+    /// After `setuid` or `setgid`.
     Id,
-    /// Behind `step` or `tick`.
+    /// After `step` or `tick`.
     Count,
-    /// Behind `key`, in a world of so many consoles.
+    /// After `key`, in a world with so many consoles.
     KeyConsole(u8),
-    /// Behind `hangup`, in a world of so many consoles.
+    /// After `hangup`, in a world with so many consoles.
     HangupConsole(u8),
 }
 
@@ -34,7 +34,7 @@ pub struct Definition<'a> {
     pub line: u64,
 }
 
-/// A name that a line uses: at this place, as that of a label or a program, within this program.
+/// A use of a name, with its line, its place in the line, and the number of the program that the line is in.
 #[derive(Clone, Copy)]
 pub struct NameUse<'a> {
     pub name: &'a [u8],
@@ -44,22 +44,23 @@ pub struct NameUse<'a> {
     pub program: usize,
 }
 
-/// What is wrong with a word, or what stands at the place of one that is missing.
+/// What is wrong with a word, or which word is missing.
 #[derive(Clone, Copy)]
 pub enum Fault<'a> {
-    /// No more is known than the program's reason.
+    /// Only the reason is known.
     Unsaid,
     LongLine,
     /// A number is missing.
     Missing(Number),
-    /// A word that is no number.
+    /// A word that is not a number.
     NoNumber(Number),
     OutOfRange(Number),
-    /// A word that the header has in another place.
+    /// The first word of a line of the header is not the one that this number follows.
     NoHeader(Number),
-    /// A word behind the last one that its line may have.
+    /// A word after the last one that its line may have.
     TooMany,
-    /// A word that begins no program, behind the end of this one in this line, if there is one.
+    /// A word other than `program` outside programs, with the name of the program before it and the line of its `end`,
+    /// if there is one.
     NoProgram(Option<(&'a [u8], u64)>),
     /// A program begins within this one.
     Within(Definition<'a>),
@@ -68,24 +69,24 @@ pub enum Fault<'a> {
     ManyPrograms,
     ManyInstructions,
     NoName(Named),
-    /// No name stands behind `@` or `$`.
+    /// No name follows `@` or `$`.
     NoMarkedName(Named),
     Twice(Named, u64),
-    /// A word behind the name of a program.
+    /// A word that cannot follow the name of a program.
     NoOption,
     NoInstruction,
     NoCall,
     NoRegister,
-    /// The value of a `set` is missing.
+    /// The value of `set` is missing.
     NoValue,
-    /// A word that is no value of a `set`, in the program that begins in this line.
+    /// A word that is not a value of `set`, in the program that begins in this line.
     BadValue(u64),
-    /// A number behind `@` or `$`.
+    /// A number after `@` or `$`.
     MarkedNumber,
-    /// A value of a `set` that doesn't fit 64 bits.
+    /// A value of `set` that doesn't fit in 64 bits with a sign.
     WideValue,
     NoEvent,
-    /// The byte of a key is missing.
+    /// A line `key` has no byte.
     ByteMissing,
     NoByte,
     ManyConsoles,
@@ -94,30 +95,30 @@ pub enum Fault<'a> {
     HeaderEnds,
     /// The text ends within this program.
     ProgramEnds(Definition<'a>),
-    /// The text ends behind its header.
+    /// The text ends after its header.
     NoPrograms,
-    /// A line that may be meant to be a label of this name.
+    /// A line that probably should define a label of this name.
     LabelWritten(&'a [u8]),
-    /// A name that nothing uses, where another one is used that nothing defines.
+    /// A definition without a use, and the use of a similar name that no line defines.
     Unused(Definition<'a>, NameUse<'a>),
-    /// A name that nothing defines, and the nearest one, if one is near.
+    /// The use of a name that no line defines, and the nearest definition, if one is near.
     Unknown(NameUse<'a>, Option<Definition<'a>>),
 }
 
-/// Why a line is refused.
+/// Why a line is rejected.
 #[derive(Clone, Copy)]
 pub struct Refusal<'a> {
     pub reason: Reason,
-    /// The place of the word, from 0; that behind the last one where a word is missing.
+    /// The place of the word, from 0. If a word is missing, it is a place after the last word.
     pub place: usize,
     pub fault: Fault<'a>,
 }
 
-/// Why a judge of lines stops.
+/// Why the check of a line stops.
 #[derive(Clone, Copy)]
 pub enum Stop<'a> {
     Refused(Refusal<'a>),
-    /// There was no memory.
+    /// Memory ran out.
     Memory,
 }
 
@@ -127,10 +128,10 @@ impl From<AllocError> for Stop<'_> {
     }
 }
 
-/// What a judge of a line finds.
+/// The result of the check of a line.
 pub type Verdict<'a> = Result<(), Stop<'a>>;
 
-/// Refuses a word.
+/// Rejects the word at a place.
 pub fn refuse<'a>(reason: Reason, place: usize, fault: Fault<'a>) -> Verdict<'a> {
     Err(Stop::Refused(Refusal {
         reason,

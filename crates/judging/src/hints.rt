@@ -1,9 +1,9 @@
-//! What others call it, and what looks like something else.
+//! Terms of other systems, files that are not text, and characters that look like others.
 
 use crate::lines::is_listed;
 use memchr::memmem;
 
-/// What other systems have, and the call that is here in its place.
+/// Calls of other systems, and the call to use instead.
 static CALLS: [(&str, &str); 17] = [
     ("wait wait3 wait4", "waitpid, with -1 in r1 and 0 in r2"),
     ("yield pthread_yield", "sched_yield"),
@@ -13,20 +13,17 @@ static CALLS: [(&str, &str); 17] = [
         "raise tkill tgkill",
         "kill, with the result of getpid in r1",
     ),
-    (
-        "killpg",
-        "kill, with the negative number of the group in r1",
-    ),
+    ("killpg", "kill, with the negated process group ID in r1"),
     (
         "execve execv execl execvp execlp posix_spawn",
-        "exec, with the number of a program in r1: set r1, $NAME",
+        "exec, with a program number in r1: set r1, $NAME",
     ),
     ("vfork clone", "fork"),
     ("getpgrp", "getpgid, with 0 in r1"),
     ("setpgrp", "setpgid, with 0 in r1 and r2"),
     (
         "tcsetattr tcgetattr ioctl stty",
-        "settostop: no other mode of a terminal can be set",
+        "settostop: no other terminal mode can be set",
     ),
     (
         "sigblock sigsetmask rt_sigprocmask pthread_sigmask",
@@ -38,23 +35,23 @@ static CALLS: [(&str, &str); 17] = [
     ("prctl", "subreaper, for PR_SET_CHILD_SUBREAPER"),
     (
         "open openat creat close pipe dup dup2 stat lseek socket select poll",
-        "read or write, of the controlling terminal: there are no files",
+        "read or write on the controlling terminal: there are no files",
     ),
 ];
 
-/// Instructions that other machines have, and what is here in their place.
+/// Instructions of other machines, and what to use instead.
 static INSTRUCTIONS: [(&str, &str); 17] = [
     ("shl shr sal sar lsl lsr", "mul or div by a power of 2"),
     ("not", "xor with -1"),
     ("neg", "sub from 0"),
     ("inc", "add with a register that holds 1"),
     ("dec", "sub with a register that holds 1"),
-    ("cmp", "sub and then jz, jnz or jlt"),
+    ("cmp", "sub, then jz, jnz or jlt"),
     ("push pop load store lw sw", "ld or st"),
     ("call ret", "jmp: there are no functions"),
     (
         "jgt jge jle jg jl je jne beq bne",
-        "jz, jnz or jlt behind a sub",
+        "sub, then jz, jnz or jlt",
     ),
     ("goto", "jmp"),
     ("nop", "mov r0, r0"),
@@ -66,86 +63,79 @@ static INSTRUCTIONS: [(&str, &str); 17] = [
     ("}", "end"),
 ];
 
-/// What a file that is no text begins with.
+/// The first bytes of files that are not text, and the messages about them.
 static BEGINNINGS: [(&[u8], &str); 9] = [
     (
         b"\xEF\xBB\xBF",
-        "the file begins with a byte order mark; save the file without it",
+        "unexpected byte order mark; save the file without it",
     ),
     (b"\xFF\xFE", UTF_16),
     (b"\xFE\xFF", UTF_16),
     (
         b"\x1F\x8B",
-        "the file begins with the bytes of a file that gzip compressed; unpack it",
+        "expected text, found gzip data; decompress the file",
     ),
     (
         b"BZh",
-        "the file begins with the bytes of a file that bzip2 compressed; unpack it",
+        "expected text, found bzip2 data; decompress the file",
     ),
     (
         b"\xFD7zXZ",
-        "the file begins with the bytes of a file that xz compressed; unpack it",
+        "expected text, found xz data; decompress the file",
     ),
     (
         b"\x28\xB5\x2F\xFD",
-        "the file begins with the bytes of a file that zstd compressed; unpack it",
+        "expected text, found zstd data; decompress the file",
     ),
     (
         b"PK\x03\x04",
-        "the file begins with the bytes of a zip archive; unpack it",
+        "expected text, found a zip archive; unpack it",
     ),
-    (
-        b"\x7FELF",
-        "the file begins with the bytes of a compiled program",
-    ),
+    (b"\x7FELF", "expected text, found an ELF file"),
 ];
 
-const UTF_16: &str = "the file begins with the mark of UTF-16; save the file as UTF-8";
+const UTF_16: &str = "expected UTF-8, found UTF-16; save the file as UTF-8";
 
-const ZEROS: &str = "the file has bytes of zero: it is UTF-16, or no text; save it as UTF-8";
+const ZEROS: &str = "unexpected null bytes: the file is UTF-16 or binary; save it as UTF-8";
 
-const RETURNS: &str =
-    "the lines end with a carriage return alone; each has to end with a line feed";
+const RETURNS: &str = "expected line feeds, found only carriage returns";
 
-/// Letters that look like others.
+/// Characters that look like others, or that can't be seen.
 static LOOKALIKES: [(&[&str], &str); 6] = [
     (
         &["\u{A0}", "\u{202F}"],
-        "this has a no-break space; type a space",
+        "unexpected no-break space; type a space",
     ),
-    (&["\u{200B}"], "this has a space of no width; delete it"),
-    (&["\u{FEFF}"], "this has a byte order mark; delete it"),
-    (
-        &["\u{2212}"],
-        "this has the minus sign of typesetters; type -",
-    ),
+    (&["\u{200B}"], "unexpected zero-width space; delete it"),
+    (&["\u{FEFF}"], "unexpected byte order mark; delete it"),
+    (&["\u{2212}"], "unexpected typographic minus sign; type -"),
     (
         &["\u{2010}", "\u{2011}", "\u{2013}", "\u{2014}"],
-        "this has a dash of typesetters; type -",
+        "unexpected typographic dash; type -",
     ),
     (
         &["\u{2018}", "\u{2019}", "\u{201C}", "\u{201D}"],
-        "this has a quote of typesetters",
+        "unexpected typographic quotation mark",
     ),
 ];
 
-/// What a table has for a word.
+/// Returns what a table has for a word.
 fn instead(table: &[(&'static str, &'static str)], word: &[u8]) -> Option<&'static str> {
     let (_, what) = table.iter().find(|(words, _)| is_listed(words, word))?;
     Some(*what)
 }
 
-/// The call that is here in the place of one that others have.
+/// Returns the call to use instead of one of another system.
 pub fn other_call(word: &[u8]) -> Option<&'static str> {
     instead(&CALLS, word)
 }
 
-/// What is here in the place of an instruction that others have.
+/// Returns what to use instead of an instruction of another machine.
 pub fn other_instruction(word: &[u8]) -> Option<&'static str> {
     instead(&INSTRUCTIONS, word)
 }
 
-/// What stands in a word and looks like something else.
+/// Returns the message about a word that is wrong in any place, such as one with a character outside ASCII.
 pub fn oddity(word: &[u8]) -> Option<&'static str> {
     let mut lookalikes = LOOKALIKES.iter();
     if let Some((_, what)) = lookalikes.find(|(letters, _)| letters
@@ -154,19 +144,19 @@ pub fn oddity(word: &[u8]) -> Option<&'static str> {
     {
         Some(*what)
     } else if !word.is_ascii() {
-        Some("this has a letter outside ASCII")
+        Some("unexpected non-ASCII character")
     } else if word.iter().any(u8::is_ascii_control) {
-        Some("this has a control character")
+        Some("unexpected control character")
     } else if begins_comment(word) {
-        Some("a comment begins with #")
+        Some("comments begin with #")
     } else if matches!(word, [_, .., b';']) {
-        Some("a line has no ; at its end")
+        Some("unexpected semicolon; delete it")
     } else {
         None
     }
 }
 
-/// Whether a word begins a comment in other languages.
+/// Returns true if a word begins a comment in other languages.
 fn begins_comment(word: &[u8]) -> bool {
     matches!(
         word,
@@ -174,13 +164,13 @@ fn begins_comment(word: &[u8]) -> bool {
     )
 }
 
-/// Whether another byte follows a carriage return.
+/// Returns true if a byte other than a carriage return follows one.
 fn has_return(text: &[u8]) -> bool {
     let mut behind = text.iter().skip_while(|b| **b != b'\r');
     behind.any(|b| *b != b'\r')
 }
 
-/// What a file is that is no text, of which this is the first line, and maybe the only one.
+/// Returns the message about a file that is not text, by its first line. `is_only` is true if there is no other line.
 pub fn no_text(first: &[u8], is_only: bool) -> Option<&'static str> {
     let mut beginnings = BEGINNINGS.iter();
     if let Some((_, what)) = beginnings.find(|(bytes, _)| first.starts_with(bytes)) {

@@ -3,7 +3,7 @@
 use crate::lines::is_listed;
 use posix::Call;
 
-/// What stands behind the first word of an instruction.
+/// The operands of an instruction.
 #[derive(Clone, Copy, Debug, PartialEq, Eq)]
 pub enum Operands {
     /// A register and a value.
@@ -20,7 +20,7 @@ pub enum Operands {
     Call,
 }
 
-/// The words that begin instructions, by what stands behind them.
+/// The words that begin instructions, by their operands.
 pub static INSTRUCTIONS: [(&str, Operands); 6] = [
     ("set", Operands::Value),
     (
@@ -33,7 +33,7 @@ pub static INSTRUCTIONS: [(&str, Operands); 6] = [
     ("sys", Operands::Call),
 ];
 
-/// What stands behind a word that begins an instruction; none where a word begins none.
+/// Returns the operands that follow a word that begins an instruction. Returns `None` if the word begins none.
 pub fn operands_of(word: &[u8]) -> Option<Operands> {
     let (_, operands) = INSTRUCTIONS
         .iter()
@@ -41,12 +41,12 @@ pub fn operands_of(word: &[u8]) -> Option<Operands> {
     Some(*operands)
 }
 
-/// Whether a word begins an instruction.
+/// Returns true if a word begins an instruction.
 pub fn is_instruction(word: &[u8]) -> bool {
     operands_of(word).is_some()
 }
 
-/// Whether a word is the name of a call.
+/// Returns true if a word is the name of a call.
 pub fn is_call(word: &[u8]) -> bool {
     Call::named(word).is_some()
 }

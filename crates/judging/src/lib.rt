@@ -1,8 +1,8 @@
-//! What is wrong with a text that is refused: the line and the word, by the rules of docs/FORMATS.md; tables of what others
-//! call it; and names that are near to a word.
+//! What is wrong with a rejected text: the line and the word, by the rules of docs/FORMATS.md. Also tables of the terms
+//! of other systems, and the names that are near to a word.
 //!
-//! Line by line, words are cut as in `text` (`line_at`, `Line`). Tested, together with `refusing`: the place of a
-//! fault, the line of a name that is not known, which other faults are reported, all words.
+//! Lines and words are those of `text` (`line_at`, `Line`). Tested, together with `refusing`: the place of a fault, the
+//! line of an unknown name, which other faults are reported, and the messages.
 #![tactic(auto)]
 
 mod events;

@@ -8,7 +8,7 @@ ghost use Rattle.text.specs.Words.{line_words, words};
 
 use text::{Lines, Words, next_line, next_word, split_comment};
 
-/// The line with a number, from 1; none where the text has none of this number.
+/// Returns the line with a number, from 1. Returns `None` if the text has no such line.
 pub fn line_at(text: &[u8], number: u64) -> Option<&[u8]>
     ensures { option_map (λ line. line.now) result ≡ line_of number text.now }
 {
@@ -37,7 +37,7 @@ pub fn last_with_words(text: &[u8], before: u64) -> Option<u64>
     found
 }
 
-/// Whether a text has one line.
+/// Returns true if a text has exactly one line.
 pub fn has_one_line(text: &[u8]) -> bool
     ensures { result ≡ (length (all_lines text.now) == 1) }
 {
@@ -51,7 +51,7 @@ pub struct Line<'a> {
 }
 
 impl<'a> Line<'a> {
-    /// The line of these bytes.
+    /// Returns the line of these bytes, without its comment.
     pub fn new(line: &'a [u8]) -> Line<'a>
         ensures { words result.code.now ≡ line_words line.now }
     {
@@ -59,28 +59,28 @@ impl<'a> Line<'a> {
         Line { code }
     }
 
-    /// The word at a place, from 0; empty where there is none.
+    /// Returns the word at a place, from 0; an empty one if the line has fewer words.
     pub fn word(self, place: usize) -> &'a [u8]
         ensures { result.now ≡ unwrap_or (slice_get (words self.entry.code.now) place) [] }
     {
         Words(self.code).nth(place).unwrap_or(&[])
     }
 
-    /// The first word.
+    /// Returns the first word; an empty one if there is none.
     pub fn first(self) -> &'a [u8]
         ensures { result.now ≡ unwrap_or (slice_get (words self.entry.code.now) 0) [] }
     {
         self.word(0)
     }
 
-    /// How many words it has.
+    /// Returns the number of words.
     pub fn count(self) -> usize
         ensures { result ≡ length (words self.entry.code.now) }
     {
         Words(self.code).count()
     }
 
-    /// Whether it has words.
+    /// Returns true if the line has words.
     pub fn has_words(self) -> bool
         ensures { result ≡ nat_lt 0 (length (words self.entry.code.now)) }
     {
@@ -88,7 +88,7 @@ impl<'a> Line<'a> {
     }
 }
 
-/// Whether a word is one of a list of words with blanks between them.
+/// Returns true if a word is in a list of words, which are separated by spaces.
 pub fn is_listed(list: &str, word: &[u8]) -> bool
     ensures { result ≡ list_any (λ listed. bytes_eq listed word.now) (words list.now) }
 {

@@ -6,12 +6,12 @@ use std::alloc::{AllocError, Global};
 use text::Words;
 use wording::{distance, nearest_name};
 
-/// Whether a name is near to a word.
+/// Returns true if a name is near to a word.
 pub fn is_near(alloc: Global, word: &[u8], name: &[u8]) -> Result<bool, AllocError> {
     Ok(distance(alloc, word, name)?.is_some())
 }
 
-/// The word of a list, with blanks between its words, that is nearest to a word.
+/// Returns the nearest of a list of words, which are separated by spaces. Returns `None` if none is near.
 pub fn nearest_in(
     alloc: Global,
     word: &[u8],
@@ -20,7 +20,7 @@ pub fn nearest_in(
     nearest_name(alloc, word, Words(list.as_bytes()))
 }
 
-/// The word that begins an instruction or ends a program, and is nearest to a word.
+/// Returns the nearest of the words that begin instructions, and of `end`. Returns `None` if none is near.
 pub fn nearest_instruction(
     alloc: Global,
     word: &[u8],
@@ -31,7 +31,7 @@ pub fn nearest_instruction(
     nearest_name(alloc, word, first.chain(Words(b"end")))
 }
 
-/// The call whose name is nearest to a word.
+/// Returns the nearest name of a call. Returns `None` if none is near.
 pub fn nearest_call(alloc: Global, word: &[u8]) -> Result<Option<&'static [u8]>, AllocError> {
     let mut names = Vec::new(alloc);
     for call in &Call::ALL {

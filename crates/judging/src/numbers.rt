@@ -6,7 +6,7 @@ use posix::Uid;
 use text::{Reason, integer};
 
 impl Number {
-    /// The least and the greatest one.
+    /// Returns the lowest and the largest number allowed.
     pub fn range(self) -> (u64, u64) {
         match self {
             Number::Pidmax => (2, 4_194_304),
@@ -17,14 +17,14 @@ impl Number {
         }
     }
 
-    /// Whether a number is in the range.
+    /// Returns true if a number is in the range.
     fn has(self, number: i64) -> bool {
         let (low, high) = self.range();
         u64::try_from(number).is_ok_and(|number| low <= number && number <= high)
     }
 }
 
-/// Judges a number at a place.
+/// Checks the number at a place.
 pub fn judge_number<'a>(line: Line<'a>, place: usize, number: Number) -> Verdict<'a> {
     let word = line.word(place);
     if word.is_empty() {
@@ -37,7 +37,7 @@ pub fn judge_number<'a>(line: Line<'a>, place: usize, number: Number) -> Verdict
     }
 }
 
-/// Judges the end of a line that may have so many words.
+/// Checks that a line has at most so many words.
 pub fn judge_end<'a>(line: Line<'a>, most: usize) -> Verdict<'a> {
     if line.count() > most {
         refuse(Reason::UnknownWord, most, Fault::TooMany)

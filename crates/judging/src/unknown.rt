@@ -1,5 +1,5 @@
-//! Names that nothing defines. Below a refused line none counts as defined, so they are looked for in the lines as they
-//! stand.
+//! Names that no line defines. Definitions are ignored from a rejected line on, so this module looks for them in the
+//! text itself.
 
 use crate::fault::{Definition, Fault, NameUse, Named, Refusal};
 use crate::lines::{Line, line_at};
@@ -9,20 +9,21 @@ use std::alloc::{AllocError, Global};
 use text::{Lines, Reason, is_name_byte};
 use wording::distance;
 
-/// What is told of another line than the one that is shown.
+/// A note about a line other than the shown one.
 #[derive(Clone, Copy)]
 pub enum Note<'a> {
-    /// A line names what this one may define.
+    /// This line is right: it uses a name that the line `defined` defines. If there is no such line, the shown line
+    /// probably should define the name.
     Right {
         line: u64,
         name: &'a [u8],
         defined: Option<u64>,
     },
-    /// This line is refused, too.
+    /// This line is rejected as well.
     RefusedToo(u64),
 }
 
-/// The mistake behind a name that isn't known.
+/// The mistake that makes a name unknown.
 #[derive(Clone, Copy)]
 pub struct Mistake<'a> {
     pub line: u64,
@@ -30,7 +31,7 @@ pub struct Mistake<'a> {
     pub note: Option<Note<'a>>,
 }
 
-/// The first line behind another one with the label, within the program that begins there.
+/// Returns the first line after the line `from` that defines the label, within the program that begins there.
 pub fn label_line(text: &[u8], name: &[u8], from: u64) -> Option<u64> {
     for (number, line) in (1u64..).zip(Lines(text)).skip(from as usize) {
         let line = Line::new(line);
@@ -44,14 +45,14 @@ pub fn label_line(text: &[u8], name: &[u8], from: u64) -> Option<u64> {
     None
 }
 
-/// Whether a line ends a program, or begins the next one.
+/// Returns true if a line ends a program, or begins the next one.
 fn ends_program(line: Line<'_>) -> bool {
     let word = line.first();
     let count = line.count();
     (word == b"end".as_slice() && count == 1) || (word == b"program".as_slice() && count > 1)
 }
 
-/// The line that begins a program of this name.
+/// Returns the first line that begins a program of this name.
 pub fn program_line(text: &[u8], name: &[u8]) -> Option<u64> {
     let (number, _) = (1u64..).zip(Lines(text)).find(|(_, line)| {
         let line = Line::new(line);
@@ -60,7 +61,7 @@ pub fn program_line(text: &[u8], name: &[u8]) -> Option<u64> {
     Some(number)
 }
 
-/// Whether a line may be meant to define a label.
+/// Returns true if a line probably should define a label.
 fn resembles_label(alloc: Global, line: Line<'_>, name: &[u8]) -> Result<bool, AllocError> {
     let word = line.first();
     match word.iter().position(|b| *b == b':') {
@@ -69,7 +70,7 @@ fn resembles_label(alloc: Global, line: Line<'_>, name: &[u8]) -> Result<bool, A
     }
 }
 
-/// Whether a line may be meant to define a name.
+/// Returns true if a line probably should define a name.
 fn resembles(alloc: Global, line: Line<'_>, used: &NameUse<'_>) -> Result<bool, AllocError> {
     match used.named {
         Named::Label => resembles_label(alloc, line, used.name),
@@ -80,19 +81,20 @@ fn resembles(alloc: Global, line: Line<'_>, used: &NameUse<'_>) -> Result<bool, 
     }
 }
 
-/// How many times a name stands in a text as a word, in comments, too.
+/// Returns how many times a name occurs in a text as a word, including comments.
 fn mentions(text: &[u8], name: &[u8]) -> usize {
     text.split(|b| !is_name_byte(*b))
         .filter(|word| *word == name)
         .count()
 }
 
-/// Whether a word is another one with a letter doubled.
+/// Returns true if a word is another one with a letter doubled.
 fn doubles(word: &[u8], other: &[u8]) -> bool {
     (1..=other.len()).any(|end| word.strip_prefix(&other[..end]) == Some(&other[end - 1..]))
 }
 
-/// Whether of two near names, each in one place alone, the second one is the wrong one.
+/// Returns true if `wrong`, a definition without a use, is probably a misspelling of `right`, an undefined name that is
+/// used once.
 fn is_typo(text: &[u8], right: &[u8], wrong: &[u8]) -> bool {
     let (of_right, of_wrong) = (mentions(text, right), mentions(text, wrong));
     if of_right != of_wrong {
@@ -106,7 +108,8 @@ fn is_typo(text: &[u8], right: &[u8], wrong: &[u8]) -> bool {
     }
 }
 
-/// Where the line that is refused by itself may be meant to define the name that another one uses: it.
+/// Returns the mistake in the line that is rejected by itself, if that line is the definition of the name, comes before
+/// it, or probably should define the name.
 fn refused_definition<'a>(
     alloc: Global,
     text: &'a [u8],
@@ -147,12 +150,12 @@ fn refused_definition<'a>(
     }))
 }
 
-/// Whether two uses are of one kind of name, and labels of one program.
+/// Returns true if both uses are of programs, or of labels in the same program.
 fn are_alike(used: &NameUse<'_>, other: &NameUse<'_>) -> bool {
     used.named == other.named && (used.named == Named::Program || used.program == other.program)
 }
 
-/// How often a name is used as another one is.
+/// Returns how many uses a name has that are of the same kind as `like`, and in the same program for labels.
 fn uses_of(world: &World<'_>, like: &NameUse<'_>, name: &[u8]) -> usize {
     world
         .uses
@@ -161,7 +164,7 @@ fn uses_of(world: &World<'_>, like: &NameUse<'_>, name: &[u8]) -> usize {
         .count()
 }
 
-/// The definitions among which a name is looked for.
+/// Returns the definitions that a use can refer to.
 fn candidates<'a>(
     alloc: Global,
     world: &World<'a>,
@@ -178,7 +181,7 @@ fn candidates<'a>(
     }
 }
 
-/// A name that is defined and near to one that isn't.
+/// A defined name that is near to an undefined one.
 #[derive(Clone, Copy)]
 struct Near<'a> {
     is: Definition<'a>,
@@ -186,7 +189,7 @@ struct Near<'a> {
     distance: usize,
 }
 
-/// The nearest name that is defined; one that nothing uses comes first.
+/// Returns the nearest defined name, if one is near. Names without a use come first.
 fn nearest_defined<'a>(
     alloc: Global,
     world: &World<'a>,
@@ -209,7 +212,7 @@ fn nearest_defined<'a>(
     Ok(best)
 }
 
-/// The mistake where a line uses a name that nothing defines.
+/// Returns the mistake if no line defines a name that a line uses: in the definition of a near name, or in the use.
 fn undefined<'a>(
     alloc: Global,
     text: &[u8],
@@ -243,7 +246,7 @@ fn undefined<'a>(
     })
 }
 
-/// The mistake behind a name that a line uses and that isn't known. It may stand in another line.
+/// Returns the mistake that makes a name in this line unknown. It may be in another line.
 pub fn mistake_of<'a>(
     alloc: Global,
     text: &'a [u8],

@@ -3,10 +3,10 @@
 use arrayvec::ArrayVec;
 use text::{Reason, are_name_bytes, integer};
 
-/// So many bytes of a word are compared with names. No name has so many, and to a word of so many none is near.
+/// How many bytes of a word are compared with names. No name is so long, and none is near to a word that is.
 const MAX_COMPARED: usize = 24;
 
-/// Whether a word is a name, however long.
+/// Returns true if a word is a name, or is one except for its length.
 pub fn is_long_name(word: &[u8]) -> bool {
     match word {
         [first, rest @ ..] => first.is_ascii_lowercase() && are_name_bytes(rest),
@@ -14,17 +14,17 @@ pub fn is_long_name(word: &[u8]) -> bool {
     }
 }
 
-/// Whether a word is a number: digits, and maybe a minus before them.
+/// Returns true if a word is a number: digits, optionally after a minus. It may exceed 64 bits.
 pub fn is_number(word: &[u8]) -> bool {
     !matches!(integer(word), Err(Reason::BadNumber))
 }
 
-/// Whether a word is a register.
+/// Returns true if a word is a register.
 pub fn is_register(word: &[u8]) -> bool {
     matches!(word, [b'r', b'0'..=b'7'])
 }
 
-/// Whether a word is a byte in two digits to base 16.
+/// Returns true if a word is a byte: two hexadecimal digits.
 pub fn is_byte(word: &[u8]) -> bool {
     match word {
         [high, low] => high.is_ascii_hexdigit() && low.is_ascii_hexdigit(),
@@ -32,21 +32,21 @@ pub fn is_byte(word: &[u8]) -> bool {
     }
 }
 
-/// The beginning of a word that is compared with names.
+/// Returns the beginning of a word that is compared with names.
 fn beginning_of(word: &[u8]) -> ArrayVec<u8, MAX_COMPARED> {
     let mut beginning = ArrayVec::new();
     let _ = beginning.try_extend_from_slice(&word[..word.len().min(MAX_COMPARED)]);
     beginning
 }
 
-/// A word in small letters, as far as it is compared.
+/// Returns the beginning of a word that is compared, in lower case.
 pub fn lower(word: &[u8]) -> ArrayVec<u8, MAX_COMPARED> {
     let mut small = beginning_of(word);
     small.make_ascii_lowercase();
     small
 }
 
-/// A word in capitals, as far as it is compared.
+/// Returns the beginning of a word that is compared, in upper case.
 pub fn upper(word: &[u8]) -> ArrayVec<u8, MAX_COMPARED> {
     let mut capitals = beginning_of(word);
     capitals.make_ascii_uppercase();

@@ -1,4 +1,4 @@
-//! A world, up to the first of its lines that is refused by itself, whatever names it uses.
+//! A world, up to the first line that is rejected by itself, even if all names were defined.
 
 use crate::fault::{Definition, Fault, NameUse, Named, Number, Refusal, Stop, Verdict, refuse};
 use crate::instructions::{Operands, is_call, operands_of};
@@ -9,10 +9,10 @@ use std::alloc::{AllocError, Global};
 use text::{Lines, MAX_LINE_LEN, Reason, integer, is_name};
 use umach::Program;
 
-/// The most programs of a world.
+/// The largest number of programs of a world.
 const MAX_PROGRAMS: usize = 32;
 
-/// What the lines so far lead to.
+/// What the next line must be.
 #[derive(Clone, Copy, Debug, PartialEq, Eq)]
 enum Stage {
     Pidmax,
@@ -28,7 +28,7 @@ pub struct Label<'a> {
     pub program: usize,
 }
 
-/// What the lines of a world define and use, and the line that is refused, if one is.
+/// What the lines of a world define and use, and the rejected line, if there is one.
 #[derive(Drop)]
 pub struct World<'a> {
     stage: Stage,
@@ -37,13 +37,13 @@ pub struct World<'a> {
     pub uses: Vec<NameUse<'a>>,
     /// How many instructions the last program has.
     instructions: usize,
-    /// The line of the last end.
+    /// The line of the last `end`, or 0.
     end: u64,
     pub refused: Option<(u64, Refusal<'a>)>,
 }
 
 impl<'a> World<'a> {
-    /// Judges the lines of a world.
+    /// Checks the lines of a world, up to the first that is rejected.
     pub fn judge(alloc: Global, text: &'a [u8]) -> Result<World<'a>, AllocError> {
         let mut world = World {
             stage: Stage::Pidmax,
@@ -67,12 +67,12 @@ impl<'a> World<'a> {
         Ok(world)
     }
 
-    /// Whether the lines so far are of the header.
+    /// Returns true if the header is not complete yet.
     pub fn is_in_header(&self) -> bool {
         matches!(self.stage, Stage::Pidmax | Stage::Consoles)
     }
 
-    /// The program that the lines so far are in.
+    /// Returns the program that the next line is in, if it is in one.
     pub fn inside(&self) -> Option<Definition<'a>> {
         match self.stage {
             Stage::Within => self.programs.last().copied(),
@@ -80,7 +80,7 @@ impl<'a> World<'a> {
         }
     }
 
-    /// How a text ends too early behind these lines.
+    /// Returns why the text ends too early after these lines.
     pub fn end_of_text(&self) -> Fault<'a> {
         match self.inside() {
             Some(program) => Fault::ProgramEnds(program),
@@ -89,7 +89,7 @@ impl<'a> World<'a> {
         }
     }
 
-    /// Judges a line in its place, and keeps what it defines and uses.
+    /// Checks the next line, and records what it defines and uses.
     fn take_line(&mut self, number: u64, text: &'a [u8]) -> Verdict<'a> {
         if text.len() > MAX_LINE_LEN {
             return refuse(Reason::LineTooLong, 0, Fault::LongLine);
@@ -114,7 +114,7 @@ impl<'a> World<'a> {
         }
     }
 
-    /// Judges a line that is to begin a program.
+    /// Checks a line that must begin a program.
     fn take_program(&mut self, number: u64, line: Line<'a>) -> Verdict<'a> {
         if line.first() != b"program".as_slice() {
             let behind = self.programs.last().map(|last| (last.name, self.end));
@@ -140,7 +140,7 @@ impl<'a> World<'a> {
         Ok(())
     }
 
-    /// Judges a line within a program.
+    /// Checks a line within a program.
     fn take_inner(&mut self, number: u64, line: Line<'a>) -> Verdict<'a> {
         let word = line.first();
         if word == b"program".as_slice() {
@@ -161,12 +161,12 @@ impl<'a> World<'a> {
         }
     }
 
-    /// The number of the last program, from 0.
+    /// Returns the number of the last program, from 0.
     fn program(&self) -> usize {
         self.programs.len().saturating_sub(1)
     }
 
-    /// Judges a line with a label.
+    /// Checks a line with a label.
     fn take_label(&mut self, number: u64, line: Line<'a>, name: &'a [u8]) -> Verdict<'a> {
         let program = self.program();
         let mut labels = self.labels.iter();
@@ -186,7 +186,7 @@ impl<'a> World<'a> {
         Ok(())
     }
 
-    /// Judges a line with an instruction.
+    /// Checks a line with an instruction.
     fn take_instruction(&mut self, number: u64, line: Line<'a>) -> Verdict<'a> {
         let Some(operands) = operands_of(line.first()) else {
             return refuse(Reason::UnknownWord, 0, Fault::NoInstruction);
@@ -203,7 +203,7 @@ impl<'a> World<'a> {
         judge_end(line, most)
     }
 
-    /// Judges the operands of an instruction.
+    /// Checks the operands of an instruction.
     fn take_operands(&mut self, number: u64, line: Line<'a>, operands: Operands) -> Verdict<'a> {
         match operands {
             Operands::Call if is_call(line.word(1)) => Ok(()),
@@ -225,7 +225,7 @@ impl<'a> World<'a> {
         }
     }
 
-    /// Judges the name of a label, which has to be known in the end.
+    /// Checks the form of the name of a label, and records its use.
     fn take_name(&mut self, number: u64, line: Line<'a>, place: usize) -> Verdict<'a> {
         let name = line.word(place);
         if !is_name(name) {
@@ -234,7 +234,7 @@ impl<'a> World<'a> {
         self.take_use(number, place, name, Named::Label)
     }
 
-    /// Keeps that a line uses a name.
+    /// Records that a line uses a name.
     fn take_use(&mut self, number: u64, place: usize, name: &'a [u8], named: Named) -> Verdict<'a> {
         let program = self.program();
         let used = NameUse {
@@ -248,7 +248,7 @@ impl<'a> World<'a> {
         Ok(())
     }
 
-    /// Judges the value of a `set`.
+    /// Checks the value of `set`.
     fn take_value(&mut self, number: u64, line: Line<'a>) -> Verdict<'a> {
         match line.word(2) {
             [] => refuse(Reason::UnknownWord, 2, Fault::NoValue),
@@ -265,7 +265,7 @@ impl<'a> World<'a> {
         }
     }
 
-    /// Judges a name behind `@` or `$`.
+    /// Checks the form of a name after `@` or `$`, and records its use.
     fn take_marked(&mut self, number: u64, name: &'a [u8], named: Named) -> Verdict<'a> {
         if is_name(name) {
             self.take_use(number, 2, name, named)
@@ -277,7 +277,7 @@ impl<'a> World<'a> {
     }
 }
 
-/// Judges a line of the header, which begins with this word.
+/// Checks a line of the header, which must begin with this word.
 fn judge_header<'a>(line: Line<'a>, word: &[u8], number: Number) -> Verdict<'a> {
     if line.first() != word {
         return refuse(Reason::UnknownWord, 0, Fault::NoHeader(number));
@@ -286,7 +286,7 @@ fn judge_header<'a>(line: Line<'a>, word: &[u8], number: Number) -> Verdict<'a> 
     judge_end(line, 2)
 }
 
-/// Judges what stands behind the name of a program.
+/// Checks what follows the name of a program.
 fn judge_settings<'a>(line: Line<'a>) -> Verdict<'a> {
     let mut place = 2;
     if line.word(place) == b"setuid".as_slice() {
@@ -303,7 +303,7 @@ fn judge_settings<'a>(line: Line<'a>) -> Verdict<'a> {
     Ok(())
 }
 
-/// Judges a register at a place.
+/// Checks the register at a place.
 fn judge_register<'a>(line: Line<'a>, place: usize) -> Verdict<'a> {
     if is_register(line.word(place)) {
         Ok(())

@@ -1,4 +1,4 @@
--- What the lines of several steps tell of the states between which they lead.
+-- What the lines of several steps say of the states between which they lead.
 use Rattle.std.proofs.Common.{◌≡◌, ℕ, zero, suc, ◌+◌, ◌-◌, ◌<◌, ◌≤◌, List, [], ◌++◌, append-nil, length, arith, ap, sym, subst, ◌∙◌}
 use Rattle.std.proofs.Math.Nat.{le_trans}
 use Rattle.std.specs.Prelude.{replicate}
@@ -34,14 +34,14 @@ steps_tell before last old new lines run on few i o =
       agrees = λ earlier a. subst (λ n. Agree (earlier ++ lines) n new) many (runs_agree before old new steps lines earlier run i o.turns a);
     }
 
--- those of a burst, where nothing is shown besides
+-- those of a burst, if nothing is shown besides
 pub burst_tells : {before n p last : ℕ} {s m : State} {ns : List Note} (es : List Entry) → Bursts s before n p ns m → before ≤ n → n ≤ last → last ≤ most_events → es ≡ [] → IsRegular s → IsOrderly s
     → LinesTell before n s m (noted_lines p ns ++ numbered n es)
 burst_tells {before = before} {n = n} {p = p} {s = s} {m = m} {ns = ns} es b on to few none i o =
     let lines : noted_lines p ns ++ numbered n es ≡ noted_lines p ns = ap (λ (es : List Entry). noted_lines p ns ++ numbered n es) none ∙ append-nil (noted_lines p ns) in
     subst (LinesTell before n s m) (sym lines) (steps_tell before n s m (noted_lines p ns) b.runs on (le_trans to few) i o)
 
--- and with the step behind it
+-- and with the step after it
 pub step_tells : {before n p last : ℕ} {s m t : State} {ns : List Note} {es : List Entry} → Bursts s before n p ns m → before ≤ n → IsStep m Step es t → n < last → last ≤ most_events → IsRegular s → IsOrderly s
     → LinesTell before (n + 1) s t (noted_lines p ns ++ numbered (n + 1) es)
 step_tells {before = before} {n = n} {p = p} {s = s} {t = t} {ns = ns} {es = es} b on step to few i o =

@@ -1,4 +1,4 @@
--- Who has just found that it has to wait for a child, and is blocked in that wait, can't act.
+-- A process that has just found that it has to wait for a child, and is blocked in that wait, isn't runnable.
 use Rattle.std.proofs.Common.{◌≡◌, ℕ, true, false, not, refl, ap, sym, ◌∙◌, Some, None, Option}
 use Rattle.std.proofs.Math.Bool.{and-false}
 use Rattle.posix.specs.declared.process.Blocked.{Blocked}
@@ -19,18 +19,18 @@ wait_blocks s me call b =
     by_wait (λ a. a ≡ Block b → b ≡ blocked.Wait call) call s me (λ why e. absurd (cc)) (λ e. absurd (cc)) (λ e. cc)
     (λ target options child status e. (λ k. absurd (cc), λ k. absurd (cc))) (λ target options child status e. (λ k. absurd (cc), λ k. absurd (cc)))
 
--- ---- who is blocked
+-- ---- the process that is blocked
 
 unseen_enter : (b : Blocked) → Unseen (enter b)
 unfolding enter
 unseen_enter b = record { pid = λ r. refl; parent = λ r. refl; group = λ r. refl; life = λ r. refl; news = λ r. refl }
 
--- who has to wait in its call, with no signal, can't act
+-- a process that has to wait in its call, with no signal, isn't runnable
 pub wait_rests : (s : State) (me : Process) → chosen me.life me.signals ≡ None → can_go_on s me me.blocked ≡ false → can_act s me ≡ false
 unfolding can_act
 wait_rests s me none waits = rw (none_chosen me.life me.signals none, waits, none, and-false) (and-false (is_running me.life))
 
--- nor who waits for a child
+-- nor is one that waits for a child
 waiter_rests : (s : State) (me : Process) (call : WaitCall) → chosen me.life me.signals ≡ None → is_block (wait_by call s me) ≡ true → can_act s (enter (blocked.Wait call) me) ≡ false
 unfolding enter attempt_again wait_by
 waiter_rests s me call none waits = wait_rests s (enter (blocked.Wait call) me) none (ap not waits)
@@ -54,14 +54,14 @@ blocked_unread s p me call b here waits r e =
     let is : enter b me ≡ r = cc in
     ap (λ (r : Process). is_in_read r.blocked) (sym is) ∙ ap (λ c. is_in_read (Some c)) (wait_blocks s me call b waits)
 
--- ---- who waits on
+-- ---- the process that waits on
 
--- nor does who waits for a child read
+-- nor does one that waits for a child read
 pub wait_unread : (b : Option Blocked) → is_in_wait b ≡ true → is_in_read b ≡ false
 wait_unread (Some blocked.Read) e = absurd (cc)
 wait_unread b e = refl
 
--- ---- who has a place
+-- ---- a process in the run queue
 
 -- waits to read from nothing
 pub placed_unread : (s : State) (p : ℕ) → has_place s p ≡ true → None ≡ reads s p

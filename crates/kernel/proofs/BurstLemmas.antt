@@ -45,7 +45,7 @@ pub record IsReady (s : State) (p : ℕ) (me : Process) : Type 0 where
   pub free : me.blocked ≡ None
   pub none : chosen me.life me.signals ≡ None
 
--- the current process has a place, whichever of two equal states is asked
+-- the current process is in the run queue, whichever of two equal states is looked at
 pub placed_now : (s t : State) (p : ℕ) → t ≡ s → current s ≡ Some p → has_place t p ≡ true
 placed_now s t p same now = ap (λ (u : State). is_in p u.order) same ∙ first_in p s.order now
 
@@ -63,7 +63,7 @@ read_of_current s t p it same regular now read =
 is_current : (s : State) (p : ℕ) (me : Process) → IsReady s p me → current_process s ≡ Some me
 is_current s p me r = ap (option_and_then (process s)) r.now ∙ r.here
 
--- with another processor it is ready, too, where nothing is left to settle
+-- with another processor it is ready, too, if nothing is left to settle
 stays_ready : (s : State) (p : ℕ) (me : Process) (c : Cpu) → IsReady s p me → IsSettled (change s p (set_cpu c)) → IsReady (change s p (set_cpu c)) p (set_cpu c me)
 unfolding set_cpu
 stays_ready s p me c r settled = record {
@@ -78,7 +78,7 @@ stays_ready s p me c r settled = record {
   none = r.none;
 }
 
--- the processor that was put in last is there
+-- the processor that was set last is there
 last_cpu : (s : State) (p : ℕ) (c d : Cpu) → change (change s p (set_cpu c)) p (set_cpu d) ≡ change s p (set_cpu d)
 unfolding set_cpu
 last_cpu s p c d = ap (λ rs. record s { processes = rs }) (changed_then p (set_cpu d) (set_cpu c) (λ r. refl) s.processes)
@@ -88,14 +88,14 @@ same_cpu : (s : State) (p : ℕ) (me : Process) → IsReady s p me → change s 
 unfolding set_cpu
 same_cpu s p me r = ap (λ rs. record s { processes = rs }) (changed_id p (set_cpu me.cpu) s.processes r.rising me r.here refl)
 
--- the processor that was put in is the process's, whose code stays
+-- the processor that was set is the process's, whose code stays
 goes_on : {A : Type 0} (f : List Instr → Cpu → A) (s : State) (p : ℕ) (me : Process) (c : Cpu) → f (code_of (change s p (set_cpu c)) (set_cpu c me)) (set_cpu c me).cpu ≡ f (code_of s me) c
 unfolding set_cpu
 goes_on f s p me c = refl
 
 -- ---- one instruction
 
--- one that changes only the processor gives nobody a place, so it is the whole event
+-- an instruction that changes only the processor puts no process in the run queue; no more belongs to the event
 ran_plain : (s : State) (p : ℕ) (me : Process) (es : List Entry) → IsReady s p me → let c = (exec_one (code_of s me) me.cpu).cpu in
     after_trap true s me c (exec_one (code_of s me) me.cpu).trap ≡ record { state = change s p (set_cpu c); entries = es } → IsStep s Step es (change s p (set_cpu c))
 unfolding next happens step set_cpu
@@ -159,7 +159,8 @@ lead_then s t u a b c p ns ms f g =
 
 -- ---- instructions up to one that isn't plain
 
--- the number of the last step, where those up to number n were plain: a note is one more, and a call and a fault are left to a step of their own
+-- the number of the last step, if those up to number n were plain: a note is one more, and a call and a fault are left
+-- to a step of their own
 abbrev last_step : ℕ → Trap → ℕ
 last_step n (trap.Note z) = n + 1
 last_step n t = n
@@ -177,7 +178,7 @@ BurstLeads s before p b = Leads s before (last_step (before + b.count) b.trap) p
 none_ran : (s : State) (before last p : ℕ) (me : Process) → last ≡ before → IsReady s p me → Leads s before last p [] (change s p (set_cpu me.cpu))
 none_ran s before last p me at r = subst (Leads s before last p []) (sym (same_cpu s p me r)) (none_leads s before last p at r.settled)
 
--- what the first instruction comes to, and then the rest
+-- the outcome of the first instruction, and then the rest
 by_trap : (s : State) (before p : ℕ) (me : Process) → IsReady s p me → (t : Trap) → (exec_one (code_of s me) me.cpu).trap ≡ t → (rest : Burst) → let new = change s p (set_cpu (exec_one (code_of s me) me.cpu).cpu) in
     (IsReady new p (set_cpu (exec_one (code_of s me) me.cpu).cpu me) → BurstLeads new (before + 1) p rest) → BurstLeads s before p (then_rest t me.cpu (exec_one (code_of s me) me.cpu).cpu rest)
 unfolding after_trap
@@ -207,7 +208,7 @@ burst_leads (suc most) before s p me r =
 
 -- ---- what the code read and did
 
--- who is current, in no call and with no signal chosen, is about to run an instruction
+-- a current process in no call and with no signal chosen is about to run an instruction
 pub record Readies (s : State) (p : ℕ) : Type 0 where
   pub me : Process
   pub ready : IsReady s p me
@@ -259,9 +260,9 @@ notes_lead (suc room) before last s p me r =
     (λ settled. subst (NotesLead (change s p (set_cpu b.cpu)) done p) (goes_on (λ program c. exec_with_notes program room done last c) s p me b.cpu)
     (notes_lead room done last (change s p (set_cpu b.cpu)) p (set_cpu b.cpu me) (stays_ready s p me b.cpu r settled)))
 
--- ---- the call behind a burst
+-- ---- the call after a burst
 
--- who is ready and comes to a call begins it by the next step
+-- a process that is ready and comes to a call begins it by the next step
 comes : (s : State) (p : ℕ) (me : Process) (call : Call) → IsReady s p me → (exec_one (code_of s me) me.cpu).trap ≡ trap.Call call → ComesTo s p call
 unfolding step after_trap
 comes s p me call r is =
@@ -278,7 +279,7 @@ comes s p me call r is =
           (ap (step granted s) (is_current s p me r) ∙ act_runs granted s me r.free r.none ∙ ap (after_trap granted s me (exec_one (code_of s me) me.cpu).cpu) is);
     }
 
--- where such instructions end at a call
+-- if such instructions end at a call
 then_calls : (program : List Instr) (call : Call) (done : ℕ) (t : Trap) (c : Cpu) (rest : NotedBurst) → (t ≡ trap.Call call → (exec_one program c).trap ≡ trap.Call call)
     → (rest.taken.trap ≡ trap.Call call → (exec_one program rest.cpu).trap ≡ trap.Call call) → (then_note done t c rest).taken.trap ≡ trap.Call call
     → (exec_one program (then_note done t c rest).cpu).trap ≡ trap.Call call
@@ -297,7 +298,7 @@ notes_call program call (suc room) before last c e =
 
 -- ---- what the code found
 
--- the steps, that they are those of the definitions, and the call behind them
+-- the steps, that they are those of the definitions, and the call after them
 pub record Shows (s : State) (p before last : ℕ) (taken : StepsTaken) (new : State) : Type 0 where
   pub runs : Bursts s before taken.last p taken.notes new
   pub exact : taken_at_once s before last (current_process s) ≡ taken
@@ -306,7 +307,7 @@ pub record Shows (s : State) (p before last : ℕ) (taken : StepsTaken) (new : S
   pub numbers : (n : ℕ) → is_free new.processes n ≡ is_free s.processes n
   pub state : new ≡ after_taken s before last (current_process s)
 
--- another processor leaves the numbers that are borne
+-- another processor leaves the IDs in use as they are
 borne_kept : (n p : ℕ) (c : Cpu) (rs : List Process) → list_any (bears n) (changed p (set_cpu c) rs) ≡ list_any (bears n) rs
 unfolding changed set_cpu
 borne_kept n p c [] = refl
@@ -320,7 +321,7 @@ free_kept : (n p : ℕ) (c : Cpu) (rs : List Process) → is_free (changed p (se
 unfolding is_free
 free_kept n p c rs = ap not (borne_kept n p c rs)
 
--- the whole of what an instruction list gave is what the steps came to
+-- the whole outcome of an instruction list is that of the steps
 shows_by : (s : State) (p : ℕ) (me : Process) (before last : ℕ) → IsReady s p me → Shows s p before last (exec_with_notes (code_of s me) most_notes before last me.cpu).taken
     (change s p (set_cpu (exec_with_notes (code_of s me) most_notes before last me.cpu).cpu))
 unfolding set_cpu

@@ -25,7 +25,7 @@ use Rattle.posix.specs.declared.process.Blocked.TheVariants as blocked
 use Rattle.posix.specs.declared.call.Call.TheVariants.{Waitpid, Waitid, Kill, Sigqueue}
 use Rattle.life.specs.Consoles.{foreground_members, slots_of_key, slots_of_signal_key}
 
--- ---- calls of which it is counted how many slots they read, beside those of their caller alone
+-- ---- calls with a bound on the slots that they read, besides those that change only their caller
 
 -- they are waits, and sends, which needn't wait
 pub brief_call : (call : Call) (me : Process) (holds : ℕ → Type 0) → (is_some (wait_in call) ≡ true → holds 6) → ((call ≡ Kill) ⊎ (call ≡ Sigqueue) → ⊥) → IfSome (slots_of_brief call me) holds
@@ -35,19 +35,19 @@ brief_call Kill me holds waits done = absurd (done (inl refl))
 brief_call Sigqueue me holds waits done = absurd (done (inr refl))
 brief_call call me holds waits done = tt
 
--- what a wait reads, and who is blocked in it
+-- what a wait reads, and a process that is blocked in it
 pub wait_reads : (call : Call) (me : Process) → is_some (wait_in call) ≡ true → (slots_of_brief call me ≡ Some 6) × (slots_of_blocking call ≡ 1)
 wait_reads Waitpid me e = (refl, refl)
 wait_reads Waitid me e = (refl, refl)
 wait_reads call me e = absurd (cc)
 
--- where a signal is chosen for who has to wait, it is delivered
+-- a signal that is chosen for a process that has to wait is delivered
 pub nothing_delivered : (s : State) (me : Process) (call : WaitCall) (sig : ℕ) → chosen me.life me.signals ≡ Some sig → is_block (wait_by call s me) ≡ true → delivers_nothing s call me ≡ true → ⊥
 nothing_delivered s me call sig takes waits nothing =
     let no : (not (is_kill (Some sig)) && false) ≡ true = subst (λ b. (not (is_kill (Some sig)) && (false || not b)) ≡ true) waits (subst (λ o. (not (is_kill o) && (not (is_some o) || not (is_block (wait_by call s me)))) ≡ true) takes nothing) in
     both_ways _ (and-false (not (is_kill (Some sig)))) no
 
--- so who is blocked in a call is counted where it waits, and no signal is delivered
+-- so a process that is blocked in a call is counted if it waits, and no signal is delivered
 pub acting_blocked : (s : State) (me : Process) (b : Blocked) (holds : ℕ → Type 0) → ((call : WaitCall) → b ≡ blocked.Wait call → delivers_nothing s call me ≡ true → holds 6) → IfSome (slots_of_acting s me (Some b)) holds
 acting_blocked s me (blocked.Wait call) holds h = elim (delivers_nothing s call me) as (λ b. delivers_nothing s call me ≡ b → IfSome (cond b (Some 6) None) holds) [ true ↦ λ e. h call refl e | false ↦ λ e. tt ] refl
 acting_blocked s me b holds h = tt
@@ -66,14 +66,14 @@ key_slots (suc k) byte m = by (key_signal byte) (slice_get m.state.consoles k)
 
 -- ---- one more slot
 
--- where there is a current process, whoever that is
+-- if there is a current process, whichever it is
 pub counts_one : (o : Option Process) {m n : ℕ} → m ≤ n → IfSome o (λ me. m ≤ n)
 counts_one None h = tt
 counts_one (Some me) h = h
 
 -- ---- foregrounds
 
--- none is looked at where all are checked
+-- none is looked at if all are checked
 pub none_unchecked : (cs : List Console) → count_by (is_unchecked Nothing) cs ≡ 0
 none_unchecked [] = refl
 none_unchecked (c ∷ cs) = none_unchecked cs
@@ -119,7 +119,7 @@ pub settling_none : (n : ℕ) (old new : MachineView) → IsAtRest old → Costs
 unfolding slots_of_rechecks
 settling_none n old new rest costs = rw (costs.to_recheck ∙ rest.none, costs.foregrounds_unchecked ∙ rest.checked, none_unchecked new.state.consoles) (let read = costs.visits in omega (arith, read))
 
--- and where so many slots are read to recheck, and no foreground process group is unchecked
+-- and if so many slots are read to recheck, and no foreground process group is unchecked
 pub settling_rechecks : (most k : ℕ) (old new : MachineView) → new.foregrounds_unchecked ≡ Nothing → slots_of_rechecks new.state.processes None new.to_recheck ≤ k → new.visits + k ≤ old.visits + most → ReadsAtMost most old new
 settling_rechecks most k old new checked few read =
     let none = ap (λ u. count_by (is_unchecked u) new.state.consoles) checked ∙ none_unchecked new.state.consoles in
@@ -149,7 +149,7 @@ step_reads old new (Some me) rest costs brief = by (slots_of_own_step old.state 
     by None h = acts (slots_of_acting old.state me me.blocked) (brief me refl)
     by (Some n) h = settling_none n old new rest h
 
--- so where the step begins this call
+-- so if the step begins this call
 pub call_reads : (call : Call) (old new : MachineView) (me : Process) → IsAtRest old → chosen me.life me.signals ≡ None → me.blocked ≡ None → (exec_one (code_of old.state me) me.cpu).trap ≡ trap.Call call
     → (changes_caller_alone call ≡ true → CostsAtMost 1 old new) → IfSome (slots_of_brief call me) (λ n. CostsWithRechecks (n + slots_of_blocking call) old new) → IfSome (slots_of_step old.state (Some me)) (λ n. ReadsAtMost n old new)
 call_reads call old new me rest none free is own brief = step_reads old new (Some me) rest costs (λ m e. subst (λ m. IfSome (slots_of_acting old.state m m.blocked) (λ n. CostsWithRechecks (n + 1) old new)) (same_Some _ _ e) acts)
@@ -177,7 +177,7 @@ call_reads call old new me rest none free is own brief = step_reads old new (Som
         (subst (λ o. IfSome (cond (is_some o) None (slots_of_trap me (exec_one (code_of old.state me) me.cpu).trap)) (λ n. CostsWithRechecks (n + 1) old new)) (sym none)
         (subst (λ t. IfSome (slots_of_trap me t) (λ n. CostsWithRechecks (n + 1) old new)) (sym is) (more (slots_of_brief call me) brief)))
 
--- ---- steps that are given at once
+-- ---- steps that are taken at once
 
 -- they read two slots, and those of the step that follows them
 pub steps_read : (before last old mid new : ℕ) (s t : State) (taken : StepsTaken) → s.halted ≡ false → taken_at_once s before last (current_process s) ≡ taken → t ≡ after_taken s before last (current_process s) → mid ≤ old + 2

@@ -57,16 +57,16 @@ counts_on s t x es n step births ticks =
     let k = c.ticks in
     (omega (arith, b, births), omega (arith, k, ticks))
 
--- ---- a step of its own behind others
+-- ---- a step of its own after others
 
--- where one follows it is within the bound
+-- if one follows, it is within the bound
 pub followed_short : (before last n : ℕ) (t : Trap) → before < last → is_followed_by_step before n t ≡ true → (t ≢ trap.Next → n < last) → n < last
 followed_short before last n trap.Next some follows short = omega (arith, some, eqb-true n before follows)
 followed_short before last n t some follows short = short (λ e. absurd (cc))
 
 -- ---- events that change and show nothing
 
--- where no process can act a step doesn't
+-- if the run queue is empty, a step changes and shows nothing
 pub rest_idle : (s : State) → s.halted ≡ false → current s ≡ None → IsRegular s → IsSettled s → next true s Step ≡ silent s
 unfolding next happens step
 rest_idle s going none regular settled_s =

@@ -25,7 +25,7 @@ ok_before : {A E F : Type 0} (r : Result A E) (m : Result A F) (x : A) (Q : E �
 ok_before {A = A} {F = F} (Ok y) m x Q h e = let same : y ≡ x = cc in ap (λ (z : A). Ok z) same
 ok_before {A = A} {F = F} (Err e) m x Q h same = absurd (subst (λ (n : Result A F). IsErrAnd n (Q e)) same h)
 
--- what a reader answered, and a `map_err` handed on, is what the text means
+-- what a reader returned, and a `map_err` passed on, is what the input means
 pub answered : {A F : Type 0} (r meaning : Result A TextFault) (m : Result A F) (x : A) (Q : TextFault → F → Type 0) →
     MatchResult r (λ y. m ≡ Ok y) (λ e. IsErrAnd m (Q e)) → m ≡ Ok x → Answers r meaning → meaning ≡ Ok x
 answered {A = A} r meaning m x Q h e a = subst (λ (n : Result A TextFault). Answers n meaning) (ok_before r m x Q h e) a
@@ -35,7 +35,7 @@ pub ok_holds : {A E F : Type 0} (r : Result A E) (m : Result A F) (x : A) (P : A
     MatchResult r (λ y. m ≡ Ok y) (λ e. IsErrAnd m (Q e)) → m ≡ Ok x → IfOk r P → P x
 ok_holds {A = A} {E = E} r m x P Q h e a = subst (λ (n : Result A E). IfOk n P) (ok_before r m x Q h e) a
 
--- a kernel that was booted, whose trace was written and counted, traces the run of the texts
+-- a kernel that was booted, whose trace was written and counted, traces the run of the inputs
 pub traces : (world_bytes event_bytes : List ℕ) (w : World) (events : List Event) (old new : KernelView) (a b : Seen) (ends : ℕ) (summary : Summary) →
     world_text world_bytes ≡ Ok w → event_text w.consoles event_bytes ≡ Ok events →
     old.state ≡ boot w → old.events ≡ 0 → WritesTrace (old.events + 1) old.state events new.state a b ends →
@@ -56,7 +56,7 @@ traces world_bytes event_bytes w events old new a b ends summary world_is events
       (count ∙ ap (λ (n : ℕ). n + length events) none ∙ zero-add (length events));
 }
 
--- a kernel that was booted, whose trace broke off, cuts the run of the texts short
+-- a kernel that was booted, whose trace broke off, cuts the run of the inputs short
 pub cuts_short : (world_bytes event_bytes : List ℕ) (w : World) (events : List Event) (old : KernelView) (a b : Seen) →
     world_text world_bytes ≡ Ok w → event_text w.consoles event_bytes ≡ Ok events →
     old.state ≡ boot w → old.events ≡ 0 → BreaksTrace (old.events + 1) old.state events a b → CutsShort world_bytes event_bytes a b
@@ -95,7 +95,7 @@ accounts world_bytes event_bytes a b summary w es is events most ranges bytes fe
       counts = ap (λ (s : Summary). s.births) t.counted ∙ h.agree.counts ∙ sym (ap (λ (s : Summary). s.living + s.zombies + s.reported + s.dropped) t.counted);
     }
 
--- so does the trace of a run that came to its end
+-- the trace of a run that came to its end keeps them, too
 pub all_accounts : {S : Type 0} (old new : S) (world_bytes event_bytes : List ℕ) (a b : Seen) (r : Result Summary RunError) (w : World) (es : List Event) → world_text world_bytes ≡ Ok w → event_text w.consoles event_bytes ≡ Ok es → IfOk r (λ summary. 1 ≤ w.pidmax) → IsWorld w
     → AllByRecursion IsEvent es → length es ≤ most_events → Headline world_bytes event_bytes old new a b r → IfOk r (Accounts world_bytes event_bytes a b)
 all_accounts old new world_bytes event_bytes a b (Ok summary) w es is events most ranges bytes few h = accounts world_bytes event_bytes a b summary w es is events most ranges bytes few h

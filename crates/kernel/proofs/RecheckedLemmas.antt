@@ -1,4 +1,5 @@
--- Those who are rechecked, one after another: whoever was rechecked needs no place, and the places that are left to give are those of the others.
+-- The processes on the recheck list, one after another. One that was rechecked need not enter the run queue, and
+-- those that are left to enter it are the others.
 use Rattle.std.proofs.Common.{◌≡◌, ℕ, suc, ◌<◌, Bool, true, false, cond, not, ◌&&◌, ◌||◌, ◌==◌, refl, ap, sym, ◌∙◌, arith, subst, List, [], ◌∷◌, ◌++◌, length, Option, Some, None, filter, slice_get, nat_lt}
 use Rattle.std.specs.Option.{IfSome}
 use Rattle.std.proofs.lemmas.Bool.{eqb-true, eqb-false, eq-eqb, ltb-true, ltb-false}
@@ -13,9 +14,9 @@ use Rattle.posix.proofs.SettleLemmas.{woken_is, asking_begins, asking_goes_on}
 use Rattle.posix.proofs.TableLemmas.{pid_looked}
 use Rattle.posix.proofs.WalkLemmas.{least_is_next}
 
--- ---- whoever was rechecked
+-- ---- the processes that were rechecked
 
--- a place that is given changes no record
+-- entering the run queue changes no record
 same_records : (s : State) (o : Option Process) → (woken_if s o).processes ≡ s.processes
 same_records s None = refl
 same_records s (Some r) = elim (wakes s r) as (λ b. (cond b (record s { order = s.order ++ r.pid ∷ [] }) s).processes ≡ s.processes) [ true ↦ refl | false ↦ refl ]
@@ -24,14 +25,14 @@ pub same_processes : (s : State) (p : ℕ) → (woken s p).processes ≡ s.proce
 unfolding woken
 same_processes s p = same_records s (process s p)
 
--- who has a place, or can't act, needn't be given one
+-- a process that is in the run queue, or not runnable, need not enter it
 placed_rests : (s : State) (p : ℕ) (r : Process) → r.pid ≡ p → is_in p s.order ≡ true → wakes s r ≡ false
 placed_rests s p r named place = ap (λ n. not (is_in n s.order) && can_act s r) named ∙ ap (λ b. not b && can_act s r) place
 
 pub still_rests : (s : State) (r : Process) → can_act s r ≡ false → wakes s r ≡ false
 still_rests s r still = ap (λ b. not (is_in r.pid s.order) && b) still ∙ and-false (not (is_in r.pid s.order))
 
--- whoever was rechecked needn't be given a place any more
+-- a process that was rechecked need not enter the run queue any more
 pub woken_rests : (s : State) (p : ℕ) (r : Process) → process (woken s p) p ≡ Some r → wakes (woken s p) r ≡ false
 woken_rests s p r e =
     let here : process s p ≡ Some r = sym (ap (lookup p) (same_processes s p)) ∙ e in
@@ -47,9 +48,9 @@ woken_rests s p r e =
     last : (ps : List ℕ) (p : ℕ) → is_in p (ps ++ p ∷ []) ≡ true
     last ps p = in_last p p ps ∙ grind (arith, nat_tests)
 
--- ---- the first one rechecked
+-- ---- the first one that is rechecked
 
--- who needs no place needs none where others have got theirs
+-- a process that need not enter the run queue need not when others have entered it
 rests_later : (s : State) (o : List ℕ) (r : Process) → wakes s r ≡ false → wakes (record s { order = s.order ++ o }) r ≡ false
 rests_later s o r rests =
     ap (λ b. not b && can_act (record s { order = s.order ++ o }) r) (in_append r.pid s.order o) ∙ ap (λ b. not (is_in r.pid s.order || is_in r.pid o) && b) (can_act_order s (s.order ++ o) r)
@@ -64,7 +65,8 @@ rests_woken : (s : State) (o : Option Process) (r : Process) → wakes s r ≡ f
 rests_woken s None r rests = rests
 rests_woken s (Some x) r rests = elim (wakes s x) as (λ b. wakes (cond b (record s { order = s.order ++ x.pid ∷ [] }) s) r ≡ false) [ true ↦ rests_later s (x.pid ∷ []) r rests | false ↦ rests ]
 
--- once the first one who may have to be given a place has been rechecked, giving the others theirs comes to the same
+-- once the first process that may have to enter the run queue has been rechecked, the others enter it as they would
+-- have
 pub first_woken : (s : State) (p : ℕ) → IsRegular s → IsRegular (woken s p) → IsNext (wakes s) 0 s.processes (Some p) → give_places (woken s p) ≡ give_places s
 unfolding woken
 first_woken s p before after first =

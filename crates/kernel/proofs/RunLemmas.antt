@@ -18,7 +18,7 @@ use Rattle.trace.proofs.SinkLemmas.{gathers_then, gathers_break, break_on, flush
 
 -- ---- runs
 
--- a run goes on where another ended
+-- a run goes on from the end of another
 pub runs_then : (xs ys : List Event) (k : ℕ) (a b c : State) (ls ms : List Line) →
     RunsFrom k a xs ls b → RunsFrom (k + length xs) b ys ms c → RunsFrom k a (xs ++ ys) (ls ++ ms) c
 runs_then [] ys k a b c ls ms (none, same) q =
@@ -41,12 +41,12 @@ runs_on (x ∷ xs) k a =
     let more = runs_on xs (k + 1) done.state in
     (numbered k done.entries ++ more.0, more.1, (done.state, done.entries, more.0, record { granted = true; comes = refl }, refl, more.2))
 
--- notes report no end
+-- notes report no termination
 none_ended : (p : ℕ) (ns : List Note) → reported (noted_lines p ns) ≡ 0
 none_ended p [] = refl
 none_ended p (n ∷ ns) = none_ended p ns
 
--- no more ends than entries
+-- no more terminations than entries
 pub ends_within : (k : ℕ) (es : List Entry) → reported (numbered k es) ≤ length es
 ends_within k es = omega (arith, count_by-le-length (λ (l : Line). reports_end l.entry) (numbered k es), length-map es (line k))
 
@@ -56,7 +56,7 @@ same_lines j k fs es at same = ap (λ (n : ℕ). numbered n fs) at ∙ ap (numbe
 
 -- ---- what was made of their lines
 
--- a run goes on, and so does what was made of its lines
+-- a run goes on, and what was made of its lines goes on, too
 pub shows_next : (k j : ℕ) (xs ys zs : List Event) (s m e : State) (P Q R : List Line → Type 0) → j ≡ k + length xs → xs ++ ys ≡ zs → ((ls ms : List Line) → P ls → Q ms → R (ls ++ ms))
     → Shows k s xs m P → Shows j m ys e Q → Shows k s zs e R
 shows_next k j xs ys zs s m e P Q R at all then p q =
@@ -110,13 +110,13 @@ prints_both k p ns es a m b w v q f ends g first then counted sum = record {
 
 -- ---- the lines of some things, one each
 
--- those up to place i print as those before it, and then the one at i
+-- those up to index i print as those before it, and then the one at i
 lines_more : {A : Type 0} (f : A → Line) (xs : List A) (i : ℕ) (d : A) → i < length xs → print (map f (take (i + 1) xs)) ≡ print (map f (take i xs)) ++ print_line (f (get_or xs i d))
 lines_more f xs i d lt =
     ap (λ l. print (map f l)) (take_more xs i d lt) ∙ ap print (map-append f (take i xs) (get_or xs i d ∷ [])) ∙ print_then (map f (take i xs)) (f (get_or xs i d) ∷ [])
     ∙ ap (λ (l : List ℕ). print (map f (take i xs)) ++ l) (append-nil (print_line (f (get_or xs i d))))
 
--- all print as those before place i, the one at i and those after it
+-- all print as those before index i, the one at i and those after it
 lines_split : {A : Type 0} (f : A → Line) (xs : List A) (i : ℕ) (d : A) → i < length xs
     → print (map f xs) ≡ print (map f (take i xs)) ++ (print_line (f (get_or xs i d)) ++ print (map f (drop (i + 1) xs)))
 lines_split f xs i d lt =
@@ -124,14 +124,14 @@ lines_split f xs i d lt =
     ∙ ap (λ (l : List ℕ). l ++ print (map f (drop (i + 1) xs))) (lines_more f xs i d lt)
     ∙ append_assoc (print (map f (take i xs))) (print_line (f (get_or xs i d))) (print (map f (drop (i + 1) xs)))
 
--- the lines before place i wait, and then the one at i
+-- the lines before index i are yet to be put, and then the one at i
 pub line_gathered : {A : Type 0} (f : A → Line) (xs : List A) (i : ℕ) (d : A) (a b c : Seen) (p q r text : List ℕ) → i < length xs → text ≡ print_line (f (get_or xs i d)) →
     Gathers a p b q (print (map f (take i xs))) → Gathers b q c r text → Gathers a p c r (print (map f (take (i + 1) xs)))
 line_gathered f xs i d a b c p q r text lt e g h =
     subst (Gathers a p c r) (sym (lines_more f xs i d lt))
     (gathers_then a b c p q r (print (map f (take i xs))) (print_line (f (get_or xs i d))) g (subst (Gathers b q c r) e h))
 
--- the lines before place i wait, and the one at i breaks off
+-- the lines before index i are yet to be put, and the one at i breaks off
 pub line_broken : {A : Type 0} (f : A → Line) (xs : List A) (i : ℕ) (d : A) (a b c : Seen) (p q text : List ℕ) → i < length xs → text ≡ print_line (f (get_or xs i d)) →
     Gathers a p b q (print (map f (take i xs))) → BreaksOff b c (q ++ text) → BreaksOff a c (p ++ print (map f xs))
 line_broken f xs i d a b c p q text lt e g h =
@@ -147,7 +147,7 @@ one_or_none : (b : Bool) → cond b 1 0 ≡ from_bool b
 one_or_none true = refl
 one_or_none false = refl
 
--- the ends before place i, and then the one at i
+-- the terminations before index i, and then the one at i
 pub ends_more : (k : ℕ) (es : List Entry) (i : ℕ) (d : Entry) → i < length es →
     reported (numbered k (take (i + 1) es)) ≡ reported (numbered k (take i es)) + from_bool (reports_end (get_or es i d))
 ends_more k es i d lt =
@@ -189,7 +189,7 @@ writes_break k xs s e a b c p q g h none w t = record {
   broken = flush_breaks a b c q (print w.lines) (subst (λ (l : List ℕ). Gathers a l b q (print w.lines)) none w.holds.gathered) t;
 }
 
--- where the printing broke off, the trace did, whatever events come after
+-- if the printing broke off, the trace did, whatever events come after
 pub stops_break : (k : ℕ) (xs : List Event) (s e : State) (a b : Seen) (p : List ℕ) → p ≡ [] → Breaks k s xs e (λ lines. BreaksOff a b (p ++ print lines)) → BreaksTrace k s xs a b
 stops_break k xs s e a b p none w =
     let v = w.shows in

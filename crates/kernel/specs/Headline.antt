@@ -1,4 +1,4 @@
--- What a run does, from two texts to what a sink took.
+-- What a run does, from two inputs to what a sink took.
 use Rattle.std.specs.Prelude.{◌≡◌, ◌≢◌, ℕ, List, length, Result, Ok, Err}
 use Rattle.posix.specs.declared.event.Event.{Event}
 use Rattle.posix.specs.Common.{Line, World, State, Runs, print}
@@ -11,8 +11,7 @@ use Rattle.kernel.specs.declared.texts.RunError.TheVariants as error
 use Rattle.trace.specs.Sinks.{Seen, TakesAll, BreaksOff}
 use Rattle.kernel.specs.Summaries.{summary_of}
 
--- The texts stand for a world and these events, which have a run of the machine with these lines and
--- this last state.
+-- The inputs mean a world and these events, which have a run of the machine with these lines and this last state.
 pub record RunsTexts (world_bytes event_bytes : List ℕ) (events : List Event) (lines : List Line) (last : State) : Type 0 where
   pub world : World
   pub world_is : world_text world_bytes ≡ Ok world
@@ -28,7 +27,7 @@ pub record Traces (world_bytes event_bytes : List ℕ) (before after : Seen) (su
   pub taken : TakesAll before after (print lines)
   pub counted : summary ≡ summary_of (length events) lines last
 
--- A put failed, it was the last, and a beginning of the printed trace of a run was taken.
+-- A put failed, it was the last, and the beginning of the printed trace of a run was taken.
 pub record CutsShort (world_bytes event_bytes : List ℕ) (before after : Seen) : Type 0 where
   pub events : List Event
   pub lines : List Line
@@ -36,7 +35,7 @@ pub record CutsShort (world_bytes event_bytes : List ℕ) (before after : Seen) 
   pub run : RunsTexts world_bytes event_bytes events lines last
   pub broken : BreaksOff before after (print lines)
 
--- When each error comes. In the first three cases nothing was put: the sink is as it was.
+-- When each error occurs. In the first three cases nothing was put: the sink is as it was.
 abbrev pub Fails : {S : Type 0} → List ℕ → List ℕ → S → S → Seen → Seen → RunError → Type 0
 Fails world_bytes event_bytes old new before after (error.World fault) = (world_text world_bytes ≡ Err fault) × (fault.reason ≢ Memory) × (new ≡ old)
 Fails world_bytes event_bytes old new before after (error.Events fault) =

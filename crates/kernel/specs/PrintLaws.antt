@@ -1,4 +1,4 @@
--- What is printed of lines, and of those after them.
+-- What lines print, and lines with others after them.
 use Rattle.std.proofs.Common.{◌≡◌, ℕ, ◌+◌, List, [], ◌++◌, append-nil, refl, cond, arith}
 use Rattle.std.proofs.KnownBytes.{Appends-nil}
 use Rattle.std.proofs.lemmas.List.Concat.{flat_map-append}
@@ -8,11 +8,11 @@ use Rattle.trace.specs.Sinks.{Seen, Gathers, BreaksOff}
 use Rattle.trace.proofs.SinkLemmas.{gathers_then, gathers_break}
 use Rattle.kernel.specs.Progress.{Prints}
 
--- lines after lines print as the one text after the other
+-- lines and those after them print as the one text and then the other
 pub print_then : (ls ms : List Line) → print (ls ++ ms) ≡ print ls ++ print ms
 print_then ls ms = flat_map-append print_line ls ms
 
--- lines after lines report the ends of both
+-- lines and those after them report the terminations of both
 pub reported_then : (ls ms : List Line) → reported (ls ++ ms) ≡ reported ls + reported ms
 reported_then ls ms = sum_by-append (λ (l : Line). cond (reports_end l.entry) 1 0) ls ms
 

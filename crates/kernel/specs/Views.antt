@@ -1,8 +1,8 @@
--- What a kernel stands for.
+-- The value of a kernel.
 use Rattle.std.specs.Prelude.{ℕ, ◌+◌, ◌≤◌}
 use Rattle.posix.specs.Common.{State}
 
--- the state of the machine, how many events were given, and how many slots of its table were read
+-- the state of the machine, the number of events applied, and how many slots of its table were read
 pub record KernelView : Type 0 where
   pub state : State
   pub events : ℕ

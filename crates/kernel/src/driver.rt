@@ -1,4 +1,4 @@
-//! Events, one after another, and an observer that hears what they show.
+//! Events, one after another, and an observer of what they show.
 
 ghost use Rattle.std.specs.Prelude.{◌≡◌, ◌+◌, ◌-◌, ◌<◌, ◌≤◌, ◌++◌, List, [], length, OnOk, OnErr, replicate};
 ghost use Rattle.posix.specs.Common.{Line, numbered};
@@ -13,18 +13,18 @@ use posix::{Entry, Event, Pid};
 use proctable::ProcessTable;
 use text::EventList;
 
-/// Hears what events show, and hands it on to another.
+/// An observer of what events show, which hands it on.
 pub trait Observer<T> {
-    /// Why it hears no more.
+    /// The error of an observer that stops.
     type Fault;
 
-    // From one time to a later one it heard these lines.
+    // From one time to a later one it observed these lines.
     ghost Hears: { Self → T → Self → T → List Line → Type 0 };
 
-    // It failed as it heard these lines.
+    // It failed as it observed these lines.
     ghost Fails: { Self → T → T → List Line → Type 0 };
 
-    /// Hears the notes of a process, and what the event with this number, the last one, shows besides.
+    /// Observes the notes of a process, and what the event with this number, the last one, shows besides.
     fn hear(
         &mut self,
         pid: Pid,
@@ -36,17 +36,17 @@ pub trait Observer<T> {
         ensures ok { OnOk result (Hears self.old to.old self.new to.new (noted_lines pid notes.now ++ numbered event entries.now)) }
         ensures err { OnErr result (Fails self.old to.old to.new (noted_lines pid notes.now ++ numbered event entries.now)) };
 
-    // Where no time goes by it heard nothing.
+    // If no time passes, it observed nothing.
     ghost hears_none: { (a : Self) (s : T) → Hears a s a s [] };
 
-    // What it heard in two times, one after the other, it heard in both.
+    // What it observed in two periods, one after the other, it observed in both together.
     ghost hears_then: { (a b c : Self) (s t u : T) (ls ms : List Line) → Hears a s b t ls → Hears b t c u ms → Hears a s c u (ls ++ ms) };
 
-    // It failed as it heard what came before, and then the rest.
+    // If it observed some lines, and then failed at the rest, it failed at all of them.
     ghost fails_then: { (a b : Self) (s t u : T) (ls ms : List Line) → Hears a s b t ls → Fails b t u ms → Fails a s u (ls ++ ms) };
 }
 
-/// Gives one event up to the one with this number.
+/// Applies one event repeatedly, up to the event with number `last`, or until the observer fails.
 pub fn drive_to<K: ProcessTable, T, O: Observer<T>>(
     kernel: &mut KernelOn<K>,
     event: Event,
@@ -79,7 +79,7 @@ pub fn drive_to<K: ProcessTable, T, O: Observer<T>>(
     Ok(())
 }
 
-/// Gives all events of a list. After a fault of the observer the rest isn't given.
+/// Applies all events of a list. If the observer fails, the rest is not applied.
 pub fn drive<K: ProcessTable, T, O: Observer<T>>(
     kernel: &mut KernelOn<K>,
     events: &EventList,

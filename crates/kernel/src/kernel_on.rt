@@ -32,7 +32,7 @@ use umach::World;
 /// The kernel of one world.
 pub type Kernel = KernelOn<SlabTable>;
 
-/// The kernel of one world over a table of processes: the machine, and the count of events.
+/// The kernel of one world over a table of processes: the machine, and the number of events.
 #[derive(Drop)]
 pub struct KernelOn<K: ProcessTable> {
     machine: Machine<K>,
@@ -55,7 +55,7 @@ impl<K: ProcessTable> Model for KernelOn<K> {
 }
 
 impl<K: ProcessTable> KernelOn<K> {
-    /// The machine at its start; an error where there is no memory for it. The empty trace agrees with its state, which is
+    /// Returns the kernel at boot. Fails if there is no memory for it. The empty trace agrees with its state, which is
     /// orderly (`laws::lines_tell_of_states`).
     pub fn boot(alloc: Global, world: &World) -> Result<Self, AllocError>
         ensures state { IfOk result (λ k. k.state ≡ boot_of world.now) }
@@ -74,73 +74,73 @@ impl<K: ProcessTable> KernelOn<K> {
         })
     }
 
-    /// How many events were given, after a halt too.
+    /// Returns the number of events that were applied, including those after a halt.
     pub fn events(&self) -> u64
         ensures { result ≡ self.now.events }
     {
         self.events
     }
 
-    /// How many slots of the table of processes have been read, up to the greatest u128; 0 over a table
-    /// that doesn't count them.
+    /// Returns the number of slots of the table of processes that have been read, up to the largest u128, or 0 if the
+    /// table doesn't count them.
     pub fn visits(&self) -> u128
         ensures { result ≡ self.now.visits }
     {
         self.machine.visits()
     }
 
-    /// Whether the machine has halted.
+    /// Returns true if the machine has halted.
     pub fn is_halted(&self) -> bool
         ensures { result ≡ self.now.state.halted }
     {
         self.machine.is_halted()
     }
 
-    /// The process that is first in the order of turns, so acts at the next step unless the machine has halted; none
-    /// where no process can act.
+    /// Returns the current process: the first in the run queue, which takes the next step unless the machine has
+    /// halted. Returns `None` if the run queue is empty.
     pub fn current(&self) -> Option<Pid>
         ensures { result ≡ current_of self.now.state }
     {
         self.machine.current()
     }
 
-    /// Who acts after a process, as the order of turns is now; none after the last one, and after one that has no
-    /// place in it.
+    /// Returns the process after `pid` in the run queue, or `None` if `pid` is the last one or not in the run queue.
     pub fn behind(&self, pid: Pid) -> Option<Pid>
         ensures { result ≡ next_behind pid self.now.state.order }
     {
         self.machine.behind(pid)
     }
 
-    /// Whether a process has an alarm, which a tick may bring.
+    /// Returns true if a process has an alarm, which a tick may ring.
     pub fn has_alarms(&self) -> bool
         ensures { result ≡ has_alarms_in self.now.state }
     {
         self.machine.has_alarms()
     }
 
-    /// How many ticks have passed.
+    /// Returns the number of ticks that have passed.
     pub fn ticks(&self) -> u64
         ensures { result ≡ self.now.state.ticks }
     {
         self.machine.ticks()
     }
 
-    /// The number of consoles.
+    /// Returns the number of consoles.
     pub fn consoles(&self) -> u8
         ensures { result ≡ self.now.state.world.consoles }
     {
         self.machine.consoles()
     }
 
-    /// The console with this index, from 0 on; none where there is none.
+    /// Returns the console with this index, from 0 on, or `None` if there is none.
     pub fn console(&self, console_index: usize) -> Option<&Console>
         ensures { option_copied result ≡ slice_get self.now.state.consoles console_index }
     {
         self.machine.console(console_index)
     }
 
-    /// The process with the least number above `pid`; none where there is none. With [`Pid::NONE`] the first one.
+    /// Returns the process with the lowest ID above `pid`, or `None` if there is none. For [`Pid::NONE`], that is the
+    /// first one.
     pub fn next_process(&mut self, pid: Pid) -> Option<Pid>
         ensures value { result ≡ next_above pid self.old.state.processes }
         ensures same { (self.new.state ≡ self.old.state) × (self.new.events ≡ self.old.events) }
@@ -149,7 +149,7 @@ impl<K: ProcessTable> KernelOn<K> {
         self.machine.next_after(pid)
     }
 
-    /// The small fields of a process; none where it isn't there.
+    /// Returns the small fields of a process, or `None` if it doesn't exist.
     pub fn snapshot(&mut self, pid: Pid) -> Option<Snapshot>
         ensures value { result ≡ option_map snapshot_of (process self.old.state pid) }
         ensures same { (self.new.state ≡ self.old.state) × (self.new.events ≡ self.old.events) }
@@ -158,8 +158,8 @@ impl<K: ProcessTable> KernelOn<K> {
         self.machine.snapshot(pid)
     }
 
-    /// Shows the registers and the signals of a process that is there, and what else it may change of itself. Nothing
-    /// changes.
+    /// Returns a view of the registers and the signals of an existing process, and of what else it may change of
+    /// itself. Changes nothing.
     pub fn look(&mut self, pid: Pid) -> &OwnPart
         requires { IsSome (process self.old.state pid) }
         ensures* lends { sem 𝓛 (follows_so (kernel_row K.row K.ProcessTable) (kernel_row K.row K.ProcessTable) self.entry.ghost_name none (λ _ _. ⊤) (λ n. n ≡ looked K.one_more self.old)) }
@@ -168,18 +168,20 @@ impl<K: ProcessTable> KernelOn<K> {
         self.machine.look(pid)
     }
 
-    /// One event, of which fewer than 1,000,000,000,000 were given before: the machine takes the step that
-    /// the definitions give, and shows its entries. Memory is taken by a fork alone, and by a kill or sigqueue of a
-    /// real-time signal, which show where it was refused; so there is no error. After a halt the state stays, nothing is
-    /// shown, and the event is counted.
+    /// Applies one event, after fewer than 1,000,000,000,000 others: the machine takes the step that the definitions
+    /// give. Returns the entries of the event. After a halt, the state stays, nothing is shown, and the event is
+    /// counted.
     ///
-    /// There is at most one birth more than events, and there are at most as many ticks as events. Both hold at boot,
-    /// too. Nothing is left to settle after an event, as at the boot, so no wake-up is lost (`laws::no_wake_is_lost`),
-    /// and the law of refused calls (`laws::refusals_change_little`) holds of the event that comes next.
+    /// Only a fork takes memory, and a kill or sigqueue of a real-time signal. Their entries show if memory was
+    /// refused, so there is no error.
     ///
-    /// Lines that agree with the state before agree, with those of the event, with the state after it, so what
-    /// is shown from the boot on keeps the laws of a trace (`laws::traces_keep_laws`). Each line has its form. Who is
-    /// born has a number that was free.
+    /// There is at most one birth more than events, and there are at most as many ticks as events. Both also hold at
+    /// boot. Nothing is left to settle after an event, nor at boot, so no wake-up is lost (`laws::no_wake_is_lost`),
+    /// and the law of failed calls (`laws::refusals_change_little`) holds of the next event.
+    ///
+    /// If lines agree with the state before, then they agree, with those of the event, with the state after it. So what
+    /// is shown from boot on keeps the laws of a trace (`laws::traces_keep_laws`). Each line has its form. A new
+    /// process gets an ID that was free.
     ///
     /// The number of slots that have been read never falls. In a step of a process it rises as far as the table counts
     /// (`K.one_more`); [`counted_step`] says how far that is over the table of a [`Kernel`].
@@ -202,11 +204,13 @@ impl<K: ProcessTable> KernelOn<K> {
         entries
     }
 
-    /// Events `Step`, at least one, up to the one with number `last`: as many as the current process runs plain
-    /// instructions and such as give a note, until there are 32 notes, or with the one after them where that is a
-    /// call or a machine fault. The notes, and what the last event shows besides, are added to lists that are
-    /// empty. Whose notes they are, where there are any. Of all these lines, and of the state after them, holds what
-    /// [`KernelOn::event`] says of its own. Two slots of the table are read, and those of the step that follows them.
+    /// Applies steps, at least one, up to the event with number `last`: one for each plain instruction and each note of
+    /// the current process, until there are 32 notes. One more follows if a call or a machine fault is next, or if none
+    /// was run. Adds the notes, and what the last event shows besides, to empty lists. Returns the process whose notes
+    /// they are, if there are any.
+    ///
+    /// What [`KernelOn::event`] says of its lines and state holds of all these lines, and of the state after them.
+    /// Reads two slots of the table, and those of the step that follows.
     #[inline]
     pub fn steps(&mut self, last: u64, notes: &mut Notes, entries: &mut Entries) -> Pid
         requires few { last ≤ most_events }
@@ -241,7 +245,8 @@ impl<K: ProcessTable> KernelOn<K> {
         end.pid
     }
 
-    /// Whether an event changes and shows nothing: after a halt none does, and where no process can act a step doesn't.
+    /// Returns true if an event changes and shows nothing: any event after a halt, and a step if the run queue is
+    /// empty.
     #[inline]
     fn is_idle(&self, event: Event) -> bool
         ensures idle { IsTrue result → event_next true self.now.state event ≡ silent self.now.state }
@@ -251,10 +256,10 @@ impl<K: ProcessTable> KernelOn<K> {
             || (matches!(event, Event::Step) && self.machine.current().is_none())
     }
 
-    /// Gives one event several times at once, up to the event with number `last`: one that changes and shows nothing as
-    /// often as is asked, a `Step` else as often as [`KernelOn::steps`] gives it, any other event once. The notes, and
-    /// what the last event shows besides, are added to lists that are empty. The result is the process whose notes they
-    /// are, where there are any.
+    /// Applies one event several times at once, up to the event with number `last`. One that changes and shows nothing
+    /// is applied as often as is asked; otherwise a `Step` as often as by [`KernelOn::steps`], and any other event
+    /// once. Adds the notes, and what the last event shows besides, to empty lists. Returns the process whose notes
+    /// they are, if there are any.
     #[inline]
     pub(crate) fn repeat(
         &mut self,
@@ -295,7 +300,7 @@ impl<K: ProcessTable> KernelOn<K> {
         let _ = &self.events;
     }
 
-    /// [`KernelOn::event`], whose entries are added to a list that is empty.
+    /// Applies one event, as [`KernelOn::event`] does, and adds its entries to an empty list.
     #[inline]
     pub fn event_into(&mut self, event: Event, entries: &mut Entries)
         requires few { self.old.events < most_events }
@@ -326,8 +331,8 @@ impl<K: ProcessTable> KernelOn<K> {
         self.machine.census()
     }
 
-    /// Whether another kernel of the same world is in the same state, also after another number of events. `false`
-    /// promises nothing. No state changes.
+    /// Returns true only if another kernel of the same world is in the same state, even after another number of events.
+    /// `false` promises nothing. No state changes.
     pub fn is_same(&mut self, other: &mut KernelOn<K>) -> bool
         requires world { self.old.state.world ≡ other.old.state.world }
         ensures same { result ≡ true → self.old.state ≡ other.old.state }
@@ -338,8 +343,8 @@ impl<K: ProcessTable> KernelOn<K> {
     }
 }
 
-/// One `Step`, as [`KernelOn::event`] gives it, over the table that counts each slot it reads: a step of a process counts
-/// one at least, up to the greatest u128.
+/// Applies one `Step`, as [`KernelOn::event`] does, over the table that counts each slot it reads. A step of a process
+/// counts at least one, up to the largest u128.
 pub fn counted_step(kernel: &mut Kernel) -> Entries
     requires { kernel.old.events < most_events }
     ensures step { IsStep kernel.old.state Event.Step result.items kernel.new.state }

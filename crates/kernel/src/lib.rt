@@ -1,10 +1,10 @@
-//! The kernel of one world, and runs from two texts to a printed trace.
+//! The kernel of one world, and runs from two inputs to a printed trace.
 //!
-//! `event` is a step of the machine (`step`) for any event, also on a missing console; want of memory is a line.
-//! Afterwards the state is regular and settled, and at most one birth more than events and as many ticks as events have
-//! happened (`within_events`). Lines that agree with the state before agree, with its own, with that after (`tells`).
-//! `steps` gives as many as `last_given` says. `visits` counts slots, not numbers read in indexes; steps outside
-//! `slots_of_event` have no bound. `is_same` true means equal states.
+//! `event` is a step of the machine (`step`) for any event, even on a missing console; lack of memory is a line.
+//! Afterwards the state is regular and settled, with at most one birth more than events, and at most as many ticks as
+//! events (`within_events`). Lines that agree with the state before agree, with its own, with the state after
+//! (`tells`). `steps` applies as many events as `last_given` says. `visits` counts slots, not IDs read in indexes;
+//! steps outside `slots_of_event` have no bound. `is_same` true means equal states.
 #![tactic(auto)]
 
 pub mod driver;

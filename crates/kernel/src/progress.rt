@@ -16,7 +16,7 @@ use proctable::ProcessTable;
 use text::EventList;
 use trace::{LineBuffer, NoteWords, Sink, SinkFault};
 
-/// Whether an entry tells that a wait reported an end.
+/// Returns true if an entry says that a wait reported a termination.
 fn reports_end(entry: &Entry) -> bool
     ensures { result ≡ reports_end_of entry.now }
 {
@@ -31,7 +31,7 @@ fn reports_end(entry: &Entry) -> bool
     }
 }
 
-/// Prints the entries of an event. At `Ok` the number of ends that the lines report.
+/// Prints the entries of an event. Returns the number of terminations that the lines report.
 fn write_entries<S: Sink>(
     event: u64,
     entries: &[Entry],
@@ -70,7 +70,7 @@ fn write_notes<S: Sink>(
     Ok(())
 }
 
-/// Prints what it hears: lines that wait to be put, and how many ends they and those before them report.
+/// An observer that prints: lines that are yet to be put, and how many terminations they and earlier lines report.
 #[derive(Drop)]
 struct Printer {
     pending: LineBuffer,
@@ -106,9 +106,9 @@ impl<S: Sink> Observer<S> for Printer {
     }
 }
 
-/// Gives all events of a list to the kernel, at most 1,000,000,000,000 with those given before, and puts
-/// the printed trace. At `Ok` the number of ends that the trace reports. After a put that failed nothing
-/// is put, and the rest of the events isn't given.
+/// Applies all events of a list to the kernel, at most 1,000,000,000,000 with earlier ones, and puts the printed trace.
+/// Returns the number of terminations that the trace reports. After a put that failed, nothing is put, and the rest of
+/// the events is not applied.
 #[tactic(auto, using(crate::proofs::RunLemmas::trace_rules))]
 pub fn write_trace<K: ProcessTable, S: Sink>(
     kernel: &mut KernelOn<K>,

@@ -1,5 +1,5 @@
-//! After each event: foreground process groups that have lost their members are cleared, and each process
-//! that can act has a place.
+//! Settling, after each event: foreground process groups without members are cleared, and each runnable process enters
+//! the run queue.
 
 ghost use Rattle.std.specs.Prelude.{◌≡◌, ◌+◌, ◌≤◌, ◌||◌, [], IsSome, None, Some, is_some, option_map, slice_get, false, true};
 ghost use Rattle.posix.specs.Common.{Process, process, chosen, IsRegular, can_act as acting, can_go_on, give_places as giving_places, settle as settling, woken};
@@ -14,8 +14,9 @@ use life::{Machine, Unchecked, reads_in};
 use posix::{Blocked, Life, Pid};
 use proctable::{ProcessTable, Snapshot};
 
-/// Who is looked at first to tell whether the first one on the list of those to recheck has to wait: who was rechecked
-/// before it, or else who is rechecked next. A parent and a child that lets it act stand side by side there mostly.
+/// Returns the process that is tried first to find whether the first one on the recheck list has to wait: the one that
+/// was rechecked before it, otherwise the next one on the list. A parent and the child that makes it runnable are
+/// usually neighbours there.
 #[inline(always)]
 fn neighbour<K: ProcessTable>(machine: &Machine<K>, pid: Pid, last: Option<Pid>) -> Option<Pid>
     requires { slice_get machine.now.to_recheck 0 ≡ Some pid }
@@ -27,10 +28,12 @@ fn neighbour<K: ProcessTable>(machine: &Machine<K>, pid: Pid, last: Option<Pid>)
     }
 }
 
-/// Whether a process that is there, with this snapshot, needn't wait: it is in no call, or its call can be
-/// completed, or a signal is chosen for it.
-/// The neighbour is tried first, because a parent and the child that lets it run are usually on the list together. No
-/// law depends on this hint, and a wrong one costs one slot. To record which child changed would be one more index.
+/// Returns true if an existing process, with this snapshot, need not wait: it is in no call, its call can complete, or
+/// a signal is chosen for it.
+///
+/// Tries the neighbour first, because a parent and the child that makes it runnable are usually on the list together.
+/// No law depends on this hint, and a wrong one costs one slot. To record which child changed would take one more
+/// index.
 #[tactic(auto, using(posix::proofs::SeeLemmas::block_read), unfolding(posix::specs::Attempts::attempt_again))]
 #[inline(always)]
 fn is_awake<K: ProcessTable>(
@@ -61,7 +64,8 @@ fn is_awake<K: ProcessTable>(
     }
 }
 
-/// Whether a process that is there, with this snapshot, can act: KILL is pending for it, or it runs and needn't wait.
+/// Returns true if an existing process, with this snapshot, is runnable: SIGKILL is pending for it, or it is running
+/// and need not wait.
 #[tactic(auto, unfolding(posix::specs::Settle::can_act))]
 #[inline(always)]
 fn can_act<K: ProcessTable>(
@@ -85,8 +89,9 @@ fn can_act<K: ProcessTable>(
     }
 }
 
-/// Gives a process that is to be rechecked the last place, if it has none and can act. Where it waits to read, the
-/// session from whose terminal. It is the first one on the list, after `last`, if one was rechecked before.
+/// Appends a process that is rechecked to the run queue, if it is not there and is runnable. Otherwise, if it is
+/// blocked in a read, returns the session of the terminal. The process is the first one on the list, after `last`,
+/// if one was rechecked before.
 #[tactic(auto, using(pidset::proofs::NumberLemmas::in_at), unfolding(posix::specs::Settle::woken))]
 fn wake<K: ProcessTable>(machine: &mut Machine<K>, pid: Pid, last: Option<Pid>) -> Option<Pid>
     requires there { IsSome (process machine.old.state pid) }
@@ -111,8 +116,8 @@ fn wake<K: ProcessTable>(machine: &mut Machine<K>, pid: Pid, last: Option<Pid>) 
     reads_in(&snapshot)
 }
 
-/// Each process that can act has a place: those that have none get theirs at the end of the order, in the
-/// rising order of their numbers. Asked are those that may have come to act since the last time.
+/// Appends each runnable process that is not in the run queue, in rising order of process ID. Tests those that may have
+/// become runnable since the last time.
 fn give_places<K: ProcessTable>(machine: &mut Machine<K>)
     ensures state { machine.new.state ≡ giving_places machine.old.state }
     ensures regular { IsRegular machine.new.state }
@@ -129,8 +134,8 @@ fn give_places<K: ProcessTable>(machine: &mut Machine<K>)
     }
 }
 
-/// A terminal whose foreground process group has no member left in its session has none from then on. Then
-/// each process that can act gets a place.
+/// Clears the foreground process group of each terminal if the group has no member left in the terminal's session. Then
+/// appends each runnable process that is not in the run queue.
 #[tactic(auto, unfolding(posix::specs::Settle::settle))]
 pub fn settle<K: ProcessTable>(machine: &mut Machine<K>)
     ensures state { machine.new.state ≡ settling machine.old.state }

@@ -1,5 +1,5 @@
-//! One event of the machine. What it shows is added to a list of entries that is empty before, so that
-//! an instruction that shows nothing moves none.
+//! One event of the machine. What it shows is added to a list of entries that is empty before, so that an instruction
+//! that shows nothing moves none.
 
 ghost use Rattle.std.specs.Prelude.{◌≡◌, ◌≢◌, ◌+◌, ◌*◌, ℕ, [], None, IfSome, is_some, ◌<◌, ◌≤◌, ◌^◌, IsSome, Some, option_map, false, true};
 ghost use Rattle.posix.specs.declared.call.Call.{Call as CallValue};
@@ -19,7 +19,7 @@ use life::{Machine, Notes, Unchecked};
 use posix::{Blocked, Call, Entry, Event, Pid, Sig, Status, Trap, WaitCall};
 use proctable::{ProcessTable, Snapshot};
 
-/// A process that is there is blocked in a call.
+/// Blocks an existing process in a call.
 fn enter_call<K: ProcessTable>(machine: &mut Machine<K>, pid: Pid, blocked: Blocked)
     requires { IsSome (process machine.old.state pid) }
     ensures state { machine.new.state ≡ change machine.old.state pid (entered blocked) }
@@ -31,8 +31,8 @@ fn enter_call<K: ProcessTable>(machine: &mut Machine<K>, pid: Pid, blocked: Bloc
     machine.own(pid).enter(blocked);
 }
 
-/// A process for which no signal is chosen has begun a call in which it has to wait: it is blocked in it, and loses
-/// its place. Where it has looked for a child, and found that it has to wait, it isn't asked again.
+/// Blocks a process without a chosen signal in a call in which it has to wait, and removes it from the run queue. If it
+/// waits for a child, it has already looked for one, so it isn't rechecked.
 fn block<K: ProcessTable>(machine: &mut Machine<K>, pid: Pid, call: Call, blocked: Blocked)
     requires acting { IsActing machine.old.state pid }
     requires none_chosen { NoneChosen machine.old.state pid }
@@ -48,15 +48,15 @@ fn block<K: ProcessTable>(machine: &mut Machine<K>, pid: Pid, call: Call, blocke
     }
 }
 
-/// Whether a process that is blocked in this call waits for a child.
+/// Returns true if a process that is blocked in this call waits for a child.
 fn is_wait(blocked: &Blocked) -> bool
     ensures { result ≡ is_in_wait (Some blocked.now) }
 {
     matches!(blocked, Blocked::Wait(_))
 }
 
-/// A process for which no signal is chosen still has to wait in its call, and loses its place. Where it waits for a
-/// child, and so has looked for one, it isn't asked again.
+/// Removes a process without a chosen signal, which still has to wait in its call, from the run queue. If it waits for
+/// a child, it has already looked for one, so it isn't rechecked.
 fn wait_on<K: ProcessTable>(machine: &mut Machine<K>, pid: Pid, waits: bool)
     requires acting { IsActing machine.old.state pid }
     requires none_chosen { NoneChosen machine.old.state pid }
@@ -73,8 +73,8 @@ fn wait_on<K: ProcessTable>(machine: &mut Machine<K>, pid: Pid, waits: bool)
     }
 }
 
-/// A process that has a place, and for which no signal is chosen, asks for a call. Where it has to wait it is
-/// blocked in the call and loses its place; where the call begins again it keeps the place.
+/// Starts a call of a process in the run queue without a chosen signal. If the process has to wait, it is blocked in
+/// the call and leaves the run queue. If the call restarts, the process keeps its position in the run queue.
 #[inline(never)]
 fn begin_call<K: ProcessTable>(
     machine: &mut Machine<K>,
@@ -98,9 +98,9 @@ fn begin_call<K: ProcessTable>(
     }
 }
 
-/// A process that has a place and is blocked in a call takes it up. Where it still has to wait the signal
-/// that is chosen for it is delivered; without one it loses its place. Where the call begins again the
-/// process leaves it, and keeps the place.
+/// Attempts again the call in which a process in the run queue is blocked. If it still has to wait, the signal that is
+/// chosen for it is delivered; without one, it leaves the run queue. If the call restarts, the process leaves the call,
+/// and keeps its position in the run queue.
 #[inline(never)]
 fn go_on<K: ProcessTable>(
     machine: &mut Machine<K>,
@@ -129,8 +129,7 @@ fn go_on<K: ProcessTable>(
     }
 }
 
-/// A process that has a place, and for which no signal is chosen, and runs this program, runs the instruction at
-/// its pc.
+/// Runs the instruction at the pc of a process in the run queue, without a chosen signal, that runs this program.
 #[tactic(auto, unfolding(posix::specs::Step::after_trap))]
 fn run_instruction<K: ProcessTable>(
     machine: &mut Machine<K>,
@@ -158,8 +157,8 @@ fn run_instruction<K: ProcessTable>(
     }
 }
 
-/// A process that has a place, with this snapshot, acts: KILL ends it; it takes up its call; a signal is
-/// delivered to it; or it runs an instruction.
+/// Lets a process in the run queue, with this snapshot, take a step: SIGKILL terminates it; it attempts its call again;
+/// a signal is delivered to it; or it runs an instruction.
 #[tactic(auto, unfolding(posix::specs::Step::act, posix::specs::Step::act_in))]
 #[inline(never)]
 fn act<K: ProcessTable>(
@@ -198,7 +197,7 @@ fn act<K: ProcessTable>(
     }
 }
 
-/// The current process acts. Nothing happens where there is none.
+/// Lets the current process take a step. Does nothing if there is none.
 #[tactic(auto, unfolding(posix::specs::Step::step))]
 fn step<K: ProcessTable>(machine: &mut Machine<K>, entries: &mut Entries)
     requires births { machine.old.state.births + 1 < 2 ^ 64 }
@@ -219,7 +218,8 @@ fn step<K: ProcessTable>(machine: &mut Machine<K>, entries: &mut Entries)
     act(machine, pid, snapshot, entries);
 }
 
-/// The time goes on by one, alarms that are due ring, and the current process goes to the end of the order.
+/// Advances the time by one tick, rings the alarms that are due, and moves the current process to the end of the run
+/// queue.
 #[tactic(auto, unfolding(posix::specs::Step::tick))]
 #[inline(never)]
 fn tick<K: ProcessTable>(machine: &mut Machine<K>)
@@ -234,7 +234,7 @@ fn tick<K: ProcessTable>(machine: &mut Machine<K>)
     }
 }
 
-/// An event, before foreground process groups are cleared and places are given.
+/// Applies an event, without settling.
 #[tactic(auto, unfolding(posix::specs::Step::happens))]
 fn happen<K: ProcessTable>(machine: &mut Machine<K>, event: Event, entries: &mut Entries)
     requires births { machine.old.state.births + 1 < 2 ^ 64 }
@@ -253,23 +253,24 @@ fn happen<K: ProcessTable>(machine: &mut Machine<K>, event: Event, entries: &mut
     }
 }
 
-/// What instructions that were run one after another came to.
+/// The outcome of instructions that were run one after another.
 #[derive(Clone, Copy)]
 pub struct BurstEnd {
     /// The number of the last step.
     pub last: u64,
-    /// Whose they were; number 0 where nobody ran any.
+    /// The process that ran them, or number 0 if none did.
     pub pid: Pid,
-    /// How the instruction after them came out, a call or a machine fault, which is left to the next step;
-    /// `Next` where none after them was looked at.
+    /// How the instruction after them came out: a call or a machine fault, which is left to the next step, or `Next` if
+    /// it wasn't looked at.
     pub trap: Trap,
-    /// What was read of the current process, where it runs no instruction: it is in a call, or a signal is chosen for it.
+    /// What was read of the current process if it runs no instruction, because it is in a call or a signal is chosen
+    /// for it.
     pub held: Option<Snapshot>,
 }
 
-/// The current process runs instructions that are plain or give a note, by the steps after number `before` up
-/// to number `last`, and until there are 32 notes, which are added to a list that is empty: none where it is in
-/// a call, or a signal is chosen for it. Nothing is left to settle by them.
+/// Runs instructions of the current process while they are plain or give a note: the steps after number `before` up to
+/// number `last`. Stops after 32 notes, which are added to an empty list. Runs none if the process is in a call, or a
+/// signal is chosen for it. Leaves nothing to settle.
 pub fn burst<K: ProcessTable>(
     machine: &mut Machine<K>,
     before: u64,
@@ -325,8 +326,8 @@ pub fn burst<K: ProcessTable>(
     }
 }
 
-/// Whether a step of its own follows those after number `before` up to number `last`: where these are none, or
-/// where a call or a machine fault is next.
+/// Returns true if one more step follows those after number `before` up to number `last`: if these are none, or if a
+/// call or a machine fault is next.
 pub fn is_followed_by_step(before: u64, last: u64, trap: &Trap) -> bool
     ensures { result ≡ is_followed_by_step before last trap.now }
 {
@@ -336,10 +337,11 @@ pub fn is_followed_by_step(before: u64, last: u64, trap: &Trap) -> bool
     }
 }
 
-/// The current process acts behind a burst. What the burst read of it isn't read again.
-/// A call that ends a burst begins at once: by its contract the next step is this call (`ComesTo`), so the process is
-/// not looked up, nor its instruction fetched, again. For a process in a call or with a signal, what the burst read is
-/// passed on; for a machine fault it is read again.
+/// Lets the current process take the step after a burst, without settling. What the burst read of it isn't read again.
+///
+/// A call that ends a burst begins at once: by the contract of the burst, the next step is this call (`ComesTo`). So
+/// the process isn't looked up again, nor its instruction fetched again. For a process in a call or with a chosen
+/// signal, what the burst read is passed on. For a machine fault, it is read again.
 fn act_behind<K: ProcessTable>(machine: &mut Machine<K>, end: BurstEnd, entries: &mut Entries)
     requires regular { IsRegular machine.old.state }
     requires call { (call : CallValue) → end.trap ≡ Trap.Call call → ComesTo machine.old.state end.pid call }
@@ -358,7 +360,7 @@ fn act_behind<K: ProcessTable>(machine: &mut Machine<K>, end: BurstEnd, entries:
     }
 }
 
-/// The step behind a burst.
+/// Applies the step after a burst, and settles.
 pub fn step_behind<K: ProcessTable>(machine: &mut Machine<K>, end: BurstEnd, entries: &mut Entries)
     requires going { machine.old.state.halted ≡ false }
     requires regular { IsRegular machine.old.state }
@@ -378,7 +380,7 @@ pub fn step_behind<K: ProcessTable>(machine: &mut Machine<K>, end: BurstEnd, ent
     settle(machine);
 }
 
-/// One event. After a halt nothing changes, and nothing is shown.
+/// Applies one event, and settles. After a halt, nothing changes, and nothing is shown.
 #[tactic(auto, unfolding(posix::specs::Step::next))]
 pub fn next<K: ProcessTable>(machine: &mut Machine<K>, event: Event, entries: &mut Entries)
     requires births { machine.old.state.births + 1 < 2 ^ 64 }

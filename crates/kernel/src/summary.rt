@@ -10,24 +10,25 @@ use proctable::ProcessTable;
 /// A run in numbers, counted from its events, its trace and the last state of the machine.
 #[derive(Clone, Copy, PartialEq, Eq)]
 pub struct Summary {
-    /// The events, those after a halt included.
+    /// The events, including those after a halt.
     pub events: u64,
-    /// The processes that were born, process 1 included.
+    /// The processes that were created, process 1 included.
     pub births: u64,
-    /// The processes that live at the end.
+    /// The processes that are live at the end.
     pub living: u64,
-    /// The ended processes that no wait has reported.
+    /// The zombies, which no wait has reaped.
     pub zombies: u64,
-    /// The ends that a wait reported.
+    /// The terminations that waits reported.
     pub reported: u64,
-    /// The ended processes that were dropped, since their parent drops its children (XSH _exit).
+    /// The zombies that were dropped without a wait, because their parent ignores SIGCHLD or has set SA_NOCLDWAIT (XSH
+    /// _exit).
     pub dropped: u64,
-    /// Whether the machine halted.
+    /// True if the machine halted.
     pub halted: bool,
 }
 
 impl<K: ProcessTable> KernelOn<K> {
-    /// The numbers of the run so far, whose trace reported so many ends.
+    /// Returns the numbers of the run so far, whose trace reported `reported` terminations.
     pub fn summary(&mut self, reported: u64) -> Summary
         ensures value { (lines : List Line) → reported_of lines ≡ reported → result ≡ summary_of self.old.events lines self.old.state }
         ensures same { (self.new.state ≡ self.old.state) × (self.new.events ≡ self.old.events) }

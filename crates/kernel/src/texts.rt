@@ -1,4 +1,4 @@
-//! A run, from two texts to a printed trace.
+//! A run, from two inputs to a printed trace.
 
 ghost use Rattle.std.specs.Prelude.{◌≡◌, ◌+◌, ◌≤◌, ℕ, List, Ok, IfOk, length};
 ghost use Rattle.posix.specs.Common.{World as WorldValue, boot as boot_of};
@@ -18,39 +18,39 @@ use thiserror::Error;
 use trace::Sink;
 use umach::World;
 
-/// Why a run didn't come to its end.
+/// Why a run failed.
 #[derive(Clone, Copy, Debug, PartialEq, Eq, Error)]
 pub enum RunError {
-    /// The world text is refused; nothing was put.
+    /// The world input is rejected; nothing was put.
     #[error("world: {0}")]
     World(TextFault),
-    /// The event text is refused; nothing was put.
+    /// The event input is rejected; nothing was put.
     #[error("events: {0}")]
     Events(TextFault),
-    /// There was no memory to read the texts and to boot; nothing was put.
+    /// There was no memory to read the inputs and to boot; nothing was put.
     #[error("out of memory")]
     Memory,
-    /// The sink failed. What it took is a beginning of the trace.
+    /// The sink failed. It took the beginning of the trace.
     #[error("cannot write")]
     Write,
 }
 
-/// What a run answers where its world text is refused. Want of memory is no fault of the text.
+/// Returns the error of a run whose world input is rejected. Lack of memory is no fault of the input.
 fn world_error(fault: TextFault) -> RunError
     ensures { result ≡ unless_memory fault.reason (RunError.World fault) RunError.Memory }
 {
     fault.unless_memory(RunError::World(fault), RunError::Memory)
 }
 
-/// What it answers where its event text is refused.
+/// Returns the error of a run whose event input is rejected. Lack of memory is no fault of the input.
 fn events_error(fault: TextFault) -> RunError
     ensures { result ≡ unless_memory fault.reason (RunError.Events fault) RunError.Memory }
 {
     fault.unless_memory(RunError::Events(fault), RunError::Memory)
 }
 
-/// Gives all events to a kernel that was given none before, and puts the printed trace into a sink. For texts that
-/// stand for the kernel's world and for these events its contract is that of [`run_on`].
+/// Applies all events to a kernel that has had none, and puts the printed trace into a sink. For inputs that mean the
+/// kernel's world and these events, its contract is that of [`run_on`].
 fn run_kernel<K: ProcessTable, S: Sink>(
     kernel: &mut KernelOn<K>,
     events: &EventList,
@@ -65,9 +65,10 @@ fn run_kernel<K: ProcessTable, S: Sink>(
     }
 }
 
-/// [`run_on`], of a world and events that are read.
-/// One function makes the kernel and lends it to `run_kernel`, which does the work; otherwise each exit writes out the
-/// drop of all its parts.
+/// Runs events in a world, as [`run_on`] does, once both have been read.
+///
+/// Makes the kernel and lends it to `run_kernel`, which does the work. In one function, each exit would write out the
+/// drop of all the kernel's parts.
 pub fn run_read<K: ProcessTable, S: Sink>(
     alloc: Global,
     world: &World,
@@ -80,18 +81,18 @@ pub fn run_read<K: ProcessTable, S: Sink>(
 {
     let mut kernel = KernelOn::<K>::boot(alloc, world).map_err(|_| RunError::Memory)?;
     let done = run_kernel(&mut kernel, events, out);
-    // What is large is dropped by its name, by one function whose proof is short.
+    // Drops what is large by its name, by one function whose proof is short.
     drop(kernel);
     done
 }
 
-/// Runs the events of a text in the world of another, on a table of processes, and puts the printed
-/// trace into a sink.
+/// Runs the events of one input in the world of another, on a table of processes, and puts the printed trace into a
+/// sink.
 ///
-/// Both texts are read whole before the first byte is put, the world text first. Lines are put in
-/// pieces of 8 KiB or more, but for the last. After a put that failed nothing is put.
+/// Reads both inputs whole before the first byte is put, the world input first. Puts lines in pieces of 8 KiB or more,
+/// except for the last piece. After a put that failed, nothing is put.
 ///
-/// At `Ok` this holds of the run whose printed trace was put. Each line has its form, and the lines keep the laws of a
+/// At `Ok`, this holds of the run whose printed trace was put. Each line has its form, and the lines keep the laws of a
 /// trace (`laws::traces_keep_laws`). The births of the summary are its living, zombies, reported and dropped.
 pub fn run_on<K: ProcessTable, S: Sink>(
     alloc: Global,
@@ -111,7 +112,7 @@ pub fn run_on<K: ProcessTable, S: Sink>(
     done
 }
 
-/// [`run_on`] the table of processes that the program uses.
+/// Runs the events of one input in the world of another, as [`run_on`] does, on the table that the program uses.
 pub fn run<S: Sink>(
     alloc: Global,
     world: &[u8],

@@ -41,7 +41,7 @@ record BrokenLaws : Type 0 where
   broken_stop_reported_twice : breaks stop_is_reported (line 5 (Reported 1 wait.Waitpid 2 4991)) ≡ true
   broken_reported_stop_is_looked_at : breaks stop_is_reported (line 5 (Looked 1 2 4991)) ≡ true
   broken_continue_reported_twice : breaks (stop_is_reported ++ line 5 (Reported 1 wait.Waitpid 2 65535) ∷ []) (line 6 (Reported 1 wait.Waitpid 2 65535)) ≡ true
-  -- what is told of a stop or a continue
+  -- reports of a stop or a continue
   broken_stop_that_was_none : breaks (line 1 (Called 1 Fork (pos 2)) ∷ []) (line 2 (Reported 1 wait.Waitpid 2 4991)) ≡ true
   broken_stop_with_an_earlier_signal : breaks (line 1 (Called 1 Fork (pos 2)) ∷ line 2 (Stopped 2 19) ∷ line 3 (Stopped 2 20) ∷ []) (line 4 (Reported 1 wait.Waitpid 2 4991)) ≡ true
   broken_stop_told_to_a_grandparent : breaks (line 1 (Called 1 Fork (pos 2)) ∷ line 2 (Called 2 Fork (pos 3)) ∷ line 3 (Stopped 3 19) ∷ []) (line 4 (Looked 1 3 4991)) ≡ true

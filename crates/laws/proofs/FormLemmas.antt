@@ -34,7 +34,7 @@ pub record IsSaying (s : State) (me : Process) : Type 0 where
 pub saying_kind : (s : State) (me : Process) → IsSaying s me → IsKind me
 saying_kind s me c = c.kinds.records me.pid me c.found
 
--- numbers of processes that are there
+-- the IDs of existing processes
 pub number_there : (s : State) (p : ℕ) (r : Process) → IsRegular s → AreKinds s → lookup p s.processes ≡ Some r → is_number r.pid ≡ true
 number_there s p r i k e =
     let b = i.bounded p r e in
@@ -45,7 +45,7 @@ number_there s p r i k e =
 pub saying_number : (s : State) (me : Process) → IsSaying s me → is_number me.pid ≡ true
 saying_number s me c = number_there s me.pid me c.regular c.kinds c.found
 
--- a number of a group that is there
+-- the ID of an existing group
 pub group_there : (s : State) (p : ℕ) (r : Process) → IsRegular s → AreKinds s → lookup p s.processes ≡ Some r → is_id r.group ≡ true
 group_there s p r i k e = let b = i.bounded p r e in let l : r.group ≤ 2147483647 = omega (arith, b.group, k.world.pidmax) in grind (arith, nat_tests, l)
 

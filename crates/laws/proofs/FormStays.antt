@@ -198,7 +198,7 @@ form_told s collected me call child w c k n few =
       record { entries = one_formed (Reported me.pid call child w) formed; kinds = kinds_finished collected me.pid (results_of call child w) given k },
     )
 
--- where a send is permitted, nobody is full for whom the signal would be queued
+-- if a send is permitted, no process for which the signal would be queued has a full queue
 queued_room : (granted : Bool) (qs : List Process) (other : Sending) → queued_for granted qs other ≡ sends.Permitted → list_any has_full_queue qs ≡ false
 queued_room granted [] other e = refl
 queued_room granted (q ∷ qs) other e = grind (arith, cases_Bool, e)
@@ -210,7 +210,7 @@ permitted_room granted s me target n e =
     let rs = permitted me (Some n) (targets me target s.processes) in
     none_found (λ r. is_queuer n r && has_full_queue r) rs (sym (any_filter (is_queuer n) has_full_queue rs) ∙ queued_room granted (filter (is_queuer n) rs) (sending me target (Some n) s.processes) e)
 
--- those whom a permitted send is for are there, with room
+-- the processes that a permitted send selects exist, and have room
 permitted_there : (granted : Bool) (s : State) (me : Process) (target : Target) (n : ℕ) → IsRising s.processes → sending_granted granted me target (Some n) s.processes ≡ sends.Permitted
     → AllByRecursion (IsThereWithRoom s.processes n) (permitted me (Some n) (targets me target s.processes))
 unfolding permitted targets
@@ -223,7 +223,7 @@ permitted_there granted s me target n up e =
     let b = in_filter (is_target me target) s.processes up p q a.found in
     (ap (λ m. lookup m s.processes) (pid_looked p s.processes q b.found) ∙ b.found, permitted_room granted s me target n e p q found))
 
--- they stand in rising order
+-- they are in ascending order
 permitted_rising : (me : Process) (n : ℕ) (target : Target) (rs : List Process) → IsRising rs → IsRising (permitted me (Some n) (targets me target rs))
 unfolding permitted targets
 permitted_rising me n target rs up = rising_filter (may me (Some n)) _ (rising_filter (is_target me target) rs up)

@@ -94,7 +94,7 @@ parents_more before parents (x ∷ ls) l c =
     let next = parent_after before parents x.entry in
     parents_more (before ++ x ∷ []) next ls l c ∙ ap (λ rest. parent_after rest (λ q. parents_from (before ++ x ∷ []) next ls q) l.entry c) (append_assoc before (x ∷ []) ls)
 
--- what lines say of c as a forebear is what is kept of it
+-- what the lines say of c as an ancestor is what is kept of it
 forebear_said : (lines : List Line) (c : ℕ) → forebear_in c (parent_of lines c) (newest_life lines c) ≡ forebear_kept (kept_of lines c)
 unfolding kept_of
 forebear_said lines c = of (newest_life lines c)

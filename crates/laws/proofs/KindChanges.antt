@@ -59,7 +59,7 @@ left_passing stays (m ∷ ms) h =
 kind_left : (rest : List PendingSignal) (g : Signals) → IsLeft g.queue rest → AreSignals g → AreSignals (with_queue rest g)
 kind_left rest g l h = let few = leb-true (length g.queue) most_queued h.few in let less : nat_le (length rest) most_queued ≡ true = le-leb (length rest) most_queued (omega (arith, l.1, few)) in search rules
 
--- a real-time signal that is queued behind the others, where there is room
+-- a real-time signal is queued after the others, if there is room
 kind_queued : (signal : PendingSignal) (g : Signals) → is_realtime signal.sig ≡ true → is_carried signal.carried ≡ true → nat_le most_queued (length g.queue) ≡ false → AreSignals g → AreSignals (with_queue (g.queue ++ signal ∷ []) g)
 kind_queued signal g real k room h =
     let below = leb-false most_queued (length g.queue) room in

@@ -98,7 +98,7 @@ others_stay signal p q rs real other = ap (lookup q) (generated_alone signal p (
 abbrev pub IsThereWithRoom : List Process → ℕ → Process → Type 0
 IsThereWithRoom rs n q = (lookup q.pid rs ≡ Some q) × HasRoom n q
 
--- a real-time signal, for several that are there with room, each once as their numbers rise
+-- a real-time signal for several existing processes with room, each once, in ascending order
 pub kinds_queued : (signal : PendingSignal) → is_carried signal.carried ≡ true → is_realtime signal.sig ≡ true → (qs rs : List Process) → IsRising qs
     → AllByRecursion (IsThereWithRoom rs signal.sig) qs → AllKind rs → AllKind (signalled_all signal (pids qs) rs)
 unfolding signalled_all IsRising

@@ -100,7 +100,7 @@ report_in : (c : ℕ) (test : ℕ → Bool) (e : Entry) → reports_in c test e 
 report_in c test (Reported p call d w) h = let both = and_parts (d == c) (test w) h in record { by = p; call = call; word = w; is = ap (λ n. Reported p call n w) (eqb-true d c both.0); passes = both.1 }
 report_in c test e h = absurd (cc)
 
--- what is told of c is due
+-- a report of c is due
 record IsDue (before : List Line) (c : ℕ) (test : ℕ → Bool) : Type 0 where
   by : ℕ
   word : ℕ
@@ -253,7 +253,7 @@ no_continue_twice before between after a b c h first second =
     (λ heir. subst (λ e. continue_left (made_by heir e c (kept_of before c)) ≡ false) (sym x.is) (continue_told heir x.by x.call c x.word (kept_of before c) x.passes))
     (λ none. continue_once y.by y.word (kept_of (before ++ a ∷ between) c) y.passes none y.due)
 
--- A line of a process stands in its life.
+-- A line of a process is within its life.
 pub stands_in_life : (before after : List Line) (l : Line) (c : ℕ) → Laws (before ++ l ∷ after) → process_of l.entry ≡ Some c → is_living before c ≡ true
 stands_in_life before after l c h is = subst (λ o. none_or (is_living before) o ≡ true) is (everywhere_at within_life before l after h.lives)
 
@@ -319,7 +319,7 @@ first_end_halts before after a b h ended =
 
 -- ---- whose end is reported
 
--- where the last line that passes stands
+-- the place of the last line that passes
 record IsLast (test : Line → Bool) (xs : List Line) (f : LastOf Line) : Type 0 where
   earlier : List Line
   split : xs ≡ earlier ++ f.it ∷ f.after
@@ -380,13 +380,13 @@ is_ending c (l ∷ ls) e h = of (end_in c l.entry) refl h (is_ending c ls e)
         subst (IsEnding c (l ∷ ls)) same (record { earlier = []; event = l.event; split = ap (λ (x : Entry). line l.event x ∷ ls) (ended_line c w l.entry is) })
     of None is h rest = let i = rest h in record { earlier = l ∷ i.earlier; event = i.event; split = ap (λ xs. l ∷ xs) i.split }
 
--- what no line of a list passes none behind one of them passes
+-- if no line of a list passes, none after one of them passes
 later_none : (test : Line → Bool) (xs earlier later : List Line) (l : Line) → xs ≡ earlier ++ l ∷ later → list_any test xs ≡ false → list_any test later ≡ false
 later_none test xs earlier later l split none =
     let all = sym (list_any-append test earlier (l ∷ later)) ∙ ap (list_any test) (sym split) ∙ none in
     (or_parts (test l) (list_any test later) (or_parts (list_any test earlier) (test l || list_any test later) all).1).1
 
--- ---- what is told
+-- ---- reports
 
 -- w is due to p, the parent of c, of the newest life of c
 record IsDueTo (before : List Line) (p c w : ℕ) : Type 0 where
@@ -395,7 +395,7 @@ record IsDueTo (before : List Line) (p c w : ℕ) : Type 0 where
   parent : parent_in before c ≡ Some p
   due : is_due c w life.since ≡ true
 
--- what is told is due
+-- a report is due
 told_to : (before after : List Line) (l : Line) (p c w : ℕ) → Laws (before ++ l ∷ after) → IsTold p c w l.entry → IsDueTo before p c w
 unfolding parent_in
 told_to before after l p c w h told = of (newest_life before c) refl (law told)
@@ -470,7 +470,7 @@ of_stop before p c w s told d stop going is signal none =
       parent = d.parent;
     }
 
--- The parent of that moment is told of a stop once, by its signal, and not after its end.
+-- A stop is reported to the parent of that moment, once, by its signal, and not after the termination.
 pub stop_is_told : (before after : List Line) (l : Line) (p c w : ℕ) → Laws (before ++ l ∷ after) → IsTold p c w l.entry → is_stopped_word w ≡ true → IsOfStop before p c (w / 256) is_change_word
 stop_is_told before after l p c w h told word =
     let d = told_to before after l p c w h told in
@@ -499,6 +499,6 @@ continue_is_told before after l p c w h told word =
         let s = there (stop_in c f.it.entry) (is_last (stops c) d.life.since f is).passes in
         (s.what, of_stop before p c w s.what is_continued_word d f going is s.found (not-true (list_any (reports c is_continued_word) f.after) due))
 
--- A word that is told is one of an end, a stop or a continue.
+-- A reported wait status is that of a termination, a stop or a continue.
 pub status_is_told : (before after : List Line) (l : Line) (p c w : ℕ) → Laws (before ++ l ∷ after) → IsTold p c w l.entry → (is_end_word w || is_change_word w) ≡ true
 status_is_told before after l p c w h told = let due = (told_to before after l p c w h told).due in grind (arith, cases_Bool, due)

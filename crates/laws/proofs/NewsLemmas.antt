@@ -28,7 +28,7 @@ end_of options r c w e = by r.life r.news e
 abbrev pub IsNewsOf : Process → ℕ → Type 0
 IsNewsOf r w = ((s : ℕ) × (r.news ≡ news.StoppedBy s) × (w ≡ stopped s)) ⊎ ((r.news ≡ news.Continued) × (w ≡ continued))
 
--- a change is told by the news of a living one
+-- a change is reported of a living process
 pub change_of : (options : ℕ) (r : Process) (c w : ℕ) → report_of options r ≡ found.Change c w → (is_zombie r.life ≡ false) × IsNewsOf r w
 unfolding report_of
 change_of options r c w e = by r.life r.news refl e

@@ -36,7 +36,7 @@ lives_kept NeverBorn r h living = absurd (h)
 lives_kept (Lives a) r h living = refl
 lives_kept (Died d) r h living = let no : true ≡ false = sym (ap is_zombie h.life) ∙ living in absurd (cc)
 
--- a number that nobody has is in no life
+-- an ID that no process has is in no life
 pub free_kept : (k : Kept) → AgreeOn k None → lives_now k ≡ false
 free_kept NeverBorn h = refl
 free_kept (Lives a) h = absurd (h)

@@ -18,7 +18,7 @@ use Rattle.laws.proofs.RegularStays.{happens_regular}
 
 -- ---- who is given a place can act
 
--- a turn of p, which has a place, gives nobody one
+-- when p, which is in the run queue, is current, no process enters
 none_by_turn : (p q : ℕ) (old new : List ℕ) → is_in p old ≡ true → Turned p old new → is_in q old ≡ false → is_in q new ≡ false
 none_by_turn p q old new e (inl same) out = ap (is_in q) same ∙ out
 none_by_turn p q old new e (inr (inl less)) out = ap (is_in q) less ∙ still_out p q old out
@@ -26,7 +26,7 @@ none_by_turn p q old new e (inr (inr last)) out =
     let apart : (p == q) ≡ false = ne_eqb p q (λ k. let no = sym e ∙ ap (λ n. is_in n old) k ∙ out in absurd (cc)) in
     ap (is_in q) last ∙ in_last q p (without p old) ∙ or_from _ _ (still_out p q old out) apart
 
--- before places are given an event gives nobody one
+-- before processes enter the run queue, an event adds none
 none_before : (granted : Bool) (s : State) (event : Event) (q : ℕ) → is_in q s.order ≡ false → is_in q (happens granted s event).state.order ≡ false
 none_before granted s event q out = elim (turned_first granted s event) [
   | inl same ↦ ap (is_in q) same ∙ out

@@ -43,7 +43,7 @@ quiet_as s t p o b d h = record {
 
 -- ---- places
 
--- nobody gets a place but who runs, or has KILL pending
+-- only a running process, or one with SIGKILL pending, enters the run queue
 pub quiet_order : (s : State) (order : List ℕ) → ((p : ℕ) (r : Process) → is_in p order ≡ true → lookup p s.processes ≡ Some r → is_stopped r.life ≡ true → is_pending r.signals KILL ≡ false → is_in p s.order ≡ true)
     → Quiet s (record s { order = order })
 quiet_order s order h = record {
@@ -165,7 +165,7 @@ quiet_dropped s c r up found dead = record {
         (agree_dropped k r dead (subst (AgreeOn k) (ap (λ n. lookup n s.processes) same ∙ found) h)))
     gone k q (inr other) h = subst (AgreeOn k) (sym (lookup_kept c q s.processes other)) h
 
--- ---- changes that nobody tells of
+-- ---- changes that no line reports
 
 -- a change that keeps what lines tell of
 abbrev pub Untold : (Process → Process) → Type 0
@@ -188,7 +188,7 @@ untold_cond t f g h k r = cond_both (t r) (f r) (g r) (λ q. told_of q ≡ told_
 pub kill_cond : (t : Process → Bool) (f g : Process → Process) → KeepsKill f → KeepsKill g → KeepsKill (λ r. cond (t r) (f r) (g r))
 kill_cond t f g h k r e = cond_both (t r) (f r) (g r) (λ q. is_pending q.signals KILL ≡ true) (λ u. h r e) (λ u. k r e)
 
--- such a change of a process, be it there or not
+-- such a change of a process, existing or not
 pub quiet_change : (s : State) (p : ℕ) (f : Process → Process) → Untold f → KeepsKill f → Quiet s (change s p f)
 quiet_change s p f u keeps = by (lookup p s.processes) refl
   where

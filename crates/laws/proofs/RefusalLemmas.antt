@@ -129,13 +129,13 @@ pub attempt_no_memory : (granted : Bool) (s : State) (me : Process) (call : Call
 attempt_no_memory granted s me call o is p called c =
     (all_contains (Explained (NotInterrupted granted) s me.pid o.state) o.entries (subst (ExplainedIf (NotInterrupted granted) s me.pid) is (by_attempt (ExplainedBy (NotInterrupted granted) s me.pid) (λ t. Unit {0}) granted s me (explained_ways granted s me) call)) (NoMemory p called) c).2
 
--- a negative result of an attempt afresh
+-- a negative result of a repeated attempt
 pub again_refused : (s : State) (me : Process) (b : Blocked) (o : Outcome) → attempt_again s me b ≡ Done o
     → (p n : ℕ) (called : Call) → Contains o.entries (Called p called (negsuc n)) → o.state ≡ finish s me.pid ((0, negsuc n) ∷ [])
 again_refused s me b o is p n called c =
     (all_contains (Explained Any s me.pid o.state) o.entries (subst (ExplainedIf Any s me.pid) is (by_again (ExplainedBy Any s me.pid) (λ t. Unit {0}) s me (explained_retries Any s me) b)) (Called p called (negsuc n)) c tt).1
 
--- no memory in an attempt afresh
+-- no memory in a repeated attempt
 pub again_no_memory : (s : State) (me : Process) (b : Blocked) (o : Outcome) → attempt_again s me b ≡ Done o
     → (p : ℕ) (called : Call) → Contains o.entries (NoMemory p called) → o.state ≡ finish s me.pid ((0, refusal EAGAIN) ∷ [])
 again_no_memory s me b o is p called c =
@@ -196,7 +196,7 @@ birth_free old new event entries h e n c born = let u = unsettled old new event 
     by p mid (Called q Fork (pos (suc m))) t b = let same : suc m ≡ n = cc in subst (λ k. is_free old.processes k ≡ true) same t
     by p mid e t b = absurd (cc)
 
--- ---- nobody wakes by a refusal
+-- ---- a call that fails wakes no process
 
 -- a call that is finished changes nothing that others see
 unseen_finished : (ws : List (ℕ × ℤ)) → Unseen (finished ws)

@@ -270,7 +270,7 @@ happens_regular granted s (Hangup console) i awake = regular_hangup s console i
 
 -- ---- to settle
 
--- numbers of which none is in two lists are distinct, one list behind the other
+-- two lists without duplicates and without a common ID are joined without duplicates
 distinct_append : (xs ys : List ℕ) → IsDistinct xs → IsDistinct ys → ((q : ℕ) → is_in q ys ≡ true → is_in q xs ≡ false) → IsDistinct (xs ++ ys)
 unfolding IsDistinct
 distinct_append [] ys h k apart = k

@@ -30,7 +30,7 @@ end_tells w h = grind (arith, nat_tests, cases_Bool, h)
 pub killed_word : (s : ℕ) → is_signal s ≡ true → is_end_word s ≡ true
 killed_word s h = rw h (grind (arith, cases_Bool))
 
--- and so does an exit
+-- an exit has one, too
 pub exited_word : (z : ℤ) → is_end_word (exited z) ≡ true
 exited_word z =
     let n = cast_unsigned w64 z in

@@ -90,7 +90,7 @@ halt_alone : (entry : Entry) → is_halt entry ≡ is_none (process_of entry)
 halt_alone Halted = refl
 halt_alone entry = refl
 
--- where a line may stand, after `end 1`, and after any other but `halt`
+-- the places for a line: after `end 1`, and after any other line but `halt`
 after_first : (lines : List Line) (o : Option ℕ) → is_none {T = ℕ} (if is_none o then None else Some 7) ≡ (none_or (is_living lines) o && (not false && (if is_none o then true else not true)))
 after_first lines None = refl
 after_first lines (Some p) = grind (arith, cases_Bool)

@@ -141,7 +141,7 @@ length_departed : (s : State) (p heir w : ℕ) → length (leave_children_and_di
 unfolding adopted
 length_departed s p heir w = length-map (changed p (made_zombie w) s.processes) (reparented p heir) ∙ length_changed p (made_zombie w) s.processes
 
--- who lives is a forebear as it is kept
+-- a living process is an ancestor as it is kept
 forebear_agrees : (k : Kept) (o : Option Process) → AgreeOn k o → forebear_kept k ≡ option_and_then forebear_of o
 forebear_agrees NeverBorn None h = refl
 forebear_agrees NeverBorn (Some r) h = absurd (h)

@@ -51,7 +51,7 @@ told_quiet s t awake q = record {
 pub told_after : (s t : State) (o : Outcome) → Quiet s t → IsTold t o → IsTold s o
 told_after s t o q h = record { agree = λ lines k a. h.agree lines k (agree_quiet Going lines k s t a q); turns = λ a. h.turns (q.turns a) }
 
--- or behind
+-- or after it
 pub told_before : (s t u : State) (entries : List Entry) → IsTold s (record { state = t; entries = entries }) → Quiet t u → IsTold s (record { state = u; entries = entries })
 told_before s t u entries h q = record {
   agree = λ lines k a. subst (λ b. AgreeIn (phase_between b) (lines ++ numbered k entries) k u) (sym q.halted) (agree_quiet (phase_between t.halted) (lines ++ numbered k entries) k t u (h.agree lines k a) q);
@@ -111,7 +111,7 @@ zombies_rise s p up = rising_filter _ (filter (is_child p) s.processes) (rising_
 pub not_among : (s : State) (p q : ℕ) → IsRising s.processes → IsLiving s q → is_in q (pids (zombies_of p s.processes)) ≡ false
 not_among s p q up me = not_told s up p q me.what me.found (λ dead. let no : false ≡ true = sym me.lives ∙ dead in absurd (cc))
 
--- it stays gone while its children's ends are told
+-- it stays removed while the terminations of its children are reported to the new parent
 pub gone_told : (s : State) (heir : ℕ) (zs : List Process) (c : ℕ) → is_in c (pids zs) ≡ false → IsGone s.processes c → IsGone (tell_of_all s heir zs).processes c
 gone_told s heir zs c out g = let l = lasting_told s heir zs c g.what g.found out in record { what = l.what; found = l.found; dead = l.zombie ∙ g.dead }
 

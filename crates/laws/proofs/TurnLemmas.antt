@@ -21,7 +21,7 @@ use Rattle.laws.proofs.WokenLemmas.{by_event, given_places, order_settled}
 abbrev pub FirstTurned : List ℕ → List ℕ → Type 0
 FirstTurned old new = (new ≡ old) ⊎ ((p : ℕ) × (slice_get old 0 ≡ Some p) × Turned p old new)
 
--- before places are given an event turns nobody but the current process
+-- before processes enter the run queue, an event moves or removes only the current process
 pub turned_first : (granted : Bool) (s : State) (event : Event) → FirstTurned s.order (happens granted s event).state.order
 unfolding happens tick key hangup
 turned_first granted s Step = by_step (λ o. FirstTurned s.order o.state.order) granted s (inl refl) (λ p r first e. inr (r.pid, first ∙ ap Some (sym (pid_looked p s.processes r e)), (acted granted s r).order))
@@ -47,7 +47,7 @@ first_other : (q x : ℕ) (xs : List ℕ) → (x == q) ≡ false → places_befo
 unfolding places_before
 first_other q x xs e = rw e refl
 
--- who comes behind doesn't count
+-- the processes after q don't count
 before_front : (q : ℕ) (xs ys : List ℕ) → is_in q xs ≡ true → places_before q (xs ++ ys) ≡ places_before q xs
 unfolding places_before is_in
 before_front q [] ys e = absurd (cc)
@@ -106,7 +106,7 @@ unfolding is_in
 no_first q [] k e = absurd (cc)
 no_first q (x ∷ xs) k e = absurd (cc)
 
--- a tick lets the first go last, behind q
+-- a tick moves the first process to the end, after q
 record Rotated (q : ℕ) (old new : List ℕ) : Type 0 where
   first : ℕ
   is : slice_get old 0 ≡ Some first

@@ -9,7 +9,7 @@ use Rattle.posix.proofs.TableLemmas.{pid_looked, rising_filter}
 use Rattle.posix.proofs.OrderLemmas.{distinct_pids}
 use Rattle.posix.proofs.WalkLemmas.{in_filter, pid_found}
 
--- An event leads to where it began after a halt, and else to where what happens is settled.
+-- After a halt, an event leaves the state; otherwise it leads to the settled state.
 pub by_event : (M : Outcome → Type 0) (old new : State) (event : Event) (entries : List Entry) (h : IsStep old event entries new)
     → (old.halted ≡ true → M (silent old)) → (old.halted ≡ false → M (settled (happens h.granted old event))) → M (record { state = new; entries = entries })
 by_event M old new event entries h halted awake = subst M h.comes (by_next M h.granted old event halted awake)
@@ -18,7 +18,7 @@ by_event M old new event entries h halted awake = subst M h.comes (by_next M h.g
 abbrev pub given_places : State → List ℕ
 given_places s = pids (filter (wakes (clear_foregrounds s)) s.processes)
 
--- their places come behind the others
+-- the processes that enter the run queue come after the others
 pub order_settled : (s : State) → (settle s).order ≡ s.order ++ given_places s
 unfolding settle give_places clear_foregrounds
 order_settled s = refl

@@ -1,4 +1,4 @@
--- What the lines of a trace say of a state.
+-- Agreement of the lines of a trace with a state.
 use Rattle.std.specs.Prelude.{◌≡◌, ◌≢◌, ℕ, ◌+◌, ◌≤◌, Bool, true, false, if◌then◌else◌, List, Option, Some, None, is_some, count_by}
 use Rattle.posix.specs.declared.process.Life.TheVariants.{Zombie}
 use Rattle.posix.specs.declared.process.News.{News}
@@ -10,8 +10,8 @@ use Rattle.laws.specs.Kinds.{AreKinds}
 use Rattle.laws.specs.Lives.{Laws, born_by, last_line}
 use Rattle.laws.specs.Keeping.{Alive, Dead, Kept, NeverBorn, Lives, Died, Phase, Going, Over, kept_of, phase_of, last_number}
 
--- News of a stop is of the last one, of which no report came, nor of its continue; of a continue no report came. Who is
--- stopped has none of a continue.
+-- A stop to be reported is the last one, and no wait has consumed it or its continue; no wait has consumed a continue
+-- to be reported. A stopped process has no continue to be reported.
 abbrev pub NewsAgree : Alive → Bool → News → Type 0
 NewsAgree a stops news.Nothing = Unit {0}
 NewsAgree a stops (news.StoppedBy s) = (a.stop ≡ Some s) × (is_stop_signal s ≡ true)
@@ -31,7 +31,8 @@ pub record AgreeDead (d : Dead) (r : Process) : Type 0 where
   pub news : r.pid ≢ 1 → r.news ≡ news.Nothing
   pub word : is_end_word d.status ≡ true
 
--- The living are the lives that haven't ended; a zombie is the newest life of its number, which ended and isn't reported.
+-- Living processes are lives that have not ended. A zombie is the newest life of its process ID,
+-- which has ended and is not reaped.
 abbrev pub AgreeOn : Kept → Option Process → Type 0
 AgreeOn NeverBorn None = Unit {0}
 AgreeOn NeverBorn (Some r) = ⊥
@@ -40,7 +41,7 @@ AgreeOn (Lives a) (Some r) = AgreeLiving a r
 AgreeOn (Died d) None = Unit {0}
 AgreeOn (Died d) (Some r) = AgreeDead d r
 
--- a birth of any number
+-- Returns true if a line creates a process.
 abbrev pub is_birth : Line → Bool
 is_birth l = is_some (born_by l.entry)
 
@@ -50,7 +51,7 @@ count_living s = count_by is_living s.processes
 abbrev pub count_zombies : State → ℕ
 count_zombies s = count_by (λ r. is_zombie r.life) s.processes
 
--- These are lines of a run to this state, after so many events, within an event in this phase.
+-- These are lines of a run to this state, after this many events, within an event in this phase.
 pub record AgreeIn (at : Phase) (lines : List Line) (events : ℕ) (s : State) : Type 0 where
   pub laws : Laws lines
   pub number : last_number (last_line lines) ≤ events
@@ -59,32 +60,32 @@ pub record AgreeIn (at : Phase) (lines : List Line) (events : ℕ) (s : State) :
   pub counts : s.births ≡ count_living s + count_zombies s + reported lines + s.dropped
   pub phase : phase_of (last_line lines) ≡ at
 
--- between events
+-- Returns the phase between events.
 abbrev pub phase_between : Bool → Phase
 phase_between halted = if halted then Over else Going
 
--- These are lines of a run to this state, after so many events.
+-- These are lines of a run to this state, after this many events.
 abbrev pub Agree : List Line → ℕ → State → Type 0
 Agree lines events s = AgreeIn (phase_between s.halted) lines events s
 
--- Process 1 is a zombie exactly where the machine has halted; no other zombie has news, and who is stopped has none of a
--- continue.
+-- Process 1 is a zombie exactly if the machine has halted. No other zombie has a stop or a continue to be reported,
+-- and a stopped process has no continue to be reported.
 pub record LivesAndNews (s : State) : Type 0 where
   pub first : (r : Process) → process s 1 ≡ Some r → is_zombie r.life ≡ s.halted
   pub zombies : (p : ℕ) (r : Process) → p ≢ 1 → process s p ≡ Some r → is_zombie r.life ≡ true → r.news ≡ news.Nothing
   pub stopped : (p : ℕ) (r : Process) → process s p ≡ Some r → is_stopped r.life ≡ true → r.news ≢ news.Continued
 
--- Who has a place and is stopped has KILL pending.
+-- A stopped process in the run queue has SIGKILL pending.
 pub record AreTurns (s : State) : Type 0 where
   pub turns : (p : ℕ) (r : Process) → is_in p s.order ≡ true → lookup p s.processes ≡ Some r → is_stopped r.life ≡ true → is_pending r.signals KILL ≡ true
 
--- What a regular state is besides, so that what it shows next agrees with it: who has a place and is stopped is to be killed,
--- and all parts are of their kinds.
+-- What a regular state needs in addition, so that what it prints next agrees with it: each stopped process in the run
+-- queue has SIGKILL pending, and all parts are of their kinds.
 pub record IsOrderly (s : State) : Type 0 where
   pub turns : AreTurns s
   pub kinds : AreKinds s
 
--- These are lines of a run to this state, after so many events, each of a form.
+-- These are lines of a run to this state, after this many events, each of a form.
 pub record IsTraceOf (lines : List Line) (events : ℕ) (s : State) : Type 0 where
   pub forms : list_all is_line lines ≡ true
   pub agree : Agree lines events s

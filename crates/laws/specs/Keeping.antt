@@ -1,4 +1,4 @@
--- What the lines so far say of each number, and the tests of the next line by that.
+-- What the lines so far say of each process ID, and the tests of the next line by that.
 use Rattle.std.specs.Prelude.{ℕ, ◌/◌, ◌==◌, ◌&&◌, ◌||◌, not, Bool, true, false, List, if◌then◌else◌, nat_lt, Option, Some, None, is_some}
 use Rattle.std.specs.List.{list_any}
 use Rattle.posix.specs.declared.entry.Entry.{Entry}
@@ -6,15 +6,15 @@ use Rattle.posix.specs.declared.entry.Entry.TheVariants.{Noted, Called, Moved, R
 use Rattle.posix.specs.Common.{Line, process_of, is_end_word, is_stopped_word, is_continued_word, Forebear, heir_among}
 use Rattle.laws.specs.Lives.{is_halt, born_by, is_just, end_in, stop_in, reports, LastOf, LifeSoFar, EndOf, newest_life, the_end, last_stop, has_mark, parent_of, is_change_word}
 
--- a life that hasn't ended
+-- A life that has not ended.
 pub record Alive : Type 0 where
   pub parent : ℕ
-  pub is_marked : Bool  -- a child subreaper
+  pub is_marked : Bool  -- whether it is a child subreaper
   pub has_stopped : Bool
-  pub stop : Option ℕ  -- the signal of the last stop, where no report of it came, nor of its continue
-  pub may_continue : Bool  -- it stopped, and no report of the last stop's continue came
+  pub stop : Option ℕ  -- the signal of the last stop, if no wait has consumed it or its continue
+  pub may_continue : Bool  -- whether it has stopped, and no wait has consumed the last stop's continue
 
--- one that has
+-- A life that has ended.
 pub record Dead : Type 0 where
   pub parent : ℕ
   pub status : ℕ
@@ -25,7 +25,7 @@ pub data Kept : Type 0 where
   Lives : Alive → Kept
   Died : Dead → Kept
 
--- whether `halt` comes next, or nothing
+-- What may come next: any line but `halt`, only `halt`, or nothing.
 pub data Phase : Type 0 where
   Going : Phase
   FirstEnded : Phase
@@ -51,7 +51,7 @@ abbrev pub kept_of_life : List Line → ℕ → Option LifeSoFar → Kept
 kept_of_life lines c None = NeverBorn
 kept_of_life lines c (Some x) = kept_since c (parent_of lines c) x.since (the_end c x.since)
 
--- what lines say of c
+-- Returns what the lines say of c.
 unfoldable pub kept_of : List Line → ℕ → Kept
 kept_of lines c = kept_of_life lines c (newest_life lines c)
 
@@ -66,7 +66,7 @@ abbrev pub phase_of : Option (LastOf Line) → Phase
 phase_of None = Going
 phase_of (Some l) = phase_after l.it.entry
 
--- ---- what one more line makes of it
+-- ---- what the next line changes
 
 abbrev pub newborn : ℕ → Kept
 newborn p = Lives (record { parent = p; is_marked = false; has_stopped = false; stop = None; may_continue = false })
@@ -94,7 +94,7 @@ ended_with w (Died d) = Died d
 abbrev pub moved_from : ℕ → ℕ → ℕ → ℕ
 moved_from p heir parent = if parent == p then heir else parent
 
--- p ends: whose parent it was has another one
+-- After p terminates, its children have a new parent.
 abbrev pub given_on : ℕ → ℕ → Kept → Kept
 given_on p heir NeverBorn = NeverBorn
 given_on p heir (Lives a) = Lives (record a { parent = moved_from p heir a.parent })
@@ -105,16 +105,16 @@ forebear_kept NeverBorn = None
 forebear_kept (Lives a) = Some (record { is_marked = a.is_marked; parent = a.parent })
 forebear_kept (Died d) = None
 
--- who gets the children of p, by what was kept before its end
+-- Returns the new parent of p's children, by what was kept before p terminated.
 abbrev pub heir_of : (ℕ → Kept) → ℕ → ℕ
 heir_of kept p = heir_among (λ q. forebear_kept (kept q)) p
 
--- who gets children by a line
+-- Returns the new parent of the children that a line reparents.
 abbrev pub heir_told : (ℕ → Kept) → Entry → ℕ
 heir_told kept (Ended p w) = heir_of kept p
 heir_told kept _ = 1
 
--- what a line makes of what was kept of c, where this is the heir of who ends
+-- Returns what is kept of c after a line, given the new parent of the children of a process that it terminates.
 unfoldable pub made_by : ℕ → Entry → ℕ → Kept → Kept
 made_by heir (Noted p z) c k = k
 made_by heir (Called p call z) c k = if is_just c (born_by (Called p call z)) then newborn p else k
@@ -130,7 +130,7 @@ made_by heir (Returned p) c k = k
 made_by heir (Ended p w) c k = if p == c then ended_with w (given_on p heir k) else given_on p heir k
 made_by heir Halted c k = k
 
--- what is kept of c after a line
+-- Returns what is kept of c after a line.
 abbrev pub kept_after : (ℕ → Kept) → Entry → ℕ → Kept
 kept_after kept entry c = made_by (heir_told kept entry) entry c (kept c)
 
@@ -145,7 +145,8 @@ abbrev pub unless_fault : Option ℕ → Option ℕ → Option ℕ
 unless_fault (Some k) later = Some k
 unless_fault None later = later
 
--- 7: `halt` not right after `end 1`, another line right after it, any line after `halt`, or a process that isn't living
+-- Fault 7: `halt` not right after `end 1`, another line right after it, any line after `halt`, or a line of a process
+-- that isn't living.
 abbrev pub process_fault : (ℕ → Kept) → Option ℕ → Option ℕ
 process_fault kept None = Some 7
 process_fault kept (Some p) = if lives_now (kept p) then None else Some 7
@@ -155,12 +156,12 @@ place_fault kept Going entry = process_fault kept (process_of entry)
 place_fault kept FirstEnded entry = if is_halt entry then None else Some 7
 place_fault kept Over entry = Some 7
 
--- 2: a birth of a living number
+-- Fault 2: a fork returns the ID of a living process.
 abbrev pub birth_fault : (ℕ → Kept) → Option ℕ → Option ℕ
 birth_fault kept None = None
 birth_fault kept (Some c) = if lives_now (kept c) then Some 2 else None
 
--- a report of a stop: 4 none is left, 6 another signal
+-- The fault of a reported stop: 4 if none is left to report, 6 if it was by another signal.
 abbrev pub stop_fault : ℕ → Option ℕ → Option ℕ
 stop_fault w None = Some 4
 stop_fault w (Some s) = if s == w / 256 then None else Some 6
@@ -180,7 +181,7 @@ fault_of_ended p w d =
     else if is_change_word w then Some 3
     else Some 6
 
--- a report by p with the word w, or a look
+-- The fault of a report by p with the wait status w, with or without WNOWAIT.
 abbrev pub word_fault : ℕ → ℕ → Kept → Option ℕ
 word_fault p w NeverBorn = Some 3
 word_fault p w (Lives a) = fault_of_living p w a
@@ -194,7 +195,7 @@ report_fault kept _ = None
 abbrev pub number_fault : ℕ → ℕ → Option ℕ
 number_fault last n = if nat_lt n last then Some 1 else None
 
--- the first test that a line fails, after a line with the number last
+-- Returns the first test that a line fails, after a line with the event number last.
 unfoldable pub fault_of : (ℕ → Kept) → ℕ → Phase → Line → Option ℕ
 fault_of kept last phase l =
     unless_fault (number_fault last l.event) (unless_fault (place_fault kept phase l.entry) (unless_fault (birth_fault kept (born_by l.entry)) (report_fault kept l.entry)))

@@ -1,4 +1,4 @@
--- States whose parts are of their kinds: what lines show is within its range.
+-- States whose parts are of their kinds: what their lines print is within its range.
 use Rattle.std.specs.Prelude.{◌≡◌, ℕ, ◌&&◌, Bool, true, Option, Some, None, length, nat_le, nat_lt}
 use Rattle.std.specs.List.{list_all}
 use Rattle.posix.specs.declared.ids.Ids.{Ids}
@@ -27,7 +27,7 @@ abbrev pub is_pending_kind : Option Carried → Bool
 is_pending_kind None = true
 is_pending_kind (Some c) = is_carried c
 
--- a signal that is queued is a real-time signal
+-- Returns true if a queued signal is a real-time signal, with its value and sender in range.
 abbrev pub is_queued_kind : PendingSignal → Bool
 is_queued_kind m = is_realtime m.sig && is_carried m.carried
 
@@ -52,7 +52,7 @@ is_news_kind news.Nothing = true
 is_news_kind (news.StoppedBy s) = is_stop_signal s
 is_news_kind news.Continued = true
 
--- the queue holds real-time signals alone, and no more of them than may be queued
+-- The queue holds only real-time signals, and no more of them than may be queued.
 pub record AreSignals (g : Signals) : Type 0 where
   pub pending : list_all is_pending_kind g.standard ≡ true
   pub queue : list_all is_queued_kind g.queue ≡ true

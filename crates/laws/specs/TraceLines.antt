@@ -1,4 +1,4 @@
--- Lines of a trace: the ranges of what each form holds, and which text says a line.
+-- Lines of a trace: the ranges of their values, and which text says a line.
 use Rattle.std.specs.Prelude.{ℕ, ◌≡◌, ◌&&◌, Bool, true, false, List, [], ◌∷◌, ◌++◌, length, nat_le, nat_lt, ℤ, pos, int_le}
 use Rattle.std.specs.List.{list_all}
 use Rattle.posix.specs.declared.entry.Entry.{Entry}
@@ -10,7 +10,7 @@ use Rattle.posix.specs.Common.{asks_memory, Line, print_line, is_signal, is_stop
 abbrev pub is_number : ℕ → Bool
 is_number p = nat_le 1 p && nat_le p 2147483647
 
--- what a call that shows no more than its result may have given
+-- Returns true if a call that prints only its result can have returned this one.
 abbrev pub is_result : Call → ℤ → Bool
 is_result Exit z = false
 is_result Sigreturn z = false
@@ -41,10 +41,10 @@ is_entry (Returned p) = is_number p
 is_entry (Ended p w) = is_number p && is_end_word w
 is_entry Halted = true
 
--- an event has a number from 1 to 1,000,000,000,000
+-- Returns true if the event number is 1 to 1,000,000,000,000, and the entry has one of the forms.
 abbrev pub is_line : Line → Bool
 is_line l = nat_le 1 l.event && nat_le l.event 1000000000000 && is_entry l.entry
 
--- a text without its line feed says a line: it is the line as printed, which has one of the forms
+-- A text without its line feed says a line if it is the line as printed, and the line has one of the forms.
 abbrev pub Says : List ℕ → Line → Type 0
 Says text l = (text ++ 10 ∷ [] ≡ print_line l) × (is_line l ≡ true)

@@ -1,10 +1,10 @@
--- Who has a place, and how long a process waits for its turn.
+-- How long a process in the run queue waits until it is current.
 use Rattle.std.specs.Prelude.{◌≡◌, ℕ, ◌+◌, ◌==◌, Bool, true, false, if◌then◌else◌, List, [], ◌∷◌, ◌++◌, length, count_by, Some}
 use Rattle.posix.specs.declared.event.Event.{Event}
 use Rattle.posix.specs.declared.event.Event.TheVariants.{Step, Tick, Key, Hangup}
 use Rattle.posix.specs.Common.{Line, State, current, RunsFrom}
 
--- how many places come before that of q; all, where it has none
+-- Returns the number of processes before q in the run queue; all, if q is not in it.
 unfoldable pub places_before : ℕ → List ℕ → ℕ
 places_before q [] = 0
 places_before q (p ∷ ps) = if p == q then 0 else places_before q ps + 1
@@ -15,12 +15,11 @@ is_tick Tick = true
 is_tick (Key console byte) = false
 is_tick (Hangup console) = false
 
--- how many of the events are ticks
+-- Returns the number of events that are ticks.
 abbrev pub ticks_in : List Event → ℕ
 ticks_in events = count_by is_tick events
 
--- The run of the events from old to last, numbered from k on, comes through a state in which q is
--- current.
+-- The run of the events from old to last, numbered from k, comes through a state in which q is current.
 pub record HasTurn (q k : ℕ) (old : State) (events : List Event) (lines : List Line) (last : State) : Type 0 where
   pub early : List Event
   pub late : List Event

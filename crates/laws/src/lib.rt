@@ -27,14 +27,13 @@ ghost use Rattle.laws.specs.Memory.{EntriesGrantAll, LinesGrantAll};
 ghost use Rattle.laws.specs.Background.{HasSignalledItsGroup};
 ghost use Rattle.laws.specs.Turns.{places_before, ticks_in, HasTurn};
 
-/// The order of places is the rising order of stamps.
+/// The run queue is in ascending order of stamps.
 ///
-/// Say that a process has a place where it has a stamp, a number; that one that goes last, or is given a
-/// place, takes the next stamp, which is above all others; and that the least stamp is the current
-/// process's. Then the list of processes that the state keeps is the rising order of the stamps, at the
-/// start and after each event from a regular state: the event moves the list by losses, goings last and
-/// new last places alone, and nobody but the current process loses its place or goes last. Nothing else
-/// of the stamps counts.
+/// Suppose that each process in the run queue has a stamp, a number; that a process that moves to the end, or enters
+/// the queue, gets the next stamp, which is above all others; and that the current process has the lowest stamp. Then
+/// the run queue is the list of the processes with a stamp, in ascending order of stamps, at boot and after each
+/// event from a regular state. An event changes the run queue only by removals, moves to the end and new processes at
+/// the end, and only the current process leaves the run queue or moves to its end. Nothing else of the stamps counts.
 pub fn order_is_rising_stamps()
     ensures start { (w : World) → IsStamped (boot w).order first_stamping }
     ensures lose { (p : ℕ) (s : State) (stamps : Stamps) → IsRisingOrder s.order stamps → IsRisingOrder (lose_place s p).order (without_stamp p stamps) }
@@ -46,29 +45,29 @@ pub fn order_is_rising_stamps()
     ensures only { (xs ys : List ℕ) (stamps : Stamps) → IsRisingOrder xs stamps → IsRisingOrder ys stamps → xs ≡ ys }
 {}
 
-/// Every state that is reached is regular.
+/// Every reachable state is regular.
 ///
-/// In a regular state the processes stand in the rising order of their numbers, which are from 1 up to
-/// pidmax. Process 1 is there and has no parent. Who has a place is a process that is there and no zombie,
-/// and has one place alone. No zombie but process 1 has children. The members of a process group are in one
-/// session; if a process has the number of the group, it is the session of that process. A set alarm is due
-/// later, by at most 1,000,000,000 ticks. There are as many consoles as the world says, and a session has
-/// one at most. The state at the start is regular, and so is each state after it in every run.
+/// In a regular state, the processes are in ascending order of process ID, and the IDs are from 1 to pidmax. Process
+/// 1 exists and has no parent. A process in the run queue exists, is not a zombie, and is in the queue only once. No
+/// zombie but process 1 has children. The members of a process group are in one session; if a process has the ID of
+/// the group, it is the session of that process. A set alarm is due after now, at most 1,000,000,000 ticks later.
+/// There are as many consoles as the world says, and a session has at most one. The state at boot is regular, and so
+/// is each state after it in every run.
 pub fn regular_stays()
     ensures start { (w : World) → 1 ≤ w.pidmax → IsRegular (boot w) }
     ensures step { (old new : State) (event : Event) (entries : List Entry) → IsStep old event entries new → IsRegular old → IsRegular new }
     ensures runs { (w : World) (events : List Event) (lines : List Line) (last : State) → 1 ≤ w.pidmax → Runs w events lines last → IsRegular last }
 {}
 
-/// No wake is lost.
+/// No wakeup is lost.
 ///
-/// A living process can act if KILL is pending for it. One that runs can also act if it is in no call, or
-/// in one that needn't wait any longer, or if a signal is chosen for it. At the start, after each event and
-/// so at the end of every run nothing is left to settle: each process that can act has a place, and each
-/// foreground process group has a member in its console's session. So whoever reads from its terminal has a
-/// place once a line is finished, or once it is in the background or has no terminal. Where the state
-/// before an event is regular, whoever has no place then and has one after it can act. After a halt no
-/// event changes or shows anything.
+/// A living process is runnable if SIGKILL is pending for it. A running process is also runnable if it is in no call,
+/// if its call no longer blocks, or if a signal is chosen for delivery to it. At boot, after each event, and so at
+/// the end of every run, nothing is left to settle: each runnable process is in the run queue, and each foreground
+/// process group has a member in its console's session. So a process that is blocked in a read of its terminal is in
+/// the run queue once a line is finished, or once the process is in the background or has no terminal. If the state
+/// before an event is regular, each process that enters the run queue by the event is runnable. After a halt, no
+/// event changes or prints anything.
 pub fn no_wake_is_lost()
     ensures start { (w : World) → IsSettled (boot w) }
     ensures after { (old new : State) (event : Event) (entries : List Entry) → IsStep old event entries new → old.halted ≡ false → IsSettled new }
@@ -81,12 +80,12 @@ pub fn no_wake_is_lost()
     ensures silent { (old new : State) (event : Event) (entries : List Entry) → IsStep old event entries new → old.halted ≡ true → entries ≡ [] }
 {}
 
-/// Turns come.
+/// Every process in the run queue becomes current.
 ///
-/// A process that has a place and is not current keeps it, and in no event do more places come before
-/// it than did. At each tick, and a key is none, it is one less, until the machine halts, where no number
-/// stands twice in the order, as in each regular state. With none before it the process is current. So in
-/// a run without a halt that has as many ticks as places come before it, it becomes current.
+/// A process in the run queue that is not current stays there, and no event increases the number of processes before
+/// it. Each tick (a key is no tick) decreases that number by one, unless the machine has halted, if no process is in
+/// the run queue twice, as in every regular state. A process with none before it is current. So, in a run without a
+/// halt and with at least as many ticks as there are processes before it, the process becomes current.
 pub fn turns_come()
     ensures stays { (old new : State) (event : Event) (entries : List Entry) → IsStep old event entries new
         → (q : ℕ) → has_place old q ≡ true → current old ≢ Some q → has_place new q ≡ true }
@@ -99,15 +98,15 @@ pub fn turns_come()
         → has_place old q ≡ true → places_before q old.order ≤ ticks_in events → HasTurn q k old events lines last }
 {}
 
-/// Refusals change little.
+/// A call that fails changes little.
 ///
-/// A call with a negative result other than -4, also one from the background, and one for which the host
-/// has no memory, changes of its caller the result register, the pc and the blocked call, and nothing else.
-/// Where nothing is left to settle, and the list of processes rises, the whole event changes no more than
-/// that. A call that a signal interrupts gives -4 and a handler is entered, which is no refusal. A call
-/// that is taken up again asks for no memory yet. One that begins again, from the background, is not
-/// refused: it shows nothing, and generates TTIN or TTOU for its caller's process group and changes nothing
-/// else, but that the caller leaves a call that it was blocked in.
+/// A call with a negative result other than -4 (EINTR), even from the background, and a call for which the host has
+/// no memory, changes only the result register, the pc and the blocked call of its caller. If nothing is left to
+/// settle, and the process table is in ascending order, the whole event changes no more than that. A call that a
+/// signal interrupts returns -4, and a handler is entered; this law doesn't cover it. A blocked call that is
+/// attempted again needs no memory. A call that is restarted, from the background, doesn't fail: it prints nothing,
+/// and generates SIGTTIN or SIGTTOU for its caller's process group. It changes nothing else, except that the caller
+/// leaves a call that it was blocked in.
 pub fn refusals_change_little()
     ensures refused { (granted : Bool) (s : State) (me : Process) (call : Call) (o : Outcome) → attempt granted s me call ≡ Done o
         → (p n : ℕ) (called : Call) → n ≢ 3 → Contains o.entries (Called p called (negsuc n)) → o.state ≡ finish s me.pid ((0, negsuc n) ∷ []) }
@@ -129,10 +128,10 @@ pub fn refusals_change_little()
 
 /// Runs are determined.
 ///
-/// The host decides one thing alone: whether it grants the memory that a call needs. A fork needs some for
-/// the child, a kill and a sigqueue where they would queue a real-time signal; and where it does not grant
-/// it, a line says so. So from each state, as from the start of each world, the events have just one run in
-/// which no line says that there was no memory.
+/// The host decides only one thing: whether it grants the memory that a call needs. A fork needs some for the child,
+/// and a kill or sigqueue needs some if it would queue a real-time signal. If the host does not grant the memory, a
+/// line says so. So from each state, as from the boot of each world, the events have exactly one run in which no line
+/// says that there was no memory.
 pub fn determined()
     ensures exists { (k : ℕ) (old : State) (events : List Event) → (last : State) × (lines : List Line) × RunsFrom k old events lines last × LinesGrantAll lines }
     ensures step { (old new other : State) (event : Event) (shown others : List Entry) → IsStep old event shown new → IsStep old event others other
@@ -143,19 +142,21 @@ pub fn determined()
         → LinesGrantAll lines → LinesGrantAll others → (lines ≡ others) × (last ≡ other) }
 {}
 
-/// What a trace keeps, in words of its lines: each line of each run keeps it, as
-/// [`lines_tell_of_states`] says. `before`, `between` and `after` are the other lines of the trace, `c` is a
-/// process, and a life begins with the line of a fork that gives the number, or with the trace for process 1.
+/// The laws of a trace, in terms of its lines; the lines of each run keep them, as [`lines_tell_of_states`] says.
+/// `before`, `between` and `after` are the other lines of the trace, `c` is a process ID, and a life of `c` begins
+/// with the line of a fork that returns `c`, or, for process 1, with the trace. A wait with WNOWAIT reports a status
+/// change without consuming it; any other wait consumes what it reports.
 ///
-/// After a report of an end of `c` no end of it is reported or looked at until it is born again. A report of an
-/// end comes from the parent of that moment, with the status of the end, of which no report came before. So does
-/// a look at an end, which is no report. After a report of a stop or a continue no stop is reported or looked at
-/// until `c` stops again, and after a report of a continue no continue. Who is told of a stop, by a report or as it
-/// looks, is the parent of that moment of a process that has stopped by that signal, and has neither stopped again nor
-/// ended since; of a continue likewise. Nothing is told but status words of ends, stops and continues. A line of a
-/// process stands in its life, and who is born doesn't live. After its end `c` has no line until it is
-/// born again, and is born again only after its end. `halt` comes right after the end of process 1, nothing else
-/// does, and nothing follows it. The numbers of events don't fall.
+/// After a wait has consumed a termination of `c`, no wait reports a termination of `c` until the next life of `c`
+/// begins. A termination is reported to the parent of that moment, with the wait status of the termination, which no
+/// wait has consumed before. After a wait has consumed a stop or a continue, no wait reports a stop until `c` stops
+/// again; after a wait has consumed a continue, no wait reports a continue until then. A stop is reported to the
+/// parent of that moment, of a process that was stopped by that signal, and has neither stopped again nor terminated
+/// since. A continue is reported to the parent of that moment, of a process that was stopped, and has neither stopped
+/// again nor terminated since. Waits report only wait statuses of terminations, stops and continues. A line of a
+/// process is within its life, and a fork doesn't return the ID of a living process. After its termination, `c` has
+/// no line until its next life begins, and that begins only after the termination. `halt` comes right after the
+/// termination of process 1, nothing else comes there, and nothing follows `halt`. Event numbers don't decrease.
 pub fn traces_keep_laws()
     ensures no_end_is_reported_twice { (before between after : List Line) (a b : Line) (c : ℕ) → Laws (before ++ a ∷ between ++ b ∷ after)
         → reports c is_end_word a ≡ true → reports_or_looks c is_end_word b ≡ true → list_any (begins c) between ≡ true }
@@ -190,20 +191,24 @@ pub fn traces_keep_laws()
     ensures of_each_line { (before after : List Line) (l : Line) → Laws (before ++ l ∷ after) → Laws before × (laws before l ≡ true) }
 {}
 
-/// The lines of a run tell of its state.
+/// The lines of a run agree with its states.
 ///
-/// Some lines are the trace of a state, after so many events, where each has a form, with all numbers within
-/// their ranges, and they agree with it. Lines agree with a state where they keep the laws of a trace; where
-/// the living are the lives that have not ended, each with its parent; where a zombie is an ended life whose
-/// end no line reports, with its status and its parent; where news are of the last stop, of which no report
-/// came, nor of its continue; where births are the living, the zombies, the ends that were reported and the
-/// dropped; and where the state is halted exactly where the last line is `halt`. A regular state is orderly
-/// where who has a place while it is stopped is to be killed, and all parts are of their kinds.
+/// Some lines are the trace of a state, after a number of events, if each line has a form, with all numbers within
+/// their ranges, and the lines agree with the state. Lines agree with a state if they keep the laws of a trace, and
+/// if:
+/// - the living processes are the lives that have not ended, each with its parent;
+/// - a zombie is a life that has ended, and that no wait has reaped, with its wait status and its parent;
+/// - a stop to be reported is the last one, and no wait has consumed it or its continue, and no wait has consumed a
+/// continue to be reported;
+/// - the processes ever created are the living, the zombies, those whose termination a wait has consumed, and the
+/// dropped;
+/// - the machine has halted exactly if the last line is `halt`.
 ///
-/// The start is orderly, and the empty trace is its trace. An event from a regular and orderly state leads to an
-/// orderly one, and the lines so far with those of the event are the trace of that. Whoever is born has a
-/// number that no process, process group or session had in the state before. So the lines of a run are the
-/// trace of its last state, and in any world they agree with it.
+/// A regular state is orderly if each stopped process in the run queue has SIGKILL pending, and all parts are of
+/// their kinds. The state at boot is orderly, and the empty trace is its trace. An event leads from a regular and
+/// orderly state to an orderly one, and the lines so far, followed by those of the event, are the trace of the new
+/// state. A new process has an ID that no process, process group or session had in the state before. So the lines of
+/// a run are the trace of its last state, and in any world they agree with it.
 pub fn lines_tell_of_states()
     ensures start { (w : World) → IsWorld w → IsOrderly (boot w) }
     ensures begins { (w : World) → IsTraceOf [] 0 (boot w) }

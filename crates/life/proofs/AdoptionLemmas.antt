@@ -1,4 +1,4 @@
--- What an adoption is for the heir: where none of the children has anything to report, it can act no more than before.
+-- What an adoption does to the new parent: if no child has a status change, the adoption doesn't make it runnable.
 use Rattle.std.proofs.Common.{◌≡◌, ◌≤◌, ℕ, Bool, true, false, refl, ap, sym, ◌∙◌, subst, List, [], ◌∷◌, filter, find, Some, None, arith, inl, inr}
 use Rattle.std.proofs.lemmas.Bool.{cases_eq, ne_eqb, eqb-true, eqb-false}
 use Rattle.posix.specs.declared.process.Report.TheVariants as found
@@ -22,7 +22,7 @@ use Rattle.life.proofs.SendLemmas.{all_pass}
 abbrev pub AreQuiet : ℕ → List Process → Type 0
 AreQuiet p rs = (options : ℕ) → find (reports options) (children_in p rs) ≡ None
 
--- who has nothing of any sort to report has nothing that a wait asks for
+-- a child with no status change of any kind has none that a wait requests
 silent : (options : ℕ) (r : Process) → reports sorts r ≡ false → reports options r ≡ false
 unfolding report_of
 silent options r e = by r.life r.news e
@@ -36,7 +36,7 @@ silent options r e = by r.life r.news e
     by Stopped news.Continued e = absurd (cc)
     by (Zombie w) n e = absurd (cc)
 
--- so where none of those is found that have
+-- nor do these children, if none is found that has one
 pub quiet_children : (rs : List Process) → IsRising rs → ((q : ℕ) (r : Process) → lookup q rs ≡ Some r → 1 ≤ r.pid) → (p : ℕ) → None ≡ first_pid (above 0 (wanted_in sorts p rs)) → AreQuiet p rs
 unfolding wanted_in
 quiet_children rs up least p e options = by (children_in p rs) (wanted_over (wanted_begins rs up least p (λ r. true) sorts None e) refl ∙ ap first_pid (all_pass (λ r. true) (λ r. refl) (wanted_in sorts p rs)))
@@ -45,7 +45,7 @@ quiet_children rs up least p e options = by (children_in p rs) (wanted_over (wan
     by [] e = refl
     by (k ∷ ks) e = grind (arith, e, silent options k, by ks)
 
--- ---- what a wait of the heir finds
+-- ---- what a wait of the new parent finds
 
 named_adopted : (p heir group : ℕ) (target : Target) (r : Process) → is_named group target (reparented p heir r) ≡ is_named group target r
 named_adopted p heir group (whom.Process q) r = grind arith
@@ -80,9 +80,9 @@ report_adopted rs p heir group options target silent e = by (filter named (child
         let none = none_adopted named (reports options) p heir (named_adopted p heir group target) (reparented_keeps (reports options) p heir (λ r. refl)) rs (silent options) (ap (find (reports options)) was ∙ quiet options (k ∷ ks) e) in
         ap (report_found options) (sym (ap (find (reports options)) now) ∙ none)
 
--- ---- whom it touches
+-- ---- which processes it touches
 
--- nobody can act by it who couldn't, but who gave the children away
+-- it makes no process runnable but the one that gave its children away
 pub touches_quiet : (s : State) (p heir : ℕ) → AreQuiet p s.processes → Touches s (record s { processes = adopted p heir s.processes }) (p ∷ [])
 unfolding adopted is_in
 touches_quiet s p heir silent q r e out = elim (cases_eq q heir) [

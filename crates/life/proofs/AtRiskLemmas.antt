@@ -1,4 +1,4 @@
--- The process groups that an end may orphan: how they are noted, and how they are gone through.
+-- The process groups that a termination may orphan: how they are noted, and how they are walked.
 use Rattle.std.proofs.Common.{◌≡◌, ℕ, ◌+◌, ◌≤◌, Bool, true, false, cond, ◌&&◌, ◌||◌, ◌==◌, refl, ap, sym, ◌∙◌, arith, subst, List, [], ◌∷◌, ◌++◌, map, filter, length, Option, Some, slice_get}
 use Rattle.std.specs.List.{list_any}
 use Rattle.posix.specs.Common.{Process, with_number, IsRising, lookup, above, first_pid, has_pid, is_child, is_member, members_in, children_in, left_of, State, is_in, is_anchor, loses_anchor, hup_and_cont, hup_and_cont_all}
@@ -32,7 +32,7 @@ any_of_both : (a b t : Process → Bool) (rs : List Process) → list_any (λ r.
 any_of_both a b t [] = refl
 any_of_both a b t (r ∷ rs) = grind (arith, any_of_both a b t rs)
 
--- who keeps a group so is the process, or a child of it
+-- a process that keeps a group so is the process, or a child of it
 loses_split : (p : ℕ) (rs : List Process) (g : ℕ) → loses_anchor p rs g ≡ (list_any (keeps rs g) (numbered p rs) || list_any (keeps rs g) (children_in p rs))
 unfolding loses_anchor children_in
 loses_split p rs g = any_of_both (has_pid p) (is_child p) (keeps rs g) rs
@@ -68,8 +68,8 @@ members_lasting group rs = ap length (filter_map (is_member group) lasting (λ r
 pub members_last : (group : ℕ) (old new : List Process) → map lasting new ≡ map lasting old → length (members_in group new) ≡ length (members_in group old)
 members_last group old new same = sym (members_lasting group new) ∙ ap (λ rs. length (members_in group rs)) same ∙ members_lasting group old
 
--- of the groups those are left that come next: what these get makes of the processes now what all get made of those before,
--- of which all lasts, and as many slots are left to read, of those from one number to another
+-- The groups that come next are left. What their signals make of the processes now is what those of all groups make of
+-- the processes before; as many slots are left to read, of those from one number to another.
 pub record IsSignalling (first ns : List ℕ) (before now : List Process) (next : Option ℕ) (from upto : ℕ) : Type 0 where
   pub done : List ℕ
   pub left : List ℕ
@@ -78,7 +78,7 @@ pub record IsSignalling (first ns : List ℕ) (before now : List Process) (next 
   pub lasts : Lasts before now
   pub read : upto + slots_of_hups left before ≤ from + slots_of_hups first before
 
--- it goes on behind the group that came next
+-- it goes on after the group that came next
 pub signalling_goes_on : {first ns : List ℕ} {before now then : List Process} {next after : Option ℕ} {from upto later g : ℕ} → IsSignalling first ns before now next from upto → next ≡ Some g → then ≡ hup_and_cont g now → later ≤ upto + slots_of_hup_and_cont g now → after ≡ slice_get (numbers_above g ns) 0
     → IsSignalling first ns before then after from later
 unfolding hup_and_cont_all slots_of_hups

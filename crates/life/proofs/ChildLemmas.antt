@@ -51,11 +51,11 @@ child_less {rs = rs} {p = p} {c = c} w comes e = let at = child_here w comes in 
 
 -- ---- a wait
 
--- the least of those that are meant and wanted is there
+-- the lowest-numbered child that is selected and wanted exists
 pub wanted_there : (rs : List Process) → IsRising rs → (p : ℕ) (means : Process → Bool) (options c : ℕ) → Some c ≡ first_pid (filter means (wanted_in options p rs)) → IsSome (lookup c rs)
 wanted_there rs up p means options c e = let w = wanted_some rs up p means options c (sym e) in is_there _ w.what w.found
 
--- any child is meant where any will do
+-- a wait for any child selects each child
 pub any_child : (s : State) → IsRegular s → (p : ℕ) → is_some (first_pid (above 0 (children_in p s.processes))) ≡ list_any (is_meant None) (children_in p s.processes)
 any_child s i p = ap is_some (first_child s i p) ∙ any (children_in p s.processes)
   where

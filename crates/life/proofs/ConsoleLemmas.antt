@@ -1,4 +1,4 @@
--- A machine that gets another console in the place of one.
+-- A machine that gets another console at an index.
 use Rattle.std.proofs.Common.{◌≡◌, ◌≢◌, ℕ, Bool, suc, ◌+◌, ◌*◌, ◌≤◌, ◌==◌, true, false, cond, not, ◌&&◌, ◌||◌, refl, ap, sym, ◌∙◌, arith, subst, List, [], ◌∷◌, Option, Some, None, is_some, length, slice_get, slice_set, slice_index_or, inl, inr, ⊎_elim, rules}
 use Rattle.std.proofs.lemmas.Bool.{false_from_ne_true, true_from_ne_false, or_cases, eqb-true, eqb-false, and_parts, not-true, or_right, cond_both, both_ways}
 use Rattle.std.proofs.lemmas.Option.{get_or_from_slice_get, same_Some}
@@ -28,18 +28,19 @@ use Rattle.life.proofs.RecheckLemmas.{watched_alike}
 use Rattle.life.specs.declared.consoles.Unchecked.{Unchecked}
 use Rattle.life.specs.Foregrounds.{AreFreshBut}
 
--- the state with another console in a place
+-- the state with another console at an index
 abbrev pub put : State → ℕ → Console → State
 put s k d = record s { consoles = slice_set s.consoles k d }
 
--- It can be put there: a session has one console at most, and nobody can act for it who isn't rechecked and has no place.
+-- The console can become this one: a session has at most one console, and each process that this makes runnable is on
+-- the recheck list or in the run queue.
 pub record CanPut (s : State) (to_recheck : List ℕ) (k : ℕ) (d : Console) : Type 0 where
   pub apart : AreConsoles s.world.consoles (slice_set s.consoles k d)
   pub acts : (p : ℕ) (r : Process) → process s p ≡ Some r → has_place s p ≡ false → is_in p to_recheck ≡ false → can_act (put s k d) r ≡ true → can_act s r ≡ true
 
 -- ---- the machine
 
--- who can act and has no place is on the list
+-- a runnable process that is not in the run queue is on the list
 on_list : {readers : ListsView} (s : State) (l : PidSetView) (p : ℕ) (r : Process) → IsListed s l readers → process s p ≡ Some r → has_place s p ≡ false → can_act s r ≡ true → is_in p l.pids ≡ true
 on_list s l p r h found out acts =
     let unplaced : is_in r.pid s.order ≡ false = ap (λ n. is_in n s.order) (pid_looked p s.processes r found) ∙ out in
@@ -80,7 +81,7 @@ reader_is session r h =
     let b = and_parts (is_in_read r.blocked) (r.session == session) a.1 in
     record { runs = a.0; visits = b.0; own = eqb-true r.session session b.1 }
 
--- one with the same session and foreground process group, and no line where there was none
+-- one with the same session and foreground process group, and no line if there was none
 pub put_unread : {readers : ListsView} (s : State) (l : PidSetView) (k : ℕ) (c d : Console) → IsRegular s → IsListed s l readers → slice_get s.consoles k ≡ Some c
     → d.session ≡ c.session → d.foreground ≡ c.foreground → d.hung_up ≡ c.hung_up → (c.lines ≡ [] → d.lines ≡ []) → CanPut s l.pids k d
 unfolding is_in
@@ -93,7 +94,7 @@ put_unread s l k c d i h at owner foreground hung lines = record {
       ap (can_act s) (sym same) ∙ u.acts acts;
 }
 
--- where whoever waits to read from it is rechecked, one with the same session, or nobody's
+-- if its blocked readers are on the recheck list, it can become one with the same session, or with none
 put_rechecked : {readers : ListsView} (s : State) (l : PidSetView) (k : ℕ) (c d : Console) → IsRegular s → IsListed s l readers → slice_get s.consoles k ≡ Some c
     → AreReaders s c.session l.pids → IsOfOrFree c.session d → CanPut s l.pids k d
 unfolding waits_to_read
@@ -110,7 +111,7 @@ put_rechecked s l k c d i h at to_recheck kind = record {
     others r d least ne (inl h) same = ne (sym same ∙ h)
     others r d least ne (inr h) same = omega (arith, h, same, least)
 
--- who reads where there is no line to wait for can act
+-- a reader that has no line to wait for is runnable
 pub reads_on : (s : State) (r : Process) → is_running r.life ≡ true → is_in_read r.blocked ≡ true → waits_to_read s.consoles r ≡ false → can_act s r ≡ true
 unfolding can_act attempt_again
 reads_on s r runs visits none =
@@ -121,7 +122,7 @@ reads_on s r runs visits none =
     goes (Some blocked.Read) e = ap not (block_read s r ∙ none)
     goes b e = absurd (cc)
 
--- in the place of one that was nobody's, one of a session that had none: its reads were refused, and needn't wait
+-- a console of no session can become that of a session that had none, whose reads failed and needn't wait
 put_acquired : {readers : ListsView} (s : State) (l : PidSetView) (k : ℕ) (c d : Console) → IsRegular s → IsListed s l readers → slice_get s.consoles k ≡ Some c
     → c.session ≡ 0 → console_of d.session s.consoles ≡ None → CanPut s l.pids k d
 unfolding waits_to_read
@@ -155,7 +156,7 @@ machine_became m to_recheck k c d list at h i moved = machine_put _ _ _ _ _ _ _ 
     rechecked theirs = ⊎_elim (λ same. put_rechecked _ _ k c d i.sound.regular i.listed at theirs (inl same))
         (λ other. ⊎_elim (λ free. put_rechecked _ _ k c d i.sound.regular i.listed at theirs (inr free)) (λ new. put_acquired _ _ k c d i.sound.regular i.listed at new.0 new.1) other) h.session
 
--- ---- the console in a place
+-- ---- the console at an index
 
 -- what was read there is the one that was found
 pub found_there : {cs ds : List Console} {c d : Console} (k : ℕ) (other : Console) → cs ≡ ds → slice_get cs k ≡ Some c → d ≡ slice_index_or ds k other → (slice_get ds k ≡ Some c) × (d ≡ c)
@@ -163,7 +164,7 @@ found_there {ds = ds} {c = c} k other all at read = let here = ap (λ cs. slice_
 
 -- ---- the console of a session
 
--- it is changed in its place
+-- it is changed at its index
 pub put_changed : (s : State) (k session : ℕ) (c : Console) (f : Console → Console) → IsRegular s → slice_get s.consoles k ≡ Some c → c.session ≡ session → session ≢ 0
     → put s k (f c) ≡ record s { consoles = changed_console session f s.consoles }
 put_changed s k session c f i at own some = ap (λ cs. record s { consoles = cs }) (sym (changed_at_place s.world.consoles s.consoles k session c f i.consoles at own some))
@@ -175,7 +176,7 @@ terminal_changed s t k o session f i some it h did =
     let run = rw it.1 at h in
     run.4 ∙ ap (put s k) (did it.0 run.0 run.1 run.3) ∙ put_changed s k session it.0 f i it.1 it.3 some
 
--- and nothing is changed where it has none
+-- and nothing is changed if it has none
 pub none_changed : (t : State) (session : ℕ) (f : Console → Console) → console_of session t.consoles ≡ None → t ≡ record t { consoles = changed_console session f t.consoles }
 unfolding changed_console
 none_changed t session f none = ap (λ cs. record t { consoles = cs }) (sym (changed_none session f t.consoles (none_of session t.consoles none)))
@@ -187,7 +188,7 @@ pub foreground_keyed : (byte : ℕ) (c : Console) → (keyed byte c).foreground 
 unfolding keyed edit finish_line flushed
 foreground_keyed byte c = grind arith
 
--- and gives no line back that is lost
+-- and leaves whether the console is hung up
 pub hung_up_keyed : (byte : ℕ) (c : Console) → (keyed byte c).hung_up ≡ c.hung_up
 unfolding keyed edit finish_line flushed
 hung_up_keyed byte c = grind arith
@@ -228,7 +229,7 @@ pub hangup_past : (s : State) (console k : ℕ) → console ≡ suc k → slice_
 unfolding hangup
 hangup_past s console k number none = rw (number, none) refl
 
--- on one that is, its input, and the leader of the session that is told
+-- on a console that isn't hung up: its input, and the leader of the session that is notified
 pub hangup_told : (s : State) (console k : ℕ) (c : Console) (leader : ℕ) → console ≡ suc k → slice_get s.consoles k ≡ Some c → Some leader ≡ session_told c
     → record (put s k (disconnected c)) { processes = generated_for (record { sig = HUP; carried = from_kernel }) (process s leader) s.processes } ≡ hangup s console
 unfolding hangup signalled_all
@@ -262,11 +263,11 @@ pub none_stays : (s : State) (me : Process) → console_of me.session s.consoles
 unfolding hang_up
 none_stays s me none = rw none (sym (cond_both (not (me.pid == 1) && me.session == me.pid) s s (λ t. t ≡ s) (λ e. refl) (λ e. refl)))
 
--- who hangs a terminal up leads the session with its own number
+-- a process that hangs up a terminal leads the session with its own ID
 pub leads_own : (s : State) (p : ℕ) (me : Process) → process s p ≡ Some me → hangs_up (snapshot_of me) ≡ true → me.session ≡ p
 leads_own s p me found leads = eqb-true me.session me.pid (and_parts (not (me.pid == 1)) _ leads).1 ∙ pid_looked p s.processes me found
 
--- nor does who would lead a session that has none
+-- nothing is hung up if no session with the process's ID has a terminal
 pub unled_stays : (s : State) (p : ℕ) (me : Process) → process s p ≡ Some me → console_of p s.consoles ≡ None → s ≡ hang_up s me
 unled_stays s p me found none = elim (hangs_up (snapshot_of me)) as (λ b. hangs_up (snapshot_of me) ≡ b → s ≡ hang_up s me) [
   | true ↦ λ e. none_stays s me (ap (λ n. console_of n s.consoles) (leads_own s p me found e) ∙ none)
@@ -281,19 +282,19 @@ leader_hangs_up s k p me c i found leads at own = grind (arith, i, found, leads,
 
 -- ---- how many slots are read
 
--- no key that gives a signal ends a line
+-- no key that generates a signal ends a line
 pub key_is_no_end : (byte : ℕ) → key_signal byte ≢ None → (byte == 10 || byte == 4) ≡ false
 unfolding key_signal
 key_is_no_end byte some = false_from_ne_true _ (λ e. ⊎_elim (λ k. some (rw (eqb-true byte 10 k) refl)) (λ k. some (rw (eqb-true byte 4 k) refl)) (or_cases _ _ e))
 
--- where a key gives a signal
+-- if a key generates a signal
 pub slots_of_signalled : (m : MachineView) (console k byte sig group : ℕ) (c : Console) (rs : List Process) → console ≡ suc k → slice_get m.state.consoles k ≡ Some c → Some sig ≡ signal_typed byte c → group ≡ c.foreground → rs ≡ m.state.processes
     → slots_of_signal sig * length (members_in group rs) ≤ slots_of_key console byte m
 slots_of_signalled m console k byte sig group c rs number found typed foreground same =
     let signal = typed_key byte sig c typed in
     rw (number, found, ← signal, foreground, same, (key_standard byte sig (sym signal)).1) (omega arith)
 
--- where a session's terminal hangs up
+-- if a session's terminal hangs up
 pub slots_hung_up : (m : MachineView) (me : Process) (k group : ℕ) (c : Console) (rs : List Process) → hangs_up (snapshot_of me) ≡ true → rs ≡ m.state.processes → slice_get m.state.consoles k ≡ Some c
     → console_of me.session m.state.consoles ≡ Some c → group ≡ c.foreground → 1 + slots_of_signal HUP * length (members_in group rs) ≤ 1 + slots_of_hangup me m
 slots_hung_up m me k group c rs leads same at is foreground = rw (leads, same, is, foreground) (omega arith)

@@ -1,4 +1,4 @@
--- A departure: who can act by it that couldn't, and so has to be rechecked.
+-- A departure: which processes it makes runnable, so that they have to be rechecked.
 use Rattle.std.proofs.Common.{◌≡◌, ◌≢◌, ℕ, Bool, true, false, cond, ◌||◌, not, ◌&&◌, is_some, option_map, Option, None, refl, ap, sym, ◌∙◌, subst, List, [], ◌∷◌, ◌++◌, map, Some, arith, ◌⊎◌, ⊎_elim, inl, inr}
 use Rattle.std.specs.List.{AllByRecursion}
 use Rattle.std.specs.Option.{IsSome}
@@ -23,11 +23,11 @@ use Rattle.life.proofs.EndLemmas.{keeps_made_zombie}
 use Rattle.life.proofs.NewsLemmas.{touches_unawaited}
 use Rattle.life.proofs.RecheckLemmas.{listed_more, listed_same, listed_where}
 
--- p is on this list, or has a place
+-- p is on this list, or in the run queue
 abbrev pub IsAsked : State → ℕ → List ℕ → Type 0
 IsAsked s p ns = is_in p (ns ++ s.order) ≡ true
 
--- who is rechecked if it can act, where it has no place
+-- a process that is rechecked if a change may have made it runnable, and it is not in the run queue
 asked_where : (s : State) (p : ℕ) (ns : List ℕ) (acts : Bool) → acts ≡ true → IsAsked s p (cond acts (rechecking p s.order ns) ns)
 asked_where s p ns acts e = in_append p (cond acts (rechecking p s.order ns) ns) s.order ∙ grind (arith, e, in_with p p ns)
 
@@ -40,7 +40,7 @@ asked_still s p q ns acts e = in_append q (cond acts (rechecking p s.order ns) n
 
 -- ---- what was read of the others, once the process is a zombie
 
--- where its parent was found not to wait for it
+-- if its parent was found not to wait for it
 pub deaf_parent : (s : State) (p parent w : ℕ) (me : Process) (mid : List Process) (seen : IndexedFields) (awaited : Bool) → process s p ≡ Some me → parent ≡ me.parent → mid ≡ changed p (made_zombie w) s.processes → option_map seen_of (lookup p mid) ≡ Some seen
     → ((up it : Process) → lookup parent mid ≡ Some up → it.pid ≡ p → seen ≡ seen_of it → awaited ≡ (not (is_in parent s.order) && awaits up it)) → awaited ≡ false → is_in parent s.order ≡ false → (up : Process) → me.parent ≢ p → process s me.parent ≡ Some up → awaits up (made_zombie w me) ≡ false
 deaf_parent s p parent w me mid seen awaited found its is sees does none out up ne there =
@@ -49,7 +49,7 @@ deaf_parent s p parent w me mid seen awaited found its is sees does none out up 
     let theirs : lookup parent mid ≡ Some up = ap (λ q. lookup q mid) its ∙ ap (lookup me.parent) is ∙ lookup_other p me.parent (made_zombie w) keeps ne s.processes up there in
     sym (ap (λ b. not b && awaits up (made_zombie w me)) out) ∙ sym (does up (made_zombie w me) theirs (keeps me ∙ pid_looked p s.processes me found) (mapped_is (lookup p mid) seen_of (made_zombie w me) seen (sym sees) mine)) ∙ none
 
--- and where no child was found that has something to report
+-- and if no child was found that has a status change
 pub quiet_zombie : (s : State) (p w : ℕ) (mid : List Process) (next : Option ℕ) → IsRegular s → mid ≡ changed p (made_zombie w) s.processes → next ≡ first_pid (above 0 (wanted_in sorts p mid)) → is_some next ≡ false → AreQuiet p (changed p (made_zombie w) s.processes)
 unfolding changed
 quiet_zombie s p w mid None i is e none =
@@ -61,8 +61,8 @@ quiet_zombie s p w mid (Some c) i is e none = absurd (cc)
 
 -- ---- the list
 
--- Who departs is on the list; its parent is, or has a place, but where it doesn't wait for this child; and so its heir, but
--- where none of the children has anything to report.
+-- The departing process is on the list. So is its parent, unless it is in the run queue or doesn't wait for the
+-- process. So is the new parent, unless it is in the run queue or no child has a status change.
 listed_departed : {readers : ListsView} (s : State) (p heir w : ℕ) (me : Process) (l : PidSetView) → IsRegular s → IsListed s l readers → process s p ≡ Some me → is_in p l.pids ≡ true
     → ((up : Process) → me.parent ≢ p → process s me.parent ≡ Some up → awaits up (made_zombie w me) ≡ false) ⊎ IsAsked s me.parent l.pids → AreQuiet p (changed p (made_zombie w) s.processes) ⊎ IsAsked s heir l.pids → IsListed (leave_children_and_die s p heir w) l readers
 unfolding changed adopted
@@ -106,7 +106,7 @@ listed_departed s p heir w me l i h found mine up its =
     gives : Touches left t asked
     gives = ⊎_elim (λ silent. within left t (p ∷ []) (here, tt) (touches_quiet left p heir silent)) (λ k. within left t (p ∷ heir ∷ []) (here, (k, tt)) (touches_adopted left p heir)) its
 
--- where they were put on it so
+-- if they were put on it so
 pub listed_left : {readers : ListsView} (s : State) (p heir w parent : ℕ) (me : Process) (before put then after : PidSetView) (awaited told : Bool) → IsRegular s → IsListed s before readers → process s p ≡ Some me → parent ≡ me.parent → IsSome (process s parent) → IsSome (process s heir)
     → put.pids ≡ with_number p before.pids → put.room ≡ before.room → then ≡ record put { pids = cond awaited (rechecking parent s.order put.pids) put.pids } → after ≡ record then { pids = cond told (rechecking heir s.order then.pids) then.pids }
     → (awaited ≡ false → is_in parent s.order ≡ false → (up : Process) → me.parent ≢ p → process s me.parent ≡ Some up → awaits up (made_zombie w me) ≡ false) → (told ≡ false → AreQuiet p (changed p (made_zombie w) s.processes)) → IsListed (leave_children_and_die s p heir w) after readers

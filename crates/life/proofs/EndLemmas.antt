@@ -1,4 +1,4 @@
--- The end of a process: what its heir is told, and the departure, may come in either order.
+-- The termination of a process: the notices for its children's new parent and its departure may come in either order.
 use Rattle.std.proofs.Common.{◌≡◌, ◌≢◌, ℕ, true, false, cond, arith, refl, ap, ◌∙◌, List, [], ◌∷◌, map, Some, ◌==◌}
 use Rattle.std.specs.Option.{IsSome}
 use Rattle.std.proofs.lemmas.Bool.{eq-eqb, ne_eqb, eqb-true, eqb-false, cond_both}
@@ -21,7 +21,7 @@ noticed_reparented signal p q r = grind arith
 
 -- ---- a departure
 
--- the heir drops its children as before where another departs
+-- the new parent drops its children as before if another process departs
 dropping_departed : (p heir w : ℕ) → heir ≢ p → (rs : List Process) → is_dropping heir (adopted p heir (changed p (made_zombie w) rs)) ≡ is_dropping heir rs
 unfolding lookup adopted changed made_zombie
 dropping_departed p heir w ne [] = refl
@@ -33,7 +33,7 @@ unfolding adopted changed
 removed_departed c p heir w rs =
     removed_map c (reparented p heir) (pid_reparented p heir) _ ∙ ap (map (reparented p heir)) (removed_map c (at p (made_zombie w)) (at_pid p (made_zombie w) (keeps_made_zombie w).pid) rs)
 
--- a notice of an end to the heir, and the departure of another, may come in either order
+-- a notice of a termination to the new parent, and the departure of another process, may come in either order
 notice_after : (s : State) (p heir w c v : ℕ) → heir ≢ p → notice_of_end (leave_children_and_die s p heir w) heir c v ≡ leave_children_and_die (notice_of_end s heir c v) p heir w
 unfolding notice_of_end
 notice_after s p heir w c v ne =
@@ -54,24 +54,24 @@ tell_after s p heir w ne [] = refl
 tell_after s p heir w ne (z ∷ zs) =
     ap (λ (t : State). tell_of_all t heir zs) (notice_after s p heir w z.pid (status_of z.life) ne) ∙ tell_after (notice_of_end s heir z.pid (status_of z.life)) p heir w ne zs
 
--- the end of a process other than process 1
+-- the termination of a process other than process 1
 pub end_is : (s : State) (me : Process) (p heir w : ℕ) → process s p ≡ Some me → p ≢ 1
     → (end_with_heir s me heir w).state ≡ notice_of_end (hup_and_cont_orphans s.processes (tell_of_all (leave_children_and_die s p heir w) heir (zombies_of p s.processes))) me.parent p w
 end_is s me p heir w e other = grind (arith, e, other, ne_eqb, pid_looked)
 
--- who is there is there after a departure
+-- a process that existed exists after a departure
 pub there_after : (s : State) (p heir w q : ℕ) → IsSome (process s q) → IsSome (process (leave_children_and_die s p heir w) q)
 unfolding adopted changed made_zombie
 there_after s p heir w q h = some_map (reparented p heir) (pid_reparented p heir) q (map (at p (made_zombie w)) s.processes) (some_map (at p (made_zombie w)) (at_pid p (made_zombie w) (λ r. refl)) q s.processes h)
 
--- who departs is a zombie
+-- a process that departs is a zombie
 pub zombie_after : (s : State) (p heir w : ℕ) (me : Process) → process s p ≡ Some me → (x : Process) × (process (leave_children_and_die s p heir w) p ≡ Some x) × (is_zombie x.life ≡ true)
 unfolding adopted made_zombie
 zombie_after s p heir w me e =
     let here : lookup p (changed p (made_zombie w) s.processes) ≡ Some (made_zombie w me) = lookup_changed p p (made_zombie w) (keeps_made_zombie w).pid s.processes ∙ rw (eq-eqb p p refl, e) refl in
     (reparented p heir (made_zombie w me), lookup_on (reparented p heir) (pid_reparented p heir) p _ (made_zombie w me) here, cond_both (me.parent == p) (record (made_zombie w me) { parent = heir }) (made_zombie w me) (λ q. is_zombie q.life ≡ true) (λ e. refl) (λ e. refl))
 
--- process 1 may end once it has lost its place
+-- process 1 may terminate once it has left the run queue
 pub regular_ended : (w : ℕ) (s : State) → IsRegular s → IsRegular (change (lose_place s 1) 1 (ended w))
 unfolding ended
 regular_ended w s i = regular_leave 1 (ended w) (λ r. refl) (λ r. refl) (λ r. refl) (λ r. refl) s (λ r h. h) i (λ ne. absurd (ne refl))

@@ -13,7 +13,7 @@ use Rattle.life.specs.declared.consoles.Unchecked.{Unchecked}
 use Rattle.life.specs.declared.consoles.Unchecked.TheVariants.{Nothing, In, All}
 use Rattle.life.specs.Foregrounds.{is_unchecked, also_in, AreFreshBut}
 
--- each that is checked then was checked, and has a member where it had one
+-- each console that is then checked was checked, and its group has a member if it had one
 fresh_by : (u v : Unchecked) (rs ts : List Process) → ((c : Console) → is_unchecked v c ≡ false → is_unchecked u c ≡ false) → ((c : Console) → is_unchecked v c ≡ false → is_fresh rs c ≡ true → is_fresh ts c ≡ true)
     → (cs : List Console) → AreFreshBut u rs cs → AreFreshBut v ts cs
 fresh_by u v rs ts fewer still [] h = tt
@@ -23,15 +23,15 @@ fresh_by u v rs ts fewer still (c ∷ cs) h = (one (is_unchecked v c) (is_unchec
     one true b k m e = refl
     one false b k m e = m refl (ap (λ x. x || is_fresh rs c) (sym (k refl)) ∙ e)
 
--- where those that were checked keep a member
+-- if those that were checked keep a member
 pub fresh_still : (u : Unchecked) (rs ts : List Process) (cs : List Console) → ((ds : List Console) → AllFresh rs ds → AllFresh ts ds) → AreFreshBut u rs cs → AreFreshBut u ts cs
 fresh_still u rs ts cs still h = fresh_by u u rs ts (λ c e. e) (λ c e fresh. (still (c ∷ []) (fresh, tt)).0) cs h
 
--- where each group has a member in the sessions in which it had one
+-- if each group has a member in the sessions in which it had one
 fresh_same : (u : Unchecked) (rs ts : List Process) (cs : List Console) → ((session group : ℕ) → is_group_of session group ts ≡ is_group_of session group rs) → AreFreshBut u rs cs → AreFreshBut u ts cs
 fresh_same u rs ts cs same h = fresh_by u u rs ts (λ c e. e) (λ c e fresh. ap (λ b. c.foreground == 0 || b) (same c.session c.foreground) ∙ fresh) cs h
 
--- so at an end, as a zombie is a member, and an heir's children are
+-- so at a termination, because a zombie is a member, and so are the new parent's children
 pub fresh_departed : (u : Unchecked) (p heir w : ℕ) (rs : List Process) (cs : List Console) → AreFreshBut u rs cs → AreFreshBut u (adopted p heir (changed p (made_zombie w) rs)) cs
 unfolding made_zombie is_group_of adopted
 fresh_departed u p heir w rs cs h = fresh_same u dead (adopted p heir dead) cs (λ session group. kept session group dead) (fresh_still u rs dead cs (λ ds all. fresh_changed p (made_zombie w) (λ r. refl) (λ r. refl) rs ds all) h)
@@ -45,7 +45,7 @@ fresh_departed u p heir w rs cs h = fresh_same u dead (adopted p heir dead) cs (
 
 -- ---- a member leaves its session
 
--- where the groups in all other sessions keep a member
+-- if the groups in all other sessions keep a member
 fresh_beside : (u : Unchecked) (session : ℕ) (rs ts : List Process) (cs : List Console) → ((other group : ℕ) → other ≢ session → is_group_of other group rs ≡ true → is_group_of other group ts ≡ true) → AreFreshBut u rs cs → AreFreshBut (also_in session u) ts cs
 fresh_beside u session rs ts cs still h = fresh_by u (also_in session u) rs ts (fewer u) (λ c e fresh. kept c (apart u c e) fresh) cs h
   where
@@ -66,7 +66,7 @@ fresh_beside u session rs ts cs still h = fresh_by u (also_in session u) rs ts (
     kept : (c : Console) → (c.session == session) ≡ false → is_fresh rs c ≡ true → is_fresh ts c ≡ true
     kept c other e = grind (arith, e, still c.session c.foreground (eqb-false c.session session other))
 
--- one record goes, or changes in whatever way
+-- one record is removed, or changes in whatever way
 pub fresh_but_one : (u : Unchecked) (p : ℕ) (it : Process) (rs ts : List Process) (cs : List Console) → IsRising rs → lookup p rs ≡ Some it → ((q : ℕ) (r : Process) → q ≢ p → lookup q rs ≡ Some r → lookup q ts ≡ Some r) → AreFreshBut u rs cs → AreFreshBut (also_in it.session u) ts cs
 unfolding is_group_of
 fresh_but_one u p it rs ts cs up found others h = fresh_beside u it.session rs ts cs (λ session group ne some.
@@ -75,7 +75,7 @@ fresh_but_one u p it rs ts cs up found others h = fresh_beside u it.session rs t
     let other : w.0.pid ≢ p = λ same. ne (sym own ∙ ap (λ (r : Process). r.session) (same_Some _ _ (sym w.1 ∙ ap (λ q. lookup q rs) same ∙ found))) in
     any_looked (λ r. r.session == session && r.group == group) w.0.pid ts w.0 (others w.0.pid w.0 other w.1) w.2) h
 
--- ---- a console in the place of one
+-- ---- a console at an index
 
 pub fresh_put : (u : Unchecked) (rs : List Process) (cs : List Console) (k : ℕ) (d : Console) → AreFreshBut u rs cs → (is_unchecked u d || is_fresh rs d) ≡ true → AreFreshBut u rs (slice_set cs k d)
 fresh_put u rs [] k d h e = tt
@@ -104,7 +104,7 @@ own_unchecked session All c own = refl
 
 -- ---- foregrounds are cleared
 
--- where the others are fresh, it is enough to refresh those of which that isn't known
+-- if the others are fresh, it is enough to refresh those that aren't known to be
 refreshed_enough : (test : Console → Bool) (rs : List Process) (cs : List Console) → AllByRecursion (λ c. (test c || is_fresh rs c) ≡ true) cs → map (λ c. cond (test c) (refreshed rs c) c) cs ≡ map (refreshed rs) cs
 refreshed_enough test rs [] h = refl
 refreshed_enough test rs (c ∷ cs) h = rw (refreshed_enough test rs cs h.1) (ap (λ d. d ∷ map (refreshed rs) cs) (one (test c) h.0))
@@ -113,7 +113,7 @@ refreshed_enough test rs (c ∷ cs) h = rw (refreshed_enough test rs cs h.1) (ap
     one true e = refl
     one false e = rw e refl
 
--- so nothing, where it is known of all
+-- so nothing, if all are known to be
 pub refreshed_fresh : (rs : List Process) (cs : List Console) → AreFreshBut Nothing rs cs → cs ≡ map (refreshed rs) cs
 refreshed_fresh rs cs h = sym (map-id cs) ∙ refreshed_enough (λ c. false) rs cs h
 
@@ -138,7 +138,7 @@ counts_own session k c cs at own = rw (← length-filter) (some k cs at)
     some zero (d ∷ ds) at = rw (or_right (session == 0) _ (eq-eqb d.session session (ap (λ (c : Console). c.session) (same_Some _ _ at) ∙ own))) (omega arith)
     some (suc k) (d ∷ ds) at = let more = some k ds at in elim (is_unchecked (In session) d) as (λ b. 1 ≤ length (cond b (d ∷ filter (is_unchecked (In session)) ds) (filter (is_unchecked (In session)) ds))) [ true ↦ omega arith | false ↦ more ]
 
--- all, where no session is named
+-- all, if no session is named
 pub counts_all : (u : Unchecked) (cs : List Console) → ((c : Console) → is_unchecked u c ≡ true) → count_by (is_unchecked u) cs ≡ length cs
 counts_all u cs all = sym (length-filter (is_unchecked u) cs) ∙ each cs
   where

@@ -57,7 +57,7 @@ use Rattle.life.proofs.NewsLemmas.{KeepsNumbers, touches_unawaited}
 
 -- ---- the parent
 
--- nobody has the number 0
+-- no process has the number 0
 pub nobody_0 : (s : State) → IsRegular s → lookup 0 s.processes ≡ None
 nobody_0 s i = grind (arith, pid_looked 0 s.processes, λ (r : Process) (e : lookup 0 s.processes ≡ Some r). (i.bounded 0 r e).least)
 
@@ -100,7 +100,7 @@ machine_run {groups_at_risk = groups_at_risk} {terminals = terminals} s pids pla
     (machine_changed s pids places to_recheck after p f (record { pid = λ r. refl; parent = λ r. refl; group = λ r. refl; session = λ r. refl }) (subst (λ rs. IsRegular (record s { processes = rs })) became regular) i room
     (listed_signals s p c.own.signals c.alarm to_recheck after i.listed (rw found refl) (put ∙ ap (λ rs. rechecking_by_signals (lookup p rs) s.order to_recheck.pids) (is ∙ became)) room))
 
--- the process is rechecked where a signal is chosen for it
+-- the process is rechecked if a signal is chosen for it
 pub by_signals : (o : Option Process) (p : ℕ) (order ns : List ℕ) (b : Bool) → ((r : Process) → o ≡ Some r → r.pid ≡ p) → option_map takes_signal o ≡ Some b → cond b (rechecking p order ns) ns ≡ rechecking_by_signals o order ns
 by_signals None p order ns b named takes = absurd (cc)
 by_signals (Some r) p order ns b named takes = ap (λ w. cond w (rechecking p order ns) ns) (sym (same_Some _ _ takes)) ∙ ap (λ n. cond (takes_signal r) (rechecking n order ns) ns) (sym (named r refl))
@@ -126,7 +126,7 @@ numbers_as : (rs : List Process) → IsRising rs → (p : ℕ) (b c : Record) �
 unfolding give_record
 numbers_as rs up p b c found still = grind (arith, up, found, still, changed_here, equals, or_parts)
 
--- the rows count the records with it, where the numbers that it bears move with it
+-- the rows count the records with it, if the counts of its IDs move with it
 numbers_kept : (m p : ℕ) (b c : Record) (rs : List Process) (pids now : Pids) (places : Places) → IsRising rs → lookup p rs ≡ Some (process_of p (parent_of p rs) b)
     → now ≡ cond (has_moved (record_seen b) (record_seen c)) (regrouped pids b.group b.session c.group c.session) pids → IsKept m rs pids places → IsKept m (with_record rs p c) now places
 unfolding give_record changed
@@ -141,7 +141,7 @@ numbers_kept m p b c rs pids now places up found is k = by (has_moved (record_se
     })
     by false e still = subst (λ x. IsKept m (with_record rs p c) x places) (sym still) (rw (numbers_as rs up p b c found e) (kept_map (at p (keep_numbers c)) (at_pid p (keep_numbers c) (λ r. refl)) (at_keeps (λ r. r.group) p (keep_numbers c) (λ r. refl)) (at_keeps (λ r. r.session) p (keep_numbers c) (λ r. refl)) m rs pids places places (λ n here. here) k))
 
--- those who are rechecked: the process, and its parent if it has one that is there
+-- the processes on the recheck list: the process, and its parent if it has an existing one
 pub listed_changed : {readers : ListsView} (s t : State) (p parent : ℕ) (before after : PidSetView) (touched : List ℕ) → IsListed s before readers → Touches s t touched → IsBeside s t touched → t.order ≡ s.order → length t.processes ≡ length s.processes → ((q : ℕ) → IsSome (process s q) → IsSome (process t q))
     → IsSome (process t p) → (parent ≢ 0 → IsSome (process t parent)) → process t 0 ≡ None → ((q : ℕ) → is_in q touched ≡ true → (q ≡ p) ⊎ (q ≡ parent))
     → after.pids ≡ with_parent parent t.order (with_number p before.pids) → after.room ≡ before.room → IsListed t after readers
@@ -168,12 +168,12 @@ parents_record : (rs : List Process) (p : ℕ) (c : Record) → HaveParents IsOt
 unfolding give_record changed
 parents_record rs p c h = parents_map IsOther (at p (give_record c)) (at_pid p (give_record c) (λ r. refl)) (at_keeps (λ r. r.parent) p (give_record c) (λ r. refl)) (λ q r other. other) rs h
 
--- and who was there is
+-- and a process that existed exists
 pub there_record : (rs : List Process) (p : ℕ) (c : Record) (q : ℕ) → IsSome (lookup q rs) → IsSome (lookup q (with_record rs p c))
 unfolding give_record
 there_record rs p c q there = some_changed p q (give_record c) (λ r. refl) rs there
 
--- it is in its session, or in one that it leads, and stands in no list
+-- it is in its session, or in one that it leads, and on no list of readers
 within_shown : {readers : ListsView} (p : ℕ) (b c : Record) (rs : List Process) → lookup p rs ≡ Some (process_of p (parent_of p rs) b) → (c.session ≡ b.session) ⊎ (c.session ≡ p) → ((session : ℕ) → is_pair_in session p readers.pairs ≡ false) → AreWithin readers rs → AreWithin readers (with_record rs p c)
 unfolding give_record changed
 within_shown {readers = readers} p b c rs found session none h = record {
@@ -196,7 +196,7 @@ within_shown {readers = readers} p b c rs found session none h = record {
       (it.0, lookup_other p q (give_record c) (λ r. refl) (λ mine. absurd (both_ways _ (none k) (subst (λ n. is_pair_in k n readers.pairs ≡ true) mine on))) rs it.0 it.1, it.2);
 }
 
--- who is to be rechecked still is with a parent
+-- a process on the recheck list stays on it with a parent
 in_parent : (p parent : ℕ) (order ns : List ℕ) → is_in p ns ≡ true → is_in p (with_parent parent order ns) ≡ true
 in_parent p parent order ns e = elim (parent == 0) as (λ b. is_in p (cond b ns (cond (is_in parent order) ns (with_number parent ns))) ≡ true) [
   | true ↦ e
@@ -251,7 +251,7 @@ awaits_noticed : (signal : PendingSignal) (parent child : Process) → awaits (n
 unfolding awaits noticed_of_change signalled
 awaits_noticed signal parent child = cond_both (ignores_stops parent.signals) parent (signalled signal parent) (λ q. awaits q child ≡ awaits parent child) (λ e. refl) (λ e. refl)
 
--- who is rechecked then: the child, and its parent where that waits for the child, or takes a signal
+-- which processes are then rechecked: the child, and its parent if that waits for the child, or has a chosen signal
 listed_told : {readers : ListsView} (s : State) (pids : Pids) (places : Places) → IsSound s pids places → (p w : ℕ) (l : Life) (n : News) (me : Process) → process s p ≡ Some me → (before after : PidSetView) → IsListed s before readers
     → let t = record s { processes = told_of_change w me (changed p (lives l n) s.processes) } in after.pids ≡ rechecking_told (lives l n me) (process t me.parent) s.order before.pids → after.room ≡ before.room → IsListed t after readers
 unfolding told_of_change with_numbers changed
@@ -315,7 +315,7 @@ listed_told {readers = readers} s pids places i p w l n me found before after h 
               (refl, refl, λ x u e. e) (omega (arith, many, h.room)) stay (stay p (rw found refl), tt) (λ x theirs e. inl e) (e ∙ ap (λ m. with_number m before.pids) mine) room
         ] refl is
 
--- the numbers of a process that is there are borne
+-- the IDs of an existing process are in use
 pub borne_of : (s : State) (pids : Pids) (places : Places) → IsSound s pids places → (p : ℕ) (r : Process) → lookup p s.processes ≡ Some r → AreBorne pids p r
 borne_of s pids places i p r found =
     let bounds = i.regular.bounded p r found in
@@ -358,12 +358,12 @@ has_run {rs = rs} {p = p} {r = r} f P k up here did =
     let same : process_of p (parent_of p rs) k.before ≡ record (me.what) { pid = p } = cc in
     record { me = me; is = run_as f k up (λ b c r ran q. (did b c r ran q).0); says = subst (λ m. P m r) same (did k.before k.after r k.ran (parent_of p rs)).1 }
 
--- a regular state stays so where the process is changed so that it does
+-- a regular state stays regular if the process is changed so that it does
 pub stays_so : {F T : Type 0} {g : Once F (MutBor Record × Unit {0}) (T × (MutBor Record × Unit {0}))} {change : F} (p : ℕ) (f : Process → Process) (s : State) → (IsRegular s → IsRegular (change_of s p f))
     → ((b c : Record) (r : T) → FnOnceReturnsAtMut g change b r c → (q : ℕ) → process_of p q c ≡ f (process_of p q b)) → StaysRegular g change s p
 stays_so p f s k did i b c r found ran = subst (λ rs. IsRegular (record s { processes = rs })) (sym (changed_here s.processes i.rising p b c f found (did b c r ran))) (k i)
 
--- so where all of it stays that regularity asks for
+-- so if everything stays that regularity asks for
 pub stays_regular : {F T : Type 0} {g : Once F (MutBor Record × Unit {0}) (T × (MutBor Record × Unit {0}))} {change : F} (p : ℕ) (f : Process → Process) (s : State) → Keeps s.ticks f
     → ((b c : Record) (r : T) → FnOnceReturnsAtMut g change b r c → (q : ℕ) → process_of p q c ≡ f (process_of p q b)) → StaysRegular g change s p
 stays_regular p f s k did = stays_so p f s (regular_change p f s k) did
@@ -386,12 +386,12 @@ pub lived_put : {F : Type 0} {g : Once F (MutBor Record × Unit {0}) (Unit {0} �
     → ((b c : Record) (r : Unit {0}) → FnOnceReturnsAtMut g change b r c → (q : ℕ) → process_of p q c ≡ lives l n (process_of p q b)) → StaysPut g change s.processes p
 lived_put {s = s} {p = p} {l = l} {n = n} k on did = put_as p s.processes (lives l n) (λ r found. let living = ap (λ (q : Process). is_zombie q.life) (same_Some _ _ (sym found ∙ k.found)) ∙ k.living in grind (arith, on, living)) did
 
--- what became of the processes, and of those to recheck, once its parent was told
+-- the processes and the recheck list once the parent was notified
 pub record IsTold (s : State) (p w : ℕ) (f : Process → Process) (me : Process) (ts : List Process) (before after : List ℕ) : Type 0 where
   pub processes : ts ≡ told_of_change w me (changed p f s.processes)
   pub list : after ≡ rechecking_told (f me) (lookup me.parent ts) s.order before
 
--- the parent that is told is there
+-- the parent that is notified exists
 pub told_there : {s : State} {pids : Pids} {places : Places} {p parent : ℕ} {l : Life} {n : News} {me : Process} {mid : List Process} → IsSound s pids places → HasLived s p parent l n me mid → not (parent == 0) ≡ true → IsSome (lookup parent mid)
 told_there {s = s} {pids = pids} {places = places} {p = p} {parent = parent} {l = l} {n = n} {me = me} i k other =
     rw k.is (some_changed p parent (lives l n) (λ r. refl) s.processes (rw k.up (parent_there s pids places i p me k.found (λ root. differs parent 0 other (k.up ∙ root)))))
@@ -417,7 +417,7 @@ told_parent {s = s} {p = p} {parent = parent} {w = w} {l = l} {n = n} {me = me} 
         let at_parent : lookup parent ts ≡ Some up = ap (λ q. lookup q ts) k.up ∙ e in
         rw (does up (lives l n me) at_parent named (mapped_is (lookup p mid) seen_of (lives l n me) seen (sym sees) here), named, pid_looked parent ts up at_parent) refl
 
--- without a parent nobody is told
+-- without a parent no process is notified
 pub told_nobody : {s : State} {p parent w : ℕ} {l : Life} {n : News} {me : Process} {mid : List Process} {before after : List ℕ} → IsRegular s → HasLived s p parent l n me mid → not (parent == 0) ≡ false → after ≡ with_number p before → IsTold s p w (lives l n) me mid before after
 unfolding told_of_change
 told_nobody {s = s} {p = p} {parent = parent} {w = w} {l = l} {n = n} {me = me} {mid = mid} {before = before} i k root put =
@@ -457,8 +457,8 @@ told_changes {was = was} {new = new} {p = p} {w = w} {l = l} {n = n} {me = me} s
       costs = costs;
     }))
 
--- What became of the processes rs where a parent got notice, and whether it can act by that: it waits for the child that is
--- seen so, or takes a signal.
+-- What became of the processes rs when a parent was notified, and whether that may make it runnable: it waits for the
+-- child that is seen so, or has a chosen signal.
 pub record IsNoticed (rs ts : List Process) (parent child w : ℕ) (seen : IndexedFields) (result : Bool) : Type 0 where
   pub processes : ts ≡ changed parent (noticed_of_change (child_signal child w)) rs
   pub acts : (me it : Process) → lookup parent ts ≡ Some me → it.pid ≡ child → seen ≡ seen_of it → result ≡ (awaits me it || takes_signal me)
@@ -480,13 +480,13 @@ is_noticed {rs = rs} {p = p} child w seen acts signal is run up here did takes b
 
 -- ---- the list of those to recheck
 
--- one that was put in is put in once
+-- a number that is inserted twice is in once
 pub with_twice : (n : ℕ) (ns : List ℕ) → with_number n (with_number n ns) ≡ with_number n ns
 unfolding with_number
 with_twice n [] = grind (arith)
 with_twice n (m ∷ ns) = grind (arith, with_twice n ns)
 
--- also where it lost its place
+-- even if it left the run queue
 pub with_lost : (t : Bool) (p : ℕ) (ns : List ℕ) → with_number p (cond t (with_number p ns) ns) ≡ with_number p ns
 with_lost true p ns = with_twice p ns
 with_lost false p ns = refl
@@ -499,7 +499,7 @@ told_lost t p child named parent order ns = by parent (ap (λ q. with_number q (
     by None e = e
     by (Some up) e = ap (λ l. cond (awaits up child || takes_signal up) (rechecking up.pid order l) l) e
 
--- a signal that was generated changes nothing of whom a change is told
+-- a signal that was generated doesn't change which process is notified of a change
 pub told_signalled : (w : ℕ) (signal : PendingSignal) (r : Process) (rs : List Process) → told_of_change w (signalled signal r) rs ≡ told_of_change w r rs
 unfolding told_of_change signalled
 told_signalled w signal r rs = refl

@@ -24,8 +24,8 @@ next_lasting group n rs =
     ∙ ap first_pid (filter_map (λ r. nat_lt n r.pid) lasting (λ r. refl) (filter (is_member group) rs))
     ∙ first_lasting (above n (filter (is_member group) rs))
 
--- Of the members that there were first, those from the one that comes next on still get the signal: what becomes of the
--- machine then is what becomes of it where all get it.
+-- Of the first members, those from the next one on are yet to get the signal. What then becomes of the machine is what
+-- becomes of it if all get the signal.
 pub record IsReaching (m : PendingSignal) (group : ℕ) (first now : MachineView) (next : Option ℕ) : Type 0 where
   pub lasts : Lasts first.state.processes now.state.processes
   pub there : IfSome next (λ p. IsSome (process now.state p))
@@ -56,7 +56,7 @@ reaching_begins m group first next regular e =
       no_fewer = le_refl _;
     }
 
--- it goes on behind the one that came next
+-- it goes on after the one that came next
 pub reaching_goes_on : {m : PendingSignal} {group p : ℕ} {first now new : MachineView} {next after : Option ℕ} → IsReaching m group first now next → IsRegular first.state → next ≡ Some p
     → Changes (slots_of_signal m.sig) now new (with_processes now.state (generated_for m (process now.state p) now.state.processes)) (rechecking_generated m (process now.state p) now.state.processes now.state.order now.to_recheck)
     → after ≡ first_pid (above p (members_in group new.state.processes)) → IsReaching m group first new after

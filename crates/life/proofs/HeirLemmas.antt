@@ -1,4 +1,4 @@
--- Child subreapers: what a mark changes, and the walk up to the heir of a process.
+-- Child subreapers: what a mark changes, and the walk up to the new parent of a process's children.
 use Rattle.std.proofs.Common.{◌≡◌, ◌≢◌, ℕ, ◌+◌, ◌-◌, ◌≤◌, zero, suc, Bool, true, false, cond, not, ◌&&◌, ◌==◌, refl, ap, sym, ◌∙◌, arith, List, Option, Some, None, option_map, option_and_then}
 use Rattle.std.specs.List.{list_any}
 use Rattle.std.specs.Option.{option_map_or}
@@ -37,15 +37,15 @@ pub marked_put : (mark : Bool) (r : Process) → keeps_group_and_session (seen_o
 unfolding marked_as finished
 marked_put mark r = grind arith
 
--- ---- whom a walk comes to
+-- ---- the process at which a walk ends
 
--- whom it comes to from q on, with so many steps left
+-- the process at which it ends from q on, with so many steps left
 abbrev pub walk_from : List Process → ℕ → ℕ → ℕ → ℕ
 walk_from rs p left q = nearest_marked (forebears rs) p left q
 
--- ---- nobody living is a child subreaper
+-- ---- no live process is a child subreaper
 
--- so no forebear is marked
+-- so no ancestor is marked
 unmarked : (rs : List Process) → list_any is_living_subreaper rs ≡ false → (q : ℕ) (f : Forebear) → forebears rs q ≡ Some f → f.is_marked ≡ false
 unmarked rs none q f e = of (lookup q rs) refl e
   where
@@ -58,7 +58,7 @@ unmarked rs none q f e = of (lookup q rs) refl e
     of None found e = absurd (cc)
     of (Some r) found e = mark (is_zombie r.life) r.is_subreaper r.parent (none_found is_living_subreaper rs none q r found) e
 
--- and process 1 is the heir
+-- and process 1 is the new parent
 pub heir_unmarked : (rs : List Process) (p : ℕ) → list_any is_living_subreaper rs ≡ false → 1 ≡ heir_in rs p
 heir_unmarked rs p none = sym (cond_both (p == 1) 1 (walk_from rs p most_processes p) (λ h. h ≡ 1) (λ t. refl) (λ t. nearest_none (forebears rs) p most_processes p (unmarked rs none)))
 
@@ -80,7 +80,7 @@ pub slots_on : (rs : List Process) (p left q : ℕ) (f : Forebear) → left ≢ 
     → slots_of_walk (forebears rs) p left q ≡ 1 + slots_of_walk (forebears rs) p (left - 1) f.parent
 slots_on rs p left q f some other there mark = slots_next rs p left q some other ∙ rw (there, mark) refl
 
--- process 1 ends it, as in a regular state nobody is above it
+-- process 1 ends it, because in a regular state it has no ancestor
 pub walk_first : (rs : List Process) (p left : ℕ) → ((q : ℕ) (r : Process) → lookup q rs ≡ Some r → 1 ≤ r.pid) → ((r : Process) → lookup 1 rs ≡ Some r → r.parent ≡ 0) → walk_from rs p left 1 ≡ 1
 walk_first rs p left least first = nearest_first (forebears rs) p left (nobody (lookup 0 rs) refl) (λ f e. above (lookup 1 rs) refl f e)
   where
@@ -103,13 +103,13 @@ pub walk_over : (rs : List Process) (p left q : ℕ) → left ≡ 0 → walk_fro
 unfolding nearest_marked
 walk_over rs p left q h = ap (λ n. walk_from rs p n q) h
 
--- ---- who is looked at
+-- ---- the process that is looked at
 
--- nobody
+-- no process
 pub nobody_at : (s t : State) (q : ℕ) (o : Option Snapshot) → o ≡ option_map snapshot_of (process t q) → t ≡ s → o ≡ None → lookup q s.processes ≡ None
 nobody_at s t q o value same none = none_mapped (lookup q s.processes) snapshot_of (sym none ∙ value ∙ ap (λ (u : State). option_map snapshot_of (process u q)) same)
 
--- somebody, of whom this is seen
+-- some process, of which this is seen
 pub looked_at : (s t : State) (q : ℕ) (o : Option Snapshot) (it : Snapshot) → o ≡ option_map snapshot_of (process t q) → t ≡ s → o ≡ Some it → Back (lookup q s.processes) snapshot_of it
 looked_at s t q o it value same some = back (lookup q s.processes) snapshot_of it (sym some ∙ value ∙ ap (λ (u : State). option_map snapshot_of (process u q)) same)
 

@@ -25,7 +25,7 @@ keeps_give_own o = record { pid = λ r. refl; parent = λ r. refl; group = λ r.
 pub unseen_give_own : (o : OwnPart) → Unseen (give_own o)
 unseen_give_own o = record { pid = λ r. refl; parent = λ r. refl; group = λ r. refl; life = λ r. refl; news = λ r. refl }
 
--- the value of a loan, said of the record that is there
+-- the value of a loan, said of the existing record
 pub own_is : (s : State) (p : ℕ) (o : OwnPart) (me : Process) → IfSome (process s p) (λ r. o ≡ own_of r) → process s p ≡ Some me → o ≡ own_of me
 own_is s p o me h e = own_found s.processes p o me h e
 
@@ -42,7 +42,7 @@ was_written s p o w f i h did = ap (λ rs. record s { processes = rs }) (written
 
 -- ---- an instruction
 
--- what was run is the processor of the process that is there
+-- what was run is the processor of the existing process
 pub cpu_ran : (rs : List Process) → IsRising rs → (p : ℕ) (o : OwnPart) → IfSome (lookup p rs) (λ r. o ≡ own_of r) → (f : Cpu → Cpu) (c : Cpu) → c ≡ f o.cpu → (me : Process) → lookup p rs ≡ Some me
     → changed p (give_own (record o { cpu = c })) rs ≡ changed p (set_cpu (f me.cpu)) rs
 unfolding set_cpu

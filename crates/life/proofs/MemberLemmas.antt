@@ -8,13 +8,13 @@ use Rattle.posix.proofs.WalkLemmas.{AtOne, one_here, next_begins, passing_above,
 use Rattle.posix.proofs.ResultLemmas.{is_there}
 use Rattle.life.proofs.ChildLemmas.{IsAtChild, child_here, first_here, first_todo, next_here}
 
--- a child of p is in the group just where a member of it is a child of p
+-- a child of p is in the group exactly if a member of it is a child of p
 both_ways : (p group : ℕ) (rs : List Process) → list_any (is_child p) (members_in group rs) ≡ list_any (is_member group) (children_in p rs)
 unfolding members_in children_in
 both_ways p group [] = refl
 both_ways p group (x ∷ xs) = grind (arith, both_ways p group xs)
 
--- from those that come next on, a child is in the group, and a member is a child, just where one is at all
+-- from the next ones on, a child is in the group, and a member is a child, exactly if there is one at all
 pub record IsSeeking (rs : List Process) (p group : ℕ) (child member : Option ℕ) : Type 0 where
   pub at_child : IsAtChild rs p child
   pub at_member : first_pid (left_of member (members_in group rs)) ≡ member
@@ -43,7 +43,7 @@ member_here {rs = rs} {group = group} {m = m} {member = member} w comes = one_he
 pub member_there : {rs : List Process} {p group m : ℕ} {child member : Option ℕ} → IsSeeking rs p group child member → member ≡ Some m → IsSome (lookup m rs)
 member_there w comes = let r = member_here w comes in is_there _ r.what r.found
 
--- what is asked of those that are left, is asked of the first of them and of the others
+-- a test of those that are left is one of the first of them and of the others
 asked : (t : Process → Bool) (xs rest : List Process) (next : Option ℕ) (c : ℕ) (r : Process) → next ≡ Some c → left_of (Some c) xs ≡ r ∷ rest → list_any t (left_of next xs) ≡ (t r || list_any t rest)
 asked t xs rest next c r comes left = ap (λ o. list_any t (left_of o xs)) comes ∙ ap (list_any t) left
 

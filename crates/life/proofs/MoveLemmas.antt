@@ -1,4 +1,4 @@
--- Whom setpgid moves, and who stays in its process group.
+-- Which process setpgid moves, and which processes stay in its process group.
 use Rattle.std.proofs.Common.{◌≡◌, ◌==◌, ◌||◌, true, ℕ, ℤ, pos, negsuc, inl, inr, arith, List, ap, sym, ◌∙◌, Option, Some, option_map, Ok, Result}
 use Rattle.posix.specs.declared.errno.Errno.{Errno}
 use Rattle.posix.specs.Common.{Process, IsRising, lookup, is_member, State, process, change, IsRegular, ended, made_zombie, news_told, named, move_to, in_group, is_group_of}
@@ -24,11 +24,11 @@ group_for me r z h rs up e = elim (or_cases _ _ (joins me r z h rs e)) [
   | inr some ↦ let it = some_looked _ rs up some in inr (any_looked (is_member h) it.0.pid rs it.0 it.1 (and_parts (it.0.session == me.session) (it.0.group == h) it.2).1)
 ]
 
--- what was answered to the process p that asks to move whom target is the snapshot of
+-- the answer to the process p that asks to move the process of the snapshot target
 abbrev pub Answers : List Process → ℕ → ℤ → Option Snapshot → Result ℕ Errno → Type 0
 Answers rs p z target answer = (me : Process) (named : Option Process) → lookup p rs ≡ Some me → target ≡ option_map snapshot_of named → answer ≡ move_to me named z rs
 
--- whom setpgid moves
+-- the process that setpgid moves
 pub record IsMoving (s : State) (me : Process) (word : ℤ) (group p : ℕ) : Type 0 where
   pub what : Process
   pub found : lookup p s.processes ≡ Some what
@@ -47,7 +47,7 @@ is_moving s t same i p me word z group it target answer here read value was is =
     rw (ap (λ (f : Snapshot). f.pid) r.is)
     record { what = r.what; found = found; regular = regular_move_to s i me r.what z group found moves; joins = group_for me r.what z group s.processes i.rising moves }
 
--- ---- who stays in its process group and its session, and isn't revived
+-- ---- a process that stays in its process group and its session, and isn't revived
 
 pub ended_put : (n : ℕ) (r : Process) → keeps_group_and_session (seen_of r) (seen_of (ended n r)) ≡ true
 unfolding ended

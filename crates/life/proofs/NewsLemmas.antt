@@ -1,5 +1,5 @@
--- What a change of one child is for those who wait: a wait that had to wait finds no more than before, where no child that
--- it means has more to report.
+-- What a change of one child does to waits: a blocked wait finds no more than before if no child that it selects has
+-- more to report.
 use Rattle.std.proofs.Common.{◌≡◌, ℕ, Bool, true, false, cond, not, ◌&&◌, ◌||◌, is_some, refl, ap, sym, ◌∙◌, subst, List, [], ◌∷◌, map, filter, find, Option, Some, None, ◌==◌, arith, ◌≢◌, inl, inr}
 use Rattle.std.proofs.lemmas.Bool.{cond_both, cases_eq, ne_eqb, eq-eqb}
 use Rattle.posix.specs.declared.process.Blocked.{Blocked}
@@ -37,17 +37,17 @@ told_less : (options : ℕ) (r : Process) → reports options (news_told r) ≡ 
 unfolding report_of news_told
 told_less options r e = told_life options r.pid r.life r.news e
 
--- who found nothing found nobody who reports
+-- a wait that reported nothing found no child that reports
 pub quiet : (options : ℕ) (rs : List Process) → report_found options (find (reports options) rs) ≡ found.Nothing → find (reports options) rs ≡ None
 quiet options [] e = refl
 quiet options (r ∷ rs) e = grind (arith, e, quiet options rs)
 
--- and finds nobody where each that is named reports no more than before
+-- and finds none if each that is named reports no more than before
 none_more : (named t : Process → Bool) (g : Process → Process) → ((r : Process) → named (g r) ≡ named r) → (rs : List Process) → AllByRecursion (λ r. named r ≡ true → t (g r) ≡ true → t r ≡ true) rs → find t (filter named rs) ≡ None → find t (filter named (map g rs)) ≡ None
 none_more named t g same [] less e = refl
 none_more named t g same (r ∷ rs) less e = grind (arith, e, same r, less.0, none_more named t g same rs less.1)
 
--- so it is of those that are named
+-- the same of those that are named
 among_still : (options : ℕ) (named : Process → Bool) (g : Process → Process) → ((r : Process) → named (g r) ≡ named r) → (ks : List Process) → AllByRecursion (λ r. named r ≡ true → reports options (g r) ≡ true → reports options r ≡ true) ks
     → report_among options (filter named ks) ≡ found.Nothing → report_among options (filter named (map g ks)) ≡ found.Nothing
 among_still options named g same ks less e = by (filter named ks) refl e
@@ -59,7 +59,7 @@ among_still options named g same ks less e = by (filter named ks) refl e
         let none = none_more named (reports options) g same ks less (ap (find (reports options)) is ∙ quiet options (r ∷ rs) e) in
         ap (report_among options) all ∙ ap (report_found options) (sym (ap (find (reports options)) all) ∙ none)
 
--- ---- who can act
+-- ---- runnable processes
 
 -- a process keeps its number, its parent's, its group's and its session's
 pub record KeepsNumbers (f : Process → Process) : Type 0 where
@@ -74,7 +74,7 @@ named_kept p f k group whom.OwnGroup r = at_keeps (λ r. r.group == group) p f (
 named_kept p f k group (whom.Group g) r = at_keeps (λ r. r.group == g) p f (λ r. ap (λ n. n == g) (k.group r)) r
 named_kept p f k group target r = refl
 
--- After a change of p, of those whom a wait means each has no more to report to it than before.
+-- After a change of p, each child that a wait selects has no more to report to it than before.
 abbrev TellsNoMore : (Process → Process) → List Process → ℕ → ℕ → Target → ℕ → Type 0
 TellsNoMore f rs p group target options = (k : Process) → lookup k.pid rs ≡ Some k → is_named group target k ≡ true → reports options (at p f k) ≡ true → reports options k ≡ true
 
@@ -99,7 +99,7 @@ block_nothing s p call options found.Nothing e = refl
 block_nothing s p call options (found.End c w) e = absurd (never_blocks (has_option options WNOWAIT) _ _ e)
 block_nothing s p call options (found.Change c w) e = absurd (never_blocks (has_option options WNOWAIT) _ _ e)
 
--- where these are the processes, a wait of this one that asks this still finds nothing if it found nothing
+-- a wait of this process that asks this still finds nothing among these processes if it found nothing before
 abbrev pub FindsNoMore : State → List Process → Process → Asked → Type 0
 FindsNoMore s rs me asks =
     let finds = λ (ps : List Process). report ps me.pid me.group asks.target asks.options.0 in
@@ -122,7 +122,7 @@ block_still : (s : State) (rs : List Process) (me : Process) (call : WaitCall) �
 unfolding wait_by
 block_still s rs me call less e = block_for s rs me call (asked_by call me) less e
 
--- whoever can act then could before, where its wait finds no more
+-- each process that is then runnable was runnable before, if its wait finds no more
 pub acts_no_more : (s : State) (rs : List Process) (r : Process) → ((a : Asked) → asked_in r r.blocked ≡ Some a → FindsNoMore s rs r a) → can_act (record s { processes = rs }) r ≡ true → can_act s r ≡ true
 unfolding attempt_again waits_to_read
 acts_no_more s rs r finds e = acts_less s (record s { processes = rs }) r (λ l c. goes r.blocked finds c) e
@@ -132,17 +132,17 @@ acts_no_more s rs r finds e = acts_less s (record s { processes = rs }) r (λ l 
     goes (Some blocked.Read) h c = ap not (block_read s r ∙ sym (block_read (record s { processes = rs }) r)) ∙ c
     goes b h c = c
 
--- who can be told nothing more by a change of p
+-- a change of p gives this process's wait nothing more to report
 abbrev LearnsNoMore : State → ℕ → (Process → Process) → Process → Asked → Type 0
 LearnsNoMore s p f r asks = TellsNoMore f s.processes p r.group asks.target asks.options.0
 
--- and so can act no more than before
+-- and so it cannot have become runnable
 acts_untold : (s : State) (p : ℕ) (f : Process → Process) → KeepsNumbers f → IsRising s.processes → (r : Process) → ((a : Asked) → asked_in r r.blocked ≡ Some a → LearnsNoMore s p f r a) → can_act (change s p f) r ≡ true → can_act s r ≡ true
 acts_untold s p f k up r learns e = acts_no_more s (changed p f s.processes) r (λ a waits. report_still p f k s.processes up a.options.0 r.pid r.group a.target (learns a waits)) e
 
 -- ---- a child that was stopped or continued
 
--- Where its parent doesn't wait for just this child, nobody can act by it who couldn't, but the child.
+-- If its parent doesn't wait for just this child, the change makes no process runnable but the child.
 pub touches_unawaited : (s : State) (p : ℕ) (f : Process → Process) → KeepsNumbers f → IsRising s.processes → (me : Process) → process s p ≡ Some me → ((parent : Process) → me.parent ≢ p → process s me.parent ≡ Some parent → awaits parent (f me) ≡ false) → Touches s (change s p f) (p ∷ [])
 unfolding awaits is_in
 touches_unawaited s p f k up me found deaf q r e out = elim (cases_eq q me.parent) [
@@ -168,9 +168,9 @@ touches_unawaited s p f k up me found deaf q r e out = elim (cases_eq q me.paren
           absurd (both _ _ (subst (λ o. awaits_asked r.group o (f c) ≡ false) waits (subst (λ (m : Process). awaits r (f m) ≡ false) (sym one) none)) meant asks)
     ]
 
--- ---- news that were told
+-- ---- status changes that were reported
 
--- its own news don't count for it
+-- its own status change doesn't matter to it
 go_on_told : (s : State) (r : Process) (b : Option Blocked) → can_go_on s (news_told r) b ≡ can_go_on s r b
 unfolding attempt_again wait_by waits_to_read news_told
 go_on_told s r (Some blocked.Read) = ap not (block_read s (news_told r) ∙ sym (block_read s r))
@@ -184,7 +184,7 @@ pub keeps_told : KeepsNumbers news_told
 unfolding news_told
 keeps_told = record { pid = λ r. refl; parent = λ r. refl; group = λ r. refl; session = λ r. refl }
 
--- So the change lets nobody act who couldn't.
+-- So the change makes no process runnable.
 pub touches_told : (s : State) (p : ℕ) → IsRising s.processes → Touches s (change s p news_told) []
 unfolding changed news_told
 touches_told s p up q r e out =

@@ -17,7 +17,7 @@ with_notes ns b = record { taken = record { last = b.taken.last; notes = ns ++ b
 abbrev pub rest_after : List Instr → ℕ → Cpu → ℕ → List Note → NotedBurst
 rest_after program last c done ns = exec_with_notes program (most_notes - length ns) done last c
 
--- where there is room for a note, plain instructions are run, and this is what the code found of them
+-- if there is room for a note, plain instructions are run, and this is what the code found of them
 found_first : (program : List Instr) (room done last n : ℕ) (t : Trap) (c d : Cpu) → 0 < room
     → n ≡ (exec_until program (last - done) c).count → t ≡ (exec_until program (last - done) c).trap → d ≡ (exec_until program (last - done) c).cpu
     → exec_with_notes program room done last c ≡ then_note (done + n) t d (exec_with_notes program (room - 1) ((done + n) + 1) last d)
@@ -61,7 +61,7 @@ is_filled program from done last old c ns full h =
     let none : most_notes - length ns ≡ 0 = omega (arith, full) in
     h ∙ rw (none, append-nil ns) refl
 
--- as many plain instructions as there may be, and fewer where another one was looked at
+-- as many plain instructions as there may be, and fewer if another one was looked at
 pub within_all : (n most : ℕ) (t : Trap) → IsWithin most n t → (n ≤ most) × (t ≢ trap.Next → n < most)
 within_all n most trap.Next within = (omega (arith, within), λ other. absurd (other refl))
 within_all n most t within = (omega (arith, within), λ other. within)

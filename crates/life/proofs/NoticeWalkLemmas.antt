@@ -1,4 +1,4 @@
--- The walk over the zombies among the children of a process that ends, which tells its heir of each.
+-- The walk over the zombies among a terminating process's children, which notifies their new parent of each.
 use Rattle.std.proofs.Common.{◌≡◌, ◌≢◌, ℕ, ◌+◌, ◌<◌, ◌≤◌, true, not, refl, ap, sym, ◌∙◌, arith, List, [], ◌∷◌, length, map, filter, Option, Some, None, ◌==◌, nat_lt}
 use Rattle.std.specs.Option.{IfSome, IsSome}
 use Rattle.std.proofs.lemmas.Bool.{eqb-true, ne_eqb, cond_both}
@@ -20,7 +20,7 @@ use Rattle.posix.proofs.ResultLemmas.{there}
 
 -- ---- the zombies among the children of a process
 
--- a wait for ends wants just them
+-- a wait for terminations wants exactly them
 zombies_wanted : (p : ℕ) (rs : List Process) → wanted_in WEXITED p rs ≡ zombies_of p rs
 unfolding wanted_in zombies_of report_of
 zombies_wanted p rs = filter_agree (reports WEXITED) (λ r. is_zombie r.life) (λ r. by r.pid r.life r.news) (children_in p rs)
@@ -52,7 +52,7 @@ zombies_above : (p : ℕ) (rs : List Process) → IsRising rs → ((q : ℕ) (r 
 unfolding zombies_of children_in
 zombies_above p rs up least = let dead = λ (r : Process). is_zombie r.life in filters_commute (λ r. nat_lt 0 r.pid) dead (filter (is_child p) rs) ∙ ap (filter dead) (passing_above (is_child p) rs up least)
 
--- each is a child that has ended
+-- each is a child that has terminated
 dead_child : (p c : ℕ) (rs : List Process) (r : Process) → IsRising rs → lookup c (zombies_of p rs) ≡ Some r → (lookup c rs ≡ Some r) × report.IsChild rs p c true
 unfolding zombies_of children_in
 dead_child p c rs r up e =
@@ -60,7 +60,7 @@ dead_child p c rs r up e =
     let child = in_filter (is_child p) rs up c r dead.found in
     (child.found, record { what = r; found = child.found; parent = eqb-true _ _ child.passes; dead = dead.passes })
 
--- the heir is none of them
+-- the new parent is none of them
 heir_alive : (s : State) (p heir : ℕ) → IsRegular s → 1 ≤ p → CanInherit s.processes p heir → lookup heir (zombies_of p s.processes) ≡ None
 heir_alive s p heir i least h = elim (lookup heir (zombies_of p s.processes)) as (λ o. lookup heir (zombies_of p s.processes) ≡ o → o ≡ None) [
   | None ↦ λ e. refl
@@ -71,7 +71,7 @@ heir_alive s p heir i least h = elim (lookup heir (zombies_of p s.processes)) as
 
 -- ---- one zombie
 
--- it is told of first
+-- its notice comes first
 tell_first : (s : State) (heir c v : ℕ) (r : Process) (rest : List Process) → r.pid ≡ c → r.life ≡ Zombie v → tell_of_all s heir (r ∷ rest) ≡ tell_of_all (notice_of_end s heir c v) heir rest
 unfolding tell_of_all
 tell_first s heir c v r rest named dead = grind (arith, named, dead)
@@ -82,19 +82,19 @@ unfolding removed
 left_without (Some n) c l (r ∷ rs) = grind (arith, nat_tests, eqb-true r.pid c, l, left_without (Some n) c l rs)
 left_without o c l rs = refl
 
--- nobody has more children than before
+-- no process has more children than before
 abbrev pub HasFewer : List Process → List Process → Type 0
 HasFewer old new = (q : ℕ) → length (children_in q new) ≤ length (children_in q old)
 
--- Once the heir has had notice of the end of c, the zombies of p behind c are the same, p is as it was, the heir may
--- inherit still, and nobody has more children.
+-- Once the new parent was notified of the termination of c, the zombies of p after c are the same, and p is as it was.
+-- The new parent may still inherit, and no process has more children.
 record IsTold (s t : State) (p heir c : ℕ) : Type 0 where
   pub left : (o : Option ℕ) → IfSome o (λ y. c < y) → left_of o (zombies_of p t.processes) ≡ left_of o (zombies_of p s.processes)
   pub mine : process t p ≡ process s p
   pub inherits : CanInherit t.processes p heir
   pub fewer : HasFewer s.processes t.processes
 
--- so it is
+-- a notice does this
 is_told : (s : State) (p heir c v : ℕ) → IsRegular s → 1 ≤ p → p ≢ 1 → c ≢ p → c ≢ heir → CanInherit s.processes p heir → IsTold s (notice_of_end s heir c v) p heir c
 unfolding notice_of_end zombies_of changed removed
 is_told s p heir c v i least other apart no_heir h =
@@ -123,8 +123,8 @@ is_told s p heir c v i least other apart no_heir h =
 abbrev pub zombies_left : List Process → ℕ → Option ℕ → ℕ
 zombies_left rs p next = length (left_of next (zombies_of p rs))
 
--- From the zombie that comes next, what is left to tell of comes to all that there was to tell of, and nobody has more
--- children than at the start. Who ends is as it was.
+-- The notices from the zombie that comes next on are those that remain of all of them. No process has more children
+-- than at the start, and the terminating process is as it was.
 pub record IsTelling (old now : State) (p heir : ℕ) (next : Option ℕ) : Type 0 where
   pub least : 1 ≤ p
   pub inherits : CanInherit now.processes p heir
@@ -149,7 +149,7 @@ begins s p heir next i here h is =
 at_zombie : {old now : State} {p heir c : ℕ} {next : Option ℕ} → IsTelling old now p heir next → IsRegular now → next ≡ Some c → Here (zombies_of p now.processes) c
 at_zombie {now = now} {p = p} {c = c} t i comes = here (zombies_of p now.processes) (rising_zombies p now.processes i.rising) c (rw comes at t.here)
 
--- it is a child that has ended
+-- it is a child that has terminated
 pub is_dead : {old now : State} {p heir c : ℕ} {next : Option ℕ} → IsTelling old now p heir next → IsRegular now → next ≡ Some c → report.IsChild now.processes p c true
 is_dead {now = now} {p = p} {c = c} t i comes = let k = at_zombie t i comes in (dead_child p c now.processes k.what i.rising k.found).1
 
@@ -157,7 +157,7 @@ is_dead {now = now} {p = p} {c = c} t i comes = let k = at_zombie t i comes in (
 pub not_first : {old now : State} {p heir c : ℕ} {next : Option ℕ} → IsTelling old now p heir next → IsRegular now → next ≡ Some c → c ≢ 1
 not_first {now = now} {p = p} {c = c} t i comes = report.not_first now i p c true t.least (is_dead t i comes)
 
--- the heir is told of it, and one zombie less is left
+-- the new parent is notified of it, and one zombie less is left
 pub tells : {old now : State} {p heir c : ℕ} {next : Option ℕ} (t : IsTelling old now p heir next) → IsRegular now → next ≡ Some c → p ≢ 1 → (v : ℕ) → ((r : Process) → process now c ≡ Some r → r.life ≡ Zombie v)
     → (after : Option ℕ) → after ≡ first_pid (above c (wanted_in WEXITED p now.processes))
     → IsTelling old (notice_of_end now heir c v) p heir after × (zombies_left (notice_of_end now heir c v).processes p after + 1 ≡ zombies_left now.processes p next)

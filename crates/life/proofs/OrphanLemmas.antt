@@ -1,4 +1,4 @@
--- Which process groups an end has to signal, where those are known that lose an anchor by it.
+-- Which process groups a termination has to signal, if those are known that lose an anchor by it.
 use Rattle.std.proofs.Common.{◌≡◌, ℕ, Bool, true, false, not, ◌&&◌, ap, sym, ◌∙◌, arith, List, [], ◌∷◌, filter, Some}
 use Rattle.posix.specs.Common.{Process, members_in, State, process, is_in, is_orphaned, group_numbers, has_stopped, is_newly_orphaned, newly_orphaned, loses_anchor, IsRegular}
 use Rattle.posix.proofs.MemberLemmas.{in_filter}
@@ -20,10 +20,10 @@ unfolding has_stopped members_in is_in group_numbers
 stopped_in_groups g [] e = absurd (cc)
 stopped_in_groups g (r ∷ rs) e = rw (in_with g r.group (group_numbers rs)) (grind (arith, e, stopped_in_groups g rs))
 
--- ---- those that an end orphans
+-- ---- the groups that a termination orphans
 
--- It is the same to ask, of a group that isn't orphaned before and is orphaned now, whether it is one of all
--- groups, and of one that is orphaned now whether it has lost an anchor.
+-- Two tests are the same: that a group wasn't orphaned before, is orphaned now, and is one of all groups; and that it
+-- is orphaned now, and has lost an anchor.
 same_test : (before now stopped there lost : Bool) → (stopped ≡ true → there ≡ true) → (before ≡ false → now ≡ true → lost ≡ true) → (lost ≡ true → before ≡ false)
     → ((not before && (now && stopped)) && there) ≡ ((now && stopped) && lost)
 same_test before now stopped there lost a b c = grind arith

@@ -1,4 +1,4 @@
--- A machine without the memory for a page of numbers that nobody bears.
+-- A machine without the memory for a page of IDs that are not in use.
 use Rattle.std.proofs.Common.{◌≡◌, ℕ, ◌/◌, true, refl, ap, sym, ◌∙◌, arith, List, Some}
 use Rattle.std.proofs.lemmas.Bool.{both_ways}
 use Rattle.posix.specs.Common.{Process, lookup, State}
@@ -14,7 +14,7 @@ use Rattle.life.proofs.RoomLemmas.{machine_with_room}
 use Rattle.life.proofs.SoundLemmas.{grows_same}
 use Rattle.posix.proofs.ResultLemmas.{there}
 
--- nobody bears a number on the page of n
+-- no ID on the page of n is in use
 abbrev pub IsUnborne : ℕ → Pids → Type 0
 IsUnborne n pids = (q : ℕ) → q / 1024 ≡ n / 1024 → is_free_in pids.rows q ≡ true
 

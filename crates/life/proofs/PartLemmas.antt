@@ -1,4 +1,4 @@
--- What a notice of an end, and a record that goes, change in the parts of a machine.
+-- What a notice of a termination, and the removal of a record, change in the parts of a machine.
 use Rattle.std.proofs.Common.{rules, eq-eqb, ◌≡◌, ◌≢◌, ℕ, ◌+◌, ◌≤◌, inl, inr, Bool, true, false, cond, refl, ap, sym, ◌∙◌, arith, subst, List, [], length, Option, Some, None, option_map}
 use Rattle.std.specs.Option.{option_map_or, IsSome}
 use Rattle.std.proofs.lemmas.Bool.{both_ways, cases_eq}
@@ -34,7 +34,7 @@ can_go s p places c r i found dead other =
 
 -- ---- a sound machine
 
--- a zombie goes, and the machine stays sound
+-- a zombie is removed, and the machine stays sound
 pub sound_gone : (s : State) (p q : Pids) (a : Places) (c last dropped : ℕ) (r : Process) → IsSound s p a → lookup c s.processes ≡ Some r → is_zombie r.life ≡ true → c ≢ 1
     → IsGone p q c r → dropped ≤ s.dropped + 1 → IsSound (record s { processes = removed c s.processes; last_pid = last; dropped = dropped }) q a
 sound_gone s p q a c last dropped r i found dead other g most =
@@ -45,7 +45,7 @@ sound_gone s p q a c last dropped r i found dead other g most =
     let room : (k : ℕ) → IsSome (lookup k (removed c s.processes)) → HasRoom a.sizes k = λ k here. elim (cases_eq k c) [ inl mine ↦ let no = subst IsSome (ap (λ n. lookup n (removed c s.processes)) mine ∙ lookup_removed c s.processes) here in absurd (cc) | inr other ↦ i.kept.room k (subst IsSome (lookup_kept c k s.processes other) here) ] in
     record { regular = regular; parents = parents; counted = omega (arith, i.counted, many, most); kept = record { greatest = g.greatest ∙ i.kept.greatest; table = g.table; tallied = tallied; room = room } }
 
--- there is memory for each where one has gone that stands in no list
+-- there is memory for each after one was removed that is on no list
 pub within_removed : {readers : ListsView} (c : ℕ) (rs : List Process) → ((session : ℕ) → is_pair_in session c readers.pairs ≡ false) → AreWithin readers rs → AreWithin readers (removed c rs)
 within_removed {readers = readers} c rs none h = record {
   room = λ q r e. elim (cases_eq q c) [ inl mine ↦ let no = sym (ap (λ n. lookup n (removed c rs)) mine ∙ lookup_removed c rs) ∙ e in absurd (cc) | inr other ↦ h.room q r (sym (lookup_kept c q rs other) ∙ e) ];
@@ -54,7 +54,7 @@ within_removed {readers = readers} c rs none h = record {
       (it.0, lookup_kept c q rs (λ mine. absurd (both_ways _ (none k) (subst (λ n. is_pair_in k n readers.pairs ≡ true) mine on))) ∙ it.1, it.2);
 }
 
--- it stays a machine where only the count of those dropped changes, and whether it has halted
+-- it stays a machine if only the count of those dropped changes, and whether it has halted
 pub machine_counted : {groups_at_risk : PidSetView} {terminals : Terminals} (s : State) (pids : Pids) (places : Places) (to_recheck : PidSetView) (dropped : ℕ) (halted : Bool) → dropped + length s.processes ≤ s.births
     → IsMachine s pids places to_recheck groups_at_risk terminals → IsMachine (record s { dropped = dropped; halted = halted }) pids places to_recheck groups_at_risk terminals
 machine_counted s pids places to_recheck dropped halted few i =
@@ -67,18 +67,18 @@ machine_counted s pids places to_recheck dropped halted few i =
 pub drops_is : (parent : ℕ) (rs : List Process) (drops : Bool) (me : Process) → lookup parent rs ≡ Some me → drops ≡ drops_children me.signals → drops ≡ is_dropping parent rs
 drops_is parent rs drops me found value = value ∙ ap (λ (o : Option Process). option_map_or (λ r. drops_children r.signals) o false) (sym found)
 
--- a zombie is one after a notice to another, or to it
+-- a zombie is one after a notice to another process, or to it
 pub zombie_noticed : (parent : ℕ) (signal : PendingSignal) (c : ℕ) (rs : List Process) (it : Process) → lookup c rs ≡ Some it → is_zombie it.life ≡ true → (x : Process) × (lookup c (changed parent (noticed signal) rs) ≡ Some x) × (is_zombie x.life ≡ true)
 unfolding changed
 zombie_noticed parent signal c rs it found dead =
     let k = keeps_at parent (noticed signal) (keeps_noticed {now = 0} signal) in
     (at parent (noticed signal) it, lookup_on (at parent (noticed signal)) k.pid c rs it found, k.zombie it ∙ dead)
 
--- the parent has got notice
+-- the parent was notified
 pub noticed_here : (parent : ℕ) (signal : PendingSignal) (rs : List Process) → lookup parent (changed parent (noticed signal) rs) ≡ option_map (noticed signal) (lookup parent rs)
 noticed_here parent signal rs = lookup_changed parent parent (noticed signal) (keeps_noticed {now = 0} signal).pid rs ∙ ap (λ b. cond b (option_map (noticed signal) (lookup parent rs)) (lookup parent rs)) (eq-eqb parent parent refl)
 
--- and whose child it is stays
+-- and each process keeps its parent
 pub parent_noticed : (parent : ℕ) (signal : PendingSignal) (c : ℕ) (rs : List Process) → parent_of c (changed parent (noticed signal) rs) ≡ parent_of c rs
 unfolding changed
 parent_noticed parent signal c rs =

@@ -1,4 +1,4 @@
--- Queues: for whom a signal that is sent would be queued, part by part, and that pools are enough for all of them.
+-- Queues: the processes for which a signal that is sent would be queued, part by part. Pools suffice for all of them.
 use Rattle.std.proofs.Common.{is_some, ◌≡◌, ◌≤◌, ◌<◌, ◌+◌, ◌-◌, ◌&&◌, not, ℕ, Bool, true, false, true≢false, cond, refl, ap, sym, ◌∙◌, arith, subst, inl, inr, ◌⊎◌, List, [], ◌∷◌, ◌++◌, filter, length, nat_lt, Option, Some, None, ◌==◌}
 use Rattle.std.proofs.Math.Nat.{le_trans}
 use Rattle.std.specs.List.{list_any}
@@ -45,7 +45,7 @@ unqueued_same m r e none =
     by false true f h is = absurd (cc)
     by false false f h is = ap (λ (x : Signals). record r { signals = x }) is
 
--- a standard signal is queued for nobody
+-- a standard signal is queued for no process
 pub none_queued : (n : ℕ) (qs : List Process) → is_realtime n ≡ false → queuers (Some n) qs ≡ []
 unfolding queuers
 none_queued n [] e = refl
@@ -71,14 +71,14 @@ unfolding queuers
 queuers_append None xs ys = refl
 queuers_append (Some n) xs ys = filter-append (is_queuer n) xs ys
 
--- those of two parts for whom a signal would be queued
+-- those of two parts for which a signal would be queued
 pub queuing_append : (me : Process) (s : Option ℕ) (xs ys : List Process) → queuers s (permitted me s (xs ++ ys)) ≡ queuers s (permitted me s xs) ++ queuers s (permitted me s ys)
 unfolding permitted
 queuing_append me s xs ys = ap (queuers s) (filter-append (may me s) xs ys) ∙ queuers_append s (filter (may me s) xs) (filter (may me s) ys)
 
 -- ---- the walk
 
--- behind p all stays where p alone is changed
+-- after p all stays if only p is changed
 behind_changed : (p : ℕ) (f : Process → Process) → ((r : Process) → (f r).pid ≡ r.pid) → (rs : List Process) → above p (changed p f rs) ≡ above p rs
 unfolding changed
 behind_changed p f keeps [] = refl
@@ -90,7 +90,7 @@ behind_changed p f keeps (r ∷ rs) = elim (r.pid == p) as (λ b. (r.pid == p) �
   | false ↦ λ e. ap (λ l. cond (nat_lt p r.pid) (r ∷ l) l) (behind_changed p f keeps rs)
 ] refl
 
--- so it is once p got it, if it did
+-- the same once p got it, if it did
 behind_all : (m : PendingSignal) (p : ℕ) (rs : List Process) (qs : List Process) → is_realtime m.sig ≡ true → (qs ≡ []) ⊎ ((q : Process) × (qs ≡ q ∷ []) × (q.pid ≡ p)) → above p (signalled_all m (pids qs) rs) ≡ above p rs
 unfolding signalled_all
 behind_all m p rs qs e (inl none) = ap (λ l. above p (signalled_all m (pids l) rs)) none
@@ -115,7 +115,7 @@ behind_sent : (me : Process) (target : Target) (m : PendingSignal) (p : ℕ) (rs
 unfolding targets permitted sent_among
 behind_sent me target m p rs e up = behind_all m p rs _ e (one_passes (may me (Some m.sig)) p _ (one_passes (is_target me target) p _ (one_numbered p rs up)))
 
--- for whom a signal would be queued behind p stays the same
+-- the processes after p for which a signal would be queued stay the same
 queuing_behind : (me : Process) (target : Target) (s : Option PendingSignal) (p : ℕ) (rs : List Process) → IsRising rs
     → queuers (number_of s) (permitted me (number_of s) (targets me target (above p (sent_among me s (targets me target (numbered p rs)) rs)))) ≡ queuers (number_of s) (permitted me (number_of s) (targets me target (above p rs)))
 unfolding queuers
@@ -154,7 +154,7 @@ pub keeps_queued : {now : ℕ} (pool : Bool) (m : PendingSignal) → Keeps now (
 unfolding queued
 keeps_queued pool m = keeps_cond (λ r. pool && not (has_full_queue r)) (signalled m) (λ r. r) (keeps_signalled m) keeps_none
 
--- where there is room for it and a pool it is generated
+-- if there is room for it and a pool, it is generated
 queued_is : (n : ℕ) (pool : Bool) (m : PendingSignal) (r : Process) → is_realtime m.sig ≡ true → HaveRoom n (queuers (Some m.sig) (r ∷ [])) → (0 < n → pool ≡ true) → queued pool m r ≡ signalled m r
 unfolding queued queuers
 queued_is n pool m r e room some = by (is_queuer m.sig r) refl
@@ -163,7 +163,7 @@ queued_is n pool m r e room some = by (is_queuer m.sig r) refl
     by true is = let free = room.free in let enough = room.enough in grind (arith, is, some, free, enough)
     by false is = cond_both (pool && not (has_full_queue r)) (signalled m r) r (λ q. q ≡ signalled m r) (λ t. refl) (λ f. sym (unqueued_same m r e is))
 
--- and so many pools are left at least: it is no queuer's, or one goes
+-- and at least so many pools are left: it is no queuer's, or one is used
 pub pools_left : (n m : ℕ) (s : ℕ) (r : Process) → n ≤ m + 1 → (is_queuer s r ≡ false → n ≤ m) → n ≤ m + length (queuers (Some s) (r ∷ []))
 unfolding queuers
 pools_left n m s r most none = elim (is_queuer s r) as (λ b. is_queuer s r ≡ b → n ≤ m + length (cond b (r ∷ []) [])) [
@@ -171,11 +171,11 @@ pools_left n m s r most none = elim (is_queuer s r) as (λ b. is_queuer s r ≡ 
   | false ↦ λ is. let all = none is in omega (arith, all)
 ] refl
 
--- the signal is kept, or the pool comes back
+-- the signal is kept, or the pool is returned
 abbrev pub comes_back : ℕ → Option RealtimePool → Process → Option RealtimePool → Type 0
 comes_back n pool r left = (is_queuer n r ≡ true) ⊎ (left ≡ pool)
 
--- where a pool is taken, if there is one, and what is left comes back
+-- if a pool is taken, if there is one, and what is left is returned
 pools_put : (s n mid room new : ℕ) (pool left : Option RealtimePool) (r : Process) → mid ≡ n - 1 → (0 < n → pool ≡ Some []) → (0 < n → mid < room)
     → (IsSome left → mid < room → new ≡ mid + 1) → mid ≤ new → comes_back s pool r left → n ≤ new + length (queuers (Some s) (r ∷ []))
 pools_put s n mid room new pool left r rest some free kept more says = pools_left n new s r (omega (arith, rest, more)) (λ none. by (cases_lt 0 n) none says)
@@ -185,7 +185,7 @@ pools_put s n mid room new pool left r rest some free kept more says = pools_lef
     by (inl there) none (inl keeps) = absurd (true≢false (sym keeps ∙ none))
     by (inl there) none (inr back) = let one = kept (subst IsSome (sym (back ∙ some there)) refl) (free there) in omega (arith, rest, one, there)
 
--- who queued it, where there is room for it and a pool, got it
+-- a process that queued it, with room for it and a pool, got it
 pub queue_ends : (n p : ℕ) (m : PendingSignal) (pool left : Option RealtimePool) (old new : MachineView) → HasRun (queued (is_some pool) m) (comes_back m.sig pool) old.state.processes new.state.processes p left → is_realtime m.sig ≡ true
     → IfThere p old (λ q. HaveRoom n (queuers (Some m.sig) (q ∷ []))) → (0 < n → is_some pool ≡ true) → Changes 1 old new (with_processes old.state new.state.processes) (rechecks_by_signals (process new.state p) old)
     → Changes (slots_of_signal m.sig) old new (with_processes old.state (generated_for m (process old.state p) old.state.processes)) (rechecking_generated m (process old.state p) old.state.processes old.state.order old.to_recheck)
@@ -195,14 +195,14 @@ queue_ends n p m pool left old new ran realtime room some did =
     let is = ran.is ∙ changed_same p (queued (is_some pool) m) (signalled m) old.state.processes did.costs.regular.rising it ran.me.found same in
     signal_ends m p old new ran.me.what ran.me.found (sym (realtime_effect p it.life m it.signals realtime)) (did.state ∙ ap (with_processes old.state) is) did.to_recheck did.foregrounds_unchecked did.costs
 
--- and no more pools are gone then than were needed
+-- and no more pools are used then than were needed
 pub queue_leaves : (n mid room after p : ℕ) (m : PendingSignal) (pool left : Option RealtimePool) (rs ts : List Process) → HasRun (queued (is_some pool) m) (comes_back m.sig pool) rs ts p left → mid ≡ n - 1 → (0 < n → pool ≡ Some []) → (0 < n → mid < room)
     → (IsSome left → mid < room → after ≡ mid + 1) → mid ≤ after → (r : Process) → lookup p rs ≡ Some r → n ≤ after + length (queuers (Some m.sig) (r ∷ []))
 queue_leaves n mid room after p m pool left rs ts ran rest some free kept more r e =
     let it : r ≡ record (ran.me.what) { pid = p } = same_Some _ _ (sym e ∙ ran.me.found) in
     pools_put m.sig n mid room after pool left r rest some free kept more (subst (λ q. comes_back m.sig pool q left) (sym it) ran.says)
 
--- ---- one process that is meant
+-- ---- one process that is selected
 
 pub permitted_one : (me : Process) (s : Option ℕ) (q : Process) → may me s q ≡ true → permitted me s (q ∷ []) ≡ q ∷ []
 unfolding permitted
@@ -212,7 +212,7 @@ pub permitted_none : (me : Process) (s : Option ℕ) (q : Process) → may me s 
 unfolding permitted
 permitted_none me s q e = rw e refl
 
--- it gets the signal, and is asked
+-- it gets the signal, and is rechecked
 pub sent_one : (me : Process) (m : PendingSignal) (q : Process) (p : ℕ) (rs : List Process) (order ns : List ℕ) → q.pid ≡ p → may me (Some m.sig) q ≡ true
     → (sent_among me (Some m) (q ∷ []) rs ≡ generated_for m (lookup p rs) rs) × (rechecking_signalled me (Some m) (q ∷ []) rs order ns ≡ rechecking_generated m (lookup p rs) rs order ns)
 unfolding sent_among signalled_all rechecking_signalled rechecking_all
@@ -221,30 +221,30 @@ sent_one me m q p rs order ns named e = (
   ap (λ l. rechecking_all m (pids l) rs order ns) (permitted_one me (Some m.sig) q e) ∙ ap (λ n. rechecking_generated m (lookup n rs) rs order ns) named,
 )
 
--- ---- what a send comes to
+-- ---- the outcome of a send
 
 -- one queue that is full refuses it
 pub full_refuses : (qs : List Process) (other : Sending) → list_any has_full_queue qs ≡ true → found.QueueFull ≡ queued_for true qs other
 full_refuses [] other e = absurd (cc)
 full_refuses (q ∷ qs) other e = rw e refl
 
--- so does want of memory for one that isn't
+-- if none is full, lack of memory refuses it
 pub memory_refuses : (qs : List Process) (other : Sending) → list_any has_full_queue qs ≡ false → 0 < length qs → found.NoMemory ≡ queued_for false qs other
 memory_refuses [] other e some = absurd (omega (arith, some))
 memory_refuses (q ∷ qs) other e some = rw e refl
 
--- else it goes as it finds them
+-- otherwise it goes as it finds them
 pub goes_on : (qs : List Process) (other : Sending) → list_any has_full_queue qs ≡ false → other ≡ queued_for true qs other
 goes_on [] other e = refl
 goes_on (q ∷ qs) other e = rw e refl
 
--- what a survey tells of the queues
+-- what a survey says of the queues
 pub surveyed : (me : Process) (target : Target) (n : ℕ) (rs : List Process) (survey : Survey) → survey ≡ survey_of me n (targets me target rs)
     → (survey.is_full ≡ list_any has_full_queue (queuers_among me target (Some n) rs)) × (survey.queuers ≡ length (queuers_among me target (Some n) rs))
 unfolding survey_of queuers_among
 surveyed me target n rs survey is = (ap (λ (s : Survey). s.is_full) is, ap (λ (s : Survey). s.queuers) is)
 
--- where nobody is found that may be signalled nobody gets it
+-- if none is found that may be signalled, none gets it
 nobody_sent : (me : Process) (s : Option ℕ) (qs : List Process) → is_sent (sending_found me s qs) ≡ false → permitted me s qs ≡ []
 unfolding permitted
 nobody_sent me s [] e = refl
@@ -254,7 +254,7 @@ nobody_sent me s (q ∷ qs) e = by (filter (may me s) (q ∷ qs)) e
     by [] e = refl
     by (x ∷ xs) e = absurd (true≢false e)
 
--- so it is sent to those who are meant just where it is sent
+-- it is sent to the selected processes exactly if its result says so
 pub sent_found : (me : Process) (target : Target) (k : Option PendingSignal) (rs : List Process) (order ns : List ℕ) (answer : Sending) → answer ≡ sending me target (number_of k) rs
     → (sent me target k rs ≡ sent_as answer me target k rs) × (rechecking_signalled me k (targets me target rs) rs order ns ≡ rechecking_as answer me k target rs order ns)
 unfolding sending sent sent_among signalled_all rechecking_signalled rechecking_all
@@ -268,7 +268,7 @@ sent_found me target k rs order ns answer is = by (is_sent answer) refl k (λ e.
 
 -- ---- sends, as a machine does them
 
--- one that goes to those who are found
+-- one that is sent to those that are found
 pub sends_found : {n : ℕ} (me : Process) (target : Target) (k : Option PendingSignal) (old new : MachineView) (answer : Sending) → answer ≡ sending me target (number_of k) old.state.processes
     → Changes n old new (with_processes old.state (sent me target k old.state.processes)) (rechecking_signalled me k (targets me target old.state.processes) old.state.processes old.state.order old.to_recheck) → Sends answer me target k n old new
 sends_found me target k old new answer is did =
@@ -300,7 +300,7 @@ unfolding queuers_among queuers
 standard_queuers me target None rs standard = refl
 standard_queuers me target (Some m) rs standard = none_queued m.sig (permitted me (Some m.sig) (targets me target rs)) (standard m refl)
 
--- nobody needs room
+-- no process needs room
 pub room_none : (n : ℕ) (qs : List Process) → qs ≡ [] → HaveRoom n qs
 room_none n qs e = subst (HaveRoom n) (sym e) (record { free = refl; enough = omega arith })
 

@@ -21,9 +21,9 @@ use Rattle.life.proofs.ConsoleLemmas.{reader_is}
 use Rattle.life.proofs.SoundLemmas.{grows_same}
 use Rattle.posix.proofs.ResultLemmas.{there}
 
--- ---- one who was rechecked
+-- ---- a process that was rechecked
 
--- who waits to read does so from the terminal of its session
+-- a blocked reader reads from the terminal of its session
 reads_waiting : (s : State) (p session : ℕ) → is_key session (reads s p) ≡ true → IsWaiting s session p
 reads_waiting s p session e = by (has_place s p) (process s p) refl refl e
   where
@@ -40,13 +40,13 @@ reads_waiting s p session e = by (has_place s p) (process s p) refl refl e
 pub reads_within : (s : State) (p session : ℕ) → is_key session (reads s p) ≡ true → IsInSession session p s.processes
 reads_within s p session e = let it = reads_waiting s p session e in (it.reader, it.found, (reader_is session it.reader it.reads).own)
 
--- and who does is found to
+-- and each one is found to
 reads_found : (s : State) (p session : ℕ) (r : Process) → process s p ≡ Some r → is_reader session r ≡ true → has_place s p ≡ false → is_key session (reads s p) ≡ true
 reads_found s p session r found visits out =
     let it = reader_is session r visits in
     rw (out, found, it.runs, it.visits) (eq-eqb r.session session it.own)
 
--- Where p is known just where it waits to read, it needn't be rechecked.
+-- If p is known exactly if it is a blocked reader, it need not be rechecked.
 pub watched_marked : {readers sets : ListsView} (s : State) (p : ℕ) (key : Option ℕ) (before after : List ℕ) → IsWatched s before readers → IsMoved p key readers.pairs sets.pairs
     → ((q : ℕ) → q ≢ p → is_in q after ≡ is_in q before) → ((session : ℕ) → is_key session key ≡ true → IsWaiting s session p)
     → ((session : ℕ) (r : Process) → process s p ≡ Some r → is_reader session r ≡ true → has_place s p ≡ false → is_in p after ≡ false → is_key session key ≡ true) → IsWatched s after sets
@@ -66,13 +66,13 @@ watched_marked {readers = readers} {sets = sets} s p key before after h put othe
     other : (session q : ℕ) → (q == p) ≡ false → is_pair_in session q sets.pairs ≡ is_pair_in session q readers.pairs
     other session q e = put session q ∙ ap (λ b. cond b (is_key session key) (is_pair_in session q readers.pairs)) e
 
--- so who was rechecked
+-- so is a process that was rechecked
 pub watched_rechecked : {readers sets : ListsView} (s : State) (p : ℕ) (key : Option ℕ) (before after : List ℕ) → IsWatched s before readers → after ≡ without p before → key ≡ reads s p → IsMoved p key readers.pairs sets.pairs → IsWatched s after sets
 watched_rechecked s p key before after h is reading put =
     watched_marked s p key before after h put (λ q ne. ap (is_in q) is ∙ others_stay p q before ne) (λ session e. reads_waiting s p session (sym (ap (is_key session) reading) ∙ e))
     (λ session r found visits out unasked. ap (is_key session) reading ∙ reads_found s p session r found visits out)
 
--- and who is to be rechecked, and isn't known any more
+-- and one that is on the recheck list, and isn't known any more
 pub watched_forgotten : {readers sets : ListsView} (s : State) (p : ℕ) (before after : List ℕ) → IsWatched s before readers → after ≡ with_number p before → IsMoved p None readers.pairs sets.pairs → IsWatched s after sets
 watched_forgotten s p before after h is put =
     watched_marked s p None before after h put (λ q ne. ap (is_in q) is ∙ in_with q p before ∙ ap (λ b. b || is_in q before) (ne_eqb p q (λ e. ne (sym e)))) (λ session e. absurd (cc))
@@ -88,7 +88,7 @@ listed_zombie {sets = sets} s p it l h found zombie put =
     not_running Running z = absurd (cc)
     not_running life z = refl
 
--- and who is to be rechecked anyway
+-- and one that is on the recheck list anyway
 pub listed_forgotten : {readers sets : ListsView} (s : State) (p : ℕ) (l : PidSetView) → IsListed s l readers → is_in p l.pids ≡ true → IsMoved p None readers.pairs sets.pairs → IsListed s l sets
 listed_forgotten {sets = sets} s p l h asked put =
     let watched = watched_marked {sets = sets} s p None l.pids l.pids h.watched put (λ q ne. refl) (λ session e. absurd (cc)) (λ session r mine visits out unasked. absurd (both_ways _ unasked asked)) in
@@ -97,7 +97,7 @@ listed_forgotten {sets = sets} s p l h asked put =
 pub none_marked : (p : ℕ) (old new : List Pair) → IsMoved p None old new → (session : ℕ) → is_pair_in session p new ≡ false
 none_marked p old new put session = put session p ∙ ap (λ b. cond b false (is_pair_in session p old)) (eq-eqb p p refl)
 
--- there is memory for each where p stands in another list, that of its session
+-- there is memory for each if p moves to another list, that of its session
 pub within_marked : {readers sets : ListsView} {rs : List Process} (p : ℕ) (key : Option ℕ) → IsMoved p key readers.pairs sets.pairs → sets.sizes ≡ readers.sizes → ((session : ℕ) → is_key session key ≡ true → IsInSession session p rs) → AreWithin readers rs → AreWithin sets rs
 within_marked {readers = readers} {sets = sets} {rs = rs} p key put same its h = record {
   room = λ q r e. let here = h.room q r e in (grows_same same q here.0, grows_same same r.session here.1);
@@ -109,7 +109,7 @@ within_marked {readers = readers} {sets = sets} {rs = rs} p key put same its h =
   ] refl;
 }
 
--- who can't act, and doesn't read, needn't be rechecked as it loses its place
+-- a process that isn't runnable, and not in a read, need not be rechecked when it leaves the run queue
 pub listed_asleep : {readers : ListsView} (s : State) (p : ℕ) (l : PidSetView) → IsListed s l readers → ((r : Process) → process s p ≡ Some r → can_act s r ≡ false) → ((r : Process) → process s p ≡ Some r → is_in_read r.blocked ≡ false) → IsListed (lose_place s p) l readers
 listed_asleep s p l h rests unread = record {
   covers = λ q r found w.
@@ -128,13 +128,13 @@ listed_asleep s p l h rests unread = record {
   };
 }
 
--- ---- all are rechecked who may wait to read from a terminal
+-- ---- all are rechecked that may be blocked reading from a terminal
 
--- who is known is there
+-- a known reader exists
 pub reader_there : {readers : ListsView} (s : State) (l : PidSetView) (session p : ℕ) → IsListed s l readers → is_pair_in session p readers.pairs ≡ true → IsSome (process s p)
 reader_there s l session p h on = elim (is_in p l.pids) as (λ b. is_in p l.pids ≡ b → IsSome (process s p)) [ true ↦ λ e. h.there p e | false ↦ λ e. rw (h.watched.waits session p on e).found refl ] refl
 
--- there is memory for who is there, and for the list of its session
+-- there is memory for an existing process, and for the list of its session
 pub readable : {readers : ListsView} (s : State) (p : ℕ) → IsRegular s → AreWithin readers s.processes → IsSome (process s p) → (1 ≤ p) × HasRoom readers.sizes p
 readable s p i within here =
     let it = there (process s p) here in
@@ -148,7 +148,7 @@ session_readable {readers = readers} s p i within = by (has_place s p) (process 
     by false None found = tt
     by false (Some r) found = elim (is_running r.life && is_in_read r.blocked) as (λ b. IfSome (cond b (Some r.session) None) (λ session. (1 ≤ session) × HasRoom readers.sizes session)) [ true ↦ ((i.bounded p r found).session_least, (within.room p r found).1) | false ↦ tt ]
 
--- where one isn't known any more the others are known as before
+-- if one isn't known any more, the others are known as before
 pub still_known : (session p q : ℕ) (old new : List Pair) → IsMoved p None old new → is_pair_in session q new ≡ true → (q ≢ p) × (is_pair_in session q old ≡ true)
 still_known session p q old new put on = elim (q == p) as (λ b. (q == p) ≡ b → (q ≢ p) × (is_pair_in session q old ≡ true)) [
   | true ↦ λ e. absurd (both_ways _ (put session q ∙ ap (λ b. cond b false (is_pair_in session q old)) e) on)
@@ -165,7 +165,7 @@ next_left session p next first put is = record {
       is.least q on (omega (arith, low.2, same_Some _ _ low.1, kept.0));
 }
 
--- where none is left all are to be rechecked
+-- if none is left, all are on the recheck list
 pub none_waits : {readers : ListsView} (s : State) (session : ℕ) (to_recheck : List ℕ) → IsRegular s → IsWatched s to_recheck readers → IsNextPair session 0 readers.pairs None → AreReaders s session to_recheck
 none_waits s session to_recheck i w none p r found visits out = true_from_ne_false _ (λ unasked.
     let least = (i.bounded p r found).least in
@@ -173,7 +173,7 @@ none_waits s session to_recheck i w none p r found visits out = true_from_ne_fal
     let no = low.1 in
     absurd (cc))
 
--- nobody is of no session
+-- no process is in session 0
 pub nobody_reads : (s : State) (session : ℕ) (to_recheck : List ℕ) → IsRegular s → session ≡ 0 → AreReaders s session to_recheck
 nobody_reads s session to_recheck i none p r found visits out =
     let own = (reader_is session r visits).own in

@@ -53,13 +53,13 @@ few_members group (r ∷ rs) ns up h =
 
 -- ---- readers
 
--- who waits for a line is in the foreground
+-- a process that waits for a line is in the foreground
 in_foreground : (me : Process) (c : Console) (span : Result Span Errno) → waits_in me c span ≡ true → (me.group == c.foreground) ≡ true
 in_foreground me c (Err why) w = absurd (cc)
 in_foreground me c (Ok span) w = not-false _ (not-true _ (and_parts (not (not (me.group == c.foreground))) (not (span.count == 0) && (not c.hung_up && length c.lines == 0)) w).0)
 
--- Where each process that can act has a place, who is known to read from a session's terminal and needn't be rechecked is
--- a member of its foreground process group: a read in the background doesn't block.
+-- If each runnable process is in the run queue, a known reader of a session's terminal that need not be rechecked is a
+-- member of its foreground process group: a read in the background doesn't block.
 reader_member : {readers : ListsView} (s : State) (to_recheck : List ℕ) (k p : ℕ) (c : Console) → IsRegular s → IsWatched s to_recheck readers → NoWakeIsLost s → slice_get s.consoles k ≡ Some c
     → is_pair_in c.session p readers.pairs ≡ true → is_in p to_recheck ≡ false → IsMember c.foreground s.processes p
 unfolding waits_to_read
@@ -72,7 +72,7 @@ reader_member s to_recheck k p c i h awake at on off =
     let here = in_foreground w.reader c (span_in (argument w.reader 1) (argument w.reader 2)) (ap (waits_on w.reader) (sym own) ∙ waits) in
     record { what = w.reader; found = w.found; member = here }
 
--- so where nobody was to be rechecked, and then those are who are known to read from it
+-- if the recheck list was empty, it then has exactly the processes known to read from the console
 pub readers_wait : {readers : ListsView} (s : State) (before ns : List ℕ) (k : ℕ) (c : Console) → IsRegular s → IsWatched s before readers → NoWakeIsLost s → before ≡ [] → slice_get s.consoles k ≡ Some c
     → Rises ns → ((p : ℕ) → is_in p ns ≡ true → (is_in p before || is_pair_in c.session p readers.pairs) ≡ true) → WaitForNoChild s.processes ns × (length ns ≤ length (members_in c.foreground s.processes))
 unfolding is_in
@@ -95,6 +95,6 @@ readers_wait {readers = readers} s before ns k c i h awake none at up those = (
     reading (Some (blocked.Wait call)) e = absurd (cc)
     reading b e = refl
 
--- who waits for no child needs none to be looked at
+-- for a process that waits for no child, none has to be looked at
 pub need_no_child : (rs : List Process) (ns : List ℕ) → WaitForNoChild rs ns → NeedNoChild rs ns
 need_no_child rs ns h = λ p e. let it = h p e in (it.0, it.1, or_right _ _ (ap not it.2))

@@ -1,4 +1,4 @@
--- The list of those who are to be rechecked.
+-- The recheck list.
 use Rattle.std.proofs.Common.{◌≡◌, ◌≢◌, ℕ, ◌+◌, ◌<◌, ◌≤◌, true, false, cond, not, ◌||◌, ◌&&◌, refl, ap, sym, ◌∙◌, arith, subst, List, [], ◌∷◌, ◌++◌, length, Option, Some, None, ◌==◌, slice_get, ◌⊎◌, ⊎_elim, inl, inr, Bool, map, rules}
 use Rattle.std.specs.List.{AllByRecursion}
 use Rattle.std.specs.Option.{IfSome, IsSome}
@@ -34,7 +34,7 @@ pids_of e = ap (λ (v : PidSetView). v.pids) e
 pub room_of : {a b : PidSetView} → a ≡ b → a.room ≡ b.room
 room_of e = ap (λ (v : PidSetView). v.room) e
 
--- ---- numbers put in
+-- ---- numbers inserted
 
 pub in_numbers : (q : ℕ) (ps ns : List ℕ) → is_in q (with_numbers ps ns) ≡ (is_in q ps || is_in q ns)
 unfolding with_numbers is_in
@@ -46,25 +46,25 @@ unfolding with_numbers
 rises_numbers [] ns h = h
 rises_numbers (p ∷ ps) ns h = rises_with p (with_numbers ps ns) (rises_numbers ps ns h)
 
--- ---- who waits to read
+-- ---- blocked readers
 
--- of a state that was changed: its world and its consoles stay, and of those who aren't touched nobody gets a place
+-- of a state that was changed: its world and its consoles stay, and no untouched process enters the run queue
 abbrev pub IsBeside : State → State → List ℕ → Type 0
 IsBeside s t touched = (t.world ≡ s.world) × (t.consoles ≡ s.consoles) × ((q : ℕ) → is_in q touched ≡ false → is_in q s.order ≡ false → is_in q t.order ≡ false)
 
--- who is not touched and waits to read did so before
+-- a blocked reader that is not touched was one before
 reads_still : (session : ℕ) (old new : Process) → new.blocked ≡ old.blocked → new.session ≡ old.session → new.life ≡ old.life → is_reader session new ≡ is_reader session old
 reads_still session old new b n l = rw (b, n, l) refl
 
--- each of these that is there is to be rechecked, or has a place, and had it
+-- each of these that exists is on the recheck list, or in the run queue both before and after
 abbrev pub AreAsked : State → State → List ℕ → List ℕ → Type 0
 AreAsked s t touched to_recheck = (q : ℕ) → IsSome (process t q) → is_in q touched ≡ true → (is_in q to_recheck ≡ true) ⊎ ((is_in q s.order ≡ true) × (is_in q t.order ≡ true))
 
--- nobody is touched
+-- no process is touched
 pub none_asked : (s t : State) (to_recheck : List ℕ) → AreAsked s t [] to_recheck
 none_asked s t to_recheck q here e = absurd (in_none q e)
 
--- just those who wait to read stay known where those are asked who are touched
+-- exactly the blocked readers stay known if those that are touched are rechecked
 pub watched_on : {readers : ListsView} (s t : State) (before after touched : List ℕ) → IsWatched s before readers → Touches s t touched → IsBeside s t touched
     → AreAsked s t touched after
     → ((q : ℕ) → IsSome (process t q) → is_in q before ≡ true → is_in q after ≡ true)
@@ -96,7 +96,7 @@ watched_on s t before after touched h touches same gets keeps theirs stay = reco
     unasked_before : (p : ℕ) → IsSome (process t p) → is_in p after ≡ false → is_in p before ≡ false
     unasked_before p here unasked = false_from_ne_true _ (λ e. both_ways _ unasked (keeps p here e))
 
--- so where there is memory for more
+-- so if there is memory for more
 pub watched_roomier : {readers sets : ListsView} (s : State) (to_recheck : List ℕ) → sets.pairs ≡ readers.pairs → IsWatched s to_recheck readers → IsWatched s to_recheck sets
 watched_roomier s to_recheck same w = record {
   known = λ session p r found visits out unasked. ap (is_pair_in session p) same ∙ w.known session p r found visits out unasked;
@@ -110,7 +110,7 @@ watched_alike s cs to_recheck w = record {
   waits = λ session p on unasked. let it = w.waits session p on unasked in record { reader = it.reader; found = it.found; reads = it.reads; out = it.out };
 }
 
--- ---- there is room for whoever is there
+-- ---- there is room for each existing process
 
 pub room_for : (s : State) (ns : List ℕ) (room : ℕ) → IsRegular s → Rises ns → ((q : ℕ) → is_in q ns ≡ true → IsSome (process s q)) → length s.processes < room → length ns < room
 room_for s ns room i up theirs enough =
@@ -120,7 +120,7 @@ room_for s ns room i up theirs enough =
 pub has_room : {readers : ListsView} (s : State) (l : PidSetView) → IsRegular s → IsListed s l readers → length l.pids < l.room
 has_room s l i h = room_for s l.pids l.room i h.rising h.there h.room
 
--- a list with more of those who are there is one too
+-- a list with more existing processes is one, too
 pub listed_more : {readers : ListsView} (s : State) (l m : PidSetView) (ps : List ℕ) → IsListed s l readers → AllByRecursion (λ q. IsSome (process s q)) ps → m.pids ≡ with_numbers ps l.pids → m.room ≡ l.room → IsListed s m readers
 listed_more {readers = readers} s l m ps h theirs is same = record {
   covers = λ q r e w. ap (is_in q) is ∙ in_numbers q ps l.pids ∙ or_right _ _ (h.covers q r e w);
@@ -130,7 +130,7 @@ listed_more {readers = readers} s l m ps h theirs is same = record {
   watched = watched_on s s l.pids m.pids [] h.watched (touches_none s s refl refl refl) (refl, refl, λ q u e. e) (none_asked s s m.pids) (λ q t e. ap (is_in q) is ∙ in_numbers q ps l.pids ∙ or_right _ _ e) h.there (λ k q on e. e);
 }
 
--- it stays one where there is more room
+-- it stays one if there is more room
 pub listed_roomier : {readers sets : ListsView} (s : State) (l m : PidSetView) → IsListed s l readers → m.pids ≡ l.pids → l.room ≤ m.room → sets.pairs ≡ readers.pairs → IsListed s m sets
 listed_roomier {sets = sets} s l m h is more same = record {
   covers = subst (Covers s) (sym is) h.covers;
@@ -140,17 +140,17 @@ listed_roomier {sets = sets} s l m h is more same = record {
   watched = subst (λ ns. IsWatched s ns sets) (sym is) (watched_roomier s l.pids same h.watched);
 }
 
--- so where one more is rechecked if it can act
+-- so if one more is rechecked that may be runnable
 pub listed_where : {readers : ListsView} (s : State) (l m : PidSetView) (p : ℕ) (acts : Bool) → IsListed s l readers → IsSome (process s p) → m.pids ≡ cond acts (rechecking p s.order l.pids) l.pids → m.room ≡ l.room → IsListed s m readers
 unfolding with_numbers
 listed_where {readers = readers} s l m p true h there is same = elim (is_in p s.order) as (λ b. m.pids ≡ cond b l.pids (with_number p l.pids) → IsListed s m readers) [ true ↦ λ e. listed_more s l m [] h tt e same | false ↦ λ e. listed_more s l m (p ∷ []) h (there, tt) e same ] is
 listed_where s l m p false h there is same = listed_more s l m [] h tt is same
 
--- so there is room for one more behind these
+-- so there is room for one more after these
 pub room_after : {readers : ListsView} (s : State) (l m : PidSetView) (ps : List ℕ) → IsRegular s → IsListed s l readers → AllByRecursion (λ q. IsSome (process s q)) ps → m.pids ≡ with_numbers ps l.pids → m.room ≡ l.room → length m.pids < m.room
 room_after s l m ps i h theirs is same = has_room s m i (listed_more s l m ps h theirs is same)
 
--- who is rechecked where it has no place is on the list then, or has one
+-- a process that is rechecked if it is not in the run queue is then on the list, or in the run queue
 asked_or_placed : (p : ℕ) (order ns : List ℕ) → (is_in p (rechecking p order ns) ≡ true) ⊎ (is_in p order ≡ true)
 asked_or_placed p order ns = elim (is_in p order) as (λ b. is_in p order ≡ b → (is_in p (cond b ns (with_number p ns)) ≡ true) ⊎ (b ≡ true)) [ true ↦ λ e. inr refl | false ↦ λ e. inl (in_with p p ns ∙ or_left _ _ (eq-eqb p p refl)) ] refl
 
@@ -160,7 +160,7 @@ asked_still q p order ns on = elim (is_in p order) as (λ b. is_in q (cond b ns 
 
 -- ---- the list after a change of the state
 
--- whoever has to be given a place has none
+-- a process that has to enter the run queue is not in it
 awake_out : (s : State) (p : ℕ) (r : Process) → process s p ≡ Some r → wakes s r ≡ true → is_in p s.order ≡ true → ⊥
 awake_out s p r found w placed =
     let has : is_in r.pid s.order ≡ true = ap (λ n. is_in n s.order) (pid_looked p s.processes r found) ∙ placed in
@@ -183,13 +183,13 @@ listed_on {readers = readers} s t before after touched h touches most rises same
     covers : Covers t (touched ++ after.pids)
     covers = goes_on s t before.pids (touched ++ after.pids) touched h.covers touches (λ q here e. in_append q touched after.pids ∙ or_left _ _ e) (λ q here e. in_append q touched after.pids ∙ or_right (is_in q touched) _ (keeps q here e))
 
--- where it is the same list
+-- if it is the same list
 pub listed_same : {readers : ListsView} (s t : State) (l : PidSetView) (touched : List ℕ) → IsListed s l readers → Touches s t touched → IsBeside s t touched → length t.processes ≡ length s.processes → ((q : ℕ) → IsSome (process s q) → IsSome (process t q))
     → AreAsked s t touched l.pids → IsListed t l readers
 listed_same s t l touched h touches most many stay gets =
     listed_on s t l l touched h touches most h.rising refl (omega (arith, many, h.room)) (λ q e. stay q (h.there q e)) gets (λ q theirs e. e) (λ k q on e. stay q e)
 
--- where these were put in
+-- if these were inserted
 pub listed_with : {readers : ListsView} (s t : State) (before after : PidSetView) (ps touched : List ℕ) → IsListed s before readers → Touches s t touched → IsBeside s t touched → length t.processes < before.room → ((q : ℕ) → IsSome (process s q) → IsSome (process t q))
     → AllByRecursion (λ q. IsSome (process t q)) ps → AreAsked s t touched ps → after.pids ≡ with_numbers ps before.pids → after.room ≡ before.room → IsListed t after readers
 listed_with s t before after ps touched h touches most fits stay theirs among is same =
@@ -213,7 +213,7 @@ listed_change {readers = readers} s p f before after h keeps touches here is sam
       | false ↦ λ out e. listed_with s (change s p f) before after (p ∷ []) (p ∷ []) h touches (refl, refl, λ q u e. e) fits (λ q k. stay q s.processes k) (stay p s.processes here, tt) (λ q theirs k. inl k) e same
     ] refl is
 
--- one whose signals changed, and its alarm
+-- if the signals of a process changed, and its alarm
 pub listed_signals : {readers : ListsView} (s : State) (p : ℕ) (g : Signals) (a : Option ℕ) (before after : PidSetView) → IsListed s before readers → IsSome (process s p)
     → after.pids ≡ rechecking_by_signals (process (change s p (with_signals g a)) p) s.order before.pids → after.room ≡ before.room → IsListed (change s p (with_signals g a)) after readers
 unfolding with_numbers changed
@@ -227,9 +227,9 @@ listed_signals {readers = readers} s p g a before after h here is same =
       | false ↦ λ k e. listed_with s t before after [] [] h (touches_signals s p g a (λ r found. ap takes_signal (same_Some _ _ (sym found ∙ it.found)) ∙ k)) (refl, refl, λ q u e. e) (omega (arith, length-map s.processes (at p (with_signals g a)), h.room)) (λ q k. stay q s.processes k) tt (none_asked s t []) e same
     ] refl (is ∙ ap (λ o. rechecking_by_signals o s.order before.pids) it.found)
 
--- ---- who is rechecked next
+-- ---- the process that is rechecked next
 
--- nobody comes between a number and the next one above
+-- no number is between one and the next above it
 pub none_between : (n q : ℕ) (ns : List ℕ) (next : Option ℕ) → Rises ns → next ≡ slice_get (numbers_above n ns) 0 → is_in q ns ≡ true → n < q → IfSome next (λ m. q < m) → ⊥
 none_between n q ns next up is on low before = by next (subst (λ (o : Option ℕ). IfSome o (IsLeastAbove n ns)) (sym is) (next_is n ns up)) (subst IsSome (sym is) (next_some n q ns up on low)) before
   where
@@ -237,7 +237,7 @@ none_between n q ns next up is on low before = by next (subst (λ (o : Option �
     by None k some before = absurd (cc)
     by (Some m) k some before = let l = k.least q on low in omega (arith, l, before)
 
--- the next of those who are known, where all are who pass the test
+-- the next of those that are known, if all are known that pass the test
 pub next_known : (test : Process → Bool) (rs : List Process) (ns : List ℕ) (n : ℕ) (next : Option ℕ) → Rises ns → ((q : ℕ) (r : Process) → lookup q rs ≡ Some r → test r ≡ true → is_in q ns ≡ true)
     → ((q : ℕ) → is_in q ns ≡ true → IsSome (lookup q rs)) → next ≡ slice_get (numbers_above n ns) 0 → IsNext test n rs next
 next_known test rs ns n next up covers theirs is =
@@ -248,20 +248,20 @@ next_known test rs ns n next up covers theirs is =
       between = λ q r e low before. false_from_ne_true _ (λ w. none_between n q ns next up is (covers q r e w) low before);
     }
 
--- the first of all who are on the list
+-- the first of all that are on the list
 pub first_rechecked : {readers : ListsView} (s : State) (l : PidSetView) (next : Option ℕ) → IsRegular s → IsListed s l readers → next ≡ slice_get l.pids 0 → IsNext (wakes s) 0 s.processes next
 first_rechecked s l next i h is =
     let numbered : (q : ℕ) → is_in q l.pids ≡ true → 0 < q = λ q e. let it = there _ (h.there q e) in omega (arith, (i.bounded q it.what it.found).least, pid_looked q s.processes it.what it.found) in
     next_known (wakes s) s.processes l.pids 0 next h.rising h.covers h.there (is ∙ ap (λ ns. slice_get ns 0) (sym (all_above 0 l.pids (all_in (λ q. 0 < q) l.pids numbered))))
 
--- who comes after the first one is the next above it
+-- the one after the first is the next above it
 pub second_is : (ns : List ℕ) (p : ℕ) → Rises ns → slice_get ns 0 ≡ Some p → slice_get (numbers_above p ns) 0 ≡ slice_get ns 1
 second_is [] p up first = refl
 second_is (n ∷ ns) p up first =
     let same : n ≡ p = cc in
     ap (λ q. slice_get (numbers_above q (n ∷ ns)) 0) (sym same) ∙ ap (λ l. slice_get l 0) (above_rest [] n ns up)
 
--- who was rechecked and needn't be given a place is taken off, where those who wait to read stay known
+-- a process that was rechecked, and need not enter the run queue, is taken off, if the blocked readers stay known
 pub listed_rechecked : {readers : ListsView} (s : State) (p : ℕ) (before after : PidSetView) (sets : ListsView) → IsListed s before readers → ((r : Process) → process s p ≡ Some r → wakes s r ≡ false)
     → after.pids ≡ without p before.pids → after.room ≡ before.room → IsWatched s after.pids sets → IsListed s after sets
 listed_rechecked s p before after sets h asleep is same watched = record {
@@ -272,7 +272,7 @@ listed_rechecked s p before after sets h asleep is same watched = record {
   watched = watched;
 }
 
--- ---- a record that goes
+-- ---- a record that is removed
 
 pub listed_removed : {readers : ListsView} (s : State) (c last dropped : ℕ) (it : Process) (before after : PidSetView) → IsRegular s → IsListed s before readers → lookup c s.processes ≡ Some it → IsSome (process s it.parent)
     → after.pids ≡ without_gone c it.parent s.order before.pids → after.room ≡ before.room → ((session : ℕ) → is_pair_in session c readers.pairs ≡ false) → IsListed (record s { processes = removed c s.processes; last_pid = last; dropped = dropped }) after readers
@@ -331,7 +331,7 @@ first_reads : (session : ℕ) (q : ℕ) (r : Process) → lookup q (first_proces
 unfolding lookup
 first_reads session q r found visits = nobody_reads session (1 == q) r found visits
 
--- at the start nobody is to be rechecked
+-- at the start the recheck list is empty
 pub listed_first : {readers : ListsView} (s : State) (w : World) (l : PidSetView) → s ≡ boot w → l.pids ≡ [] → l.room ≡ 2 → readers.pairs ≡ [] → IsListed s l readers
 unfolding Rises is_pair_in
 listed_first {readers = readers} s w l first is room unread = subst (λ (s : State). IsListed s l readers) (sym first) (record {
@@ -342,15 +342,15 @@ listed_first {readers = readers} s w l first is room unread = subst (λ (s : Sta
   watched = record { known = λ session q r found visits out unasked. absurd (first_reads session q r found visits); waits = λ session q on unasked. absurd (both_ways _ (ap (is_pair_in session q) unread) on) };
 })
 
--- ---- places
+-- ---- the run queue
 
--- who has no place loses none
+-- a process that is not in the run queue doesn't leave it
 pub loses_none : (s : State) (p : ℕ) → is_in p s.order ≡ false → s ≡ lose_place s p
 loses_none s p e = ap (λ o. record s { order = o }) (sym (without_absent p s.order e))
 
 -- ---- foregrounds that are cleared
 
--- nobody has to be rechecked for them, nor to be known anew
+-- they need no recheck, and no new reader
 pub listed_cleared : {readers : ListsView} (s : State) (to_recheck : PidSetView) → IsRegular s → IsListed s to_recheck readers → IsListed (clear_foregrounds s) to_recheck readers
 unfolding clear_foregrounds
 listed_cleared {readers = readers} s to_recheck i h =

@@ -24,7 +24,7 @@ rings_once : (now : ℕ) (r : Process) → is_due now (ring_at now r).alarm ≡ 
 unfolding rung with_alarm
 rings_once now r = elim (is_due now r.alarm) as (λ b. is_due now r.alarm ≡ b → is_due now (cond b (rung r) r).alarm ≡ false) [ true ↦ λ e. refl | false ↦ λ e. e ] refl
 
--- where none is due, none rings
+-- if none is due, none rings
 rings_not : (now : ℕ) (r : Process) → is_due now r.alarm ≡ false → ring_at now r ≡ r
 rings_not now r e = rw e refl
 
@@ -72,7 +72,7 @@ ringing_ends now old rs up h = sym (none rs (all_looked (λ r. is_due now r.alar
 
 -- ---- how many are due
 
--- who comes next is due
+-- the process that comes next has one that is due
 pub next_is_due : (now n : ℕ) (rs : List Process) (next : Option ℕ) → IsRising rs → next ≡ first_pid (above n (filter (λ r. is_due now r.alarm) rs)) → (p : ℕ) (r : Process) → next ≡ Some p → lookup p rs ≡ Some r → is_due now r.alarm ≡ true
 next_is_due now n rs next up e p r is found =
     let passes : Process → Bool = λ r. is_due now r.alarm && nat_lt n r.pid in
@@ -86,26 +86,26 @@ unfolding changed
 due_at_most now p [] = omega arith
 due_at_most now p (r ∷ rs) = grind (arith, due_at_most now p rs, rings_once now r)
 
--- and one less where it was due
+-- and one less if it was due
 pub fewer_due : (now p : ℕ) (rs : List Process) (me : Process) → lookup p rs ≡ Some me → is_due now me.alarm ≡ true → length (filter (λ r. is_due now r.alarm) (changed p (ring_at now) rs)) < length (filter (λ r. is_due now r.alarm) rs)
 unfolding lookup changed
 fewer_due now p [] me found due = absurd (cc)
 fewer_due now p (r ∷ rs) me found due = grind (arith, due_at_most now p rs, rings_once now r, fewer_due now p rs me, found, due)
 
--- ---- who is rechecked
+-- ---- the processes that are rechecked
 
 -- those on the list come before the next one, and a signal is chosen for each
 pub record IsTakingBelow (next : Option ℕ) (rs : List Process) (ns : List ℕ) : Type 0 where
   pub taking : AreTaking rs ns
   pub below : (q : ℕ) → is_in q ns ≡ true → IfSome next (λ p. q < p)
 
--- a number that is put in is one more at most
+-- a number that is inserted is at most one more
 pub one_more : (n : ℕ) (ns : List ℕ) → length (with_number n ns) ≤ length ns + 1
 unfolding with_number
 one_more n [] = omega arith
 one_more n (m ∷ ns) = grind (arith, one_more n ns)
 
--- so it goes on where the alarm of p rings, and the next one comes after it
+-- it goes on so if the alarm of p rings, and the next process comes after p
 pub taking_on : (now p : ℕ) (next : Option ℕ) (order : List ℕ) (rs : List Process) (ns new : List ℕ) → IsTakingBelow (Some p) rs ns → IfSome next (λ q. p < q)
     → new ≡ rechecking_by_signals (lookup p (changed p (ring_at now) rs)) order ns → IsTakingBelow next (changed p (ring_at now) rs) new × (length new ≤ length ns + 1)
 taking_on now p next order rs ns new h above is = by (lookup p (changed p (ring_at now) rs)) refl is
@@ -141,14 +141,14 @@ taking_on now p next order rs ns new h above is = by (lookup p (changed p (ring_
       ] e
     ] refl e
 
--- ---- nobody has an alarm
+-- ---- no process has an alarm
 
 -- so none is due
 none_due : (now : ℕ) (a : Option ℕ) → is_some a ≡ false → is_due now a ≡ false
 none_due now None e = refl
 none_due now (Some due) e = absurd (cc)
 
--- and nobody comes next
+-- and no process comes next
 pub quiet_next : (now n : ℕ) (rs : List Process) → list_any (λ r. is_some r.alarm) rs ≡ false → first_pid (above n (filter (λ r. is_due now r.alarm) rs)) ≡ None
 quiet_next now n rs quiet = ap (λ l. first_pid (above n l)) (none rs quiet)
   where

@@ -1,4 +1,4 @@
--- A machine in which there is room for more, or whose order of turns changes.
+-- A machine in which there is room for more, or whose run queue changes.
 use Rattle.std.proofs.Common.{◌≡◌, ℕ, ◌<◌, ◌≤◌, Bool, true, false, refl, ap, sym, ◌∙◌, subst, List, Some, IsSome}
 use Rattle.std.proofs.lemmas.Bool.{both_ways}
 use Rattle.posix.specs.Common.{Process, lookup, Console, World, State, IsRegular}
@@ -13,7 +13,7 @@ use Rattle.life.specs.Machines.{state_of, MachineView, AreSame, AreSameButRoom, 
 use Rattle.life.proofs.RecheckLemmas.{listed_roomier}
 use Rattle.life.proofs.SoundLemmas.{grows_same, kept_roomier, sound_order}
 
--- it stays one with other room, where there is room for each process in the order, and among those who wait to read
+-- it stays one with other room, if there is room for each process in the run queue, and among the blocked readers
 pub machine_with_room : {s t : State} {pids now : Pids} {places order : Places} {l m groups after : PidSetView} {terminals : Terminals} {sets : ListsView}
     → IsMachine s pids places l groups terminals → t ≡ s → now ≡ record pids { sizes = now.sizes } → ((q : ℕ) → IsSome (lookup q s.processes) → HasRoom order.sizes q) → m.pids ≡ l.pids → l.room ≤ m.room → after.pids ≡ groups.pids → m.room ≤ after.room
     → sets.pairs ≡ terminals.readers.pairs → ((q : ℕ) (r : Process) → lookup q s.processes ≡ Some r → HasRoom sets.sizes q × HasRoom sets.sizes r.session) → IsMachine t now order m after (record terminals { readers = sets })
@@ -37,7 +37,7 @@ machine_with_room {s = s} {pids = pids} {now = now} {order = order} {l = l} {m =
       within = record { room = waiting; own = λ k q on. i.within.own k q (sym (ap (is_pair_in k q) alike) ∙ on) };
     })
 
--- so with more room
+-- it holds with more room
 pub machine_roomier : {s t : State} {pids now : Pids} {places order : Places} {l m groups after : PidSetView} {terminals : Terminals} {sets : ListsView}
     → IsMachine s pids places l groups terminals → t ≡ s → now ≡ record pids { sizes = now.sizes } → Grows places.sizes order.sizes → m.pids ≡ l.pids → l.room ≤ m.room → after.pids ≡ groups.pids → m.room ≤ after.room
     → sets.pairs ≡ terminals.readers.pairs → Grows terminals.readers.sizes sets.sizes → IsMachine t now order m after (record terminals { readers = sets })
@@ -59,7 +59,7 @@ pub machine_ordered : {s : State} {order : List ℕ} {pids : Pids} {a b : Places
 machine_ordered {s = s} {order = order} {pids = pids} {a = a} {b = b} {groups = groups} i same regular listed room =
     record { sound = sound_order s order pids a b (grows_same same) regular i.sound; listed = listed; noted = subst (λ n. IsNoted n groups) (sym room) i.noted; fresh = i.fresh; indexed = i.indexed; within = i.within }
 
--- what the rows need before three numbers are borne, of which two are borne already
+-- what the rows need before three IDs are counted, of which two are already in use
 pub record CanBearAll (p : Pids) (n group session : ℕ) : Type 0 where
   pub pid_range : n ≤ p.pidmax
   pub group_range : group ≤ p.pidmax

@@ -5,7 +5,7 @@ use Rattle.posix.proofs.WalkLemmas.{Here, here, above_all, all_left, all_looked,
 use Rattle.proctable.specs.declared.records.Record.{Record}
 use Rattle.proctable.specs.Records.{process_of}
 
--- a process is the same in two lists where its parent and its record are
+-- a process is the same in two lists if its parent and its record are
 pub same_process : (p q r : ℕ) (rs qs : List Process) (b d : Record) → lookup p rs ≡ Some (process_of p (parent_of p rs) b) → lookup p qs ≡ Some (process_of p (parent_of p qs) d)
     → ((it : Process) → lookup p rs ≡ Some it → q ≡ it.parent) → ((it : Process) → lookup p qs ≡ Some it → r ≡ it.parent) → q ≡ r
     → ((p q : ℕ) → process_of p q b ≡ process_of p q d) → lookup p rs ≡ lookup p qs
@@ -25,7 +25,7 @@ pub left_begins : (n : ℕ) (rs : List Process) (next : Option ℕ) → next ≡
 unfolding next_above
 left_begins n rs next e = next_begins n rs next e
 
--- so it is known what is left behind that one
+-- so what is left after that one is known
 pub at_next : (p : ℕ) (rs : List Process) (next : Option ℕ) → IsRising rs → next ≡ Some p → first_pid (left_of next rs) ≡ next → Here rs p
 at_next p rs next up is begins = here rs up p (rw is at begins)
 
@@ -34,7 +34,7 @@ pub less_behind : (p : ℕ) (rs : List Process) (next after : Option ℕ) → He
 unfolding next_above
 less_behind p rs next after h is e = let long = ap length h.left in rw (is, e) (omega (arith, long))
 
--- two lists are the same from p on where p is the same in both, and all behind it
+-- two lists are the same from p on if p, and all after it, is the same in both
 pub same_behind : (p : ℕ) (rs qs : List Process) (next after others others_after : Option ℕ) → Here rs p → Here qs p → next ≡ Some p → others ≡ Some p
     → after ≡ next_above p rs → others_after ≡ next_above p qs → lookup p rs ≡ lookup p qs → left_of after rs ≡ left_of others_after qs → left_of next rs ≡ left_of others qs
 unfolding next_above

@@ -1,4 +1,4 @@
--- To signal the processes one after another, from the least number on, is to send to all that are meant.
+-- Signalling the processes one after another, from the lowest ID on, is sending to all that are selected.
 use Rattle.std.proofs.Common.{◌≡◌, ◌⊎◌, inl, inr, ◌+◌, nat_le, ℕ, Bool, true, false, refl, ap, sym, ◌∙◌, arith, List, [], ◌∷◌, ◌++◌, append-nil, filter, map, length, nat_lt, Option, Some, None}
 use Rattle.std.specs.Ordering.{ord_max}
 use Rattle.std.proofs.lemmas.List.{map-append, length-map}
@@ -25,25 +25,25 @@ use Rattle.life.specs.Rechecks.{rechecking_generated, rechecking_all, rechecking
 abbrev pub blank : Process → Process
 blank r = record first_process { pid = r.pid; group = r.group; session = r.session; credentials = r.credentials }
 
--- where two lists agree on it, so does what asks for nothing else
+-- two lists that agree on it agree on what depends on nothing else
 same_by : {A : Type 0} (f : List Process → A) → ((rs : List Process) → f (map blank rs) ≡ f rs) → (xs ys : List Process) → map blank xs ≡ map blank ys → f xs ≡ f ys
 same_by f blind xs ys e = sym (blind xs) ∙ ap f e ∙ blind ys
 
--- and those in them agree that pass a test that asks for nothing else
+-- and those in them agree that pass a test that depends on nothing else
 same_filter : (t : Process → Bool) → ((r : Process) → t (blank r) ≡ t r) → (xs ys : List Process) → map blank xs ≡ map blank ys → map blank (filter t xs) ≡ map blank (filter t ys)
 same_filter t same xs ys e = sym (filter_map t blank same xs) ∙ ap (filter t) e ∙ filter_map t blank same ys
 
 same_above : (p : ℕ) (xs ys : List Process) → map blank xs ≡ map blank ys → map blank (above p xs) ≡ map blank (above p ys)
 same_above p xs ys e = same_filter (λ r. nat_lt p r.pid) (λ r. refl) xs ys e
 
--- as whether it is meant
+-- nothing else decides whether a process is selected
 meant_blank : (me : Process) (target : Target) (r : Process) → is_target me target (blank r) ≡ is_target me target r
 meant_blank me (whom.Process p) r = refl
 meant_blank me target r = refl
 
 -- ---- a signal leaves it as it is
 
--- where a change of one process does, a table agrees with what it was before
+-- if a change of one process leaves it as it is, the table agrees with what it was before
 blank_changed : (p : ℕ) (f : Process → Process) → ((r : Process) → blank (f r) ≡ blank r) → (rs : List Process) → map blank (changed p f rs) ≡ map blank rs
 unfolding changed
 blank_changed p f keeps [] = refl
@@ -61,7 +61,7 @@ blank_noticed : (signal : PendingSignal) (r : Process) → blank (noticed_of_cha
 unfolding noticed_of_change
 blank_noticed signal r = cond_both (ignores_stops r.signals) r (signalled signal r) (λ q. blank q ≡ blank r) (λ e. refl) (λ e. blank_signalled signal r)
 
--- so it is where a process is continued, and its parent gets notice
+-- it stays if a process continues, and its parent is notified
 blank_acted : (what : Effect) (r : Process) (rs : List Process) → map blank (acted_upon what r rs) ≡ map blank rs
 unfolding told_of_change
 blank_acted effect.Nothing r rs = refl
@@ -83,7 +83,7 @@ pub all_pass : (t : Process → Bool) → ((r : Process) → t r ≡ true) → (
 all_pass t h [] = refl
 all_pass t h (r ∷ rs) = rw (h r) (ap (λ qs. r ∷ qs) (all_pass t h rs))
 
--- where no process group is meant all are candidates
+-- if no process group is selected, all are candidates
 pub all_candidates : (me : Process) (target : Target) (rs : List Process) → ((p : ℕ) × (target ≡ whom.Process p)) ⊎ ((target ≡ whom.All) ⊎ (target ≡ whom.Nobody)) → filter (is_candidate me target) rs ≡ rs
 all_candidates me target rs (inl e) = rw e.1 (all_pass (λ r. true) (λ r. refl) rs)
 all_candidates me target rs (inr (inl e)) = rw e (all_pass (λ r. true) (λ r. refl) rs)
@@ -94,7 +94,7 @@ candidate_blank : (me : Process) (target : Target) (r : Process) → is_candidat
 candidate_blank me (whom.Process p) r = refl
 candidate_blank me target r = refl
 
--- where two lists agree on it, they have the same first, and as many are left
+-- if two lists agree on it, they have the same first, and as many are left
 same_first : (xs ys : List Process) → map blank xs ≡ map blank ys → first_pid xs ≡ first_pid ys
 same_first xs ys e = same_by first_pid first xs ys e
   where
@@ -106,7 +106,7 @@ same_left : (o : Option ℕ) (xs ys : List Process) → map blank xs ≡ map bla
 same_left None xs ys e = refl
 same_left (Some n) xs ys e = sym (length-map (left_of (Some n) xs) blank) ∙ ap length (same_filter (λ r. nat_le n r.pid) (λ r. refl) xs ys e) ∙ length-map (left_of (Some n) ys) blank
 
--- one less is left behind p, which was signalled
+-- one less is left after p, which was signalled
 pub candidates_less : (me : Process) (target : Target) (p : ℕ) (rs mid : List Process) (next after : Option ℕ) → AtOne (is_candidate me target) p rs → next ≡ Some p → map blank mid ≡ map blank rs → after ≡ first_pid (above p (filter (is_candidate me target) mid))
     → length (left_of next (filter (is_candidate me target) rs)) ≡ 1 + length (left_of after (filter (is_candidate me target) mid))
 candidates_less me target p rs mid next after at comes e is = grind (arith, at, comes, e, is, candidate_blank, one_less, same_above, same_filter, same_first, same_left)
@@ -131,7 +131,7 @@ joined_twice found.QueueFull found.Permitted found.Permitted = refl
 joined_twice found.QueueFull found.QueueFull found.Permitted = refl
 joined_twice a b c = refl
 
--- nor does nobody
+-- nor does NobodyFound
 pub joined_none : (a : Sending) → joined a found.NobodyFound ≡ a
 joined_none found.Permitted = refl
 joined_none a = refl
@@ -151,7 +151,7 @@ joined_permitted [] [] = refl
 joined_permitted (x ∷ xs) [] = refl
 joined_permitted xs ys = refl
 
--- whom a signal to all of them finds
+-- which of all of them a signal finds
 pub sending_append : (me : Process) (s : Option ℕ) (xs ys : List Process) → joined (sending_found me s xs) (sending_found me s ys) ≡ sending_found me s (xs ++ ys)
 unfolding permitted
 sending_append me s [] ys = refl
@@ -160,13 +160,13 @@ sending_append me s (x ∷ xs) (y ∷ ys) = grind (arith, filter-append, joined_
 
 -- ---- the walk
 
--- whom a signal found by now, the table now, and who is to be rechecked
+-- the processes that a signal has found so far, the table now, and the recheck list
 pub record Sent : Type 0 where
   pub sending : Sending
   pub processes : List Process
   pub to_recheck : List ℕ
 
--- so it is once the signal found some more, and was generated for those with the numbers ps
+-- the same once the signal found some more, and was generated for those with the IDs ps
 abbrev pub given : Process → Option PendingSignal → List ℕ → Sending → List ℕ → Sent → Sent
 given me None order more ps k = record k { sending = joined k.sending more }
 given me (Some m) order more ps k = record {
@@ -190,7 +190,7 @@ pub sent_on : (me : Process) (s : Option PendingSignal) (order : List ℕ) (qs :
     → ns ≡ rechecking_signalled me s qs k.processes order k.to_recheck → record { sending = now; processes = rs; to_recheck = ns } ≡ sent_to me s order qs k
 sent_on me s order qs k more now rs ns found most rest asked = rw (most ∙ joined_max k.sending more, found, rest, asked) (sent_is me s order qs k)
 
--- it stays where the processes qs agree with others on what it asks
+-- it stays if the processes qs agree with others on what a sender asks
 sent_blank : (me : Process) (s : Option PendingSignal) (order : List ℕ) (k : Sent) (qs : List Process) → sent_to me s order (map blank qs) k ≡ sent_to me s order qs k
 unfolding permitted
 sent_blank me s order k qs =
@@ -229,7 +229,7 @@ sent_append me s order xs ys k =
     ∙ ap (λ ps. given me s order (joined (sending_found me (number_of s) xs) (sending_found me (number_of s) ys)) ps k) (permitted_append me (number_of s) xs ys)
     ∙ given_append me s order (sending_found me (number_of s) xs) (sending_found me (number_of s) ys) (pids (permitted me (number_of s) xs)) (pids (permitted me (number_of s) ys)) k
 
--- What is left to do once p was asked gives what was left before. Now is l, and next comes after p.
+-- What is left to do once p was signalled gives what was left before. Now is l, and next comes after p.
 pub sent_step : (me : Process) (target : Target) (s : Option PendingSignal) (order : List ℕ) (p : ℕ) (next : Option ℕ) (k l : Sent) → IsRising k.processes → IsRising l.processes → l ≡ sent_to me s order (targets me target (numbered p k.processes)) k → IsNext (is_target me target) p l.processes next
     → sent_to me s order (targets me target (left_of next l.processes)) l ≡ sent_to me s order (targets me target (left_of (Some p) k.processes)) k
 unfolding targets
@@ -241,7 +241,7 @@ sent_step me target s order p next k l up up_now sent comes =
     ∙ sym (sent_append me s order (filter t (numbered p k.processes)) (filter t (above p k.processes)) k)
     ∙ ap (λ qs. sent_to me s order qs k) (sym (walk_splits t p k.processes up))
 
--- at the end it was sent to all that it was meant for
+-- at the end it was sent to all selected processes
 pub sent_ends : (me : Process) (target : Target) (s : Option PendingSignal) (order : List ℕ) (next : Option ℕ) (k l : Sent) (qs : List Process) → next ≡ None → sent_to me s order (targets me target (left_of next k.processes)) k ≡ sent_to me s order qs l
     → k ≡ record { sending = joined l.sending (sending_found me (number_of s) qs); processes = sent_among me s qs l.processes; to_recheck = rechecking_signalled me s qs l.processes order l.to_recheck }
 unfolding targets permitted signalled_all rechecking_all
@@ -253,17 +253,17 @@ sent_ends me target s order next k l qs none todo = sym (nobody s) ∙ ap (λ o.
 
 -- ---- one number
 
--- who is there and is meant is the target with its number
+-- an existing process that is selected is the target with its ID
 pub target_one : (me : Process) (target : Target) (p : ℕ) (rs : List Process) → IsRising rs → (q : Process) → lookup p rs ≡ Some q → is_target me target q ≡ true → targets me target (numbered p rs) ≡ q ∷ []
 unfolding targets
 target_one me target p rs up q e t = rw (numbered_one p rs up q e, t) refl
 
--- who is there and isn't meant is none
+-- an existing process that isn't selected is none
 pub target_other : (me : Process) (target : Target) (p : ℕ) (rs : List Process) → IsRising rs → (q : Process) → lookup p rs ≡ Some q → is_target me target q ≡ false → targets me target (numbered p rs) ≡ []
 unfolding targets
 target_other me target p rs up q e t = rw (numbered_one p rs up q e, t) refl
 
--- where nobody is there, there is none
+-- if it doesn't exist, there is none
 pub target_none : (me : Process) (target : Target) (p : ℕ) (rs : List Process) → lookup p rs ≡ None → targets me target (numbered p rs) ≡ []
 unfolding targets
 target_none me target p rs e = rw (numbered_none p rs e) refl
@@ -273,30 +273,30 @@ filter_twice : (t : Process → Bool) (rs : List Process) → filter t (filter t
 filter_twice t [] = refl
 filter_twice t (x ∷ xs) = grind (arith, filter_twice t xs)
 
--- a number that nobody can have means nobody
+-- an ID that no process can have selects none
 pub targets_nobody : (me : Process) (rs : List Process) → targets me whom.Nobody rs ≡ []
 unfolding targets
 targets_nobody me [] = refl
 targets_nobody me (x ∷ xs) = targets_nobody me xs
 
--- a process is meant by its number
+-- a process is selected by its ID
 pub targets_numbered : (me : Process) (p : ℕ) (rs : List Process) → targets me (whom.Process p) (numbered p rs) ≡ targets me (whom.Process p) rs
 unfolding targets
 targets_numbered me p rs = filter_twice (has_pid p) rs
 
--- nobody is signalled where nobody is meant
+-- no process is signalled if none is selected
 pub sent_nobody : (me : Process) (s : Option PendingSignal) (rs : List Process) → sent_among me s [] rs ≡ rs
 unfolding sent_among permitted signalled_all
 sent_nobody me None rs = refl
 sent_nobody me (Some m) rs = refl
 
--- nor asked
+-- nor rechecked
 pub rechecked_nobody : (me : Process) (s : Option PendingSignal) (rs : List Process) (order ns : List ℕ) → rechecking_signalled me s [] rs order ns ≡ ns
 unfolding rechecking_signalled permitted rechecking_all
 rechecked_nobody me None rs order ns = refl
 rechecked_nobody me (Some m) rs order ns = refl
 
--- nor who may not be
+-- nor one that may not be
 pub not_sent : (me : Process) (s : Option PendingSignal) (q : Process) (rs : List Process) (order ns : List ℕ) → may me (number_of s) q ≡ false → (sent_among me s (q ∷ []) rs ≡ rs) × (rechecking_signalled me s (q ∷ []) rs order ns ≡ ns)
 unfolding sent_among permitted signalled_all rechecking_signalled rechecking_all
 not_sent me None q rs order ns e = (refl, refl)

@@ -1,4 +1,4 @@
--- Who got a signal acts by it, or no more than before.
+-- A signal makes its process runnable, or changes nothing in that.
 use Rattle.std.proofs.Common.{◌≡◌, ℕ, Bool, true, false, cond, not, ◌&&◌, ◌||◌, refl, ap, sym, ◌∙◌, [], Option, Some, None, is_some, inl, inr, arith}
 use Rattle.std.proofs.lemmas.Bool.{cases_eq, ne_eqb, eq-eqb}
 use Rattle.posix.specs.declared.process.Blocked.{Blocked}
@@ -19,7 +19,7 @@ with_signals g a r = record r { signals = g; alarm = a }
 pub unseen_signals : (g : Signals) (a : Option ℕ) → Unseen (with_signals g a)
 unseen_signals g a = record { pid = λ r. refl; parent = λ r. refl; group = λ r. refl; life = λ r. refl; news = λ r. refl }
 
--- ---- what changes signals alone
+-- ---- what changes only signals
 
 pub only_signalled : (signal : PendingSignal) → OnlySignals (signalled signal)
 unfolding signalled
@@ -41,7 +41,7 @@ pub only_alarm : (due : Option ℕ) → OnlySignals (with_alarm due)
 unfolding with_alarm
 only_alarm due r = refl
 
--- ---- who can act
+-- ---- runnable processes
 
 -- its call doesn't ask for its signals
 go_on_signals : (s : State) (g : Signals) (a : Option ℕ) (r : Process) (b : Option Blocked) → can_go_on s (with_signals g a r) b ≡ can_go_on s r b
@@ -49,7 +49,7 @@ unfolding attempt_again wait_by waits_to_read
 go_on_signals s g a r (Some blocked.Read) = ap not (block_read s (with_signals g a r) ∙ sym (block_read s r))
 go_on_signals s g a r b = refl
 
--- where no signal is chosen, KILL isn't pending
+-- if no signal is chosen, SIGKILL isn't pending
 no_kill : (r : Process) → takes_signal r ≡ false → is_pending r.signals KILL ≡ false
 unfolding chosen
 no_kill r none = by (is_pending r.signals KILL) (cond (is_running r.life) (least_ready r.signals) None) none
@@ -58,7 +58,7 @@ no_kill r none = by (is_pending r.signals KILL) (cond (is_running r.life) (least
     by true o e = absurd (cc)
     by false o e = refl
 
--- it acts by its call alone then
+-- it is then runnable only by its call
 acts_by_call : (s : State) (g : Signals) (a : Option ℕ) (r : Process) → takes_signal (with_signals g a r) ≡ false → can_act s (with_signals g a r) ≡ true → can_act s r ≡ true
 unfolding can_act
 acts_by_call s g a r none acts =
@@ -67,7 +67,7 @@ acts_by_call s g a r none acts =
     goes : (living k old l x y c d : Bool) → k ≡ false → c ≡ false → x ≡ y → (living && k || l && (x || c)) ≡ true → (living && old || l && (y || d)) ≡ true
     goes living k old l x y c d e f g h = grind (arith, e, f, g, h)
 
--- Where the signals of a process change, and its alarm, and none is chosen for it, nobody can act who couldn't.
+-- If the signals and the alarm of a process change, and no signal is chosen for it, no process becomes runnable.
 pub touches_signals : (s : State) (p : ℕ) (g : Signals) (a : Option ℕ) → ((r : Process) → process (change s p (with_signals g a)) p ≡ Some r → takes_signal r ≡ false) → Touches s (change s p (with_signals g a)) []
 unfolding changed is_in
 touches_signals s p g a none q r e out = elim (cases_eq q p) [

@@ -33,21 +33,21 @@ found_in s t same p r found = ap (λ (s : State). lookup p s.processes) same ∙
 pub here_in : {s t : State} (p : ℕ) → s ≡ t → IsSome (process t p) → IsSome (process s p)
 here_in p same h = subst (λ (s : State). IsSome (process s p)) (sym same) h
 
--- and of an heir
+-- and of a new parent
 pub heir_in : {s t : State} {p heir : ℕ} → s ≡ t → CanInherit t.processes p heir → CanInherit s.processes p heir
 heir_in {p = p} {heir = heir} same h = subst (λ (s : State). CanInherit s.processes p heir) (sym same) h
 
--- there is room where there was
+-- there is room if there was
 pub grows_same : {old new : List ℕ} → new ≡ old → Grows old new
 grows_same same n here = subst (λ sizes. HasRoom sizes n) (sym same) here
 
 -- ---- changes of records
 
--- who is there after a change of each record was there before
+-- a process that exists after a change of each record existed before
 pub some_back : (g : Process → Process) → ((r : Process) → (g r).pid ≡ r.pid) → (q : ℕ) (rs : List Process) → IsSome (lookup q (map g rs)) → IsSome (lookup q rs)
 some_back g keeps q rs here = let r = there (lookup q (map g rs)) here in rw (lookup_back g keeps q rs r.what r.found).found refl
 
--- there is memory for each where each record keeps its number and its session's
+-- there is memory for each if each record keeps its ID and its session's
 pub within_map : {readers : ListsView} (g : Process → Process) (rs : List Process) → ((r : Process) → (g r).pid ≡ r.pid) → ((r : Process) → (g r).session ≡ r.session) → AreWithin readers rs → AreWithin readers (map g rs)
 within_map {readers = readers} g rs keeps session h = record {
   room = λ q r e.
@@ -57,7 +57,7 @@ within_map {readers = readers} g rs keeps session h = record {
   own = λ k q on. let it = h.own k q on in (g it.0, lookup_on g keeps q rs it.0 it.1, session it.0 ∙ it.2);
 }
 
--- the numbers and the room stay kept where each record keeps its numbers
+-- the counts and the room stay if each record keeps its IDs
 pub kept_map : (g : Process → Process) → ((r : Process) → (g r).pid ≡ r.pid) → ((r : Process) → (g r).group ≡ r.group) → ((r : Process) → (g r).session ≡ r.session)
     → (m : ℕ) (rs : List Process) (p : Pids) (a b : Places) → Grows a.sizes b.sizes → IsKept m rs p a → IsKept m (map g rs) p b
 kept_map g kp kg ks m rs p a b wider k = record {
@@ -76,7 +76,7 @@ kept_roomier m rs p sizes places k = record {
   room = k.room;
 }
 
--- a machine stays sound where the places change but keep their room
+-- a machine stays sound if the run queue changes but keeps its room
 pub sound_order : (s : State) (order : List ℕ) (pids : Pids) (a b : Places) → Grows a.sizes b.sizes → IsRegular (record s { order = order }) → IsSound s pids a → IsSound (record s { order = order }) pids b
 sound_order s order pids a b wider regular i = record {
   regular = regular;
@@ -85,9 +85,9 @@ sound_order s order pids a b wider regular i = record {
   kept = record { greatest = i.kept.greatest; table = i.kept.table; tallied = i.kept.tallied; room = λ q here. wider q (i.kept.room q here) };
 }
 
--- ---- ends
+-- ---- terminations
 
--- who is there is still there where a process was made a zombie
+-- a process that existed exists after one was made a zombie
 pub there_made_zombie : (p w q : ℕ) (rs : List Process) → IsSome (lookup q rs) → IsSome (lookup q (changed p (made_zombie w) rs))
 unfolding made_zombie
 there_made_zombie p w q rs there = some_changed p q (made_zombie w) (λ r. refl) rs there
@@ -112,7 +112,7 @@ within_departed p heir w rs h = within_map (reparented p heir) _ (λ r. grind ar
 
 -- ---- numbers
 
--- the number that the rows give next is that of the state
+-- the next ID of the rows is that of the state
 pub next_is : (s : State) (p : Pids) (places : Places) → s.last_pid ≡ p.last → IsSound s p places → next_free (is_free_in p.rows) p.last p.pidmax ≡ next_pid s
 next_is s p places last i = grind (arith, last, i, next_same)
 
@@ -158,7 +158,7 @@ sound_born w rs cs p q a births ticks dropped h new me i fresh there up group se
     let room : (k : ℕ) → IsSome (lookup k (inserted new rs)) → HasRoom a.sizes k = λ k here. elim (cases_eq k new.pid) [ inl mine ↦ subst (λ n. HasRoom a.sizes n) (sym mine) fits | inr other ↦ i.kept.room k (subst IsSome (lookup_inserted new k rs other) here) ] in
     record { regular = regular; parents = parents; counted = search (rules, arith); kept = record { greatest = same ∙ i.kept.greatest; table = table; tallied = tallied; room = room } }
 
--- where there is memory for one more
+-- if there is memory for one more
 pub within_inserted : {readers : ListsView} (new : Process) (rs : List Process) → lookup new.pid rs ≡ None → HasRoom readers.sizes new.pid × HasRoom readers.sizes new.session → AreWithin readers rs → AreWithin readers (inserted new rs)
 within_inserted {readers = readers} new rs fresh fits h = record {
   room = λ q r e. elim (cases_eq q new.pid) [
@@ -174,12 +174,12 @@ within_inserted {readers = readers} new rs fresh fits h = record {
 
 -- ---- the start
 
--- process 1 alone
+-- only process 1
 first_alone : inserted first_process [] ≡ first_process ∷ []
 unfolding inserted
 first_alone = refl
 
--- a machine with process 1 alone
+-- a machine with only process 1
 pub sound_first : (w : World) (cs : List Console) (q : Pids) (b : Places) → cs ≡ replicate w.consoles unused_console → 2 ≤ w.pidmax → q ≡ record (born_in (unborne_table w.pidmax) 1 1 1) { sizes = q.sizes } → q.pidmax ≡ w.pidmax → IsPids q → b.pids ≡ 1 ∷ [] → HasRoom b.sizes 1
     → IsSound (state_of w (inserted first_process []) cs q b 1 0 0 false) q b
 sound_first w cs q b unused most bore same table order room = record {

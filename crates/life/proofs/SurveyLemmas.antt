@@ -1,4 +1,4 @@
--- A survey of the processes one after another, from the least number on, is the survey of all that are meant.
+-- A survey of the processes one after another, from the lowest ID on, is the survey of all that are selected.
 use Rattle.std.proofs.Common.{◌≡◌, ◌+◌, ◌≤◌, ◌&&◌, ℕ, Bool, true, false, cond, not, refl, ap, sym, ◌∙◌, arith, List, [], ◌∷◌, ◌++◌, filter, length, Option, Some, None}
 use Rattle.std.proofs.Math.Nat.{le_trans}
 use Rattle.std.specs.List.{list_any}
@@ -20,11 +20,11 @@ use Rattle.life.proofs.ViewLemmas.{same_then}
 use Rattle.life.proofs.QueueLemmas.{queuing_append}
 use Rattle.life.proofs.SendLemmas.{joined_none, joined_twice, sending_append, target_one}
 
--- the survey of some for none of whom the signal would be queued
+-- the survey of some processes, for none of which the signal would be queued
 abbrev pub unqueued : Sending → Survey
 unqueued f = record { found = f; is_full = false; queuers = 0 }
 
--- the survey of some of whom one at least may be signalled
+-- the survey of some processes, at least one of which may be signalled
 abbrev pub asked : Bool → ℕ → Survey
 asked full many = record { found = found.Permitted; is_full = full; queuers = many }
 
@@ -34,7 +34,7 @@ asked full many = record { found = found.Permitted; is_full = full; queuers = ma
 pub surveys_twice : (a b c : Survey) → joined_surveys (joined_surveys a b) c ≡ joined_surveys a (joined_surveys b c)
 surveys_twice a b c = grind (arith, joined_twice, or_assoc)
 
--- nor does the survey of nobody
+-- nor does the survey of no process
 pub surveys_none : (a : Survey) → joined_surveys a (unqueued found.NobodyFound) ≡ a
 surveys_none a = grind (arith, joined_none, or-false)
 
@@ -55,7 +55,7 @@ survey_append me n xs ys =
 
 -- ---- one number
 
--- who is meant may not be signalled
+-- a selected process may not be signalled
 pub survey_forbidden : (me : Process) (n : ℕ) (target : Target) (p : ℕ) (rs : List Process) → IsRising rs → (q : Process) → lookup p rs ≡ Some q → is_target me target q ≡ true → may me (Some n) q ≡ false
     → unqueued found.NobodyPermitted ≡ survey_of me n (targets me target (numbered p rs))
 unfolding survey_of permitted queuers
@@ -105,7 +105,7 @@ surveyed_on me n target p rs now next done one after all up here comes is on all
     ∙ ap (λ (o : Option ℕ). joined_surveys done (survey_of me n (targets me target (left_of o rs)))) (sym here)
     ∙ all_is
 
--- at the end nobody is left
+-- at the end no process is left
 pub surveyed_all : (me : Process) (n : ℕ) (target : Target) (rs : List Process) (now : Option ℕ) (done all : Survey) → now ≡ None → joined_surveys done (survey_of me n (targets me target (left_of now rs))) ≡ all → done ≡ all
 unfolding survey_of targets permitted queuers
 surveyed_all me n target rs now done all none all_is =

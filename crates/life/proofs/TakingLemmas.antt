@@ -1,4 +1,4 @@
--- Signals that continue nobody are generated for several processes: who is rechecked then takes one.
+-- Signals that continue no process are generated for several: each one on the recheck list then has a chosen signal.
 use Rattle.std.proofs.Common.{◌≡◌, ℕ, ◌+◌, ◌≤◌, Bool, true, false, cond, not, refl, ap, sym, ◌∙◌, arith, subst, List, [], ◌∷◌, length, Option, Some, None, ◌==◌, ◌||◌, ⊎_elim, rules}
 use Rattle.std.proofs.lemmas.Bool.{eqb-false, eqb-true, or_cases, or_left, or_parts, or_right}
 use Rattle.std.proofs.lemmas.List.{length-map}
@@ -76,18 +76,18 @@ taking_on signal (p ∷ ps) order rs ns plain apart h =
     let rest = taking_on signal ps order (generated_for signal (lookup p rs) rs) (rechecking_generated signal (lookup p rs) rs order ns) plain apart.1 one.0 in
     (rest.0, omega (arith, one.1, rest.1))
 
--- where nobody was to be rechecked those are who take one, and no more than got one
+-- if the recheck list was empty, it then has processes with a chosen signal, and no more than got one
 pub taking_all : (signal : PendingSignal) (ps order : List ℕ) (rs : List Process) → (signal.sig == CONT) ≡ false → IsDistinct ps
     → AreTaking (signalled_all signal ps rs) (rechecking_all signal ps rs order []) × (length (rechecking_all signal ps rs order []) ≤ length ps)
 unfolding is_in
 taking_all signal ps order rs plain apart = let on = taking_on signal ps order rs [] plain apart (λ q e. absurd (cc)) in let few = on.1 in (on.0, omega (arith, few))
 
--- nobody is told anything of where nobody is to be rechecked
+-- an empty recheck list needs nothing
 pub brief_none : (rs : List Process) (ns : List ℕ) (k : ℕ) → ns ≡ [] → NeedNoChild rs ns × (length ns ≤ k)
 unfolding is_in
 brief_none rs ns k none = rw none (λ q e. absurd (cc), omega arith)
 
--- so where the kernel signals a process group
+-- so if the kernel signals a process group
 pub brief_group : (n group : ℕ) (rs ts : List Process) (order ns new : List ℕ) → (n == CONT) ≡ false → IsRising rs → ns ≡ [] → ts ≡ signalled_group n group rs → new ≡ cond (group == 0) ns (rechecking_members n group rs order ns)
     → NeedNoChild ts new × (length new ≤ length (members_in group rs))
 unfolding signalled_members members_in
@@ -100,7 +100,7 @@ brief_group n group rs ts order ns new plain up none does puts = by (group == 0)
         let many = length-map (members_in group rs) (λ r. r.pid) in
         rw (does, puts, none) (λ q e. let it = all.0 q e in (it.0, it.1, or_left _ _ it.2), omega (arith, many, all.1))
 
--- so where the kernel signals one process, and those who were to be rechecked wait for no child
+-- so if the kernel signals one process, and those on the recheck list wait for no child
 pub brief_one : (n p : ℕ) (order : List ℕ) (rs : List Process) (ns : List ℕ) → (n == CONT) ≡ false → WaitForNoChild rs ns
     → NeedNoChild (generated_for (record { sig = n; carried = from_kernel }) (lookup p rs) rs) (rechecking_generated (record { sig = n; carried = from_kernel }) (lookup p rs) rs order ns)
     × (length (rechecking_generated (record { sig = n; carried = from_kernel }) (lookup p rs) rs order ns) ≤ 1 + length ns)
@@ -139,7 +139,7 @@ brief_one n p order rs ns plain h = by (lookup p rs) refl
           ]
         ] refl)
 
--- who is asked by a signal that isn't CONT got it
+-- a process that is rechecked for a signal other than SIGCONT got it
 asked_one : (signal : PendingSignal) (q p : ℕ) (order : List ℕ) (rs : List Process) (ns : List ℕ) → (signal.sig == CONT) ≡ false → is_in p (rechecking_generated signal (lookup q rs) rs order ns) ≡ true → (is_in p ns || p == q) ≡ true
 unfolding signalled
 asked_one signal q p order rs ns plain on = by (lookup q rs) refl on
@@ -153,7 +153,7 @@ unfolding rechecking_all is_in
 asked_all signal [] p order rs ns plain on = or_left _ _ on
 asked_all signal (q ∷ qs) p order rs ns plain on = grind (arith, asked_all signal qs p order (generated_for signal (lookup q rs) rs) (rechecking_generated signal (lookup q rs) rs order ns) plain on, asked_one signal q p order rs ns plain)
 
--- so where the kernel signals a process group
+-- so if the kernel signals a process group
 pub asked_members : (n group p : ℕ) (order : List ℕ) (rs : List Process) (ns : List ℕ) → (n == CONT) ≡ false → is_in p (cond (group == 0) ns (rechecking_members n group rs order ns)) ≡ true → (is_in p ns || is_in p (pids (members_in group rs))) ≡ true
 asked_members n group p order rs ns plain = elim (group == 0) as (λ b. is_in p (cond b ns (rechecking_members n group rs order ns)) ≡ true → (is_in p ns || is_in p (pids (members_in group rs))) ≡ true) [
   | true ↦ or_left _ _

@@ -27,7 +27,7 @@ find_at test [] k x at t h = absurd (cc)
 find_at test (y ∷ ys) zero x at t h = let same = same_Some _ _ at in rw (ap test same ∙ t) at
 find_at test (y ∷ ys) (suc k) x at t h = rw (h zero y (omega arith) refl) (find_at test ys k x at t (λ j z low e. h (suc j) z (omega (arith, low)) e))
 
--- the least number under a session is that of its terminal
+-- the lowest number under a session is that of its terminal
 under : (cs : List Console) (pairs : List Pair) (session k : ℕ) (c : Console) → AreTerminals cs pairs → slice_get cs k ≡ Some c → is_pair_in session (k + 1) pairs ≡ (c.session == session)
 under cs pairs session k c h at = h.index (k + 1) session ∙ ap (λ n. is_key session (session_of cs n)) number ∙ ap (λ o. is_key session (option_map (λ (c : Console). c.session) o)) at
   where
@@ -60,7 +60,7 @@ terminal_missing cs pairs session h next = find_none (is_of_session session) cs 
 
 -- ---- a console that becomes another
 
--- it stands under its session, and can be moved
+-- it is listed under its session, and can be moved
 pub terminal_moves : (cs : List Console) (terminals : IndexView) (k : ℕ) (c : Console) → AreTerminals cs terminals.pairs → slice_get cs k ≡ Some c → CanReplace (k + 1) (Some c.session) terminals
 terminal_moves cs terminals k c h at = record { at = λ session. under cs terminals.pairs session k c h at; room = λ none. absurd (cc) }
 
@@ -95,7 +95,7 @@ terminals_kept cs k c d terminals at same h = terminals_put cs k c d terminals t
   | inr ne ↦ rw (ne_eqb n (k + 1) ne) refl
 ]) h
 
--- where none gets another session all stand as before
+-- if none gets another session, all are listed as before
 pub terminals_same : (cs ds : List Console) (terminals : List Pair) → length ds ≡ length cs → ((k : ℕ) → option_map (λ (c : Console). c.session) (slice_get ds k) ≡ option_map (λ (c : Console). c.session) (slice_get cs k)) → AreTerminals cs terminals → AreTerminals ds terminals
 terminals_same cs ds terminals many same h = record { index = λ n session. h.index n session ∙ ap (is_key session) (sym (each n)); few = subst (λ n. n ≤ 64) (sym many) h.few }
   where
@@ -117,7 +117,7 @@ terminals_cleared rs cs terminals h = terminals_same cs (map (refreshed rs) cs) 
 
 -- ---- at the start
 
--- the first n consoles stand under 0
+-- the first n consoles are listed under 0
 pub record AreNobodys (n : ℕ) (pairs : List Pair) : Type 0 where
   pub pairs_are : (k p : ℕ) → is_pair_in k p pairs ≡ (k == 0 && (nat_le 1 p && nat_le p n))
   pub once : ArePairs pairs

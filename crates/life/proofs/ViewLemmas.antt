@@ -1,4 +1,4 @@
--- The state that a machine stands for, and what looks at it come to, one after another.
+-- The state that is the value of a machine, and what several looks at it read, one after another.
 use Rattle.std.proofs.Common.{◌≡◌, ◌+◌, ◌≤◌, ℕ, ap, arith, refl, rules}
 use Rattle.std.proofs.Math.Nat.{le_refl, le_trans}
 use Rattle.posix.specs.Common.{IsRegular}

@@ -14,7 +14,7 @@ caller_of r = record {
   r3 = argument r 3;
 }
 
--- a caller as a process, of which all else is as at boot
+-- a caller as a process, which is otherwise as at boot
 abbrev pub process_like : Caller → Process
 process_like c = record first_process {
   pid = c.pid;

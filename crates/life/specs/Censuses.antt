@@ -1,9 +1,9 @@
--- How many processes there are.
+-- The numbers of live processes and zombies.
 use Rattle.std.specs.Prelude.{count_by}
 use Rattle.posix.specs.Common.{is_living, is_zombie, State}
 use Rattle.life.specs.declared.census.Census.{Census}
 
--- what is counted in a state
+-- the processes of a state, in numbers
 abbrev pub census_of : State → Census
 census_of s = record {
   births = s.births;

@@ -11,20 +11,20 @@ use Rattle.proctable.specs.declared.records.Record.{Record}
 use Rattle.proctable.specs.Records.{process_of, with_record}
 use Rattle.jobs.specs.declared.indexes.IndexedFields.{IndexedFields}
 
--- whatever the closure does to the record of p, a regular state stays so
+-- whatever the closure does to the record of p, a regular state stays regular
 abbrev pub StaysRegular : {F T : Type 0} → Once F (MutBor Record × Unit {0}) (T × (MutBor Record × Unit {0})) → F → State → ℕ → Type 0
 StaysRegular {T = T} g change s p =
     IsRegular s → (b c : Record) (r : T) → lookup p s.processes ≡ Some (process_of p (parent_of p s.processes) b) → FnOnceReturnsAtMut g change b r c → IsRegular (record s { processes = with_record s.processes p c })
 
--- the closure leaves p in its session, or in one that p leads
+-- the closure leaves p in its session, or puts it in one that p leads
 abbrev pub StaysInSession : {F T : Type 0} → Once F (MutBor Record × Unit {0}) (T × (MutBor Record × Unit {0})) → F → List Process → ℕ → Type 0
 StaysInSession g change rs p = Does g change rs p (λ b c. (c.session ≡ b.session) ⊎ (c.session ≡ p))
 
--- it has another process group or session
+-- its process group or session has changed
 abbrev pub has_moved : IndexedFields → IndexedFields → Bool
 has_moved old new = not (old.group == new.group) || not (old.session == new.session)
 
--- the rows hold the numbers that it bears, and can hold those that it comes to bear, which somebody bears already
+-- the rows count its process group and session IDs, and can count its new ones, which are already in use
 pub record CanMoveNumbers (p : Pids) (old new : IndexedFields) : Type 0 where
   pub group_range : old.group ≤ p.pidmax
   pub session_range : old.session ≤ p.pidmax
@@ -37,6 +37,6 @@ pub record CanMoveNumbers (p : Pids) (old new : IndexedFields) : Type 0 where
   pub to_group_borne : is_free_in p.rows new.group ≡ false
   pub to_session_borne : is_free_in p.rows new.session ≡ false
 
--- It lives so from now on, and this is new of it.
+-- The process is in this state from now on, with this unreported status change.
 abbrev pub lives : Life → News → Process → Process
 lives l n r = record r { life = l; news = n }

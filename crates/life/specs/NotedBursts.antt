@@ -7,17 +7,17 @@ use Rattle.posix.specs.Common.{Cpu}
 use Rattle.umach.specs.Bursts.{exec_until}
 use Rattle.life.specs.declared.noted_bursts.Note.{Note}
 
--- a burst ends once there are so many notes
+-- a burst ends after so many notes
 abbrev pub most_notes : ℕ
 most_notes = 32
 
--- the number of the last step that was taken, the notes, and how the instruction after it came out
+-- the number of the last step taken, the notes, and how the instruction after it came out
 pub record StepsTaken : Type 0 where
   pub last : ℕ
   pub notes : List Note
-  pub trap : Trap  -- Next, where it wasn't looked at
+  pub trap : Trap  -- Next if it wasn't looked at
 
--- that, and the processor then
+-- these, and the processor after them
 pub record NotedBurst : Type 0 where
   pub taken : StepsTaken
   pub cpu : Cpu
@@ -26,11 +26,11 @@ pub record NotedBurst : Type 0 where
 abbrev pub ends_at : ℕ → Trap → Cpu → NotedBurst
 ends_at done t c = record { taken = record { last = done; notes = []; trap = t }; cpu = c }
 
--- this note, and what follows it
+-- this note, and then the rest
 abbrev pub with_note : Note → NotedBurst → NotedBurst
 with_note note rest = record { taken = record { last = rest.taken.last; notes = note ∷ rest.taken.notes; trap = rest.taken.trap }; cpu = rest.cpu }
 
--- the instruction after step number done came out so: where it gave a note, the rest follows
+-- the instruction after step number done came out in this way; if it gave a note, the rest follows
 abbrev pub then_note : ℕ → Trap → Cpu → NotedBurst → NotedBurst
 then_note done trap.Next c rest = ends_at done trap.Next c
 then_note done (trap.Note value) c rest = with_note (record { step = done + 1; value = value }) rest

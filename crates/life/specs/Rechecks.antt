@@ -1,4 +1,4 @@
--- Who is to be rechecked: asked after this event whether it can act.
+-- The recheck list: the processes to be tested, after this event, for whether they are runnable.
 use Rattle.std.specs.Prelude.{◌≡◌, ℕ, ◌+◌, ◌*◌, Bool, true, false, not, ◌||◌, ◌&&◌, ◌==◌, if◌then◌else◌, List, [], ◌∷◌, Option, Some, None, ℤ}
 use Rattle.posix.specs.declared.process.Blocked.{Blocked}
 use Rattle.posix.specs.declared.process.Blocked.TheVariants as blocked
@@ -13,25 +13,25 @@ use Rattle.jobs.specs.IndexedTables.{takes_signal}
 use Rattle.pidset.specs.Numbers.{with_number}
 use Rattle.life.specs.Machines.{MachineView}
 
--- these numbers put in
+-- these numbers inserted
 unfoldable pub with_numbers : List ℕ → List ℕ → List ℕ
 with_numbers [] ns = ns
 with_numbers (p ∷ ps) ns = with_number p (with_numbers ps ns)
 
--- p has changed, but not its place: it is rechecked where it has none
+-- p has changed, but not its position in the run queue: if it has none, it is listed
 abbrev pub rechecking : ℕ → List ℕ → List ℕ → List ℕ
 rechecking p order ns = if is_in p order then ns else with_number p ns
 
--- a parent that is there is rechecked where it has no place; number 0 is nobody's
+-- an existing parent is listed if it is not in the run queue; number 0 is no parent
 abbrev pub with_parent : ℕ → List ℕ → List ℕ → List ℕ
 with_parent parent order ns = if parent == 0 then ns else rechecking parent order ns
 
--- a child has changed in what its parent sees: both are rechecked
+-- a child has changed in what its parent sees: both are listed
 abbrev pub rechecking_changed : Process → List ℕ → List ℕ → List ℕ
 rechecking_changed r order ns = with_parent r.parent order (with_number r.pid ns)
 
--- The signals of a process that is there have changed, and nothing else of it: it is rechecked where one is chosen for
--- it, and it has no place. Where none is, it can act no more than before.
+-- Only the signals of an existing process have changed: it is listed if one is chosen for it and it is not in the run
+-- queue. If none is chosen, it cannot have become runnable.
 abbrev pub rechecking_by_signals : Option Process → List ℕ → List ℕ → List ℕ
 rechecking_by_signals None order ns = ns
 rechecking_by_signals (Some r) order ns = if takes_signal r then rechecking r.pid order ns else ns
@@ -44,7 +44,7 @@ is_in_wait (Some blocked.Read) = false
 is_in_wait (Some blocked.Pause) = false
 is_in_wait (Some (blocked.Sigsuspend mask)) = false
 
--- a wait that asks this, by a caller in this process group, means the child, which has something to report for it
+-- a wait that asks this, by a caller in this process group, selects the child and would report it
 abbrev pub awaits_asked : ℕ → Option Asked → Process → Bool
 awaits_asked group None child = false
 awaits_asked group (Some a) child = is_named group a.target child && reports a.options.0 child
@@ -60,18 +60,18 @@ asked_with (Some (blocked.Sigsuspend mask)) r1 r2 r3 = None
 abbrev pub asked_in : Process → Option Blocked → Option Asked
 asked_in me b = asked_with b (argument me 1) (argument me 2) (argument me 3)
 
--- A process is blocked in a wait that means this child, and the child has something to report that the wait asks for.
+-- A process is blocked in a wait that selects this child and would report it.
 unfoldable pub awaits : Process → Process → Bool
 awaits me child = awaits_asked me.group (asked_in me me.blocked) child
 
--- A child was stopped or continued, and its parent, if it has one, got notice of it. The child is rechecked; its parent
--- is, where it has no place, if it waits for just this child or a signal is chosen for it. Else the parent can act no more
--- than before. Both are as they are afterwards.
+-- A child has stopped or continued, and its parent, if it has one, was notified. The child is listed. Its parent is
+-- listed if it is not in the run queue, and waits for just this child or has a chosen signal. Otherwise the parent
+-- cannot have become runnable. Both processes are as they are afterwards.
 abbrev pub rechecking_told : Process → Option Process → List ℕ → List ℕ → List ℕ
 rechecking_told child None order ns = with_number child.pid ns
 rechecking_told child (Some parent) order ns = if awaits parent child || takes_signal parent then rechecking parent.pid order (with_number child.pid ns) else with_number child.pid ns
 
--- so in a machine
+-- the same in a machine
 abbrev pub rechecks : ℕ → MachineView → List ℕ
 rechecks p m = rechecking p m.state.order m.to_recheck
 
@@ -81,22 +81,22 @@ rechecks_by_signals o m = rechecking_by_signals o m.state.order m.to_recheck
 abbrev pub rechecks_changed : Process → MachineView → List ℕ
 rechecks_changed r m = rechecking_changed r m.state.order m.to_recheck
 
--- so where a signal continues a child, or does nothing at once, after which these are the processes
+-- a signal continues a child, or has no effect at once; these are the processes afterwards
 abbrev pub rechecking_effect : Effect → Process → List Process → List ℕ → List ℕ → List ℕ
 rechecking_effect effect.Nothing r rs order ns = ns
 rechecking_effect effect.Continued r rs order ns = rechecking_told (resumed r) (lookup r.parent rs) order ns
 
--- a signal was generated for one of these processes
+-- a signal was generated for this one of the processes
 abbrev pub rechecking_generated : PendingSignal → Option Process → List Process → List ℕ → List ℕ → List ℕ
 rechecking_generated signal None rs order ns = ns
 rechecking_generated signal (Some r) rs order ns = rechecking_effect (effect_of r.pid r.life signal r.signals) (signalled signal r) (generated_for signal (Some r) rs) order (rechecking_by_signals (Some (signalled signal r)) order ns)
 
--- and for several of these processes, one after another
+-- and for several of the processes, one after another
 unfoldable pub rechecking_all : PendingSignal → List ℕ → List Process → List ℕ → List ℕ → List ℕ
 rechecking_all signal [] rs order ns = ns
 rechecking_all signal (p ∷ ps) rs order ns = rechecking_all signal ps (generated_for signal (lookup p rs) rs) order (rechecking_generated signal (lookup p rs) rs order ns)
 
--- a signal was sent to the processes that may be signalled; signal 0 only checks
+-- a signal was sent to those of the processes that may be signalled; signal 0 only checks
 unfoldable pub rechecking_signalled : Process → Option PendingSignal → List Process → List Process → List ℕ → List ℕ → List ℕ
 rechecking_signalled me None qs rs order ns = ns
 rechecking_signalled me (Some signal) qs rs order ns = rechecking_all signal (pids (permitted me (Some signal.sig) qs)) rs order ns
@@ -109,7 +109,8 @@ rechecking_members n group rs order ns = rechecking_all (record { sig = n; carri
 abbrev pub AreTaking : List Process → List ℕ → Type 0
 AreTaking rs ns = (p : ℕ) → is_in p ns ≡ true → (r : Process) × (lookup p rs ≡ Some r) × (takes_signal r ≡ true)
 
--- No child has to be looked at to tell whether each of these can act: a signal is chosen for it, or it waits for none.
+-- No child has to be looked at to find whether each of these is runnable: a signal is chosen for it, or it waits for
+-- none.
 abbrev pub NeedNoChild : List Process → List ℕ → Type 0
 NeedNoChild rs ns = (p : ℕ) → is_in p ns ≡ true → (r : Process) × (lookup p rs ≡ Some r) × ((takes_signal r || not (is_in_wait r.blocked)) ≡ true)
 
@@ -117,16 +118,16 @@ NeedNoChild rs ns = (p : ℕ) → is_in p ns ≡ true → (r : Process) × (look
 abbrev pub WaitForNoChild : List Process → List ℕ → Type 0
 WaitForNoChild rs ns = (p : ℕ) → is_in p ns ≡ true → (r : Process) × (lookup p rs ≡ Some r) × (is_in_wait r.blocked ≡ false)
 
--- how many slots are read where a signal is generated: CONT may continue its process, whose parent gets notice
+-- how many slots are read when a signal is generated: SIGCONT may continue the process, whose parent is notified
 abbrev pub slots_of_signal : ℕ → ℕ
 slots_of_signal n = if n == CONT then 3 else 1
 
--- for signal 0 none
+-- none for signal 0
 abbrev pub slots_of_send : Option ℕ → ℕ
 slots_of_send None = 0
 slots_of_send (Some n) = slots_of_signal n
 
--- how many slots are read, before a real-time signal is queued, at the process with one number, and at so many candidates
+-- how many slots are read, before a real-time signal is queued, for the process with one ID, and for so many candidates
 abbrev pub slots_of_survey_of_one : Option ℕ → ℕ
 slots_of_survey_of_one None = 0
 slots_of_survey_of_one (Some n) = if is_realtime n then 2 else 0
@@ -135,7 +136,7 @@ abbrev pub slots_of_survey : Option ℕ → ℕ → ℕ
 slots_of_survey None many = 0
 slots_of_survey (Some n) many = if is_realtime n then 1 + 3 * many else 0
 
--- at most one process is meant, by its number
+-- at most one process is selected, by its ID
 abbrev pub is_one : Target → Bool
 is_one (whom.Process p) = true
 is_one whom.OwnGroup = false
@@ -143,7 +144,7 @@ is_one (whom.Group p) = false
 is_one whom.All = false
 is_one whom.Nobody = true
 
--- whether a process is a candidate, which a sender looks at: each member of a process group that is meant, else each process
+-- a candidate, which the sender looks at: each member of a process group that is selected, otherwise each process
 abbrev pub is_candidate : Process → Target → Process → Bool
 is_candidate me (whom.Process p) r = true
 is_candidate me whom.OwnGroup r = r.group == me.group
@@ -151,6 +152,6 @@ is_candidate me (whom.Group p) r = r.group == p
 is_candidate me whom.All r = true
 is_candidate me whom.Nobody r = true
 
--- where the record of p has gone its parent is rechecked where it has no place, and p no more
+-- the record of p was removed: its parent is listed if it is not in the run queue, and p no longer is
 abbrev pub without_gone : ℕ → ℕ → List ℕ → List ℕ → List ℕ
 without_gone p parent order ns = without p (rechecking parent order ns)

@@ -1,8 +1,8 @@
--- What of two states is compared at once.
+-- What two states have in common that is compared at once.
 use Rattle.std.specs.Prelude.{◌≡◌}
 use Rattle.posix.specs.Common.{State}
 
--- all but the processes, the consoles and the world is the same
+-- everything but the processes, the consoles and the world is the same
 pub record HaveSameCounts (s t : State) : Type 0 where
   pub last_pid : s.last_pid ≡ t.last_pid
   pub births : s.births ≡ t.births

@@ -10,8 +10,8 @@ use posix::Pid;
 use proctable::ProcessTable;
 
 impl<K: ProcessTable> Machine<K> {
-    /// Sets the alarm of a process that is there to so many ticks from now, at most 1,000,000,000; 0 clears
-    /// it. The ticks that were left of the one before, 0 where none was set (XSH alarm).
+    /// Sets the alarm of a live process to `ticks` ticks from now, at most 1,000,000,000; 0 cancels it. Returns the
+    /// ticks that were left of the previous alarm, or 0 if none was set (XSH alarm).
     pub fn set_alarm(&mut self, pid: Pid, ticks: u64) -> u64
         requires there { IsPlaced self.old.state.processes pid }
         requires few { ticks ≤ most_ticks }
@@ -29,14 +29,14 @@ impl<K: ProcessTable> Machine<K> {
         ticks_left(self.ticks, before)
     }
 
-    /// Whether a process has an alarm. No slot is read.
+    /// Returns true if a process has an alarm. Reads no slot.
     pub fn has_alarms(&self) -> bool
         ensures { result ≡ has_alarms_in self.now.state }
     {
         !self.table.nobody_alarmed()
     }
 
-    /// The alarm of a process that is there rings if it is due at the next tick.
+    /// Generates SIGALRM for an existing process, and clears its alarm, if the alarm is due at the next tick.
     fn ring(&mut self, pid: Pid)
         requires there { IsThere pid self.old }
         requires time { self.old.state.ticks + 1 < 2 ^ 64 }
@@ -46,8 +46,8 @@ impl<K: ProcessTable> Machine<K> {
         self.change(pid, |fields| fields.ring_at(pid, now));
     }
 
-    /// Each alarm that is due at the next tick rings. One slot is read for each. Where nobody was to be rechecked, a
-    /// signal is chosen for each process that then is.
+    /// Rings each alarm that is due at the next tick. Reads one slot for each. If the recheck list was empty, a signal
+    /// is chosen for each process that is then on it.
     fn ring_all(&mut self)
         requires { self.old.state.ticks + 1 < 2 ^ 64 }
         ensures state { self.new.state ≡ with_processes self.old.state (ring_all (self.old.state.ticks + 1) self.old.state.processes) }
@@ -63,7 +63,7 @@ impl<K: ProcessTable> Machine<K> {
         }
     }
 
-    /// The process whose alarm is due at the next tick that has the least number above `after`.
+    /// Returns the process with the lowest ID above `after` whose alarm is due at the next tick.
     fn next_due(&self, after: Pid) -> Option<Pid>
         requires { self.now.state.ticks + 1 < 2 ^ 64 }
         ensures next { IsNext (λ r. is_due (self.now.state.ticks + 1) r.alarm) after self.now.state.processes result }
@@ -74,10 +74,12 @@ impl<K: ProcessTable> Machine<K> {
         self.table.next_due(self.ticks + 1, after)
     }
 
-    /// The time goes on by one tick: each alarm that is due rings. One slot is read for each of these, and none where
-    /// no process has an alarm. Where nobody was to be rechecked, a signal is chosen for each process that then is.
-    /// Alarms ring before the time passes, with the same result, because no signal depends on the time. A set alarm is
-    /// due later than now, so those that ring are those under the new tick.
+    /// Advances the time by one tick, and rings each alarm that is due. Reads one slot for each of these alarms, and
+    /// none if no process has an alarm. If the recheck list was empty, a signal is chosen for each process that is then
+    /// on it.
+    ///
+    /// Alarms ring before the time advances. The result is the same, because no signal depends on the time. A set alarm
+    /// is due later than now, so the alarms that ring are exactly those listed under the new tick.
     pub fn pass_time(&mut self)
         requires { self.old.state.ticks + 1 < 2 ^ 64 }
         ensures state { self.new.state ≡ passing_time self.old.state }
@@ -91,7 +93,7 @@ impl<K: ProcessTable> Machine<K> {
     }
 }
 
-/// When an alarm is due that is set to so many ticks from now; none where it is cleared.
+/// Returns the tick at which an alarm is due that is set to `ticks` ticks from `now`, or `None` if it is cleared.
 fn due_in(now: u64, ticks: u64) -> Option<u64>
     requires { now + ticks < 2 ^ 64 }
     ensures { result ≡ due_in_ticks now ticks }
@@ -99,7 +101,7 @@ fn due_in(now: u64, ticks: u64) -> Option<u64>
     if ticks == 0 { None } else { Some(now + ticks) }
 }
 
-/// The ticks until an alarm is due, 0 where none is set.
+/// Returns the ticks until an alarm is due, or 0 if none is set.
 fn ticks_left(now: u64, alarm: Option<u64>) -> u64
     requires { IsAhead now alarm }
     ensures left { result ≡ ticks_left_of now alarm }

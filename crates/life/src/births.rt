@@ -1,4 +1,4 @@
-//! Births.
+//! Births (XSH fork).
 
 ghost use Rattle.std.specs.Prelude.{◌≡◌, ◌+◌, ◌<◌, ◌≤◌, ◌^◌, Some, OnOk, OnErr};
 ghost use Rattle.posix.specs.Common.{next_pid as next_pid_of, born, IsPlaced};
@@ -13,8 +13,8 @@ use posix::Pid;
 use proctable::ProcessTable;
 use std::alloc::AllocError;
 
-/// Makes room for so many numbers in both sets. They stay as they are, also at the error that there is no memory. Mostly
-/// there is room already, and the second isn't looked at.
+/// Makes room for `count` numbers in both sets. Their contents stay, even if the host has no memory. Usually there is
+/// room already, and the second set isn't looked at.
 fn make_room(
     to_recheck: &mut PidSet,
     groups_at_risk: &mut PidSet,
@@ -36,7 +36,7 @@ fn make_room(
 }
 
 impl<K: ProcessTable> Machine<K> {
-    /// The number that the next child gets, if there is one (XSH fork).
+    /// Returns the process ID that the next child gets, if one is free (XSH fork).
     pub fn next_pid(&mut self) -> Option<Pid>
         ensures value { result ≡ next_pid_of self.old.state }
         ensures same { self.new ≡ self.old }
@@ -44,9 +44,9 @@ impl<K: ProcessTable> Machine<K> {
         self.pids.next()
     }
 
-    /// A child of a process that is there, and no zombie, is born like its parent, with the number that
-    /// [`Machine::next_pid`] gives (XSH fork). At an error the host has no memory for it, and nothing has
-    /// changed but that there may be more room: all memory is taken before the first change.
+    /// Creates a child of a live process, as a copy of its parent, with the ID that [`Machine::next_pid`] returns (XSH
+    /// fork). Fails if the host has no memory for it. Then nothing has changed, except that there may be more room: all
+    /// memory is taken before the first change.
     #[tactic(auto, using(crate::proofs::RecheckLemmas::has_room, crate::proofs::RoomLemmas::same_but_room))]
     pub fn fork(&mut self, parent: Pid, child: Pid) -> Result<(), AllocError>
         requires parent { IsPlaced self.old.state.processes parent }

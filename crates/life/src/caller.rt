@@ -11,16 +11,16 @@ use posix::{Asked, Errno, Pid, Register, Span, Target, WaitCall};
 use proctable::{ProcessTable, Record};
 use signal::Creds;
 
-/// What a call that concerns others reads of the process that makes it.
+/// What a call that concerns other processes reads of its caller.
 #[derive(Clone, Copy)]
 pub struct Caller {
-    /// Its own number.
+    /// Its process ID.
     pub pid: Pid,
-    /// Its process group (XBD 3 Process Group ID).
+    /// Its process group ID (XBD 3 Process Group ID).
     pub group: Pid,
-    /// Its session, by the number of the leader (XBD 3 Session).
+    /// Its session, by the process ID of the session leader (XBD 3 Session).
     pub session: Pid,
-    /// Its user and group ids (credentials(7)).
+    /// Its user and group IDs (credentials(7)).
     pub creds: Creds,
     /// The first argument of the call.
     pub r1: i64,
@@ -31,21 +31,22 @@ pub struct Caller {
 }
 
 impl Caller {
-    /// Whom its first argument means (XSH kill, waitpid).
+    /// Returns the processes that the first argument selects (XSH kill, waitpid).
     pub fn target(&self) -> Target
         ensures { result ≡ target_in self.now.r1 }
     {
         Target::from_word(self.r1)
     }
 
-    /// What it asks in a wait; nothing where that is refused.
+    /// Returns what the caller asks in a wait, or `None` if the wait fails with EINVAL.
     pub fn asked(&self, call: WaitCall) -> Option<Asked>
         ensures { result ≡ asked_by call (process_like self.now) }
     {
         call.asks(self.r1, self.r2, self.r3)
     }
 
-    /// The words that it names in a read or a write.
+    /// Returns the words that the caller names in a read or a write. Fails with EINVAL if the count is not 0 to 16;
+    /// with EFAULT if a word is outside the memory of the process.
     pub fn span(&self) -> Result<Span, Errno>
         ensures value { result ≡ span_in self.now.r1 self.now.r2 }
         ensures range { IfOk result (λ s. (s.count ≤ 16) × (s.address + s.count ≤ 256)) }
@@ -55,7 +56,7 @@ impl Caller {
 }
 
 impl<K: ProcessTable> Machine<K> {
-    /// A process that is there as the caller of a call. Nothing changes.
+    /// Returns an existing process as the caller of a call. Changes nothing.
     #[inline(always)]
     pub fn caller(&mut self, pid: Pid) -> Caller
         requires { IsThere pid self.old }
@@ -66,8 +67,8 @@ impl<K: ProcessTable> Machine<K> {
     }
 }
 
-/// The process with this number as a caller, by its record. What a wait, a read or a write asks is read from registers
-/// here alone.
+/// Returns the process with this ID and record as a caller. Only this function reads what a wait, a read or a write
+/// asks from registers.
 pub(crate) fn caller_in(pid: Pid, fields: &Record) -> Caller
     ensures { result ≡ caller_of (process_of pid 0 fields.now) }
 {

@@ -1,4 +1,4 @@
-//! How many processes there are.
+//! The numbers of live processes and zombies.
 
 ghost use Rattle.std.specs.Prelude.{◌≡◌, ◌+◌, ◌*◌, ◌<◌, ◌^◌, length};
 ghost use Rattle.posix.specs.Common.{is_zombie as is_zombie_of};
@@ -9,23 +9,24 @@ use crate::machine::Machine;
 use posix::{Life, Pid};
 use proctable::ProcessTable;
 
-/// What is counted in a machine.
+/// The processes of a machine, in numbers.
 #[derive(Clone, Copy)]
 pub struct Census {
-    /// The processes that were born, process 1 included.
+    /// The processes that were created, process 1 included.
     pub births: u64,
-    /// The processes that live.
+    /// The live processes.
     pub living: u64,
-    /// The ended processes that no wait has reported.
+    /// The zombies, which no wait has reaped.
     pub zombies: u64,
-    /// The ended processes that were dropped, since their parent drops its children (XSH _exit).
+    /// The zombies that were dropped without a wait, because their parent ignores SIGCHLD or has set SA_NOCLDWAIT (XSH
+    /// _exit).
     pub dropped: u64,
-    /// Whether the machine halted.
+    /// True if the machine has halted.
     pub halted: bool,
 }
 
 impl<K: ProcessTable> Machine<K> {
-    /// Counts the processes. Nothing changes.
+    /// Counts the processes. Changes nothing.
     pub fn census(&mut self) -> Census
         ensures { Finds (1 + 2 * length self.old.state.processes) self.old self.new (result ≡ census_of self.old.state) }
     {
@@ -49,7 +50,7 @@ impl<K: ProcessTable> Machine<K> {
         }
     }
 
-    /// Whether a process is a zombie.
+    /// Returns true if a process is a zombie.
     fn is_zombie(&mut self, pid: Pid) -> bool
         ensures finds { Finds 1 self.old self.new (IfThere pid self.old (λ it. result ≡ is_zombie_of it.life)) }
         ensures size { length self.old.state.processes < 2 ^ 63 }

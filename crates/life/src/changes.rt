@@ -1,5 +1,5 @@
-//! A change of one process, with what is kept beside the records: who is to be rechecked, which numbers are borne,
-//! and whether a foreground process group may have lost its members.
+//! A change of one process, with what is kept beside the records: the recheck list, which IDs are in use, and whether a
+//! foreground process group may have lost its members.
 
 ghost use Rattle.std.specs.Prelude.{◌≡◌, ◌≢◌, ◌+◌, ◌*◌, ◌<◌, ◌&&◌, ◌||◌, not, IsSome, Some, length, if◌then◌else◌, false};
 ghost use Rattle.posix.specs.Common.{Process, is_zombie, is_in, process, IsRising, changed, children_in, lookup, parent_of, child_signal as child_signal_of, noticed_of_change, told_of_change, IsPlaced};
@@ -24,9 +24,10 @@ use posix::{Life, News, Pid, Status};
 use proctable::{ProcessTable, Record};
 
 impl<K: ProcessTable> Machine<K> {
-    /// Changes the signals of a process that is there, and its alarm: the process is to be rechecked where a signal is
-    /// chosen for it then and it has no place, as otherwise it can act no more than before. Each such change goes by
-    /// this, but a loan ([`Machine::own`]).
+    /// Changes the signals and the alarm of an existing process, and returns the closure's result. Puts the process on
+    /// the recheck list if a signal is then chosen for it and it is not in the run queue. Without a chosen signal, the
+    /// change cannot have made it runnable. All such changes go through this function, except a loan
+    /// ([`Machine::own`]).
     #[inline(always)]
     pub(crate) fn change<T, F: FnOnce(&mut Record) -> T>(&mut self, pid: Pid, change: F) -> T
         requires there { IsThere pid self.old }
@@ -41,9 +42,10 @@ impl<K: ProcessTable> Machine<K> {
         result
     }
 
-    /// Changes a process that is there in what its parent sees too: both are to be rechecked, the parent where it has
-    /// no place. The numbers that the process bears move with it. Where it stays put no slot of its children is read.
-    /// The parent; number 0 for none.
+    /// Changes what the parent of an existing process sees, too. Puts the process on the recheck list, and also its
+    /// parent if the parent is not in the run queue. Moves the use counts of its process group and session IDs. Returns
+    /// the parent, or number 0 if there is none. Reads no slot of a child if the process stays in its group and session
+    /// and isn't revived.
     pub(crate) fn change_seen<F: FnOnce(&mut Record)>(&mut self, pid: Pid, change: F) -> Pid
         requires there { IsThere pid self.old }
         requires callable { F.IsAlwaysCallable change }
@@ -74,9 +76,10 @@ impl<K: ProcessTable> Machine<K> {
         parent
     }
 
-    /// A process that is there and no zombie lives so from now on, with these news, and its parent gets notice of it by
-    /// this status. It is to be rechecked; its parent is, where it has no place, if it waits for this child, or a signal
-    /// is chosen for it, as otherwise the parent can act no more than before. Each such change goes by this.
+    /// Gives a live process this state and this unreported status change, and notifies its parent with this status.
+    /// Puts the process on the recheck list. Also puts its parent there if the parent is not in the run queue, and
+    /// waits for this child or has a chosen signal. Otherwise the parent cannot have become runnable. All such changes
+    /// go through this function.
     pub(crate) fn change_life(&mut self, pid: Pid, life: Life, news: News, status: Status)
         requires there { IsPlaced self.old.state.processes pid }
         requires living { is_zombie life ≡ false }
@@ -94,8 +97,8 @@ impl<K: ProcessTable> Machine<K> {
     }
 }
 
-/// A child was stopped or continued, and now is in this state: its parent gets notice of it by this status. Whether the
-/// parent can act by that: it waits for this child, or a signal is chosen for it.
+/// Notifies a parent that a child has stopped or continued, with this status; `seen` is the new state of the child.
+/// Returns true if that may have made the parent runnable: it waits for this child, or a signal is chosen for it.
 fn notice<K: ProcessTable>(
     table: &mut IndexedTable<K>,
     parent: Pid,
@@ -117,8 +120,8 @@ fn notice<K: ProcessTable>(
     awaits || takes_signal
 }
 
-/// Whether a process that is there has no place, and waits for this child, which is in this state. Where the process
-/// has a place no slot is read. Nothing changes.
+/// Returns true if an existing process is not in the run queue and waits for this child, whose state is `seen`. Reads
+/// no slot if the process is in the run queue. Changes nothing.
 pub(crate) fn is_awaited<K: ProcessTable>(
     table: &mut IndexedTable<K>,
     order: &Order,
@@ -138,7 +141,7 @@ pub(crate) fn is_awaited<K: ProcessTable>(
     awaits(table.look(parent), child, seen)
 }
 
-/// A process is to be rechecked where it can act by a change, and has no place.
+/// Puts a process on the recheck list if a change may have made it runnable and it is not in the run queue.
 pub(crate) fn recheck_where(to_recheck: &mut PidSet, order: &Order, pid: Pid, acts: bool)
     requires { length to_recheck.old.pids < to_recheck.old.room }
     ensures { to_recheck.new ≡ record (to_recheck.old) { pids = if acts then rechecking pid order.now.pids to_recheck.old.pids else to_recheck.old.pids } }
@@ -148,7 +151,8 @@ pub(crate) fn recheck_where(to_recheck: &mut PidSet, order: &Order, pid: Pid, ac
     }
 }
 
-/// A process is to be rechecked, and so is its parent where it has no place. Number 0 is nobody's.
+/// Puts a process on the recheck list, and also its parent if the parent is not in the run queue. Number 0 is no
+/// parent.
 fn recheck_with_parent(to_recheck: &mut PidSet, order: &Order, pid: Pid, parent: Pid)
     requires few { length to_recheck.old.pids < to_recheck.old.room }
     requires fits { length (with_number pid to_recheck.old.pids) < to_recheck.old.room }
@@ -160,8 +164,8 @@ fn recheck_with_parent(to_recheck: &mut PidSet, order: &Order, pid: Pid, parent:
     }
 }
 
-/// The numbers that a process bears as its process group's and its session's are others where it has moved. The
-/// foreground of the session that it was in may have lost a member then.
+/// Updates the use counts of process group and session IDs if a process has moved. Its old session's foreground process
+/// group may then have lost a member.
 fn move_numbers(
     pids: &mut PidTable,
     foregrounds_unchecked: &mut Unchecked,

@@ -1,5 +1,5 @@
-//! Consoles: whose terminal each is, who waits to read from it, and what a key, a hangup and a lost foreground
-//! process group do (XBD 11.1).
+//! Consoles: which session's terminal each is, which processes are blocked in a read from it, and what a key, a hangup
+//! and a foreground process group without members do (XBD 11.1).
 
 ghost use Rattle.std.specs.Prelude.{◌≡◌, ◌≢◌, ◌==◌, ◌+◌, ◌<◌, ◌≤◌, ◌||◌, ℕ, List, IfOk, IfSome, Some, None, [], count_by, length, false, true, if◌then◌else◌, option_map, map, replicate, slice_get, slice_set};
 ghost use Rattle.std.specs.Option.{option_copied};
@@ -24,28 +24,29 @@ use tty::{Console, ends_line};
 /// The controlling terminal of a session, as its processes see it (XBD 11.1.3).
 #[derive(Clone, Copy)]
 pub struct Terminal {
-    /// Its foreground process group; number 0 for none.
+    /// Its foreground process group, or number 0 if it has none.
     pub foreground: Pid,
-    /// Whether TOSTOP is set.
+    /// True if TOSTOP is set.
     pub tostop: bool,
-    /// Whether a line is finished, and waits to be read.
+    /// True if a finished line is there to be read.
     pub has_line: bool,
-    /// Whether its line is lost (XBD 11.1.10).
+    /// True if it is hung up (XBD 11.1.10).
     pub hung_up: bool,
 }
 
-/// Whose foreground process group may have lost its members since the last time that foregrounds were cleared.
+/// The consoles whose foreground process group may have lost its members since such groups were last cleared.
 #[derive(Clone, Copy)]
 pub enum Unchecked {
-    /// No console's.
+    /// No console.
     Nothing,
-    /// That of a session's terminal. Number 0 is no session's, and stands for any console.
+    /// The terminal of this session. Number 0 is no session, and stands for any console.
     In(Pid),
-    /// Any console's.
+    /// Any console.
     All,
 }
 
-/// What is unchecked once the foreground of a session's terminal was set, or may have lost a member.
+/// Returns what is unchecked once the foreground process group of a session's terminal was set, or may have lost a
+/// member.
 pub(crate) fn also_in(unchecked: &Unchecked, session: Pid) -> Unchecked
     ensures { result ≡ also_in_by session unchecked.now }
 {
@@ -62,9 +63,9 @@ pub(crate) fn also_in(unchecked: &Unchecked, session: Pid) -> Unchecked
     }
 }
 
-// ---- at the start
+// ---- at boot
 
-/// So many unused consoles; an error where the host has no memory for them.
+/// Returns `count` unused consoles. Fails if the host has no memory for them.
 pub(crate) fn unused(alloc: Global, count: u8) -> Result<Vec<Console>, AllocError>
     ensures { IfOk result (λ cs. cs.items ≡ replicate count unused_console) }
 {
@@ -75,7 +76,7 @@ pub(crate) fn unused(alloc: Global, count: u8) -> Result<Vec<Console>, AllocErro
     Ok(consoles)
 }
 
-/// The number of the console with an index: they count from 1.
+/// Returns the number of the console with this index. Numbers start at 1.
 fn number_of(console_index: usize) -> Pid
     requires { console_index < 64 }
     ensures { result ≡ console_index + 1 }
@@ -86,7 +87,7 @@ fn number_of(console_index: usize) -> Pid
     }
 }
 
-/// So many consoles, each nobody's terminal; an error where the host has no memory for them.
+/// Returns an index of `count` consoles that are no session's terminal. Fails if the host has no memory for it.
 pub(crate) fn nobodys(alloc: Global, count: u8) -> Result<Index, AllocError>
     requires { count ≤ 64 }
     ensures { IfOk result (λ t. AreTerminals (replicate count unused_console) t.pairs) }
@@ -99,7 +100,8 @@ pub(crate) fn nobodys(alloc: Global, count: u8) -> Result<Index, AllocError>
     Ok(terminals)
 }
 
-/// The session from whose terminal a process with this snapshot waits to read, if it has no place.
+/// Returns the session from whose terminal a process with this snapshot is blocked reading, if it is not in the run
+/// queue.
 #[inline]
 pub fn reads_in(snapshot: &Snapshot) -> Option<Pid>
     ensures { (r : Process) → snapshot.now ≡ snapshot_of r → result ≡ reads_in_session (Some r) }
@@ -110,14 +112,15 @@ pub fn reads_in(snapshot: &Snapshot) -> Option<Pid>
     }
 }
 
-/// Whether a process with this snapshot hangs its terminal up as it ends: it leads its session, and isn't process 1.
+/// Returns true if a process with this snapshot hangs up its terminal when it terminates: it leads its session, and
+/// isn't process 1.
 fn hangs_up(snapshot: &Snapshot) -> bool
     ensures { result ≡ hangs_up_with snapshot.now }
 {
     snapshot.pid != Pid::INIT && snapshot.session == snapshot.pid
 }
 
-/// A console has no foreground process group any more, where that has no member in its session.
+/// Clears the foreground process group of a console if the group has no member in the console's session.
 fn refresh<K: ProcessTable>(console: &mut Console, table: &mut IndexedTable<K>)
     requires { AreGrouped table.old.processes }
     ensures console { console.new ≡ refreshed table.old.processes console.old }
@@ -135,7 +138,7 @@ fn refresh<K: ProcessTable>(console: &mut Console, table: &mut IndexedTable<K>)
     }
 }
 
-/// Does that with each console.
+/// Refreshes each console.
 fn refresh_all<K: ProcessTable>(consoles: &mut Vec<Console>, table: &mut IndexedTable<K>)
     requires { AreGrouped table.old.processes }
     ensures consoles { consoles.new.items ≡ map (refreshed table.old.processes) consoles.old.items }
@@ -148,7 +151,7 @@ fn refresh_all<K: ProcessTable>(consoles: &mut Vec<Console>, table: &mut Indexed
     }
 }
 
-/// The index of the console that is a session's terminal. No console is looked at.
+/// Returns the index of the console that is a session's terminal. Looks at no console.
 fn index_in(terminals: &Index, session: Pid) -> Option<usize>
     ensures { (cs : List ConsoleValue) → AreTerminals cs terminals.now.pairs → IsTerminalIndex session cs result }
 {
@@ -158,8 +161,7 @@ fn index_in(terminals: &Index, session: Pid) -> Option<usize>
     }
 }
 
-/// A console that is unchecked has no foreground process group any more, where that has no member in its session. Of one
-/// session the terminal alone is looked at.
+/// Refreshes the unchecked consoles. If only one session's terminal is unchecked, looks only at that console.
 fn refresh_unchecked<K: ProcessTable>(
     consoles: &mut Vec<Console>,
     terminals: &Index,
@@ -187,16 +189,16 @@ fn refresh_unchecked<K: ProcessTable>(
 }
 
 impl<K: ProcessTable> Machine<K> {
-    // ---- what there is
+    // ---- queries
 
-    /// The index of the console that is a session's terminal. No console is looked at.
+    /// Returns the index of the console that is a session's terminal. Looks at no console.
     fn terminal_index(&self, session: Pid) -> Option<usize>
         ensures { IsTerminalIndex session self.now.state.consoles result }
     {
         index_in(&self.terminals, session)
     }
 
-    /// The controlling terminal of a session; none where it has none.
+    /// Returns the controlling terminal of a session, or `None` if it has none.
     pub fn terminal(&self, session: Pid) -> Option<Terminal>
         ensures value { result ≡ option_map terminal_of (console_of session self.now.state.consoles) }
     {
@@ -210,39 +212,39 @@ impl<K: ProcessTable> Machine<K> {
         })
     }
 
-    /// The console with this index; none where there is none.
+    /// Returns the console with this index, or `None` if there is none.
     pub fn console(&self, console_index: usize) -> Option<&Console>
         ensures value { option_copied result ≡ slice_get self.now.state.consoles console_index }
     {
         self.consoles.get(console_index)
     }
 
-    /// Whose controlling terminal the console with this index is, number 0 for nobody's; none where there is no console.
+    /// Returns the session whose controlling terminal the console with this index is, or number 0 if it is no
+    /// session's. Returns `None` if there is no such console.
     pub fn session_at(&self, console_index: usize) -> Option<Pid>
         ensures value { result ≡ option_map (λ (c : ConsoleValue). c.session) (slice_get self.now.state.consoles console_index) }
     {
         Some(self.consoles.get(console_index)?.session())
     }
 
-    /// The greatest number of a process.
+    /// Returns the largest process ID of the world.
     pub fn pidmax(&self) -> u32
         ensures { result ≡ self.now.state.world.pidmax }
     {
         self.world.pidmax()
     }
 
-    /// The process group with this number, where a process of the session is in it, zombies being members.
+    /// Returns the process group with this ID if a process of the session is a member of it, zombies included.
     pub fn group_of(&mut self, session: Pid, group: u64) -> Option<Pid>
         ensures { Finds 1 self.old self.new (result ≡ (if is_group_of session group self.old.state.processes then Some group else None)) }
     {
         self.table.group_of(session, group)
     }
 
-    // ---- who waits to read
+    // ---- blocked readers
 
-    /// A process that is there and needn't be given a place has been rechecked, and isn't to be rechecked any more. Where
-    /// it waits to read from the terminal of its session, which this is then, it is known there from now on, and nowhere
-    /// else.
+    /// Takes an existing process that need not enter the run queue off the recheck list. `session` is the session from
+    /// whose terminal it is blocked reading, if it is: from now on it is listed there, and nowhere else.
     pub fn finish_recheck(&mut self, pid: Pid, session: Option<Pid>)
         requires there { IsThere pid self.old }
         requires waits { IfThere pid self.old (λ r. wakes self.old.state r ≡ false) }
@@ -254,7 +256,7 @@ impl<K: ProcessTable> Machine<K> {
         self.to_recheck.remove(pid);
     }
 
-    /// Who is known to wait to read from a session's terminal is to be rechecked, and isn't known any more.
+    /// Puts a listed reader of a session's terminal on the recheck list, and removes it from the readers.
     fn recheck_reader(&mut self, session: Pid, pid: Pid)
         requires { is_pair_in session pid self.old.readers.pairs ≡ true }
         ensures rest { self.new ≡ record (self.old) { to_recheck = with_number pid self.old.to_recheck; readers = self.new.readers } }
@@ -264,8 +266,8 @@ impl<K: ProcessTable> Machine<K> {
         self.readers.put(pid, None);
     }
 
-    /// Whoever waits to read from a session's terminal is to be rechecked, and isn't known any more.
-    /// A walk over all processes instead would read a slot of each, at each line.
+    /// Puts each process that is blocked reading from a session's terminal on the recheck list, and removes it from the
+    /// readers. Without the list of readers, each line would cost a walk over all processes, with a slot for each.
     fn recheck_readers(&mut self, session: Pid)
         ensures rest { self.new ≡ record (self.old) { to_recheck = self.new.to_recheck; readers = self.new.readers } }
         ensures to_recheck { AreReaders self.new.state session self.new.to_recheck }
@@ -280,7 +282,7 @@ impl<K: ProcessTable> Machine<K> {
         }
     }
 
-    /// Who may wait to read from a session's terminal, with the least number above another.
+    /// Returns the process with the lowest ID above `after` that may be blocked reading from a session's terminal.
     fn next_reader(&self, session: Pid, after: Pid) -> Option<Pid>
         ensures is { IsNextPair session after self.now.readers.pairs result }
         ensures watched { AreWatched self.now }
@@ -290,9 +292,9 @@ impl<K: ProcessTable> Machine<K> {
         self.readers.next(session, after)
     }
 
-    /// Changes the console with this index by a closure, and gives the closure's result; none, and nothing changes,
-    /// where there is no such console. All changes of one console but [`Machine::take_line`], and the one that clears a
-    /// foreground process group without members, go by this function.
+    /// Changes the console with this index by a closure, and returns the closure's result. Returns `None`, and changes
+    /// nothing, if there is no such console. All changes of one console go through this function, except
+    /// [`Machine::take_line`] and the one that clears a foreground process group without members.
     fn change_console<T, F: FnOnce(&mut Console) -> T>(
         &mut self,
         console_index: usize,
@@ -313,10 +315,10 @@ impl<K: ProcessTable> Machine<K> {
         Some(result)
     }
 
-    // ---- whose terminal it is
+    // ---- controlling terminals
 
-    /// The console with this index, nobody's terminal, becomes that of a session that has none, with a foreground
-    /// process group; what was typed before stays (XBD 11.1.3).
+    /// Makes the console with this index, which is no session's terminal, that of a session without one, with this
+    /// foreground process group. Input that was typed before stays (XBD 11.1.3).
     pub fn acquire_console(&mut self, console_index: usize, session: Pid, group: Pid)
         requires free { IfSome (slice_get self.old.state.consoles console_index) (λ c. c.session ≡ 0) }
         requires none { console_of session self.old.state.consoles ≡ None }
@@ -324,12 +326,12 @@ impl<K: ProcessTable> Machine<K> {
         ensures costs { Costs 0 self.old self.new }
         ensures to_recheck { self.new.to_recheck ≡ self.old.to_recheck }
     {
-        // Nobody waits to read from it: each read of its session was refused till now.
+        // No process is blocked reading from it: until now, each read of its session failed.
         self.foregrounds_unchecked = also_in(&self.foregrounds_unchecked, session);
         self.change_console(console_index, |console| console.acquire(session, group));
     }
 
-    /// A process group becomes the foreground one of a session's terminal (XSH tcsetpgrp).
+    /// Sets the foreground process group of a session's terminal (XSH tcsetpgrp).
     pub fn set_foreground(&mut self, session: Pid, group: Pid)
         requires { session ≢ 0 }
         ensures state { self.new.state ≡ with_consoles self.old.state (changed_console session (with_foreground group) self.old.state.consoles) }
@@ -344,7 +346,7 @@ impl<K: ProcessTable> Machine<K> {
         }
     }
 
-    /// TOSTOP of a session's terminal is set or cleared (XBD 11.2.5).
+    /// Sets or clears TOSTOP of a session's terminal (XBD 11.2.5).
     pub fn set_tostop(&mut self, session: Pid, tostop: bool)
         requires { session ≢ 0 }
         ensures rest { self.new ≡ record (self.old) { state = self.new.state } }
@@ -355,9 +357,9 @@ impl<K: ProcessTable> Machine<K> {
         }
     }
 
-    /// Moves bytes of the first finished line of a session's terminal into a slice, as many as it holds, and returns
-    /// their number; what it leaves of the line stays. None, and nothing changes, where no line is finished, or the
-    /// session has no terminal (XBD 11.1.6).
+    /// Moves as many bytes of the first finished line of a session's terminal into `out` as fit, and returns their
+    /// number. The rest of the line stays. Returns `None`, and changes nothing, if no line is finished or the session
+    /// has no terminal (XBD 11.1.6).
     pub fn take_line(&mut self, session: Pid, out: &mut [u8]) -> Option<usize>
         requires { session ≢ 0 }
         ensures taken { (c : ConsoleValue) → console_of session self.old.state.consoles ≡ Some c → Takes c.lines out.old out.new result }
@@ -368,10 +370,9 @@ impl<K: ProcessTable> Machine<K> {
         self.consoles[console_index].take(out)
     }
 
-    // ---- keys, hangups, foregrounds
+    // ---- keys, hangups, foreground process groups
 
-    /// Where a byte ends a line, whoever waits to read from a session's terminal is to be rechecked, and isn't known any
-    /// more.
+    /// Rechecks the readers of a session's terminal, as [`Machine::recheck_readers`] does, if the byte ends a line.
     fn recheck_at_line_end(&mut self, session: Pid, byte: u8)
         ensures rest { self.new ≡ record (self.old) { to_recheck = self.new.to_recheck; readers = self.new.readers } }
         ensures to_recheck { (byte == 10 || byte == 4) ≡ true → AreReaders self.new.state session self.new.to_recheck }
@@ -386,7 +387,7 @@ impl<K: ProcessTable> Machine<K> {
         }
     }
 
-    /// A byte comes on the console with this index. The signal that the byte gives, if it gives one.
+    /// Types a byte on the console with this index. Returns the signal that the byte generates, if any.
     fn type_byte(&mut self, console_index: usize, byte: u8) -> Option<Sig>
         ensures none { slice_get self.old.state.consoles console_index ≡ None → (result ≡ None) × (self.new.state ≡ self.old.state) }
         ensures state { IfConsole console_index self.old (λ c. self.new.state ≡ with_consoles self.old.state (slice_set self.old.state.consoles console_index (keyed byte c))) }
@@ -404,11 +405,13 @@ impl<K: ProcessTable> Machine<K> {
             .flatten()
     }
 
-    /// A byte comes on a console, which counts from 1. INTR, QUIT and SUSP discard all input, and each member of the
-    /// foreground process group gets INT, QUIT or TSTP; any other byte is for the line that is edited. On a console
-    /// that isn't there, or is hung up, nothing happens (XBD 11.1.9). Where the byte gives a signal, one slot is read for
-    /// each member. Where nobody was to be rechecked, and no wake-up lost, each process that then is to be rechecked is a
-    /// member of the foreground process group, and has a chosen signal or reads.
+    /// Types a byte on a console; numbers start at 1. INTR, QUIT and SUSP discard all input, and generate SIGINT,
+    /// SIGQUIT or SIGTSTP for each member of the foreground process group. Any other byte goes to the line that is
+    /// edited. Does nothing if the console doesn't exist or is hung up (XBD 11.1.9).
+    ///
+    /// If the byte generates a signal, reads one slot for each member. If the recheck list was empty and no wake-up was
+    /// lost, each process that is then on it is a member of the foreground process group, and has a chosen signal or is
+    /// in a read.
     pub fn key(&mut self, console: u8, byte: u8)
         ensures state { self.new.state ≡ keying self.old.state console byte }
         ensures foregrounds_unchecked { self.new.foregrounds_unchecked ≡ self.old.foregrounds_unchecked }
@@ -428,8 +431,8 @@ impl<K: ProcessTable> Machine<K> {
         }
     }
 
-    /// The line of the console with this index is lost. The session that is to be told, if there is one. Whoever waits to
-    /// read from it is to be rechecked.
+    /// Disconnects the console with this index. Returns the session to notify, if there is one. Puts each process that
+    /// is blocked reading from the console on the recheck list.
     fn lose_line(&mut self, console_index: usize) -> Option<Pid>
         ensures none { slice_get self.old.state.consoles console_index ≡ None → (result ≡ None) × (self.new.state ≡ self.old.state) }
         ensures state { IfConsole console_index self.old (λ c. self.new.state ≡ with_consoles self.old.state (slice_set self.old.state.consoles console_index (disconnected c))) }
@@ -446,11 +449,12 @@ impl<K: ProcessTable> Machine<K> {
             .flatten()
     }
 
-    /// The line of a console, which counts from 1, is lost: all input is discarded, and the leader of the session whose
-    /// terminal it is gets HUP. Whoever waits to read from it finds the end of file. On a console that isn't there, or
-    /// has lost its line already, nothing happens (XBD 11.1.10). Two slots are read. Where nobody was to be rechecked,
-    /// and no wake-up lost, each process that then is to be rechecked is the leader, which got a signal, or a member of
-    /// the foreground process group, which reads.
+    /// Hangs up a console; numbers start at 1. Discards all input, and generates SIGHUP for the leader of the session
+    /// whose terminal it is. A process that is blocked reading from it finds end of file. Does nothing if the console
+    /// doesn't exist or is already hung up (XBD 11.1.10).
+    ///
+    /// Reads at most two slots. If the recheck list was empty and no wake-up was lost, each process that is then on it
+    /// is the leader, which got a signal, or a member of the foreground process group, which is in a read.
     pub fn hangup(&mut self, console: u8)
         ensures state { self.new.state ≡ hanging self.old.state console }
         ensures foregrounds_unchecked { self.new.foregrounds_unchecked ≡ self.old.foregrounds_unchecked }
@@ -469,13 +473,15 @@ impl<K: ProcessTable> Machine<K> {
         }
     }
 
-    /// Where a process that is there, other than process 1, leads a session with a terminal, each member of the
-    /// foreground process group gets HUP, and the terminal is nobody's any more (XSH _exit). No slot is read where no
-    /// session with the number of the process has a terminal; where it hangs a terminal up, one is for the process,
-    /// and one for each member.
-    /// Releases the console before it signals the foreground process group. The definition does both at once, with the
-    /// same result, because no signal depends on a console. So what is known of blocked readers holds as they are
-    /// rechecked. A call of its own, before `Machine::end`, so that the contract of `end` holds for any heir.
+    /// Hangs up the terminal of a session that an existing process, other than process 1, leads: generates SIGHUP for
+    /// each member of the foreground process group, and makes the console no session's terminal (XSH _exit). Does
+    /// nothing if the process leads no session with a terminal. Reads no slot if no session with the process's ID has a
+    /// terminal. If a terminal is hung up, reads one slot for the process, and one for each member.
+    ///
+    /// Releases the console before it signals the foreground process group. The definition does both at once. The
+    /// result is the same, because no signal depends on a console. In this order, what is known of blocked readers
+    /// still holds when they are rechecked. Callers call this before [`Machine::end`], so that the contract of `end`
+    /// holds for any new parent.
     pub fn hang_up(&mut self, pid: Pid)
         requires { IsThere pid self.old }
         ensures state { IfThere pid self.old (λ me. self.new.state ≡ hanging_up self.old.state me) }
@@ -497,7 +503,7 @@ impl<K: ProcessTable> Machine<K> {
         self.signal_group(foreground, Sig::HUP);
     }
 
-    /// The console with this index, a session's terminal, is nobody's any more; what was typed stays.
+    /// Makes the console with this index, a session's terminal, no session's. Input that was typed before stays.
     fn release(&mut self, session: Pid, console_index: usize)
         requires { IfConsole console_index self.old (λ c. c.session ≡ session) }
         ensures state { IfConsole console_index self.old (λ c. self.new.state ≡ with_consoles self.old.state (slice_set self.old.state.consoles console_index (released c))) }
@@ -508,8 +514,9 @@ impl<K: ProcessTable> Machine<K> {
         self.change_console(console_index, |console| console.release());
     }
 
-    /// A console whose foreground process group has no member left in its session has none from then on. One slot is
-    /// read for each console whose foreground may have lost its members since the last time; no other is looked at.
+    /// Clears the foreground process group of each console if the group has no member left in the console's session.
+    /// Reads one slot for each console whose foreground process group may have lost its members since the last time.
+    /// Looks at no other console.
     pub fn clear_foregrounds(&mut self)
         ensures state { self.new.state ≡ clearing_foregrounds self.old.state }
         ensures to_recheck { self.new.to_recheck ≡ self.old.to_recheck }

@@ -1,4 +1,4 @@
-//! Ends.
+//! Process termination.
 
 ghost use Rattle.std.specs.Prelude.{◌≡◌, ◌≢◌, ℕ, ◌≤◌, ◌+◌, ◌*◌, length, Some, option_map, true, if◌then◌else◌};
 ghost use Rattle.posix.specs.declared.process.Life.TheVariants.{Zombie};
@@ -16,8 +16,9 @@ use posix::{Carried, Life, PendingSignal, Pid, Sig, Status, WaitidOptions};
 use proctable::ProcessTable;
 
 impl<K: ProcessTable> Machine<K> {
-    /// The heir of a process gets notice of the ends of the zombies among its children, in rising order; no other child
-    /// is looked at. No number of a child is to be had once they are the heir's, so it gets notice before.
+    /// Notifies the new parent of the process's children of each zombie among them, in rising order of process ID.
+    /// Looks at no other child. Precedes the reparenting, after which these children are mixed with the new
+    /// parent's others.
     fn tell_heir(&mut self, pid: Pid, heir: Pid)
         requires there { IsThere pid self.old }
         requires other { pid ≢ 1 }
@@ -36,9 +37,12 @@ impl<K: ProcessTable> Machine<K> {
         }
     }
 
-    /// The process is a zombie and loses its place, and its children become those of its heir. It is to be rechecked; its
-    /// parent is, where it has no place, if it waits for just this child, and its heir if one of the children has
-    /// something to report, as otherwise they can act no more than before. Its parent.
+    /// Makes a process a zombie, removes it from the run queue, and reparents its children to `heir`. Returns its
+    /// parent.
+    ///
+    /// Puts the process on the recheck list. If they are not in the run queue, also puts there its parent if it waits
+    /// for this child, and `heir` if a child has an unreported status change. Otherwise these cannot have become
+    /// runnable.
     fn become_zombie(&mut self, pid: Pid, heir: Pid, status: Status) -> Pid
         requires there { IsThere pid self.old }
         requires other { pid ≢ 1 }
@@ -63,8 +67,8 @@ impl<K: ProcessTable> Machine<K> {
         parent
     }
 
-    /// The heir of a process gets notice of the ends of the zombies among its children, and then the process
-    /// is a zombie and loses its place, and its children become those of its heir. Its parent.
+    /// Notifies the new parent of the zombies among a process's children. Then makes the process a zombie, removes it
+    /// from the run queue, and reparents its children. Returns its parent.
     #[tactic(auto, using(crate::proofs::EndLemmas::tell_after, crate::proofs::NoticeWalkLemmas::few_zombies, posix::proofs::RegularLemmas::heir_other))]
     pub(crate) fn leave_children_and_die(&mut self, pid: Pid, heir: Pid, status: Status) -> Pid
         requires there { IsThere pid self.old }
@@ -80,7 +84,7 @@ impl<K: ProcessTable> Machine<K> {
         self.become_zombie(pid, heir, status)
     }
 
-    /// The status with which a zombie ended.
+    /// Returns the status with which a zombie terminated.
     fn status(&mut self, pid: Pid) -> Status
         requires { (it : Process) × (process self.old.state pid ≡ Some it) × (is_zombie it.life ≡ true) }
         ensures { Finds 1 self.old self.new (IfThere pid self.old (λ it. it.life ≡ Zombie result)) }
@@ -95,7 +99,7 @@ impl<K: ProcessTable> Machine<K> {
         status
     }
 
-    /// Process 1 is a zombie and loses its place, and the machine halts.
+    /// Makes process 1 a zombie, removes it from the run queue, and halts the machine.
     fn halt(&mut self, status: Status)
         ensures { Changes 1 self.old self.new (halting self.old.state status) (with_number 1 self.old.to_recheck) }
     {
@@ -104,8 +108,8 @@ impl<K: ProcessTable> Machine<K> {
         self.halted = true;
     }
 
-    /// The parent gets notice that a child, which is a zombie other than process 1, ended with this
-    /// status, and the child is dropped where the parent drops its children (XSH _exit).
+    /// Notifies a parent that a child, which is a zombie other than process 1, terminated with this status. Drops the
+    /// child if the parent ignores SIGCHLD or has set SA_NOCLDWAIT (XSH _exit).
     fn notice_of_end(&mut self, parent: Pid, child: Pid, status: Status)
         requires parent { IsThere parent self.old }
         requires other { child ≢ 1 }
@@ -123,7 +127,7 @@ impl<K: ProcessTable> Machine<K> {
         }
     }
 
-    /// A zombie that isn't process 1 is dropped: its record goes without a report, and it is counted.
+    /// Drops a zombie other than process 1: removes its record without a report, and counts it.
     fn drop_child(&mut self, child: Pid)
         requires other { child ≢ 1 }
         requires zombie { (it : Process) × (process self.old.state child ≡ Some it) × (is_zombie it.life ≡ true) }
@@ -133,11 +137,13 @@ impl<K: ProcessTable> Machine<K> {
         self.dropped += 1;
     }
 
-    /// A process that is there ends with this status. At the end of process 1 the machine halts. Any other
-    /// becomes a zombie without a place; its children become those of its heir, which gets notice of those
-    /// that have ended; the process groups that this orphans, and that have a stopped member, get HUP and CONT; and
-    /// its parent gets notice of its end, and may drop it (XSH _exit, Consequences of Process Termination).
-    /// Of the groups the members of those are read that it orphans and that have a stopped member.
+    /// Terminates an existing process with this status. If it is process 1, the machine halts. Any other process
+    /// becomes a zombie and leaves the run queue. Its children are reparented to `heir`, which is notified of the
+    /// zombies among them. Each process group that this orphans, and that has a stopped member, gets SIGHUP and
+    /// SIGCONT. The parent is notified of the termination, and may drop the zombie (XSH _exit, Consequences of Process
+    /// Termination).
+    ///
+    /// Reads the members of only those groups that become orphaned and have a stopped member.
     #[tactic(auto, using(crate::proofs::EndLemmas::end_is, posix::proofs::NoticeLemmas::end_first, posix::proofs::TableLemmas::pid_looked))]
     pub fn end(&mut self, pid: Pid, heir: Pid, status: Status)
         requires there { IsThere pid self.old }
@@ -156,7 +162,7 @@ impl<K: ProcessTable> Machine<K> {
     }
 }
 
-/// Notice that a child ended, was stopped or was continued, as a signal (XSH _exit, sigaction).
+/// Returns the SIGCHLD that notifies a parent that a child terminated, stopped or continued (XSH _exit, sigaction).
 pub(crate) fn child_signal(child: Pid, status: Status) -> PendingSignal
     ensures { result ≡ child_signal_of child status }
 {

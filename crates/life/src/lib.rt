@@ -1,13 +1,13 @@
-//! Births, ends, waits and signals, over any table of processes.
+//! Births, terminations, waits and signals, over any table of processes.
 //!
-//! A [`Machine`] holds the state of a world: the processes, the numbers that they bear, and the order in
-//! which they act. Its calls change the state as the definitions say.
+//! A [`Machine`] holds the state of a world: the processes, the IDs in use, and the run queue. Its calls change the
+//! state as the definitions say.
 //!
 //! The value of a `Machine` is the state, the slots read, `to_recheck`, the groups noted by a termination, the
-//! unchecked foregrounds and the readers by session; not the granted pools. A look is `Finds`, a change `Changes`, or
-//! `Removes` if a record may go. Changes ask that the state stays regular. A call that fails changes only the slots
-//! read, and `fork` room. A call on one process reads at most 4 slots, `fork` 2, a wait 1, a move 5 and 2 for each
-//! child (`slots_of_ending`, `slots_of_heir`). No clause: that memory for IDs is freed.
+//! unchecked foreground process groups and the readers by session; not the granted pools. A look is `Finds`, a change
+//! `Changes`, or `Removes` if a record may be removed. Changes require that the state stays regular. A call that fails
+//! changes only the number of slots read, and `fork` the room. A call on one process reads at most 4 slots, `fork` 2, a
+//! wait 1, a move 5 and 2 for each child (`slots_of_ending`, `slots_of_heir`). No clause: that memory for IDs is freed.
 #![tactic(auto)]
 
 mod alarms;

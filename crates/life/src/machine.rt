@@ -1,4 +1,4 @@
-//! The machine: all that the state of a world consists of.
+//! The machine: the whole state of a world.
 
 ghost use Rattle.std.specs.Prelude.{◌≡◌, ◌≢◌, ◌+◌, ◌<◌, ◌≤◌, ◌^◌, ◌++◌, ◌∷◌, [], ⊤, IfOk, IfSome, OnOk, option_map, replicate, false, true, if◌then◌else◌};
 ghost use Rattle.posix.specs.Common.{unused_console, first_process, boot as boot_of, process, change, current as current_of, lose_place as losing_place, go_last as going_last, has_place as has_place_in, is_in, IsRegular, IsPlaced, exec_one as executed, StaysUnlessRun, can_act, code_of, set_cpu, is_in_read};
@@ -34,19 +34,20 @@ pub struct Machine<K: ProcessTable> {
     pub(crate) table: IndexedTable<K>,
     pub(crate) pids: PidTable,
     pub(crate) order: Order,
-    /// The processes to recheck: each is asked after this event whether it can act. Each process that has to be given a
-    /// place is among them.
+    /// The recheck list: the processes to be tested, after this event, for whether they are runnable. Each process that
+    /// has to enter the run queue is on it.
     pub(crate) to_recheck: PidSet,
-    /// While a process ends: the process groups that it and its children kept from being orphaned.
+    /// While a process terminates: the process groups that it and its children kept from being orphaned.
     pub(crate) groups_at_risk: PidSet,
     pub(crate) consoles: Vec<Console>,
-    /// The consoles, by numbers from 1 on, each under the session whose terminal it is; nobody's under number 0.
+    /// The consoles, by number from 1, each under the session whose terminal it is, or under number 0 if it is no
+    /// session's.
     pub(crate) terminals: Index,
-    /// The processes that wait to read, each in the list of its session. The lists are exact but for the processes to
-    /// recheck.
+    /// The processes blocked in a read, each in the list of its session. The lists are exact except for the processes
+    /// to recheck.
     pub(crate) readers: pidset::Lists,
-    /// Whose foreground process group may have lost its members: a record went, one changed its process group or
-    /// session, or a foreground was set.
+    /// The consoles whose foreground process group may have lost its members: a record was removed, a process changed
+    /// its group or session, or the foreground process group was set.
     pub(crate) foregrounds_unchecked: Unchecked,
     /// Pools for the queues of real-time signals.
     pub(crate) granted_pools: GrantedPools,
@@ -66,8 +67,8 @@ impl<K: ProcessTable> Model for Machine<K> {
     ghost invariant = { λ m. IsMachine (state_of m.world (m.table.processes) m.consoles.items m.pids m.order m.births m.ticks m.dropped m.halted) m.pids m.order m.to_recheck m.groups_at_risk (record { readers = m.readers; foregrounds_unchecked = m.foregrounds_unchecked; terminals = m.terminals.pairs }) };
 }
 
-/// The lists that a machine keeps beside its table: the numbers borne, the order of turns, the processes to recheck,
-/// and the process groups that an end may orphan.
+/// The lists that a machine keeps beside its table: the IDs in use, the run queue, the recheck list, and the process
+/// groups that a termination may orphan.
 #[derive(Drop)]
 struct Lists {
     pids: PidTable,
@@ -77,7 +78,7 @@ struct Lists {
 }
 
 impl Lists {
-    /// The lists at the start, when process 1 is the only process; an error where the host has no memory for them.
+    /// Returns the lists at boot, when process 1 is the only process. Fails if the host has no memory for them.
     #[tactic(auto, unfolding(posix::specs::States::is_in))]
     fn first(alloc: Global, pidmax: u32) -> Result<Lists, AllocError>
         requires { (2 ≤ pidmax) × (pidmax ≤ 4194304) }
@@ -107,7 +108,7 @@ impl Lists {
     }
 }
 
-/// The terminals of a machine, and who waits to read from them.
+/// The terminals of a machine, and the processes blocked reading from them.
 #[derive(Drop)]
 struct Terminals {
     consoles: Vec<Console>,
@@ -116,8 +117,8 @@ struct Terminals {
 }
 
 impl Terminals {
-    /// `count` consoles that no session has, from which nobody waits to read; an error where the host has no memory for
-    /// them.
+    /// Returns `count` consoles that no session has, from which no process is blocked reading. Fails if the host has no
+    /// memory for them.
     fn unused(alloc: Global, count: u8) -> Result<Terminals, AllocError>
         requires { count ≤ 64 }
         ensures consoles { IfOk result (λ t. t.consoles.items ≡ replicate count unused_console) }
@@ -137,7 +138,7 @@ impl Terminals {
     }
 }
 
-/// An empty set with room for `capacity` numbers; an error where the host has no memory for them.
+/// Returns an empty set with room for `capacity` numbers. Fails if the host has no memory for it.
 fn room_for(alloc: Global, capacity: usize) -> Result<PidSet, AllocError>
     requires { capacity < 2 ^ 63 }
     ensures pids { IfOk result (λ s. s.pids ≡ []) }
@@ -148,7 +149,7 @@ fn room_for(alloc: Global, capacity: usize) -> Result<PidSet, AllocError>
     Ok(set)
 }
 
-/// Puts process 1 into an empty table. An error where the host has no memory for it.
+/// Inserts process 1 into an empty table. Fails if the host has no memory for it.
 #[tactic(auto, using(jobs::proofs::NumberLemmas::nobody_there), unfolding(posix::specs::Tables::children_in))]
 fn put_first<K: ProcessTable>(table: &mut IndexedTable<K>, alloc: Global) -> Result<(), AllocError>
     requires { table.old.processes ≡ [] }
@@ -160,7 +161,7 @@ fn put_first<K: ProcessTable>(table: &mut IndexedTable<K>, alloc: Global) -> Res
     Ok(())
 }
 
-/// A table of process 1 alone; an error where the host has no memory for it.
+/// Returns a table with only process 1. Fails if the host has no memory for it.
 fn first_table<K: ProcessTable>(alloc: Global) -> Result<IndexedTable<K>, AllocError>
     ensures processes { IfOk result (λ t. t.processes ≡ first_process ∷ []) }
     ensures visits { IfOk result (λ t. t.visits ≤ 1) }
@@ -171,7 +172,7 @@ fn first_table<K: ProcessTable>(alloc: Global) -> Result<IndexedTable<K>, AllocE
 }
 
 impl<K: ProcessTable> Machine<K> {
-    /// The machine at its start; an error where the host has no memory for it.
+    /// Returns the machine at boot. Fails if the host has no memory for it.
     #[tactic(auto, using(jobs::proofs::NumberLemmas::nobody_there), unfolding(posix::specs::States::is_in, posix::specs::Tables::children_in))]
     pub fn boot(alloc: Global, world: &World) -> Result<Self, AllocError>
         ensures state { IfOk result (λ m. m.state ≡ boot_of world.now) }
@@ -204,9 +205,9 @@ impl<K: ProcessTable> Machine<K> {
         })
     }
 
-    // ---- what there is
+    // ---- queries
 
-    /// How many slots of the table have been read, up to the greatest u128; 0 over a table that doesn't
+    /// Returns the number of slots of the table that have been read, up to the largest u128, or 0 if the table doesn't
     /// count them.
     pub fn visits(&self) -> u128
         ensures { result ≡ self.now.visits }
@@ -214,14 +215,14 @@ impl<K: ProcessTable> Machine<K> {
         self.table.visits()
     }
 
-    /// The number of consoles: 0 to 64.
+    /// Returns the number of consoles: 0 to 64.
     pub fn consoles(&self) -> u8
         ensures { result ≡ self.now.state.world.consoles }
     {
         self.world.consoles()
     }
 
-    /// Whether the machine has halted.
+    /// Returns true if the machine has halted.
     pub fn is_halted(&self) -> bool
         ensures value { result ≡ self.now.state.halted }
         ensures regular { IsRegular self.now.state }
@@ -229,49 +230,49 @@ impl<K: ProcessTable> Machine<K> {
         self.halted
     }
 
-    /// How many processes were born, process 1 included.
+    /// Returns the number of processes that were created, process 1 included.
     pub fn births(&self) -> u64
         ensures { result ≡ self.now.state.births }
     {
         self.births
     }
 
-    /// How many ticks have passed.
+    /// Returns the number of ticks that have passed.
     pub fn ticks(&self) -> u64
         ensures { result ≡ self.now.state.ticks }
     {
         self.ticks
     }
 
-    /// How many ended children were dropped, since their parent drops its children.
+    /// Returns the number of zombies that were dropped without a wait.
     pub fn dropped(&self) -> u64
         ensures { result ≡ self.now.state.dropped }
     {
         self.dropped
     }
 
-    /// The process that acts next.
+    /// Returns the current process, the first in the run queue.
     pub fn current(&self) -> Option<Pid>
         ensures { result ≡ current_of self.now.state }
     {
         self.order.current()
     }
 
-    /// Who comes after a process in the order; none after the last one, and after one that has no place.
+    /// Returns the process after `pid` in the run queue, or `None` if `pid` is the last one or not in the run queue.
     pub fn behind(&self, pid: Pid) -> Option<Pid>
         ensures { result ≡ next_behind pid self.now.state.order }
     {
         self.order.behind(pid)
     }
 
-    /// Whether a process has a place in the order.
+    /// Returns true if a process is in the run queue.
     pub fn has_place(&self, pid: Pid) -> bool
         ensures { result ≡ has_place_in self.now.state pid }
     {
         self.order.has(pid)
     }
 
-    /// The small fields of a process; none where it isn't there.
+    /// Returns the small fields of a process, or `None` if it doesn't exist.
     #[inline(always)]
     pub fn snapshot(&mut self, pid: Pid) -> Option<Snapshot>
         ensures { FindsAndCounts K.one_more self.old self.new result (result ≡ option_map snapshot_of (process self.old.state pid)) }
@@ -279,7 +280,7 @@ impl<K: ProcessTable> Machine<K> {
         self.table.get(pid)
     }
 
-    /// The parent of a process that is there; number 0 for process 1. No slot is read.
+    /// Returns the parent of an existing process, or number 0 for process 1. Reads no slot.
     pub fn parent(&self, pid: Pid) -> Pid
         requires { IsThere pid self.now }
         ensures value { IfThere pid self.now (λ me. result ≡ me.parent) }
@@ -290,8 +291,10 @@ impl<K: ProcessTable> Machine<K> {
 
     // ---- one process
 
-    /// Lends what a process that is there may change of itself. Nothing else changes.
-    /// Lends only what the shape of a machine does not depend on. The blocked call is lent, too: no invariant reads it,
+    /// Lends what an existing process may change of itself, and puts the process on the recheck list if it is not in
+    /// the run queue. Nothing else changes.
+    ///
+    /// Lends only what the machine's invariant doesn't depend on. The blocked call is lent, too: no invariant reads it,
     /// and code that leaves a call changes it together with the processor or the signals.
     pub fn own(&mut self, pid: Pid) -> &mut OwnPart
         requires { IsThere pid self.old }
@@ -303,8 +306,8 @@ impl<K: ProcessTable> Machine<K> {
         self.table.own(pid)
     }
 
-    /// Runs the instruction at the pc of a process that is there and runs this program. A call and a
-    /// machine fault change nothing.
+    /// Runs the instruction at the pc of an existing process that runs this program. A system call and a machine fault
+    /// change nothing.
     pub fn exec_one(&mut self, pid: Pid, program: u8) -> Trap
         requires there { IsThere pid self.old }
         requires program { IfThere pid self.old (λ me. me.program ≡ program) }
@@ -322,10 +325,10 @@ impl<K: ProcessTable> Machine<K> {
         }
     }
 
-    /// A process that is there, and runs this program, runs instructions that are plain or give a note, by the
-    /// steps after number `before` up to number `last`, and until there are 32 notes, which are added to a list
-    /// that is empty. The number of the last step that was taken, and how the instruction after it came out: a
-    /// call or a machine fault, which changes nothing, or `Next` where it wasn't looked at.
+    /// Runs instructions of an existing process that runs this program, while they are plain or give a note: the steps
+    /// after number `before` up to number `last`. Stops after 32 notes, which are added to an empty list. Returns the
+    /// number of the last step taken, and how the instruction after it came out: a system call or a machine fault,
+    /// which changes nothing, or `Next` if that instruction wasn't looked at.
     #[inline]
     pub fn run_with_notes(
         &mut self,
@@ -356,7 +359,7 @@ impl<K: ProcessTable> Machine<K> {
         }
     }
 
-    /// Shows what a process that is there may change of itself. Nothing changes.
+    /// Returns a view of what an existing process may change of itself. Changes nothing.
     pub fn look(&mut self, pid: Pid) -> &OwnPart
         requires { IsThere pid self.old }
         ensures* lends { sem 𝓛 (follows_so (machine_row K.row K.ProcessTable) (machine_row K.row K.ProcessTable) self.entry.ghost_name none (λ _ _. ⊤) (λ n. n ≡ looked K.one_more self.old)) }
@@ -366,9 +369,9 @@ impl<K: ProcessTable> Machine<K> {
         &self.table.look(pid).own
     }
 
-    // ---- places
+    // ---- the run queue
 
-    /// A process that is to be rechecked, has no place, and isn't a zombie, gets the last one.
+    /// Appends a live process that is on the recheck list, but not in the run queue, to the run queue.
     pub fn place(&mut self, pid: Pid)
         requires there { IsPlaced self.old.state.processes pid }
         requires none { has_place_in self.old.state pid ≡ false }
@@ -378,7 +381,8 @@ impl<K: ProcessTable> Machine<K> {
         self.order.place(pid);
     }
 
-    /// A process loses its place, if it has one.
+    /// Removes a process from the run queue and puts it on the recheck list. Does nothing if it is not in the run
+    /// queue.
     pub fn lose_place(&mut self, pid: Pid)
         ensures is { self.new ≡ record (self.old) { state = losing_place self.old.state pid; to_recheck = if has_place_in self.old.state pid then with_number pid self.old.to_recheck else self.old.to_recheck } }
         ensures regular { IsRegular self.old.state }
@@ -389,8 +393,8 @@ impl<K: ProcessTable> Machine<K> {
         }
     }
 
-    /// A process that can't act, and doesn't read, loses its place, if it has one, and isn't to be rechecked for it.
-    /// For a process that has just looked and must wait, so that settling does not look again.
+    /// Removes a process that isn't runnable, and isn't in a read, from the run queue, but doesn't put it on the
+    /// recheck list. For a process that has just looked and must wait, so that settling doesn't look again.
     pub fn sleep(&mut self, pid: Pid)
         requires rests { IfThere pid self.old (λ r. can_act self.old.state r ≡ false) }
         requires unread { IfThere pid self.old (λ r. is_in_read r.blocked ≡ false) }
@@ -400,7 +404,7 @@ impl<K: ProcessTable> Machine<K> {
         self.order.drop_place(pid);
     }
 
-    /// A process that has a place gets the last one.
+    /// Moves a process in the run queue to its end.
     pub fn go_last(&mut self, pid: Pid)
         requires { has_place_in self.old.state pid ≡ true }
         ensures { self.new ≡ record (self.old) { state = going_last self.old.state pid } }

@@ -13,12 +13,14 @@ use posix::{Errno, Pid};
 use proctable::ProcessTable;
 
 impl<K: ProcessTable> Machine<K> {
-    /// The process that r1 of the caller names moves to the process group that r2 names; 0 stands for the caller,
-    /// and for the number of the process itself. The number of the group. The process and its parent are to be
-    /// rechecked, as either may wait for the members of a group. At an error nothing changes: EINVAL where r2 is negative;
-    /// ESRCH where r1 names nobody, or neither the caller nor its child; EPERM where the child is in another session, the
-    /// process leads its session, or the group is neither its own nor one of that session; EACCES where the child has run
-    /// exec (XSH setpgid).
+    /// Moves the process whose ID is in the caller's r1 to the process group whose ID is in r2; 0 in r1 selects the
+    /// caller, and 0 in r2 means the ID of the process itself. Returns the process group ID. Puts the process on the
+    /// recheck list, and also its parent if the parent is not in the run queue, because either may wait for the members
+    /// of a group.
+    ///
+    /// Fails, and changes nothing, with EINVAL if r2 is negative; with ESRCH if no process has the ID in r1, or it is
+    /// neither the caller nor its child; with EPERM if the child is in another session, the process leads its session,
+    /// or the group is neither its own nor in that session; with EACCES if the child has run exec (XSH setpgid).
     pub fn move_group(&mut self, me: &Caller) -> Result<Pid, Errno>
         requires there { IsPlaced self.old.state.processes me.now.pid }
         requires caller { IfThere me.now.pid self.old (λ it. me.now ≡ caller_of it) }
@@ -38,9 +40,10 @@ impl<K: ProcessTable> Machine<K> {
         Ok(group)
     }
 
-    /// A process leads a session and a process group of its own. It and its parent are to be rechecked, as either may
-    /// wait for the members of a group. EPERM, and nothing changes, where it leads a process group, or another
-    /// process is in one with its number (XSH setsid).
+    /// Makes a process the leader of a new session and of a new process group. Puts the process on the recheck list,
+    /// and also its parent if the parent is not in the run queue, because either may wait for the members of a group.
+    /// Fails with EPERM, and changes nothing, if the process leads a process group, or if another process is in a group
+    /// with its ID (XSH setsid).
     pub fn new_session(&mut self, pid: Pid) -> Result<(), Errno>
         requires there { IsPlaced self.old.state.processes pid }
         ensures refused { IfThere pid self.old (λ me. (me.group == me.pid || is_group_of_others me self.old.state.processes) ≡ true → (result ≡ Err EPERM) × AreSame self.old self.new) }

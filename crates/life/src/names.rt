@@ -1,4 +1,4 @@
-//! What a register names to a call: a process, or a program.
+//! What a register selects for a call: a process or a program.
 
 ghost use Rattle.std.specs.Prelude.{◌≡◌, ℕ, pos, true, false, if◌then◌else◌, Some, None, option_map, slice_get};
 ghost use Rattle.posix.specs.Common.{Program, change, named as named_by, executed};
@@ -11,8 +11,9 @@ use posix::Pid;
 use proctable::{ProcessTable, Snapshot};
 
 impl<K: ProcessTable> Machine<K> {
-    /// The small fields of the process that a word names to a caller that is there: 0 is the caller itself.
-    /// None where no process has that number, a negative one too (XSH getpgid, getsid). Nothing changes.
+    /// Returns the small fields of the process whose ID is `word`, an argument of an existing caller; 0 selects the
+    /// caller itself. Returns `None` if no process has that ID, even if it is negative (XSH getpgid, getsid). Changes
+    /// nothing.
     #[inline(always)]
     pub fn named(&mut self, me: Pid, word: i64) -> Option<Snapshot>
         requires { IsThere me self.old }
@@ -27,8 +28,8 @@ impl<K: ProcessTable> Machine<K> {
         self.snapshot(Pid::new(word as u32)?)
     }
 
-    /// A process that is there runs the program that a word names in place of its own, and true is the answer;
-    /// where there is no such program nothing changes, and it is false (XSH exec).
+    /// Replaces the program of an existing process by the one with number `word`, and returns true. Returns false, and
+    /// changes nothing, if there is no such program (XSH exec).
     pub fn exec_named(&mut self, pid: Pid, word: i64) -> bool
         requires { IsThere pid self.old }
         ensures done { (n : ℕ) (program : Program) → word ≡ pos n → slice_get self.old.state.world.programs n ≡ Some program → (result ≡ true) × (self.new.state ≡ change self.old.state pid (executed n program)) }

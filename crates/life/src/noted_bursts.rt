@@ -12,17 +12,17 @@ use umach::{Cpu, Program};
 pub struct Note {
     /// The number of the step, which runs one instruction.
     pub step: u64,
-    /// What it noted.
+    /// The value noted.
     pub value: i64,
 }
 
-/// The notes of steps, the first one first. A burst ends once there are 32.
+/// The notes of steps, in order. A burst ends after 32.
 pub type Notes = ArrayVec<Note, 32>;
 
-/// Runs instructions that are plain or give a note, by the steps after number `before` up to number `last`, and
-/// until there are 32 notes, which are added to a list that is empty. The number of the last step that was taken,
-/// and how the instruction after it came out: a call or a machine fault, which leaves the processor as it was,
-/// or `Next` where it wasn't looked at.
+/// Runs instructions while they are plain or give a note: the steps after number `before` up to number `last`. Stops
+/// after 32 notes, which are added to an empty list. Returns the number of the last step taken, and how the instruction
+/// after it came out: a system call or a machine fault, which leaves the processor as it was, or `Next` if that
+/// instruction wasn't looked at.
 pub(crate) fn run_with_notes(
     cpu: &mut Cpu,
     program: &Program,

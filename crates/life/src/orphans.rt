@@ -1,4 +1,4 @@
-//! Process groups that an end orphans (XSH _exit, Consequences of Process Termination).
+//! Process groups that a termination orphans (XSH _exit, Consequences of Process Termination).
 
 ghost use Rattle.std.specs.Prelude.{◌≡◌, ◌≢◌, ◌+◌, ◌*◌, ◌≤◌, ◌&&◌, ℕ, Some, true, if◌then◌else◌, filter, length};
 ghost use Rattle.posix.specs.Common.{Process, is_zombie, with_number, process, is_in, without, children_in, is_anchor as is_anchor_of, is_orphaned as is_orphaned_of, has_stopped as has_stopped_of, loses_anchor, hup_and_cont as hup_and_cont_of, hup_and_cont_all as hup_and_cont_all_of, hup_and_cont_orphans, leave_children_and_die as departing, tell_of_all, zombies_of, IsRegular, CanInherit};
@@ -11,9 +11,9 @@ use posix::{Pid, Sig, Status};
 use proctable::ProcessTable;
 
 impl<K: ProcessTable> Machine<K> {
-    // ---- before the end
+    // ---- before the termination
 
-    /// The group of a process that is there is noted where the process keeps it from being orphaned. No slot is read.
+    /// Notes the process group that an existing process keeps from being orphaned, if there is one. Reads no slot.
     fn note_anchor(&mut self, pid: Pid)
         requires { length self.old.groups_at_risk ≤ length self.old.state.processes }
         ensures notes { Notes self.old self.new }
@@ -24,8 +24,8 @@ impl<K: ProcessTable> Machine<K> {
         }
     }
 
-    /// The groups are noted that a process that is there and its children keep from being orphaned: no
-    /// others can be orphaned by its end. No slot is read.
+    /// Notes the process groups that an existing process and its children keep from being orphaned. Its termination can
+    /// orphan no others. Reads no slot.
     #[tactic(auto, using(crate::proofs::ChildLemmas::child_there, crate::proofs::ChildLemmas::child_less))]
     fn note_groups_at_risk(&mut self, pid: Pid)
         requires { IsThere pid self.old }
@@ -43,7 +43,7 @@ impl<K: ProcessTable> Machine<K> {
 
     // ---- after it
 
-    /// A group stays noted only where it is orphaned and has a stopped member.
+    /// Drops a group from those noted unless it is orphaned and has a stopped member.
     fn keep_orphan_with_stopped(&mut self, group: Pid)
         ensures groups_at_risk { self.new.groups_at_risk ≡ (if is_orphaned_of group self.old.state.processes && has_stopped_of group self.old.state.processes then self.old.groups_at_risk else without group self.old.groups_at_risk) }
         ensures same { self.new.state ≡ self.old.state }
@@ -54,7 +54,7 @@ impl<K: ProcessTable> Machine<K> {
         }
     }
 
-    /// Of the noted groups those stay noted that are orphaned and have a stopped member.
+    /// Keeps only those noted groups that are orphaned and have a stopped member.
     fn keep_orphans_with_stopped(&mut self)
         ensures groups_at_risk { self.new.groups_at_risk ≡ filter (λ g. is_orphaned_of g self.old.state.processes && has_stopped_of g self.old.state.processes) self.old.groups_at_risk }
         ensures rising { Rises self.old.groups_at_risk }
@@ -68,7 +68,7 @@ impl<K: ProcessTable> Machine<K> {
         }
     }
 
-    /// Each member of a process group gets HUP, and then each gets CONT.
+    /// Generates SIGHUP for each member of a process group, and then SIGCONT for each.
     fn hup_and_cont(&mut self, group: Pid)
         ensures state { self.new.state ≡ with_processes self.old.state (hup_and_cont_of group self.old.state.processes) }
         ensures groups_at_risk { self.new.groups_at_risk ≡ self.old.groups_at_risk }
@@ -79,7 +79,7 @@ impl<K: ProcessTable> Machine<K> {
         self.signal_members(group, Sig::CONT);
     }
 
-    /// Each noted group gets HUP and CONT.
+    /// Generates SIGHUP and then SIGCONT for the members of each noted group.
     fn hup_and_cont_all(&mut self)
         ensures state { self.new.state ≡ with_processes self.old.state (hup_and_cont_all_of self.old.groups_at_risk self.old.state.processes) }
         ensures visits { self.new.visits ≤ self.old.visits + slots_of_hups self.old.groups_at_risk self.old.state.processes }
@@ -93,11 +93,11 @@ impl<K: ProcessTable> Machine<K> {
         }
     }
 
-    // ---- the end
+    // ---- the termination
 
-    /// The process becomes a zombie, as [`Machine::leave_children_and_die`] says, and then each member of a process
-    /// group that was not orphaned before, is now, and has a stopped member, gets HUP, and then CONT: of these
-    /// groups one after another, in rising order. Its parent.
+    /// Makes a process a zombie, as [`Machine::leave_children_and_die`] does. Then generates SIGHUP, and then SIGCONT,
+    /// for each member of the process groups that this orphaned and that have a stopped member, one group after another
+    /// in rising order. Returns the parent of the process.
     #[tactic(auto, using(posix::proofs::QuietLemmas::none_hup_and_cont), unfolding(posix::specs::Ends::hup_and_cont_all))]
     pub(crate) fn die_and_hup_orphans(&mut self, pid: Pid, heir: Pid, status: Status) -> Pid
         requires there { IsThere pid self.old }

@@ -1,4 +1,4 @@
-//! The memory for numbers that nobody bears any more.
+//! The memory for IDs that are no longer in use.
 
 ghost use Rattle.std.specs.Prelude.{◌≡◌, ◌/◌, ℕ, true};
 ghost use Rattle.posix.specs.Common.{is_in};
@@ -15,8 +15,8 @@ use pidset::Lists;
 use posix::Pid;
 use proctable::ProcessTable;
 
-/// The room for a number goes in the parts of a machine, and that for all others on its page of 1,024 numbers. It stands
-/// by itself, since few births and ends come so far.
+/// Frees the room for an ID in the parts of a machine, and for all other IDs on its page of 1,024. A function of its
+/// own, because few births and terminations get this far.
 #[inline(never)]
 fn give_up_page<K: ProcessTable>(
     pids: &mut PidTable,
@@ -41,8 +41,8 @@ fn give_up_page<K: ProcessTable>(
 }
 
 impl<K: ProcessTable> Machine<K> {
-    /// The memory for a number goes, and that for all others on its page of 1,024 numbers, where nobody bears any of
-    /// them and the one given last isn't among them. No slot is read.
+    /// Frees the memory for an ID, and for all other IDs on its page of 1,024, if none of them is in use and the last
+    /// ID assigned isn't among them. Reads no slot.
     #[inline(always)]
     pub(crate) fn give_up_unborne_page(&mut self, pid: Pid)
         ensures same { AreSameButRoom self.old self.new }
@@ -59,7 +59,7 @@ impl<K: ProcessTable> Machine<K> {
         }
     }
 
-    /// So for each of the numbers that a process bore.
+    /// Frees that memory for each of the IDs that a process had.
     #[inline(always)]
     pub(crate) fn give_up_unborne_pages(&mut self, pid: Pid, group: Pid, session: Pid)
         ensures same { AreSameButRoom self.old self.new }

@@ -1,4 +1,4 @@
-//! Programs that a process runs in place of its own (XSH exec).
+//! Replacement of a process's program by another (XSH exec).
 
 ghost use Rattle.std.specs.Prelude.{◌≡◌, Some, None, true, false, if◌then◌else◌, slice_get};
 ghost use Rattle.posix.specs.Common.{Program, change, executed};
@@ -11,8 +11,8 @@ use posix::Pid;
 use proctable::ProcessTable;
 
 impl<K: ProcessTable> Machine<K> {
-    /// A process that is there runs the program with this number in place of its own, and true is the answer;
-    /// where there is no such program nothing changes, and it is false (XSH exec).
+    /// Replaces the program of an existing process by the one with this number, and returns true. Returns false, and
+    /// changes nothing, if there is no such program (XSH exec).
     pub fn exec(&mut self, pid: Pid, number: u8) -> bool
         requires { IsThere pid self.old }
         ensures done { (program : Program) → slice_get self.old.state.world.programs number ≡ Some program → (result ≡ true) × (self.new.state ≡ change self.old.state pid (executed number program)) }

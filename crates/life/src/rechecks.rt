@@ -1,4 +1,4 @@
-//! Who is to be rechecked: asked after this event whether it can act.
+//! The recheck list: the processes to be tested, after this event, for whether they are runnable.
 
 ghost use Rattle.std.specs.Prelude.{◌≡◌, ◌<◌, length};
 ghost use Rattle.life.specs.Rechecks.{rechecking, without_gone};
@@ -7,7 +7,7 @@ use pidalloc::Order;
 use pidset::PidSet;
 use posix::Pid;
 
-/// A process that is there has changed, but not its place: it is to be rechecked where it has none.
+/// Puts an existing process that has changed on the recheck list, if it is not in the run queue.
 #[inline]
 pub(crate) fn recheck_later(to_recheck: &mut PidSet, order: &Order, pid: Pid)
     requires { length to_recheck.old.pids < to_recheck.old.room }
@@ -18,8 +18,8 @@ pub(crate) fn recheck_later(to_recheck: &mut PidSet, order: &Order, pid: Pid)
     }
 }
 
-/// Where the record of a process has gone, of which this is the parent: the parent is to be rechecked where it has no
-/// place, and the process no more.
+/// Takes a process whose record was removed off the recheck list, and puts its parent there if the parent is not in the
+/// run queue.
 pub(crate) fn forget(to_recheck: &mut PidSet, order: &Order, pid: Pid, parent: Pid)
     requires { length to_recheck.old.pids < to_recheck.old.room }
     ensures { to_recheck.new ≡ record (to_recheck.old) { pids = without_gone pid parent order.now.pids to_recheck.old.pids } }

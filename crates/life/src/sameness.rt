@@ -1,4 +1,4 @@
-//! Whether two machines are in the same state.
+//! Comparison of two machines' states.
 
 ghost use Rattle.std.specs.Prelude.{◌≡◌, ◌+◌, ◌*◌, length, true};
 ghost use Rattle.posix.specs.Common.{process};
@@ -11,8 +11,8 @@ use proctable::ProcessTable;
 use tty::Console;
 
 impl<K: ProcessTable> Machine<K> {
-    /// Whether another machine of the same world is in the same state. `false` promises nothing. Nothing changes in either
-    /// but how many slots have been read.
+    /// Returns true only if another machine of the same world is in the same state. `false` promises nothing. Changes
+    /// nothing in either machine but the number of slots read.
     pub fn is_same(&mut self, other: &mut Machine<K>) -> bool
         requires world { self.old.state.world ≡ other.old.state.world }
         ensures same { result ≡ true → self.old.state ≡ other.old.state }
@@ -25,8 +25,8 @@ impl<K: ProcessTable> Machine<K> {
         self.has_same_processes(other)
     }
 
-    /// Whether it is the same in both machines how many ticks passed and processes were born and dropped, whether they
-    /// halted, the number given last, and who has a place.
+    /// Returns true only if both machines agree in ticks, births, dropped zombies, halt, the last process ID assigned,
+    /// and the run queue.
     fn has_same_counts(&self, other: &Machine<K>) -> bool
         ensures { result ≡ true → HaveSameCounts self.now.state other.now.state }
     {
@@ -38,7 +38,7 @@ impl<K: ProcessTable> Machine<K> {
             && self.order.is_same(&other.order)
     }
 
-    /// Whether both machines have the same processes: these are compared one by one, from the least number on.
+    /// Returns true only if both machines have the same processes. Compares them one by one, from the lowest ID up.
     fn has_same_processes(&mut self, other: &mut Machine<K>) -> bool
         ensures same { result ≡ true → self.old.state.processes ≡ other.old.state.processes }
         ensures mine { Looks (1 + 2 * length self.old.state.processes) self.old self.new }
@@ -59,7 +59,7 @@ impl<K: ProcessTable> Machine<K> {
         their_next.is_none()
     }
 
-    /// Whether a process that is there in both machines is the same in both.
+    /// Returns true only if a process that exists in both machines is the same in both.
     fn has_same_process(&mut self, other: &mut Machine<K>, pid: Pid) -> bool
         requires here { IsThere pid self.old }
         requires there { IsThere pid other.old }
@@ -74,7 +74,7 @@ impl<K: ProcessTable> Machine<K> {
     }
 }
 
-/// Whether the consoles of two rows are the same, one after another.
+/// Returns true only if two rows of consoles are the same, one by one.
 fn are_same(consoles: &[Console], others: &[Console]) -> bool
     ensures { result ≡ true → consoles.now ≡ others.now }
 {

@@ -15,7 +15,7 @@ use posix::{PendingSignal, Pid, Sending, Sig, Target};
 use proctable::{GrantedPools, NoPools, Pools, ProcessTable, Snapshot};
 use std::mem::replace;
 
-/// Whether a sender means a process by a target; all are those but the sender and process 1 (XSH kill).
+/// Returns true if a sender selects a process by a target. `All` selects all but the sender and process 1 (XSH kill).
 #[inline(always)]
 pub(crate) fn is_target(me: &Caller, target: &Target, it: &Snapshot) -> bool
     ensures { (q : Process) → it.now ≡ snapshot_of q → result ≡ is_target_of (process_like me.now) target.now q }
@@ -29,7 +29,7 @@ pub(crate) fn is_target(me: &Caller, target: &Target, it: &Snapshot) -> bool
     }
 }
 
-/// Whether a sender may signal a process (XSH kill).
+/// Returns true if a sender may signal a process (XSH kill).
 #[inline(always)]
 pub(crate) fn may_signal(me: &Caller, sig: Option<Sig>, it: &Snapshot) -> bool
     ensures { (q : Process) → it.now ≡ snapshot_of q → result ≡ may (process_like me.now) sig q }
@@ -38,7 +38,7 @@ pub(crate) fn may_signal(me: &Caller, sig: Option<Sig>, it: &Snapshot) -> bool
         .may_signal(&it.creds, sig, me.session == it.session)
 }
 
-/// The number of a signal that is sent, if it is one.
+/// Returns the number of the signal to send, or `None` for signal 0.
 #[inline(always)]
 fn number_of(signal: &Option<PendingSignal>) -> Option<Sig>
     ensures { result ≡ number_in signal.now }
@@ -46,7 +46,7 @@ fn number_of(signal: &Option<PendingSignal>) -> Option<Sig>
     Some(signal.as_ref()?.sig)
 }
 
-/// A signal that is sent, if it is a real-time signal.
+/// Returns the signal to send if it is a real-time signal.
 #[inline(always)]
 fn realtime(signal: &Option<PendingSignal>) -> Option<PendingSignal>
     ensures some { IfSome result (λ m. (signal.now ≡ Some m) × (is_realtime m.sig ≡ true)) }
@@ -59,8 +59,8 @@ fn realtime(signal: &Option<PendingSignal>) -> Option<PendingSignal>
 }
 
 impl<K: ProcessTable> Machine<K> {
-    /// Sends a signal to a process that is there, with this snapshot, where the sender may; `None` only
-    /// checks. Where it would be queued its queue isn't full, and a pool waits for it.
+    /// Sends a signal to the existing process with this snapshot, if the sender may signal it; `None` only checks. If
+    /// the signal would be queued, the queue must not be full, and `pools` must have a pool for it.
     fn send_if_permitted<S: Pools>(
         &mut self,
         me: &Caller,
@@ -88,8 +88,8 @@ impl<K: ProcessTable> Machine<K> {
         Sending::Permitted
     }
 
-    /// Sends a signal to the process with a number, if it is there and the sender means it. Where it would be queued
-    /// its queue isn't full, and a pool waits for it.
+    /// Sends a signal to the process with this ID, if it exists and the target selects it. If the signal would be
+    /// queued, the queue must not be full, and `pools` must have a pool for it.
     fn send_to_number<S: Pools>(
         &mut self,
         me: &Caller,
@@ -111,7 +111,7 @@ impl<K: ProcessTable> Machine<K> {
         }
     }
 
-    /// The next candidate of a sender with a number above `after`. The processes that the target means are among the
+    /// Returns the sender's candidate with the lowest ID above `after`. All processes that the target selects are
     /// candidates.
     pub(crate) fn next_target(&mut self, me: &Caller, target: &Target, after: Pid) -> Option<Pid>
         ensures finds { Finds 1 self.old self.new (IsNext (is_target_of (process_like me.now) target.now) after self.old.state.processes result) }
@@ -124,8 +124,8 @@ impl<K: ProcessTable> Machine<K> {
         }
     }
 
-    /// Sends a signal to all processes that the sender means, in rising order. No queue is full for which it would be
-    /// queued, and a pool waits for each.
+    /// Sends a signal to all processes that the target selects, in rising order of process ID. No queue that it would
+    /// enter may be full, and `pools` must have a pool for each.
     fn send_to_matching<S: Pools>(
         &mut self,
         me: &Caller,
@@ -146,9 +146,9 @@ impl<K: ProcessTable> Machine<K> {
         sending
     }
 
-    /// Sends a signal of a caller to the processes that its target means and it may signal, and tells whom it found;
-    /// `None` only checks. No queue is full for which it would be queued, and a pool waits for each. Where nobody is
-    /// found or may be signalled nothing changes (XSH kill).
+    /// Sends a caller's signal to the processes that its target selects and that it may signal; `None` only checks.
+    /// Returns which processes it found. No queue that the signal would enter may be full, and `pools` must have a pool
+    /// for each. Changes nothing if no process is selected, or none may be signalled (XSH kill).
     #[inline(always)]
     pub(crate) fn send_from_pools<S: Pools>(
         &mut self,
@@ -172,7 +172,7 @@ impl<K: ProcessTable> Machine<K> {
         }
     }
 
-    /// Makes so many pools wait, if any. Whether they do: else the host has no memory for them.
+    /// Reserves `count` pools. Returns false if the host has no memory for them.
     fn reserve_pools(&mut self, granted_pools: &mut GrantedPools, count: usize) -> bool
         ensures enough { result ≡ true → count ≤ granted_pools.new.pools }
         ensures lack { result ≡ false → 0 < count }
@@ -181,7 +181,7 @@ impl<K: ProcessTable> Machine<K> {
         count == 0 || self.table.reserve_pools(granted_pools, count).is_ok()
     }
 
-    /// Sends a real-time signal as [`Machine::send`] says.
+    /// Sends a real-time signal, as [`Machine::send`] does.
     #[inline(never)]
     fn send_realtime(&mut self, me: &Caller, target: Target, signal: PendingSignal) -> Sending
         requires { is_realtime signal.sig ≡ true }
@@ -204,10 +204,10 @@ impl<K: ProcessTable> Machine<K> {
         sending
     }
 
-    /// Sends a signal of a caller to those that its target means and it may signal, and tells what became of it;
-    /// `None` only checks. A real-time signal is queued for all of them that keep it, or for none: where the queue of
-    /// one is full, or the host has no memory for the queues, nothing changes; nor does it where nobody is found or
-    /// may be signalled (XSH kill, XSH sigqueue).
+    /// Sends a caller's signal to the processes that its target selects and that it may signal, and returns the
+    /// outcome; `None` only checks. A real-time signal is queued for all of these that keep it, or for none: if a queue
+    /// is full, or the host has no memory for the queues, nothing changes. Nothing changes either if no process is
+    /// selected, or none may be signalled (XSH kill, XSH sigqueue).
     #[inline(always)]
     pub fn send(&mut self, me: &Caller, target: Target, signal: Option<PendingSignal>) -> Sending
         ensures sending { (granted : Bool) × (result ≡ sending_granted granted (process_like me.now) target (number_in signal) self.old.state.processes) }

@@ -1,4 +1,4 @@
-//! Signals that are generated for a process, and for each member of a process group.
+//! Generation of signals for a process, and for each member of a process group.
 
 ghost use Rattle.std.specs.Prelude.{◌≡◌, ◌+◌, ◌*◌, ◌≤◌, ◌==◌, ◌∷◌, [], Some, true, false, if◌then◌else◌, length};
 ghost use Rattle.posix.specs.Common.{is_realtime, process, members_in, from_kernel, generated_for, signalled_group, signalled_members, queuers};
@@ -11,8 +11,8 @@ use posix::{Carried, Effect, PendingSignal, Pid, Sig};
 use proctable::{Pools, ProcessTable};
 
 impl<K: ProcessTable> Machine<K> {
-    /// A standard signal is generated for a process that is there. CONT continues one that is stopped, and its parent
-    /// gets notice (XSH 2.4.1, 2.4.3).
+    /// Generates a standard signal for an existing process. SIGCONT continues a stopped process, whose parent is
+    /// notified (XSH 2.4.1, 2.4.3).
     #[inline(always)]
     fn signal(&mut self, pid: Pid, signal: PendingSignal)
         requires there { IsThere pid self.old }
@@ -25,8 +25,8 @@ impl<K: ProcessTable> Machine<K> {
         }
     }
 
-    /// A real-time signal is generated for a process that is there. Where the process keeps it, it is queued: its queue
-    /// isn't full, and a pool waits for it, which is taken if the process has none (XSH 2.4.2).
+    /// Generates a real-time signal for an existing process. If the process keeps the signal, it is queued: the queue
+    /// must not be full, and `pools` must have a pool, which is taken if the process has none (XSH 2.4.2).
     #[inline(never)]
     fn queue<S: Pools>(&mut self, pid: Pid, signal: PendingSignal, pools: &mut S)
         requires there { IsThere pid self.old }
@@ -40,8 +40,8 @@ impl<K: ProcessTable> Machine<K> {
         pools.put(left);
     }
 
-    /// A signal is generated for a process that is there. Where it would be queued the queue isn't full, and a pool waits
-    /// for it (XSH 2.4.1).
+    /// Generates a signal for an existing process. If it would be queued, the queue must not be full, and `pools` must
+    /// have a pool for it (XSH 2.4.1).
     pub(crate) fn generate<S: Pools>(&mut self, pid: Pid, signal: PendingSignal, pools: &mut S)
         requires there { IsThere pid self.old }
         requires room { IfThere pid self.old (λ q. HaveRoom (S.pools pools.old) (queuers (Some signal.sig) (q ∷ []))) }
@@ -55,7 +55,8 @@ impl<K: ProcessTable> Machine<K> {
         }
     }
 
-    /// A standard signal of the kernel is generated for the process with this number; nothing happens where it isn't there.
+    /// Generates a standard signal of the kernel for the process with this ID. Does nothing if there is no such
+    /// process.
     pub(crate) fn signal_process(&mut self, pid: Pid, sig: Sig)
         requires { is_realtime sig ≡ false }
         ensures { Changes (1 + slots_of_signal sig) self.old self.new (with_processes self.old.state (generated_for (record { sig = sig; carried = from_kernel }) (process self.old.state pid) self.old.state.processes)) (rechecking_generated (record { sig = sig; carried = from_kernel }) (process self.old.state pid) self.old.state.processes self.old.state.order self.old.to_recheck) }
@@ -69,8 +70,8 @@ impl<K: ProcessTable> Machine<K> {
         }
     }
 
-    /// A standard signal of the kernel is generated for each member of a process group, zombies included, in rising
-    /// order.
+    /// Generates a standard signal of the kernel for each member of a process group, zombies included, in rising order
+    /// of process ID.
     pub(crate) fn signal_members(&mut self, group: Pid, sig: Sig)
         requires { is_realtime sig ≡ false }
         ensures { Changes (slots_of_signal sig * length (members_in group self.old.state.processes)) self.old self.new (with_processes self.old.state (signalled_members (record { sig = sig; carried = from_kernel }) group self.old.state.processes)) (rechecking_members sig group self.old.state.processes self.old.state.order self.old.to_recheck) }
@@ -86,8 +87,8 @@ impl<K: ProcessTable> Machine<K> {
         }
     }
 
-    /// [`Machine::signal_members`] of the process group with this number; nothing happens for number 0, which is no
-    /// group's.
+    /// Generates a standard signal for a process group, as [`Machine::signal_members`] does. Does nothing for number 0,
+    /// which is no process group's ID.
     pub fn signal_group(&mut self, group: Pid, sig: Sig)
         requires { is_realtime sig ≡ false }
         ensures { Changes (slots_of_signal sig * length (members_in group self.old.state.processes)) self.old self.new (with_processes self.old.state (signalled_group sig group self.old.state.processes)) (if group == 0 then self.old.to_recheck else rechecking_members sig group self.old.state.processes self.old.state.order self.old.to_recheck) }

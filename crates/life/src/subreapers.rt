@@ -1,4 +1,4 @@
-//! Child subreapers: who is one, and who takes in the children of a process (prctl(2)).
+//! Child subreapers, and the new parent of a terminating process's children (prctl(2)).
 
 ghost use Rattle.std.specs.Prelude.{◌≡◌, ◌≤◌, ◌+◌, not};
 ghost use Rattle.std.specs.List.{list_any};
@@ -14,8 +14,9 @@ use posix::{Life, Pid};
 use proctable::ProcessTable;
 
 impl<K: ProcessTable> Machine<K> {
-    /// A process that is there becomes a child subreaper, or is none any more, and its call gives 0. It is to be rechecked
-    /// where it has no place, and nobody else is: who takes in children shows to nobody before an end.
+    /// Makes an existing process a child subreaper, or no longer one; its call returns 0. Puts the process on the
+    /// recheck list if it is not in the run queue, and no other process: new parents matter to none before a
+    /// termination.
     pub fn mark(&mut self, pid: Pid, mark: bool)
         requires { IsThere pid self.old }
         ensures { Changes 1 self.old self.new (change self.old.state pid (marked_as mark)) (rechecks pid self.old) }
@@ -25,16 +26,16 @@ impl<K: ProcessTable> Machine<K> {
             .change_seen(pid, |fields| fields.finish_marked(mark));
     }
 
-    /// Whether no living process is a child subreaper. No slot is read.
+    /// Returns true if no live process is a child subreaper. Reads no slot.
     fn nobody_marked(&self) -> bool
         ensures { result ≡ not (list_any is_living_subreaper self.now.state.processes) }
     {
         self.table.nobody_marked()
     }
 
-    /// Who takes in the children of a process: the nearest of its forebears that is a child subreaper, or process 1. Where
-    /// no living process is a child subreaper no slot is read; else one for the process, and one for each of its forebears
-    /// up to that one, but for process 1. There are no more of them than numbers.
+    /// Returns the new parent of a process's children: its nearest ancestor that is a child subreaper, otherwise
+    /// process 1. Reads no slot if no live process is a child subreaper. Otherwise reads one for the process, and one
+    /// for each ancestor up to the new parent, but none for process 1. There are no more ancestors than process IDs.
     pub fn heir(&mut self, pid: Pid) -> Pid
         ensures heir { result ≡ heir_in self.old.state.processes pid }
         ensures same { AreSame self.old self.new }

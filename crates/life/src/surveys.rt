@@ -1,4 +1,4 @@
-//! A look at the processes for which a real-time signal would be queued, before it is.
+//! A survey of the processes for which a real-time signal would be queued, before it is.
 
 ghost use Rattle.std.specs.Prelude.{◌≡◌, ◌+◌, ◌*◌, ◌<◌, ◌≤◌, ◌^◌, true, filter, length};
 ghost use Rattle.posix.specs.Common.{has_pid, targets};
@@ -13,14 +13,14 @@ use crate::sends::{is_target, may_signal};
 use posix::{Pid, Sending, Sig, Target};
 use proctable::ProcessTable;
 
-/// What a real-time signal would meet at the processes that its sender means.
+/// What a real-time signal would find among the processes that its target selects.
 #[derive(Clone, Copy)]
 pub(crate) struct Survey {
-    /// Whom the signal finds.
+    /// The result so far: no process is selected, none may be signalled, or at least one may.
     pub found: Sending,
-    /// Whether the queue is full of a process for which it would be queued.
+    /// True if a process for which the signal would be queued has a full queue.
     pub is_full: bool,
-    /// For how many processes it would be queued.
+    /// The number of processes for which the signal would be queued.
     pub queuers: usize,
 }
 
@@ -32,7 +32,7 @@ impl Survey {
         queuers: 0,
     };
 
-    /// The survey of two parts. Together fewer than 2 to the power of 64 processes would queue the signal.
+    /// Returns the survey of both parts. Together, fewer than 2 to the power of 64 processes must queue the signal.
     fn and(self, other: Survey) -> Survey
         requires { self.queuers + other.queuers < 2 ^ 64 }
         ensures { result ≡ joined_surveys self other }
@@ -46,7 +46,7 @@ impl Survey {
 }
 
 impl<K: ProcessTable> Machine<K> {
-    /// The survey of the process with a number, if it is there and the sender means it.
+    /// Surveys the process with this ID, if it exists and the target selects it.
     fn survey_one(&mut self, me: &Caller, sig: Sig, target: &Target, pid: Pid) -> Survey
         ensures { Finds 2 self.old self.new (result ≡ survey_of (process_like me.now) sig (targets (process_like me.now) target.now (filter (has_pid pid) self.old.state.processes))) }
     {
@@ -71,7 +71,7 @@ impl<K: ProcessTable> Machine<K> {
         }
     }
 
-    /// The survey of all processes that the sender means.
+    /// Surveys all processes that the target selects.
     fn survey_all(&mut self, me: &Caller, sig: Sig, target: &Target) -> Survey
         ensures { Finds (1 + 3 * length (filter (is_candidate (process_like me.now) target.now) self.old.state.processes)) self.old self.new (result ≡ survey_of (process_like me.now) sig (targets (process_like me.now) target.now self.old.state.processes)) }
     {
@@ -85,9 +85,10 @@ impl<K: ProcessTable> Machine<K> {
         survey
     }
 
-    /// The survey of the processes that a target means, before a real-time signal is sent to them. Nothing changes.
-    /// A real-time send goes over its receivers twice, because it is known only after all of them that none is full. A
-    /// standard signal goes over them once.
+    /// Surveys the processes that a target selects, before a real-time signal is sent to them. Changes nothing.
+    ///
+    /// A real-time send walks its receivers twice, because only a whole walk shows that no queue is full. A standard
+    /// signal walks them once.
     pub(crate) fn survey(&mut self, me: &Caller, sig: Sig, target: &Target) -> Survey
         ensures finds { Finds (1 + 3 * length (filter (is_candidate (process_like me.now) target.now) self.old.state.processes)) self.old self.new (result ≡ survey_of (process_like me.now) sig (targets (process_like me.now) target.now self.old.state.processes)) }
         ensures visits { is_one target.now ≡ true → self.new.visits ≤ self.old.visits + 2 }

@@ -1,4 +1,4 @@
-//! Waits.
+//! Waits for children.
 
 ghost use Rattle.std.specs.Prelude.{◌≡◌, ◌≢◌, ◌<◌, ◌≤◌, ◌+◌, ℕ, filter, length, option_map, Some, true, if◌then◌else◌};
 ghost use Rattle.std.specs.List.{list_any};
@@ -22,7 +22,7 @@ use pidalloc::PidTable;
 use posix::{Asked, Blocked, Life, News, Pid, Report, Status, Target, WaitidOptions};
 use proctable::{ProcessTable, Record, Snapshot};
 
-/// What the news of a process are for a wait.
+/// Returns what a wait with these options reports of a stop or a continue.
 fn report_change(options: WaitidOptions, pid: Pid, news: News) -> Report
     ensures { result ≡ report_change_of options.0 pid news }
 {
@@ -37,7 +37,7 @@ fn report_change(options: WaitidOptions, pid: Pid, news: News) -> Report
     }
 }
 
-/// What a child has to report.
+/// Returns what a wait with these options reports of a child.
 fn report_life(options: WaitidOptions, pid: Pid, life: Life, news: News) -> Report
     ensures { result ≡ report_life_of options.0 pid life news }
 {
@@ -50,7 +50,7 @@ fn report_life(options: WaitidOptions, pid: Pid, life: Life, news: News) -> Repo
     }
 }
 
-/// Whether a wait by a caller in this process group means a child with this number, in its group.
+/// Returns true if a wait by a caller in this process group selects a child with this ID and process group.
 fn is_named(group: Pid, target: Target, child: Pid, child_group: Pid) -> bool
     ensures { (r : Process) → r.pid ≡ child → r.group ≡ child_group → result ≡ is_named_by group target r }
 {
@@ -63,7 +63,7 @@ fn is_named(group: Pid, target: Target, child: Pid, child_group: Pid) -> bool
     }
 }
 
-/// Whether a child has something to report.
+/// Returns true if a wait with these options reports a child.
 fn reports(options: WaitidOptions, child: Pid, life: Life, news: News) -> bool
     ensures { result ≡ is_something (report_life_of options.0 child life news) }
 {
@@ -73,8 +73,8 @@ fn reports(options: WaitidOptions, child: Pid, life: Life, news: News) -> bool
     }
 }
 
-/// What a wait has to report where none of those that it means has something to report, and this says whether it
-/// means any.
+/// Returns what a wait reports if no selected child has a requested status change. `has_child` is true if the wait
+/// selects any child.
 fn without_report(has_child: bool) -> Report
     ensures { result ≡ (if has_child then Nothing else NoChild) }
 {
@@ -85,18 +85,19 @@ fn without_report(has_child: bool) -> Report
     }
 }
 
-/// What the wait asks that a process is blocked in, if it is in one.
+/// Returns what the wait asks that a process is blocked in, if it is in one.
 fn asked_in(me: &Record) -> Option<Asked>
     ensures { (p q : ℕ) → result ≡ asked_in_call (process_of p q me.now) me.now.own.blocked }
 {
     match me.own.blocked {
-        // It asks the same whatever its number.
+        // Its ID doesn't matter here.
         Some(Blocked::Wait(call)) => caller_in(Pid::NONE, me).asked(call),
         Some(Blocked::Read | Blocked::Pause | Blocked::Sigsuspend(_)) | None => None,
     }
 }
 
-/// Whether a process is blocked in a wait that means this child, which is in this state, and asks for its report.
+/// Returns true if a process is blocked in a wait that selects this child, whose state is `seen`, and that would report
+/// it.
 #[tactic(auto, unfolding(crate::specs::Rechecks::awaits, posix::specs::Waits::report_of))]
 pub(crate) fn awaits(me: &Record, child: Pid, seen: &IndexedFields) -> bool
     ensures { (p q : ℕ) (it : Process) → it.pid ≡ child → seen.now ≡ seen_of it → result ≡ awaiting (process_of p q me.now) it }
@@ -110,8 +111,8 @@ pub(crate) fn awaits(me: &Record, child: Pid, seen: &IndexedFields) -> bool
     }
 }
 
-/// The record of a process that is there, without children, goes, and it no longer bears its own number, its group's
-/// and its session's, in the parts of a machine. Its small fields.
+/// Removes the record of an existing process without children from the parts of a machine. Its process, process group
+/// and session IDs are then used once less. Returns its small fields.
 pub(crate) fn discard<K: ProcessTable>(
     table: &mut IndexedTable<K>,
     pids: &mut PidTable,
@@ -132,7 +133,7 @@ pub(crate) fn discard<K: ProcessTable>(
 }
 
 impl<K: ProcessTable> Machine<K> {
-    /// What a wait for one process has to report: `NoChild` where that isn't a child of the caller.
+    /// Returns what a wait for one process reports: `NoChild` if that isn't a child of the caller.
     #[tactic(auto, using(crate::proofs::ChildLemmas::report_read))]
     fn report_of_one(&mut self, parent: Pid, child: Pid, options: WaitidOptions) -> Report
         ensures { Finds 1 self.old self.new ((own : ℕ) → result ≡ report self.old.state.processes parent own (whom.Process child) options.0) }
@@ -145,7 +146,7 @@ impl<K: ProcessTable> Machine<K> {
         Report::NoChild
     }
 
-    /// What a child that is there has to report.
+    /// Returns what a wait with these options reports of an existing child.
     #[tactic(auto, using(crate::proofs::ChildLemmas::read_report))]
     fn report_of(&mut self, child: Pid, options: WaitidOptions) -> Report
         requires { IsThere child self.old }
@@ -157,7 +158,7 @@ impl<K: ProcessTable> Machine<K> {
         }
     }
 
-    /// Whether a wait for any child, or for those in a process group, means a child that is there. No slot is read.
+    /// Returns true if a wait for any child, or for those in a process group, selects an existing child. Reads no slot.
     fn is_meant(&self, group: &Option<Pid>, child: Pid) -> bool
         ensures meant { IfThere child self.now (λ it. result ≡ is_meant_by group.now it) }
         ensures regular { IsRegular self.now.state }
@@ -169,8 +170,8 @@ impl<K: ProcessTable> Machine<K> {
         }
     }
 
-    /// The least child that such a wait means and that has something to report to it. No slot is read, and no child is
-    /// looked at whose report the wait doesn't ask for.
+    /// Returns the child with the lowest ID that such a wait selects and would report. Reads no slot, and looks at no
+    /// child without a requested status change.
     fn first_wanted(&self, parent: Pid, group: &Option<Pid>, options: WaitidOptions) -> Option<Pid>
         ensures value { result ≡ first_pid (filter (is_meant_by group.now) (wanted_in options.0 parent self.now.state.processes)) }
         ensures regular { IsRegular self.now.state }
@@ -185,8 +186,8 @@ impl<K: ProcessTable> Machine<K> {
         None
     }
 
-    /// Whether a process that is there has a child in a process group. It goes over the members and the children side
-    /// by side, so it takes no more rounds than there are of the fewer. No slot is read.
+    /// Returns true if an existing process has a child in a process group. Walks the members and the children side by
+    /// side, so it takes no more rounds than the shorter walk. Reads no slot.
     #[tactic(auto, using(crate::proofs::MemberLemmas::member_there))]
     fn has_child_in(&self, parent: Pid, group: Pid) -> bool
         requires { IsThere parent self.now }
@@ -210,7 +211,7 @@ impl<K: ProcessTable> Machine<K> {
         false
     }
 
-    /// Whether a process that is there has a child, or one in a process group. No slot is read.
+    /// Returns true if an existing process has a child or, if `group` is given, a child in that group. Reads no slot.
     #[tactic(auto, using(crate::proofs::ChildLemmas::any_child))]
     fn has_child(&self, parent: Pid, group: &Option<Pid>) -> bool
         requires { IsThere parent self.now }
@@ -222,8 +223,8 @@ impl<K: ProcessTable> Machine<K> {
         }
     }
 
-    /// What a wait for any child, or for those in a process group, has to report: what the least says that has something
-    /// to report to it, or where there is none, whether it means a child at all.
+    /// Returns what a wait for any child, or for those in a process group, reports: the requested status change of the
+    /// lowest-numbered selected child that has one. If none has one, returns whether any child is selected.
     #[tactic(auto, using(crate::proofs::ChildLemmas::wanted_there))]
     fn report_of_children(
         &mut self,
@@ -240,8 +241,8 @@ impl<K: ProcessTable> Machine<K> {
         }
     }
 
-    /// What a wait has to report: of the children of a caller that is there which the target means, the one
-    /// with the least number that has something to report (own; XSH waitpid). Nothing changes.
+    /// Returns what a wait of an existing caller reports: of the selected children with a requested status change, the
+    /// one with the lowest process ID (own; XSH waitpid). Changes nothing.
     #[tactic(auto, using(posix::proofs::ReportingLemmas::report_none_meant))]
     pub fn wait_attempt(&mut self, me: &Caller, asked: Asked) -> Report
         requires { IsThere me.now.pid self.old }
@@ -258,8 +259,8 @@ impl<K: ProcessTable> Machine<K> {
         }
     }
 
-    /// Whether a wait of a caller reports, if it gets to it, the process with this number: that is a child of the caller,
-    /// the wait means it, and it has something to report. Nothing changes.
+    /// Returns true if a wait of a caller reports the process with this ID, if it gets to it: the process is a child of
+    /// the caller, the wait selects it, and it has a requested status change. Changes nothing.
     #[tactic(auto, using(crate::proofs::ChildLemmas::is_reported_read), unfolding(posix::specs::Waits::report_of))]
     pub fn has_report_of(&mut self, me: &Caller, asked: Asked, child: Pid) -> bool
         ensures { Finds 1 self.old self.new (result ≡ is_reported me.now.pid me.now.group asked.target asked.options.0 (process self.old.state child)) }
@@ -274,8 +275,8 @@ impl<K: ProcessTable> Machine<K> {
         }
     }
 
-    /// The record of a zombie that isn't process 1 goes, and it no longer bears its own number, its
-    /// group's and its session's (XSH waitpid).
+    /// Reaps a zombie other than process 1: removes its record. Its process, process group and session IDs are then
+    /// used once less (XSH waitpid).
     pub fn reap(&mut self, pid: Pid)
         requires other { pid ≢ 1 }
         requires zombie { (child : Process) × (process self.old.state pid ≡ Some child) × (is_zombie child.life ≡ true) }
@@ -290,8 +291,8 @@ impl<K: ProcessTable> Machine<K> {
         self.give_up_unborne_pages(pid, snapshot.group, snapshot.session);
     }
 
-    /// A wait has reported the news of a process that is there: they become none (XSH waitpid). Nobody can act by it who
-    /// couldn't.
+    /// Clears the status change of an existing process, after a wait has reported it (XSH waitpid). This makes no
+    /// process runnable.
     pub fn clear_news(&mut self, pid: Pid)
         requires { IsThere pid self.old }
         ensures { Changes 1 self.old self.new (change self.old.state pid news_told) self.old.to_recheck }

@@ -1,4 +1,4 @@
--- From all states in which the machine has halted the same goes on, as nothing more happens in them.
+-- The tally is the same from all states in which the machine has halted, because nothing more happens in them.
 use Rattle.std.proofs.Common.{◌≡◌, ℕ, zero, suc, ◌+◌, ◌-◌, Bool, true, List, [], ◌∷◌, ◌++◌, length, drop, remove, slice_index_or, refl, ap, ap₂, sym, ◌∙◌}
 use Rattle.posix.specs.declared.event.Event.{Event}
 use Rattle.posix.specs.declared.event.Event.TheVariants.{Tick}
@@ -16,7 +16,7 @@ use Rattle.merging.specs.declared.search.Search.{Search}
 use Rattle.merging.specs.Merging.{ForgetsHalted, Outlook, Property, from_spot, if_none_left, list_of, loose_of, marks_after, one_if, outlook_of, state_after, tally_at_place, tally_from, tally_of_rest, texts_of}
 use Rattle.merging.proofs.MergeLemmas.{over_kinds_same}
 
--- the same comes of all states in which the machine has halted
+-- The result is the same for all states in which the machine has halted.
 abbrev Forgets : (State → List Bool → TallyView) → Type 0
 Forgets f = (s t : State) (marks : List Bool) → s.halted ≡ true → t.halted ≡ true → f s marks ≡ f t marks
 

@@ -1,4 +1,4 @@
--- The nodes of a layer: what is kept where one is put in place of another, comes to them, or has its reads counted.
+-- The nodes of a layer: one is replaced by another, is added, or has its reads counted.
 use Rattle.std.proofs.Common.{◌≡◌, ℕ, zero, suc, ◌-◌, ◌<◌, List, [], ◌∷◌, ◌++◌, length, map, Some, refl, ap, ap₂, sym, subst, ◌∙◌, arith, slice_get, slice_set, get_or}
 use Rattle.std.specs.List.{All}
 use Rattle.std.proofs.lemmas.List.Elements.{All-cons, All-head, All-nil, All-push, All-set, All-tail}
@@ -11,9 +11,9 @@ use Rattle.merging.specs.Merging.{AreAlike, AreSameNodes, IsNode, IsOne, IsSameN
 use Rattle.merging.proofs.TallyLemmas.{and_none, both_regrouped, both_swapped, none_and}
 use Rattle.merging.proofs.WorldLemmas.{course_keeps_world}
 
--- ---- nodes that are the same but for the count of reads
+-- ---- nodes that are equal except for the count of reads
 
--- one of them has its reads counted
+-- One of them has its reads counted.
 pub all_same_put : (ns : List Node) (i : ℕ) (n m : Node) → slice_get ns i ≡ Some n → IsSameNode n m → AreSameNodes ns (slice_set ns i m)
 all_same_put [] i n m e same = refl
 all_same_put (k ∷ ns) zero n m e same = let is : n ≡ k = cc in ap (λ v. v ∷ map seen ns) (same ∙ ap seen is)
@@ -24,7 +24,7 @@ put_there [] i m l = absurd (omega arith)
 put_there (k ∷ ns) zero m l = refl
 put_there (k ∷ ns) (suc i) m l = put_there ns i m (omega arith)
 
--- two nodes that are one still are
+-- Two nodes that are one still are.
 pub one_still : (n m k l : Node) → IsSameNode n m → IsSameNode k l → IsOne n k → IsOne m l
 one_still n m k l a b one = subst (λ v. AreAlike v (seen l)) (sym a) (subst (AreAlike (seen n)) (sym b) one)
 
@@ -40,7 +40,7 @@ tallies_same (n ∷ ns) (m ∷ ms) go_on most same =
     let rest : AreSameNodes ns ms = cc in
     ap₂ both (tally_same n m go_on most first) (tallies_same ns ms go_on most rest)
 
--- what is said of all that is seen of each
+-- A property of all that is seen of each.
 pub all_still : (P : SeenNode → Type 0) (ns ms : List Node) → AreSameNodes ns ms → All (λ n. P (seen n)) ns → All (λ m. P (seen m)) ms
 all_still P [] [] same all = all
 all_still P [] (m ∷ ms) same all = cc
@@ -52,7 +52,7 @@ all_still P (n ∷ ns) (m ∷ ms) same all =
 
 -- ---- one more node
 
--- a node is put in place of another, with more
+-- A node is replaced by another one, with more beginnings.
 pub tallies_put : (ns : List Node) (i : ℕ) (n m : Node) (go_on : Outlook) (most : ℕ) (more : TallyView) → slice_get ns i ≡ Some n
     → tally_of_node go_on most m ≡ both (tally_of_node go_on most n) more → tally_of_nodes go_on most (slice_set ns i m) ≡ both (tally_of_nodes go_on most ns) more
 tallies_put [] i n m go_on most more e joined = cc
@@ -75,13 +75,13 @@ nodes_joined go_on most (n ∷ ns) ms =
     ap (both (tally_of_node go_on most n)) (nodes_joined go_on most ns ms)
     ∙ sym (both_regrouped (tally_of_node go_on most n) (tally_of_nodes go_on most ns) (tally_of_nodes go_on most ms))
 
--- a node comes behind the others
+-- A node is added after the others.
 pub tallies_more : (ns : List Node) (n : Node) (go_on : Outlook) (most : ℕ) → tally_of_nodes go_on most (ns ++ n ∷ []) ≡ both (tally_of_nodes go_on most ns) (tally_of_node go_on most n)
 tallies_more ns n go_on most = nodes_joined go_on most ns (n ∷ []) ∙ ap (both (tally_of_nodes go_on most ns)) (and_none (tally_of_node go_on most n))
 
--- ---- a node comes to a layer
+-- ---- a node is added to a layer
 
--- what was found and what is written to is one node
+-- The node that was found and the node that is written to are one node.
 pub found_is : (ns : List Node) (i : ℕ) (n m : Node) → slice_get ns i ≡ Some n → m ≡ get_or ns i m → slice_get ns i ≡ Some m
 found_is ns i n m e is = e ∙ ap (λ (x : Node). Some x) (sym (is ∙ get_or_from_slice_get ns i n m e))
 
@@ -108,7 +108,7 @@ one_of_these search place least olds ns i here all e ps =
 pub stands_same : (search : Search) (place least : ℕ) (old new : Node) → IsSameNode old new → IsNode search place least old → IsNode search place least new
 stands_same search place least old new same p = subst (StandsAt search place least) (sym same) p
 
--- it comes behind them
+-- It is added after the others.
 pub pushed_tallies : (go_on : Outlook) (most : ℕ) (olds ns xs : List Node) (old new : Node) → AreSameNodes olds ns → IsSameNode old new → xs ≡ ns ++ new ∷ []
     → tally_of_nodes go_on most xs ≡ both (tally_of_nodes go_on most olds) (tally_of_node go_on most old)
 pushed_tallies go_on most olds ns xs old new all same is =
@@ -130,7 +130,7 @@ node_world search place least n is = ap (λ (s : State). s.world) is.reached ∙
 pub all_worlds : (search : Search) (place least : ℕ) (ns : List Node) (m : Node) → All (IsNode search place least) ns → IsNode search place least m → All (λ (n : Node). n.kernel.state.world ≡ m.kernel.state.world) ns
 all_worlds search place least ns m all is = λ k d l. node_world search place least (get_or ns k d) (all k d l) ∙ sym (node_world search place least m is)
 
--- they still are of one world
+-- They still are of one world.
 pub worlds_still : (ns ms : List Node) (n m : Node) → AreSameNodes ns ms → IsSameNode n m → All (λ (k : Node). k.kernel.state.world ≡ n.kernel.state.world) ns
     → All (λ (k : Node). k.kernel.state.world ≡ m.kernel.state.world) ms
 worlds_still ns ms n m all same worlds =

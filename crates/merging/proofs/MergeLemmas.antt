@@ -1,4 +1,4 @@
--- What goes on from a state, schedule by schedule, is what is counted over the whole family.
+-- The schedules that continue from a state, one by one, count the same as the whole family.
 use Rattle.std.proofs.Common.{◌≡◌, ℕ, zero, suc, ◌+◌, ◌-◌, ◌<◌, ◌≤◌, inl, inr, Bool, true, false, ◌||◌, ◌&&◌, ◌==◌, cond, Option, Some, None, List, [], ◌∷◌, ◌++◌, length, map, find, take, drop, remove, slice_index_or, refl, ap, ap₂, sym, ◌∙◌, append-nil, arith}
 use Rattle.std.specs.Prelude.{count_by, nat_lt, slice_get, IfSome}
 use Rattle.std.specs.List.{All, AllPairs, list_any}
@@ -25,15 +25,15 @@ use Rattle.counting.proofs.CountLemmas.{first_found, members}
 use Rattle.merging.specs.Merging.{Property, from_spot, if_none_left, marks_after, one_if, over_kinds, state_after, tally_at_place, tally_from, tally_of_rest}
 use Rattle.merging.proofs.TallyLemmas.{and_none, both_regrouped, exchanged, first_begun, first_if_before, none_and, step_equal, two_by_two}
 
--- ---- what the definitions say
+-- ---- by the definitions
 
--- there is no place left
+-- No place is left.
 pub tally_at_rest : (has : Property) (texts : List (List ℕ)) (loose : List Event) (p : ℕ) (events : List Event) (n : ℕ) (left : List ℕ) (s : State) (marks : List Bool)
     → tally_from has texts loose zero p events n left s marks ≡ if_none_left left (tally_of_rest has texts events s marks)
 unfolding tally_from
 tally_at_rest has texts loose p events n left s marks = refl
 
--- nothing more is put in: what remains is how the run ends
+-- Nothing more is inserted: what remains is how the run ends.
 pub tally_rest_is : (has : Property) (texts : List (List ℕ)) (events : List Event) (s : State) (marks : List Bool)
     → tally_of_rest has texts events s marks ≡ one_if (has (ending_of (course_from 1 s events).last) (marked texts (course_from 1 s events).lines marks))
 unfolding tally_of_rest
@@ -41,13 +41,13 @@ tally_rest_is has texts events s marks = refl
 
 -- ---- marks of texts
 
--- the mark of a text
+-- The mark of a text.
 pub mark_is : (texts : List (List ℕ)) (lines : List Line) (i : ℕ) (t : List ℕ) → slice_get texts i ≡ Some t → slice_index_or (marked texts lines (unmarked texts)) i false ≡ have_text t lines
 mark_is [] lines i t e = cc
 mark_is (u ∷ texts) lines zero t e = let same : u ≡ t = cc in ap (λ x. have_text x lines) same
 mark_is (u ∷ texts) lines (suc i) t e = mark_is texts lines i t e
 
--- by the first lines, and then by the others
+-- By the first lines, and then by the others.
 pub marked_then : (texts : List (List ℕ)) (ls ms : List Line) (marks : List Bool) → marked texts (ls ++ ms) marks ≡ marked texts ms (marked texts ls marks)
 marked_then [] ls ms marks = refl
 marked_then (t ∷ ts) ls ms [] = refl
@@ -59,7 +59,7 @@ marked_then (t ∷ ts) ls ms (m ∷ marks) =
 abbrev entries_of : List Line → List Entry
 entries_of lines = map (λ l. l.entry) lines
 
--- the numbers of the lines don't matter
+-- The numbers of the lines don't matter.
 have_by_entries : (t : List ℕ) (lines : List Line) → have_text t lines ≡ list_any (λ (e : Entry). has_pattern t e) (entries_of lines)
 have_by_entries t [] = refl
 have_by_entries t (l ∷ lines) = ap (λ b. has_pattern t l.entry || b) (have_by_entries t lines)
@@ -105,7 +105,7 @@ each_from_spot has p (x ∷ xs) =
     ap₂ both (sym (from_one p (has (p ∷ x)) x)) (each_from_spot has p xs)
     ∙ sym (from_both p (one_of (has (p ∷ x)) x) (tally_each (λ ps. has (p ∷ ps)) xs))
 
--- of schedules in order it is how many have the property, and the one that is found first
+-- Over schedules in order, the tally is how many have the property, and the first one that is found.
 
 less_says : (m n : ℕ) (b : Bool) → m < n → (nat_lt m n || (m == n && b)) ≡ true
 less_says m n b l = grind (arith, nat_tests)
@@ -144,7 +144,7 @@ over_each has (x ∷ xs) h =
 
 -- ---- of several tallies
 
--- with each kind that is left
+-- With each kind that is left.
 
 pub over_kinds_same : (f g : ℕ → List ℕ → TallyView) (i : ℕ) (left : List ℕ) → ((k : ℕ) → k < i → f (slice_index_or left k 0) (remove left k) ≡ g (slice_index_or left k 0) (remove left k))
     → over_kinds f i left ≡ over_kinds g i left
@@ -168,7 +168,7 @@ each_kind_counted has f (suc i) kinds =
 
 -- ---- a family, from a place on
 
--- with this spot in front of each
+-- With this spot in front of each.
 abbrev behind_spot : (Spots → Bool) → ℕ → List Spots → TallyView
 behind_spot has q schedules = from_spot q (tally_each (λ ps. has (q ∷ ps)) schedules)
 
@@ -177,7 +177,7 @@ behind_spot_joined has q xs ys =
     let has_then = λ (ps : Spots). has (q ∷ ps) in
     ap (from_spot q) (each_joined has_then xs ys) ∙ from_both q (tally_each has_then xs) (tally_each has_then ys)
 
--- with a tick, or one of these kinds, put in first at the place, where f has the schedules that go on
+-- With a tick, or one of these kinds, inserted first at the place; f has the schedules that continue.
 abbrev put_first : (Spots → Bool) → ℕ → ℕ → (List ℕ → List Spots) → List ℕ → TallyView
 put_first has loose p f kinds =
     both (behind_spot has (spot loose p 0) (f kinds)) (over_kinds (λ kind others. behind_spot has (spot loose p kind) (f others)) (length kinds) kinds)
@@ -193,7 +193,7 @@ put_first_joined has loose p f g kinds =
     ∙ over_kinds_both with_f with_g (length kinds) kinds)
     ∙ two_by_two (behind_spot has (spot loose p 0) (f kinds)) (behind_spot has (spot loose p 0) (g kinds)) (over_kinds with_f (length kinds) kinds) (over_kinds with_g (length kinds) kinds)
 
--- of one more spot than n
+-- Of one more spot than n.
 
 level_parts : (has : Spots → Bool) (loose n : ℕ) (kinds : List ℕ) (p places : ℕ) → tally_each has (of_spots loose (suc n) kinds p (suc places))
     ≡ both (put_first has loose p (λ ks. of_spots loose n ks p (suc places)) kinds) (tally_each has (of_spots loose (suc n) kinds (p + 1) places))
@@ -210,7 +210,7 @@ level_parts has loose n kinds p places =
     ∙ over_kinds_same (λ kind others. tally_each has (at_kind kind others)) (λ kind others. behind_spot has (spot loose p kind) (of_spots loose n others p (suc places))) (length kinds) kinds
     (λ k l. each_from_spot has (spot loose p (slice_index_or kinds k 0)) (of_spots loose n (remove kinds k) p (suc places)))))
 
--- without spots the places make no difference
+-- Without spots the places make no difference.
 no_spots : (loose : ℕ) (kinds : List ℕ) (p places q more : ℕ) → of_spots loose zero kinds p places ≡ of_spots loose zero kinds q more
 no_spots loose [] p places q more = refl
 no_spots loose (kind ∷ kinds) p places q more = refl
@@ -220,7 +220,7 @@ unfolding of_at_most
 no_places loose zero kinds p = refl
 no_places loose (suc n) kinds p = append-nil (of_at_most loose n kinds p zero) ∙ no_places loose n kinds p
 
--- with the first spot at the first place, or with none there
+-- With the first spot at the first place, or with none there.
 family_parts : (has : Spots → Bool) (loose n : ℕ) (kinds : List ℕ) (p places : ℕ) → tally_each has (of_at_most loose (suc n) kinds p (suc places))
     ≡ both (put_first has loose p (λ ks. of_at_most loose n ks p (suc places)) kinds) (tally_each has (of_at_most loose (suc n) kinds (p + 1) places))
 unfolding of_at_most
@@ -242,9 +242,9 @@ family_parts has loose (suc n) kinds p places =
     ∙ two_by_two (put_first has loose p fewer kinds) (tally_each has fewer_later) (put_first has loose p most kinds) (tally_each has most_later)
     ∙ ap₂ both (sym (put_first_joined has loose p fewer most kinds)) (sym (each_joined has fewer_later most_later))
 
--- ---- the run from a state on
+-- ---- the run from a state
 
--- the run of these events has the property
+-- The run of these events has the property.
 abbrev holds_from : Property → List (List ℕ) → State → List Bool → List Event → Bool
 holds_from has texts s marks events = has (ending_of (course_from 1 s events).last) (marked texts (course_from 1 s events).lines marks)
 
@@ -283,7 +283,7 @@ put_next loose p events kind ps few =
     ap₂ (λ m k. take (m - p) events ++ event_of loose k ∷ from_front loose m (drop (m - p) events) ps) (place_of_spot (length loose) p kind few) (kind_of_spot (length loose) p kind few)
     ∙ ap (λ n. take n events ++ event_of loose kind ∷ from_front loose p (drop n events) ps) here
 
--- ---- what goes on from a state, over the schedules that do
+-- ---- the tally from a state, over the schedules that continue
 
 each_with_put : (has : Property) (texts : List (List ℕ)) (loose : List Event) (p : ℕ) (events : List Event) (s : State) (marks : List Bool) (kind : ℕ) (xs : List Spots) → kind ≤ length loose
     → tally_each (λ ps. holds_from has texts (state_after (event_of loose kind) s) (marks_after texts (event_of loose kind) s marks) (from_front loose p events ps)) xs
@@ -315,12 +315,12 @@ each_with_event has texts loose p x events n left s marks places kinds =
         → holds_from has texts (state_after x s) (marks_after texts x s marks) (from_front loose (p + 1) events ps) ≡ holds_from has texts s marks (from_front loose p (x ∷ events) ps)
     with_event ps is = sym (ap (holds_from has texts s marks) (event_next loose p (p + 1 + places) x events ps is.rise) ∙ holds_next has texts s marks x (from_front loose (p + 1) events ps))
 
--- What goes on from a state, with so many places before which something is put in, is what the schedules come to that do.
+-- The tally from a state, with this many places for insertions, is that of the schedules that continue from there.
 abbrev IsEach : Property → List (List ℕ) → List Event → ℕ → ℕ → List Event → Type 0
 IsEach has texts loose places p events = (n : ℕ) (left : List ℕ) (s : State) (marks : List Bool) → AreKinds (length loose) left
     → tally_from has texts loose places p events n left s marks ≡ tally_each (λ ps. holds_from has texts s marks (from_front loose p events ps)) (of_at_most (length loose) n left p places)
 
--- where one of these kinds is put in, which may be a tick
+-- If one of these kinds is inserted, which may be a tick.
 kind_put : (has : Property) (texts : List (List ℕ)) (loose : List Event) (places p : ℕ) (events : List Event) (n : ℕ) (others : List ℕ) (s : State) (marks : List Bool) (kind : ℕ) → kind ≤ length loose
     → tally_from has texts loose places p events n others (state_after (event_of loose kind) s) (marks_after texts (event_of loose kind) s marks)
     ≡ tally_each (λ ps. holds_from has texts (state_after (event_of loose kind) s) (marks_after texts (event_of loose kind) s marks) (from_front loose p events ps)) (of_at_most (length loose) n others p places)
@@ -329,7 +329,7 @@ kind_put : (has : Property) (texts : List (List ℕ)) (loose : List Event) (plac
 kind_put has texts loose places p events n others s marks kind known from_here =
     ap (from_spot (spot (length loose) p kind)) (from_here ∙ each_with_put has texts loose p events s marks kind (of_at_most (length loose) n others p places) known)
 
--- at one place, where it holds from the place after
+-- At one place, if it holds from the place after.
 at_place : (has : Property) (texts : List (List ℕ)) (loose : List Event) (places p : ℕ) (x : Event) (events : List Event) → IsEach has texts loose places (p + 1) events
     → IsEach has texts loose (suc places) p (x ∷ events)
 unfolding tally_from tally_at_place of_at_most
@@ -355,7 +355,7 @@ one_with_none : (b : Bool) → one_if b ≡ both (one_of b []) no_schedules
 one_with_none true = sym (and_none (one_of true []))
 one_with_none false = sym (and_none no_schedules)
 
--- behind the last place
+-- After the last place.
 at_end : (has : Spots → Bool) (loose : ℕ) (left : List ℕ) (p : ℕ) → if_none_left left (one_if (has [])) ≡ tally_each has (of_spots loose zero left p zero)
 at_end has loose [] p = one_with_none (has [])
 at_end has loose (kind ∷ left) p = refl
@@ -370,7 +370,7 @@ from_state has texts loose (suc places) p [] l n left s marks few = absurd (omeg
 from_state has texts loose (suc places) p (x ∷ events) l n left s marks few =
     at_place has texts loose places p x events (from_state has texts loose places (p + 1) events (omega (arith, l))) n left s marks few
 
--- What goes on from the start of a world, with the schedules that meet counted together, is what is counted over the family.
+-- The tally from the start of a world, with merged schedules counted together, is that over the family.
 pub merged_tally : (has : Property) (texts : List (List ℕ)) (world : World) (loose events : List Event) (upto ticks : ℕ) → upto ≤ length events
     → tally_from has texts loose upto 0 events (ticks + length loose) (kinds_of (length loose)) (boot world) (unmarked texts)
     ≡ tally_over (λ ps. has (ending_of (course_of world loose events ps).last) (marked texts (course_of world loose events ps).lines (unmarked texts))) (family upto ticks (length loose))

@@ -15,11 +15,11 @@ use Rattle.merging.specs.Merging.{IsNode, Outlook, Property, behind, counted_all
 use Rattle.merging.proofs.NodeBookLemmas.{counted_book}
 use Rattle.merging.proofs.TallyLemmas.{behind_nothing, none_and}
 
--- of no nodes everything holds
+-- Every property holds of no nodes.
 pub of_none : (P : Node → Type 0) (none : List Node) → none ≡ [] → All P none
 of_none P none empty = subst (All P) (sym empty) (λ k d l. absurd (omega (arith, l)))
 
--- all schedules go on from the first node
+-- All schedules continue from the first node.
 pub begun : (go_on : Outlook) (most : ℕ) (world : World) (loose : ℕ) (texts : List (List ℕ)) (none nodes : List Node) (n : Node) → none ≡ [] → n.count ≡ 1 → n.spots ≡ [] → n.left.items ≡ kinds_of loose
     → n.kernel.state ≡ boot world → n.marks.items ≡ unmarked texts → tally_of_nodes go_on most nodes ≡ both (tally_of_nodes go_on most none) (tally_of_node go_on most n)
     → tally_of_nodes go_on most nodes ≡ go_on most (kinds_of loose) (boot world) (unmarked texts)
@@ -34,7 +34,7 @@ begun go_on most world loose texts none nodes n empty one spots left state marks
     ∙ ap₂ (λ k kinds. go_on k kinds n.kernel.state n.marks.items) all left
     ∙ ap₂ (go_on most (kinds_of loose)) state marks
 
--- ---- what goes on before the first event, and behind the last one before which something is put in
+-- ---- before the first event, and after the last one that can have insertions
 
 outlook_first : (has : Property) (s : Search) → outlook_of has s 0 ≡ tally_from has (texts_of s) (loose_of s) s.family.now.upto 0 (list_of s)
 outlook_first has s =
@@ -47,7 +47,7 @@ outlook_last has s rest is =
     let none : s.family.now.upto - s.family.now.upto ≡ 0 = omega arith in
     ap₂ (λ places events. tally_from has (texts_of s) (loose_of s) places s.family.now.upto events) none (sym is)
 
--- no loose event is left of the last nodes
+-- The last nodes have no loose event left.
 none_left : (s : Search) (nodes : List Node) → All (IsNode s s.family.now.upto 0) nodes → All (λ n. n.left.items ≡ []) nodes
 none_left s nodes all = All-weaker (IsNode s s.family.now.upto 0) (λ n. n.left.items ≡ []) (λ n i. i.last refl) nodes all
 

@@ -1,4 +1,4 @@
--- What a book is once the schedules of all nodes were counted.
+-- The book after the schedules of all nodes were counted.
 use Rattle.std.proofs.Common.{◌≡◌, ℕ, zero, suc, ◌+◌, ◌-◌, ◌≤◌, Bool, true, false, cond, Some, List, [], ◌∷◌, length, map, drop, slice_index_or, refl, ap, ap₂, sym, ◌∙◌, add-zero, zero-add, arith}
 use Rattle.std.specs.Prelude.{count_by, find, slice_get}
 use Rattle.std.specs.List.{All}
@@ -23,18 +23,18 @@ use Rattle.merging.proofs.TallyLemmas.{and_none, behind_false, behind_true, both
 
 -- ---- one node
 
--- none has a loose event left
+-- No node has a loose event left.
 abbrev NoneLeft : List Node → Type 0
 NoneLeft nodes = All (λ n. n.left.items ≡ []) nodes
 
--- how the run ends that goes on from a node by these events, and which texts it shows
+-- How the run from a node by these events ends, and which texts it shows.
 abbrev ends_with : List Event → Node → Ending
 ends_with rest n = ending_of (course_from 1 n.kernel.state rest).last
 
 abbrev marks_with : List (List ℕ) → List Event → Node → List Bool
 marks_with texts rest n = marked texts (course_from 1 n.kernel.state rest).lines n.marks.items
 
--- the beginnings of a node
+-- The beginnings of a node.
 abbrev begun : Node → TallyView
 begun n = record { count = n.count; first = Some n.spots }
 
@@ -45,7 +45,7 @@ behind_if : (b : Bool) (n : Node) → behind n.count n.spots (one_if b) ≡ if_s
 behind_if true n = behind_true n.count n.spots
 behind_if false n = behind_false n.count n.spots
 
--- its schedules that have a property, where no loose event is left
+-- The schedules of a node that have a property, if no loose event is left.
 node_is : (has : Property) (texts : List (List ℕ)) (loose rest : List Event) (upto most : ℕ) (n : Node) → n.left.items ≡ []
     → tally_of_node (tally_from has texts loose 0 upto rest) most n ≡ if_so (has (ends_with rest n) (marks_with texts rest n)) (begun n)
 node_is has texts loose rest upto most n none =
@@ -55,7 +55,7 @@ node_is has texts loose rest upto most n none =
     ∙ tally_rest_is has texts rest n.kernel.state n.marks.items)
     ∙ behind_if (has (ends_with rest n) (marks_with texts rest n)) n
 
--- in front of all others, or behind them
+-- Before all others, or after them.
 joined : (a t u v : TallyView) → t ≡ v → both (both a u) v ≡ both a (both t u)
 joined a t u v e = ap (both (both a u)) (sym e) ∙ both_regrouped a u t ∙ ap (both a) (both_swapped u t)
 
@@ -91,7 +91,7 @@ endings_same a b halted at_rest alarmed going =
 
 -- ---- texts
 
--- of each text what is counted by its index
+-- For each text, what is counted by its index.
 abbrev finds_by : List (List ℕ) → (ℕ → TallyView) → List FindView
 finds_by [] by = []
 finds_by (t ∷ ts) by = record { text = t; is_there = false; tally = by 0 } ∷ finds_by ts (λ i. by (suc i))
@@ -122,7 +122,7 @@ by_marks (x ∷ texts) t [] by =
 by_marks (x ∷ texts) t (m ∷ marks) by =
     ap₂ (λ f fs. f ∷ fs) (with_mark m t (record { text = x; is_there = false; tally = by 0 })) (by_marks texts t marks (λ i. by (suc i)))
 
--- the text at the index is marked
+-- The text at the index is marked.
 abbrev is_marked : ℕ → Property
 is_marked i ending marks = slice_index_or marks i false
 
@@ -140,7 +140,7 @@ finds_counted texts loose rest upto most (n ∷ ns) none =
 
 -- ---- the total
 
--- each schedule has it
+-- Each schedule has it.
 abbrev always : Property
 always ending marks = true
 
@@ -188,8 +188,8 @@ book_same a b endings finds total =
     ap₂ (λ e n. record { endings = e; finds = a.finds; total = n }) endings total
     ∙ ap (λ fs. record { endings = b.endings; finds = fs; total = b.total }) finds
 
--- Where the schedules that go on from these nodes, which have no loose event left, are those of the family, the book of all nodes is the book of the
--- family.
+-- If the schedules that continue from these nodes, which have no loose event left, are those of the family, the book of
+-- all nodes is the book of the family.
 pub counted_book : (texts : List (List ℕ)) (world : World) (loose events rest : List Event) (upto ticks : ℕ) (nodes : List Node) → upto ≤ length events → rest ≡ drop upto events
     → All (λ n. n.left.items ≡ []) nodes
     → ((has : Property) → tally_of_nodes (tally_from has texts loose 0 upto rest) (ticks + length loose) nodes

@@ -1,4 +1,4 @@
--- Schedules that begin as nodes say are counted, node by node.
+-- The schedules of nodes are counted, node by node.
 use Rattle.std.proofs.Common.{◌≡◌, ℕ, ◌+◌, ◌≤◌, Bool, List, [], ◌∷◌, ◌++◌, length, map, Some, refl, ap, ap₂, sym, ◌∙◌, arith}
 use Rattle.posix.specs.declared.event.Event.{Event}
 use Rattle.posix.specs.Common.{Line, State}
@@ -16,7 +16,7 @@ use Rattle.merging.proofs.MergeLemmas.{entries_alike, last_alike, marked_by_entr
 
 -- ---- a node is counted
 
--- by how its run ends, and the texts that its lines have
+-- By how its run ends, and the texts that its lines have.
 pub counted_is : (texts : List (List ℕ)) (k : ℕ) (n : Node) (events : List Event) (last : State) (lines : List Line) (ending : Ending) (marks : List Bool) (old new : BookView)
     → Adds k n.kernel.state events last [] lines → ending ≡ ending_of last → marks ≡ marked texts lines n.marks.items
     → new ≡ with_many_runs ending marks (record { count = n.count; first = Some n.spots }) old → new ≡ counted texts events n old
@@ -37,13 +37,13 @@ counted_behind : (texts : List (List ℕ)) (events : List Event) (ns : List Node
 counted_behind texts events [] n b = refl
 counted_behind texts events (m ∷ ns) n b = ap (counted texts events m) (counted_behind texts events ns n b)
 
--- one more is counted, and is gone
+-- One more is counted, and removed.
 pub counted_more : (texts : List (List ℕ)) (events : List Event) (before rest : List Node) (n : Node) (old new whole : BookView) → before ≡ rest ++ n ∷ [] → new ≡ counted texts events n old
     → counted_all texts events before old ≡ whole → counted_all texts events rest new ≡ whole
 counted_more texts events before rest n old new whole is one all =
     ap (counted_all texts events rest) one ∙ sym (counted_behind texts events rest n old) ∙ ap (λ (ns : List Node). counted_all texts events ns old) (sym is) ∙ all
 
--- the events of a node, and those that are left, are few
+-- The events of a node and those that are left together are few.
 pub events_fit : (search : Search) (place least left : ℕ) (n : Node) → IsNode search place least n → place + left ≤ length (list_of search) → length (list_of search) + most_of search ≤ most_events
     → n.kernel.events + left ≤ most_events
 events_fit search place least left n is rest fits =

@@ -1,4 +1,4 @@
--- Kernels that are given events, and the marks of the texts that their lines have.
+-- Kernels that run events, and the marks of the texts that their lines have.
 use Rattle.std.proofs.Common.{◌≡◌, ℕ, suc, ◌+◌, ◌-◌, ◌<◌, ◌≤◌, Bool, true, false, cond, inl, inr, ◌⊎◌, List, [], ◌∷◌, ◌++◌, length, length-append, map, refl, ap, ap₂, sym, subst, ◌∙◌, append-nil, arith}
 use Rattle.std.specs.Prelude.{replicate}
 use Rattle.posix.specs.declared.event.Event.{Event}
@@ -14,7 +14,7 @@ use Rattle.merging.specs.Merging.{AreOneState, ForgetsHalted, IsNode, IsOne, Out
 use Rattle.merging.proofs.MergeLemmas.{entries_numbered, marked_by_entries}
 use Rattle.merging.proofs.TallyLemmas.{behind_meets}
 
--- ---- what events that are given lead to
+-- ---- the result of running events
 
 added_course : (k : ℕ) (old new : State) (events : List Event) (before after : List Line) → (a : Adds k old events new before after) → course_from k old events ≡ record { lines = a.lines; last = new }
 added_course k old new events before after a = granted_course k old new events a.lines a.run a.holds.1
@@ -22,12 +22,12 @@ added_course k old new events before after a = granted_course k old new events a
 added_last : (k : ℕ) (old new : State) (events : List Event) (before after : List Line) → Adds k old events new before after → (course_from k old events).last ≡ new
 added_last k old new events before after a = ap (λ (c : Course). c.last) (added_course k old new events before after a)
 
--- from a world's start on
+-- From the start of a world.
 pub booted_last : (k : ℕ) (boot old new : State) (events : List Event) (before after : List Line) → k ≡ 1 → old ≡ boot → Adds k old events new before after → new ≡ (course_from 1 boot events).last
 booted_last k boot old new events before after first same a =
     sym (added_last k old new events before after a) ∙ ap₂ (λ (n : ℕ) (s : State). (course_from n s events).last) first same
 
--- one more event
+-- One more event.
 pub last_then : (k : ℕ) (s : State) (events : List Event) (x : Event) → (course_from k s (events ++ x ∷ [])).last ≡ state_after x (course_from k s events).last
 last_then k s [] x = refl
 last_then k s (y ∷ events) x = last_then (k + 1) (next true s y).state events x
@@ -40,7 +40,7 @@ one_added k old new x before after a = sym (added_last k old new (x ∷ []) befo
 
 -- ---- marks
 
--- what one event shows, whatever its number
+-- What one event shows, whatever its number.
 pub one_marked : (k : ℕ) (old new : State) (x : Event) (before after : List Line) (texts : List (List ℕ)) (marks : List Bool) → before ≡ [] → Adds k old (x ∷ []) new before after
     → marked texts after marks ≡ marks_after texts x old marks
 one_marked k old new x before after texts marks none a =
@@ -61,19 +61,19 @@ none_marked f (x ∷ xs) = ap (λ bs. false ∷ bs) (none_marked f xs)
 
 -- ---- nodes that are one
 
--- the beginnings of both, of which those of the other come first, or not
+-- The beginnings of both, by whether those of the other come first.
 pub joined_before : (c d : ℕ) (q r : Spots) (t : TallyView) → length q ≡ length r → is_before r q ≡ true → behind (c + d) r t ≡ both (behind c q t) (behind d r t)
 joined_before c d q r t l first = ap (λ b. behind (c + d) (cond b r q) t) (sym first) ∙ sym (behind_meets c d q r t l)
 
 pub joined_behind : (c d : ℕ) (q r : Spots) (t : TallyView) → length q ≡ length r → is_before r q ≡ false → behind (c + d) q t ≡ both (behind c q t) (behind d r t)
 joined_behind c d q r t l first = ap (λ b. behind (c + d) (cond b r q) t) (sym first) ∙ sym (behind_meets c d q r t l)
 
--- what goes on from two states that are one
+-- The schedules that continue from two states that are one.
 state_alike : (go_on : Outlook) → ForgetsHalted go_on → (n : ℕ) (left : List ℕ) (s t : State) (marks : List Bool) → AreOneState s t → go_on n left s marks ≡ go_on n left t marks
 state_alike go_on forgets n left s t marks (inl same) = ap (λ (u : State). go_on n left u marks) same
 state_alike go_on forgets n left s t marks (inr (halted, too)) = forgets n left s t marks halted too
 
--- what goes on from two nodes that are one
+-- The schedules that continue from two nodes that are one.
 goes_on_alike : (go_on : Outlook) (most : ℕ) (old other : Node) → ForgetsHalted go_on → IsOne old other
     → go_on (most - length old.spots) old.left.items old.kernel.state old.marks.items ≡ go_on (most - length other.spots) other.left.items other.kernel.state other.marks.items
 goes_on_alike go_on most old other forgets one =
@@ -81,7 +81,7 @@ goes_on_alike go_on most old other forgets one =
     ∙ ap (go_on (most - length other.spots) other.left.items old.kernel.state) one.marks
     ∙ state_alike go_on forgets (most - length other.spots) other.left.items old.kernel.state other.kernel.state other.marks.items one.state
 
--- the one of the two whose beginnings come first
+-- The one of the two whose beginnings come first.
 abbrev pub IsFirstOf : Node → Node → Node → Type 0
 IsFirstOf old other mid =
     ((mid ≡ other) × (is_before other.spots old.spots ≡ true)) ⊎ ((mid ≡ old) × (is_before other.spots old.spots ≡ false))
@@ -106,7 +106,7 @@ joined_tally old other mid n one (inr (same, first)) sum go_on most forgets =
     ∙ joined_behind old.count other.count q r rest one.spots first
     ∙ ap (λ t. both (behind old.count q rest) (behind other.count r t)) (goes_on_alike go_on most old other forgets one)
 
--- with another count, and fewer spots at least, a node stands there, too
+-- With another count, and a smaller least number of spots, it is still a node at this place.
 pub stands_still : (search : Search) (place fewer least count : ℕ) (n : Node) → fewer ≤ least → 1 ≤ count → IsNode search place least n → IsNode search place fewer (with_count count n)
 stands_still search place fewer least count n lower some i =
     let at_least = i.least in
@@ -132,9 +132,9 @@ joined_node old other mid n (inr (same, first)) sum search place least i j =
     let some = i.begun in
     stands_still search place least least n mid (omega arith) (omega (arith, sum, some)) (subst (λ (m : Node). IsNode search place least m) (sym same) i)
 
--- ---- nodes that are given events
+-- ---- nodes that run events
 
--- with one more event, before the same event of the list or the next
+-- With one more event, before the same event of the list or the next.
 with_event : (search : Search) (place later least more : ℕ) (x : Event) (old : Node) (new : SeenNode) → IsNode search place least old → new.state ≡ state_after x old.kernel.state
     → IsRegular new.state → IsSettled new.state → new.events ≤ length old.given + 1 → new.marks ≡ marks_after (texts_of search) x old.kernel.state old.marks.items
     → new.given ≡ old.given ++ x ∷ [] → length new.given ≡ later + length new.spots → more ≤ length new.spots → length new.spots + length new.left ≤ most_of search
@@ -152,7 +152,7 @@ with_event search place later least more x old new i state regular settled event
   begun = let some = i.begun in omega (arith, count, some);
 }
 
--- the event of the list
+-- The event of the list.
 pub given_node : (search : Search) (place least : ℕ) (x : Event) (old : Node) (new : SeenNode) → IsNode search place least old → (place + 1 ≡ search.family.now.upto → old.left.items ≡ [])
     → new.state ≡ state_after x old.kernel.state → IsRegular new.state → IsSettled new.state → new.events ≡ old.kernel.events + 1
     → new.marks ≡ marks_after (texts_of search) x old.kernel.state old.marks.items → new.given ≡ old.given ++ x ∷ [] → new.spots ≡ old.spots → new.left ≡ old.left.items → new.count ≡ old.count
@@ -166,7 +166,7 @@ given_node search place least x old new i none state regular settled events mark
     with_event search place (place + 1) least least x old new i state regular settled (omega (arith, events, had)) marks given
     (omega (arith, long, same, ap length given, length-append old.given (x ∷ []))) (omega (arith, least_was, same)) (omega (arith, few, same, ap length left)) (λ end. left ∙ none end) count
 
--- a tick or a loose event before it, with as many left as still can be put in
+-- A tick or a loose event before it, while no more are left than can still be inserted.
 pub put_node : (search : Search) (place least q : ℕ) (x : Event) (n : Node) (m : SeenNode) → IsNode search place least n → place < search.family.now.upto
     → m.state ≡ state_after x n.kernel.state → IsRegular m.state → IsSettled m.state → m.events ≤ length n.given + 1
     → m.marks ≡ marks_after (texts_of search) x n.kernel.state n.marks.items → m.given ≡ n.given ++ x ∷ [] → m.spots ≡ n.spots ++ q ∷ []

@@ -1,4 +1,4 @@
--- What goes on from a state: one event after another, and none where too many loose events are left.
+-- The schedules that continue from a state: one event after another, and none if too many loose events are left.
 use Rattle.std.proofs.Common.{◌≡◌, ℕ, zero, suc, ◌+◌, ◌-◌, ◌<◌, Bool, None, Some, List, [], ◌∷◌, length, drop, remove, slice_index_or, refl, ap, ap₂, sym, ◌∙◌, arith}
 use Rattle.std.specs.Prelude.{slice_get}
 use Rattle.std.proofs.lemmas.List.Edits.{length-remove}
@@ -14,7 +14,8 @@ use Rattle.merging.proofs.MergeLemmas.{tally_at_rest}
 
 -- ---- one event after another
 
--- Before an event something is put in, and these schedules go on from there, or else these behind the event.
+-- Either something is inserted before an event, and these schedules continue from there, or these continue after the
+-- event.
 abbrev pub spot_or_event : Outlook → Outlook → List (List ℕ) → List Event → Event → ℕ → Outlook
 spot_or_event here later texts loose x p n left s marks =
     both
@@ -42,14 +43,14 @@ next_of (e ∷ es) (suc place) x is =
     let more : suc (place + 1) ≡ suc place + 1 = omega arith in
     next_of es place x is ∙ ap (λ n. x ∷ drop n (e ∷ es)) more
 
--- the event with this place is the first of those that are left
+-- The event with this place is the first of those that are left.
 outlook_before : (has : Property) (s : Search) (place : ℕ) (x : Event) → place < s.family.now.upto → slice_get (list_of s) place ≡ Some x
     → outlook_of has s place ≡ tally_from has (texts_of s) (loose_of s) (suc (s.family.now.upto - (place + 1))) place (x ∷ drop (place + 1) (list_of s))
 outlook_before has s place x below is =
     let here : s.family.now.upto - place ≡ suc (s.family.now.upto - (place + 1)) = omega (arith, below) in
     ap₂ (λ places events. tally_from has (texts_of s) (loose_of s) places place events) here (next_of (list_of s) place x is)
 
--- where there may be no spot more
+-- If no more spot is allowed.
 pub event_is_next : (has : Property) (s : Search) (place : ℕ) (x : Event) → place < s.family.now.upto → slice_get (list_of s) place ≡ Some x
     → (left : List ℕ) (st : State) (marks : List Bool)
     → outlook_of has s place zero left st marks ≡ outlook_of has s (place + 1) zero left (state_after x st) (marks_after (texts_of s) x st marks)
@@ -57,7 +58,7 @@ event_is_next has s place x below is left st marks =
     ap (λ (go_on : Outlook). go_on zero left st marks) (outlook_before has s place x below is)
     ∙ from_event has (texts_of s) (loose_of s) (s.family.now.upto - (place + 1)) place x (drop (place + 1) (list_of s)) left st marks
 
--- and where there may be one
+-- If one more spot is allowed.
 pub spot_or_event_is_next : (has : Property) (s : Search) (place : ℕ) (x : Event) → place < s.family.now.upto → slice_get (list_of s) place ≡ Some x
     → (n : ℕ) (left : List ℕ) (st : State) (marks : List Bool)
     → outlook_of has s place (suc n) left st marks ≡ spot_or_event (outlook_of has s place) (outlook_of has s (place + 1)) (texts_of s) (loose_of s) x place n left st marks
@@ -68,7 +69,7 @@ spot_or_event_is_next has s place x below is n left st marks =
     ∙ from_spot_or_event has (texts_of s) (loose_of s) (s.family.now.upto - (place + 1)) place x (drop (place + 1) (list_of s)) n left st marks
     ∙ ap (λ (go_on : Outlook). spot_or_event go_on later (texts_of s) (loose_of s) x place n left st marks) (sym same)
 
--- ---- none goes on
+-- ---- no schedule continues
 
 none_if_left : (left : List ℕ) (t : TallyView) → 0 < length left → if_none_left left t ≡ no_schedules
 none_if_left [] t some = absurd (omega (arith, some))
@@ -78,7 +79,7 @@ each_none : (f : ℕ → List ℕ → TallyView) (i : ℕ) (left : List ℕ) →
 each_none f zero left none = refl
 each_none f (suc i) left none = ap₂ both (each_none f i left (λ j l. none j (omega (arith, l)))) (none i (omega arith))
 
--- where more loose events are left than there may be spots
+-- If more loose events are left than spots are allowed.
 abbrev IsShut : Outlook → Type 0
 IsShut go_on = (n : ℕ) (left : List ℕ) (s : State) (marks : List Bool) → n < length left → go_on n left s marks ≡ no_schedules
 
@@ -105,7 +106,7 @@ none_goes_on has texts loose (suc places) p [] n left s marks more = none_if_lef
 none_goes_on has texts loose (suc places) p (x ∷ events) n left s marks more =
     place_is_shut (tally_from has texts loose places (p + 1) events) (none_goes_on has texts loose places (p + 1) events) texts loose x p n left s marks more
 
--- where one is left behind the last event before which it can be put in
+-- If one is left after the last event before which it can be inserted.
 pub none_at_end : (has : Property) (s : Search) (n : ℕ) (left : List ℕ) (st : State) (marks : List Bool) → 0 < length left → outlook_of has s s.family.now.upto n left st marks ≡ no_schedules
 none_at_end has s n left st marks some =
     let upto = s.family.now.upto in

@@ -1,5 +1,5 @@
--- Rows of nodes before an event: which node stands in which row, and what all rows are told of as they go on.
-use Rattle.std.proofs.Common.{◌≡◌, ℕ, ◌+◌, ◌<◌, ◌≤◌, get_or, take, false, List, [], ◌∷◌, ◌++◌, append-nil, drop, length, length-append, refl, ap, ap₂, sym, subst, ◌∙◌, arith}
+-- Rows of nodes before an event: which nodes a row has, and the tally of all rows as they advance.
+use Rattle.std.proofs.Common.{◌≡◌, ℕ, ◌+◌, ◌-◌, ◌^◌, ◌<◌, ◌≤◌, get_or, take, false, List, [], ◌∷◌, ◌++◌, append-nil, drop, length, length-append, min, refl, ap, ap₂, sym, subst, ◌∙◌, arith}
 use Rattle.std.specs.List.{All}
 use Rattle.std.proofs.lemmas.List.{length-map, take_all, take_more}
 use Rattle.std.proofs.lemmas.List.Elements.{All-append, All-head, All-nil, All-weaker}
@@ -18,9 +18,9 @@ use Rattle.merging.proofs.LayerLemmas.{nodes_joined}
 use Rattle.merging.proofs.NodeLemmas.{stands_still}
 use Rattle.merging.proofs.TallyLemmas.{and_none, both_regrouped, both_swapped, none_and}
 
--- ---- which nodes stand in a row
+-- ---- the nodes of a row
 
--- no node has more spots than there may be
+-- No node has more spots than are allowed.
 pub no_nodes : (search : Search) (place least : ℕ) (ns : List Node) → most_of search < least → All (IsNode search place least) ns → ns ≡ []
 no_nodes search place least [] above all = refl
 no_nodes search place least (n ∷ ns) above all =
@@ -54,17 +54,17 @@ one_longer old new row is = ap length is ∙ length-append old (row ∷ [])
 nodes_more : (rows : List Layer) (row : Layer) → nodes_in (rows ++ row ∷ []) ≡ nodes_in rows ++ row.nodes.items
 nodes_more rows row = flat_map-append (λ (r : Layer). r.nodes.items) rows (row ∷ []) ∙ ap (λ ns. nodes_in rows ++ ns) (append-nil row.nodes.items)
 
--- These rows have at least as many nodes as were counted.
-pub count_more : (rows : List Layer) (i : ℕ) (row : Layer) (states new : ℕ) → i < length rows → row ≡ get_or rows i row → states ≤ length (nodes_in (take i rows)) → new ≤ states + length row.nodes.items
-    → new ≤ length (nodes_in (take (i + 1) rows))
+-- One more row is counted. A count is at most 2^64 - 1.
+pub count_more : (rows : List Layer) (i : ℕ) (row : Layer) (states new : ℕ) → i < length rows → row ≡ get_or rows i row → states ≡ min (length (nodes_in (take i rows))) (2 ^ 64 - 1) → new ≡ min (states + length row.nodes.items) (2 ^ 64 - 1)
+    → new ≡ min (length (nodes_in (take (i + 1) rows))) (2 ^ 64 - 1)
 count_more rows i row states new within is was more =
     let taken = take_more rows i row within ∙ ap (λ x. take i rows ++ x ∷ []) (sym is) in
     omega (arith, was, more, ap length (ap nodes_in taken ∙ nodes_more (take i rows) row), length-append (nodes_in (take i rows)) row.nodes.items)
 
-pub count_all : (rows : List Layer) (i states : ℕ) → length rows ≤ i → states ≤ length (nodes_in (take i rows)) → states ≤ length (nodes_in rows)
-count_all rows i states end was = subst (λ xs. states ≤ length (nodes_in xs)) (take_all i rows end) was
+pub count_all : (rows : List Layer) (i states : ℕ) → length rows ≤ i → states ≡ min (length (nodes_in (take i rows))) (2 ^ 64 - 1) → states ≡ min (length (nodes_in rows)) (2 ^ 64 - 1)
+count_all rows i states end was = subst (λ xs. states ≡ min (length (nodes_in xs)) (2 ^ 64 - 1)) (take_all i rows end) was
 
--- ---- a row goes on
+-- ---- a row advances
 
 regrouped : (above row rows next more behind : TallyView) → both more behind ≡ both above row → both (both more rows) (both next behind) ≡ both (both row (both above rows)) next
 regrouped above row rows next more behind on =
@@ -74,7 +74,8 @@ regrouped above row rows next more behind on =
     ∙ sym (both_regrouped rows (both above row) next)
     ∙ ap (λ t. both t next) (both_swapped rows (both above row) ∙ ap (λ t. both t rows) (both_swapped above row) ∙ both_regrouped row above rows)
 
--- the first of the rows with more spots is taken and gets what has one more spot, and a row behind the event comes to the others
+-- The first of the rows with more spots is removed, and gets the nodes with one more spot. A row after the event is
+-- added to the others.
 pub row_goes_on : (has : Property) (search : Search) (place : ℕ) (row above more : List Node) (old rows next new : List Layer) (behind : Layer)
     → nodes_in old ≡ above ++ nodes_in rows
     → tally_around has search place more behind.nodes.items ≡ both (nodes_tally has search place above) (nodes_tally has search place row)
@@ -91,9 +92,9 @@ row_goes_on has search place row above more old rows next new behind taken on pu
     ∙ ap (λ t. both t (tally_of_nodes later most (nodes_in next)))
     (sym (nodes_joined here most row (nodes_in old) ∙ ap (both (tally_of_nodes here most row)) (ap (tally_of_nodes here most) taken ∙ nodes_joined here most above others)))
 
--- ---- all rows go on
+-- ---- all rows advance
 
--- at first no row is behind the event
+-- At first no row is after the event.
 pub rows_begin : (has : Property) (search : Search) (place : ℕ) (row : List Node) (old rows next : List Layer) → next ≡ [] → nodes_in old ≡ row ++ nodes_in rows
     → tally_of_all has search place row rows next ≡ rows_tally has search place old
 rows_begin has search place row old rows next none taken =
@@ -101,7 +102,7 @@ rows_begin has search place row old rows next none taken =
     ∙ and_none (nodes_tally has search place (row ++ nodes_in rows))
     ∙ ap (nodes_tally has search place) (sym taken)
 
--- in the end all are
+-- In the end all rows are.
 pub rows_end : (has : Property) (search : Search) (place least : ℕ) (row : List Node) (rows next : List Layer) (all : TallyView) → most_of search < least
     → All (IsNode search place least) row → AreRows search place (least + 1) rows → tally_of_all has search place row rows next ≡ all
     → rows_tally has search (place + 1) next ≡ all
@@ -112,12 +113,12 @@ rows_end has search place least row rows next all above nodes are same =
     ∙ none_and behind)
     ∙ same
 
--- no row is left
+-- No row is left.
 pub none_there : (rows : List Layer) → rows ≡ drop 1 rows → rows ≡ []
 none_there [] is = refl
 none_there (row ∷ rows) is = absurd (omega (arith, ap length is))
 
--- one row alone
+-- Only one row.
 pub one_row : (search : Search) (place : ℕ) (none rows : List Layer) (row : Layer) → none ≡ [] → rows ≡ none ++ row ∷ [] → All (IsNode search place 0) row.nodes.items → AreRows search place 0 rows
 one_row search place none rows row empty is all = subst (AreRows search place 0) (sym (is ∙ ap (λ xs. xs ++ row ∷ []) empty)) (all, tt)
 

@@ -17,7 +17,7 @@ one q = record { spot = q; times = 1 }
 abbrev once_more : SpotRun → SpotRun
 once_more r = record { spot = r.spot; times = r.times + 1 }
 
--- by a run of its own
+-- By a run of its own.
 pub spots_push : (rs : List SpotRun) (q : ℕ) → spots_of (rs ++ one q ∷ []) ≡ spots_of rs ++ q ∷ []
 spots_push [] q = refl
 spots_push (r ∷ rs) q = ap (λ (ps : List ℕ). replicate r.times r.spot ++ ps) (spots_push rs q) ∙ sym (append_assoc (replicate r.times r.spot) (spots_of rs) (q ∷ []))
@@ -29,7 +29,7 @@ runs_push (p ∷ []) (suc i) r q last is apart are = absurd (omega arith)
 runs_push (p ∷ k ∷ rs) zero r q last is apart are = absurd (omega arith)
 runs_push (p ∷ k ∷ rs) (suc i) r q last is apart are = (are.0, are.1, runs_push (k ∷ rs) i r q (omega arith) is apart are.2)
 
--- by the last run
+-- By the last run.
 one_more : (q : SpotRun) → spots_of (once_more q ∷ []) ≡ spots_of (q ∷ []) ++ q.spot ∷ []
 one_more q =
     append-nil (replicate (q.times + 1) q.spot)
@@ -55,7 +55,7 @@ runs_grow [] i r is are = are
 runs_grow (p ∷ rs) zero r is are = (omega arith, subst (λ (x : SpotRun). BeginOtherwise x.spot rs) (sym is) are.1, are.2)
 runs_grow (p ∷ rs) (suc i) r is are = (are.0, begin_still p.spot rs i r is are.1, runs_grow rs i r is are.2)
 
--- a run has no more spots than all
+-- A run has no more spots than all runs.
 pub times_within : (rs : List SpotRun) (i : ℕ) (r : SpotRun) → i < length rs → r ≡ get_or rs i r → r.times ≤ length (spots_of rs)
 times_within [] i r there is = absurd (omega arith)
 times_within (p ∷ rs) zero r there is =
@@ -81,7 +81,7 @@ spots_taken (p ∷ rs) (suc i) d there =
 earlier_apart : (p q : ℕ) (a : Bool) → (p ≡ q → ⊥) → (nat_lt p q || (p == q && a)) ≡ nat_lt p q
 earlier_apart p q a apart = grind (arith, nat_tests)
 
--- two runs of different spots
+-- Two runs of different spots.
 two_apart : (p q t u : ℕ) (ps qs : List ℕ) → 0 < t → 0 < u → (p ≡ q → ⊥) → is_earlier (replicate t p ++ ps) (replicate u q ++ qs) ≡ nat_lt p q
 two_apart p q zero u ps qs some others apart = absurd (omega arith)
 two_apart p q (suc t) zero ps qs some others apart = absurd (omega arith)
@@ -90,7 +90,7 @@ two_apart p q (suc t) (suc u) ps qs some others apart = earlier_apart p q (is_ea
 pub runs_apart : (r o : SpotRun) (rs os : List SpotRun) → AreRuns (r ∷ rs) → AreRuns (o ∷ os) → (r.spot ≡ o.spot → ⊥) → is_earlier (spots_of (r ∷ rs)) (spots_of (o ∷ os)) ≡ nat_lt r.spot o.spot
 runs_apart r o rs os are others apart = two_apart r.spot o.spot r.times o.times (spots_of rs) (spots_of os) are.0 others.0 apart
 
--- two that begin with the same spots
+-- Two that begin with the same spots.
 two_alike : (p q t : ℕ) (ps qs : List ℕ) → p ≡ q → is_earlier (replicate t p ++ ps) (replicate t q ++ qs) ≡ is_earlier ps qs
 two_alike p q zero ps qs same = refl
 two_alike p q (suc t) ps qs same = step_equal p q (is_earlier (replicate t p ++ ps) (replicate t q ++ qs)) same ∙ two_alike p q t ps qs same
@@ -107,7 +107,7 @@ none_earlier : (ps : List ℕ) → is_earlier ps [] ≡ false
 none_earlier [] = refl
 none_earlier (p ∷ ps) = refl
 
--- the first run is shorter
+-- The first run is shorter.
 pub run_shorter : (r o : SpotRun) (rs os : List SpotRun) → AreRuns (r ∷ rs) → r.spot ≡ o.spot → r.times < o.times → is_earlier (spots_of (r ∷ rs)) (spots_of (o ∷ os)) ≡ begin_below rs o.spot
 run_shorter r o rs os are same shorter =
     ap (is_earlier (spots_of (r ∷ rs))) (parted o.times r.times (o.times - r.times) o.spot (spots_of os) (omega arith))
@@ -118,7 +118,7 @@ run_shorter r o rs os are same shorter =
     by [] other rest = refl
     by (k ∷ ks) other rest = two_apart k.spot o.spot k.times (o.times - r.times) (spots_of ks) (spots_of os) rest.0 (omega arith) (λ (e : k.spot ≡ o.spot). other (same ∙ sym e))
 
--- or longer
+-- The first run is longer.
 pub run_longer : (r o : SpotRun) (rs os : List SpotRun) → AreRuns (o ∷ os) → r.spot ≡ o.spot → o.times < r.times → is_earlier (spots_of (r ∷ rs)) (spots_of (o ∷ os)) ≡ begin_above os r.spot
 run_longer r o rs os are same longer =
     ap (λ (ps : List ℕ). is_earlier ps (spots_of (o ∷ os))) (parted r.times o.times (r.times - o.times) r.spot (spots_of rs) (omega arith))

@@ -1,4 +1,4 @@
--- Nodes that go on from before an event: with one more spot, and behind the event.
+-- Nodes that advance from before an event: with one more spot, and to after the event.
 use Rattle.std.proofs.Common.{◌≡◌, ℕ, zero, suc, ◌+◌, ◌-◌, ◌<◌, ◌≤◌, inl, inr, ◌⊎◌, cond, Some, List, [], ◌∷◌, ◌++◌, length, length-append, remove, slice_index_or, refl, ap, ap₂, sym, ◌∙◌, arith}
 use Rattle.std.specs.Prelude.{slice_get}
 use Rattle.std.proofs.lemmas.Bool.{cases_lt, le-ltb, lt-ltb}
@@ -15,7 +15,7 @@ use Rattle.merging.proofs.TallyLemmas.{and_none, behind_both, behind_none, behin
 
 -- ---- each of the loose events that are left
 
--- behind a beginning
+-- After a beginning.
 each_behind : (c : ℕ) (q : Spots) (f g : ℕ → List ℕ → TallyView) → ((kind : ℕ) (others : List ℕ) → behind c q (f kind others) ≡ g kind others)
     → (i : ℕ) (left : List ℕ) → behind c q (over_kinds f i left) ≡ over_kinds g i left
 each_behind c q f g same zero left = behind_none c q
@@ -23,7 +23,7 @@ each_behind c q f g same (suc i) left =
     behind_both c q (over_kinds f i left) (f (slice_index_or left i 0) (remove left i))
     ∙ ap₂ both (each_behind c q f g same i left) (same (slice_index_or left i 0) (remove left i))
 
--- ---- a tick, where there may be one
+-- ---- a tick, if one more is allowed
 
 tick_some : (has : Property) (s : Search) (place : ℕ) (n : Node) → length n.spots + length n.left.items < most_of s
     → tick_tally has s place n ≡ put_tally has s place (spot (length (loose_of s)) place 0) Tick n.left.items n
@@ -38,7 +38,7 @@ tick_none has s place n many =
 
 -- ---- one node before an event
 
--- where there may be no spot more
+-- If no more spot is allowed.
 event_alone : (has : Property) (s : Search) (place : ℕ) (x : Event) (n : Node) → place < s.family.now.upto → slice_get (list_of s) place ≡ Some x → most_of s - length n.spots ≡ 0
     → node_tally has s place n ≡ given_tally has s (place + 1) x n
 event_alone has s place x n below is none =
@@ -56,7 +56,7 @@ none_before has s place n none few =
     let put_already : length n.left.items ≡ 0 = omega (arith, none, few) in
     ap₂ both (tick_none has s place n (omega (arith, none))) (ap (λ i. over_kinds (kind_tally has s place n) i n.left.items) put_already)
 
--- where there may be one
+-- If one more spot is allowed.
 put_is_next : (has : Property) (s : Search) (place k kind : ℕ) (x : Event) (others : List ℕ) (n : Node) → most_of s - length n.spots ≡ suc k
     → behind n.count n.spots (from_spot (spot (length (loose_of s)) place kind) (outlook_of has s place k others (state_after x n.kernel.state) (marks_after (texts_of s) x n.kernel.state n.marks.items)))
     ≡ put_tally has s place (spot (length (loose_of s)) place kind) x others n
@@ -109,7 +109,7 @@ spot_or_event has s place x k n below is some =
     (each_behind c q with_loose (kind_tally has s place n) (λ kind others. put_is_next has s place k kind (event_of (loose_of s) kind) others n some) (length left) left))
     (ap (λ j. behind c q (outlook_of has s (place + 1) j left (state_after x st) (marks_after (texts_of s) x st marks))) (sym some))
 
--- A tick is put in, or a loose event, or the event is next.
+-- A tick is inserted, or a loose event, or the event is next.
 pub node_parts : (has : Property) (s : Search) (place least : ℕ) (x : Event) (n : Node) → IsNode s place least n → place < s.family.now.upto → slice_get (list_of s) place ≡ Some x
     → node_tally has s place n
     ≡ both (both (tick_tally has s place n) (loose_tally has s place n)) (given_tally has s (place + 1) x n)
@@ -137,7 +137,7 @@ put_is has s place q x n m state marks count spots =
     ∙ ap (λ k. behind n.count (n.spots ++ q ∷ []) (go_on (most - k) m.left.items m.kernel.state m.marks.items)) longer
     ∙ ap₂ (λ st ms. behind n.count (n.spots ++ q ∷ []) (go_on (most - (length n.spots + 1)) m.left.items st ms)) state marks
 
--- with a tick
+-- With a tick.
 pub tick_is : (has : Property) (s : Search) (place q : ℕ) (n m : Node) → length n.spots + length n.left.items < most_of s → q ≡ spot (length (loose_of s)) place 0
     → m.kernel.state ≡ state_after Tick n.kernel.state → m.marks.items ≡ marks_after (texts_of s) Tick n.kernel.state n.marks.items
     → m.count ≡ n.count → m.spots ≡ n.spots ++ q ∷ [] → m.left.items ≡ n.left.items → node_tally has s place m ≡ tick_tally has s place n
@@ -146,7 +146,7 @@ tick_is has s place q n m few at state marks count spots left =
     ∙ ap₂ (λ p others. put_tally has s place p Tick others n) at left
     ∙ sym (tick_some has s place n few)
 
--- ---- one node behind an event
+-- ---- one node after an event
 
 pub given_is : (has : Property) (s : Search) (place : ℕ) (x : Event) (n m : Node) → m.kernel.state ≡ state_after x n.kernel.state → m.marks.items ≡ marks_after (texts_of s) x n.kernel.state n.marks.items
     → m.count ≡ n.count → m.spots ≡ n.spots → m.left ≡ n.left → node_tally has s place m ≡ given_tally has s place x n
@@ -157,7 +157,7 @@ given_is has s place x n m state marks count spots left =
     ∙ ap (λ v. behind n.count n.spots (go_on (most - length n.spots) v.items m.kernel.state m.marks.items)) left
     ∙ ap₂ (λ st ms. behind n.count n.spots (go_on (most - length n.spots) n.left.items st ms)) state marks
 
--- where it has a loose event left behind the last event before which it can be put in
+-- If it has a loose event left after the last event before which it can be inserted.
 pub none_given : (has : Property) (s : Search) (place : ℕ) (x : Event) (n : Node) → place + 1 ≡ s.family.now.upto → 0 < length n.left.items
     → given_tally has s (place + 1) x n ≡ no_schedules
 none_given has s place x n end some =

@@ -1,4 +1,4 @@
--- Laws of tallies: of which schedule comes first, of both, and of what stands behind a beginning.
+-- Laws of tallies: which schedule comes first, the sum of two, and what follows a beginning.
 use Rattle.std.proofs.Common.{◌≡◌, ℕ, suc, ◌+◌, ◌*◌, ◌==◌, Bool, true, false, ◌&&◌, ◌||◌, cond, Option, Some, None, [], ◌∷◌, ◌++◌, length, length-append, refl, ap, ap₂, sym, ◌∙◌, append_assoc, append-nil, arith}
 use Rattle.std.specs.Prelude.{nat_lt, option_map}
 use Rattle.std.proofs.lemmas.Bool.Decides.{nat_tests}
@@ -8,7 +8,7 @@ use Rattle.merging.specs.Merging.{behind, from_spot, one_if}
 
 -- ---- which comes first
 
--- first by two numbers, and where these are the same by more
+-- First by two numbers, and if these are equal, by more.
 
 step_self : (p : ℕ) (a : Bool) → a ≡ false → (nat_lt p p || (p == p && a)) ≡ false
 step_self p a e = grind (arith, nat_tests)
@@ -26,7 +26,7 @@ step_more p q a = grind (arith, nat_tests)
 pub step_equal : (p q : ℕ) (a : Bool) → p ≡ q → (nat_lt p q || (p == q && a)) ≡ a
 step_equal p q a e = grind (arith, nat_tests)
 
--- of lists of as many spots
+-- Of equally long lists of spots.
 
 earlier_self : (ps : Spots) → is_earlier ps ps ≡ false
 earlier_self [] = refl
@@ -52,7 +52,7 @@ earlier_behind [] (q ∷ qs) rs l = absurd (omega (arith, l))
 earlier_behind (p ∷ ps) [] rs l = absurd (omega (arith, l))
 earlier_behind (p ∷ ps) (q ∷ qs) rs l = ap (λ b. nat_lt p q || (p == q && b)) (earlier_behind ps qs rs (omega (arith, l)))
 
--- of all
+-- Of all lists.
 
 pub before_self : (ps : Spots) → is_before ps ps ≡ false
 before_self ps = step_self (length ps) (is_earlier ps ps) (earlier_self ps)
@@ -72,7 +72,7 @@ before_one_way ps qs e = by (is_before qs ps) refl
     by false f = refl
     by true f = let no = sym (before_self ps) ∙ before_then ps qs ps e f in cc
 
--- with the same spot in front of both, or the same spots
+-- With the same spot in front of both, or the same spots.
 before_spot : (p : ℕ) (ps qs : Spots) → is_before (p ∷ ps) (p ∷ qs) ≡ is_before ps qs
 before_spot p ps qs =
     step_more (length ps) (length qs) (nat_lt p p || (p == p && is_earlier ps qs))
@@ -82,7 +82,7 @@ before_begun : (begun ps qs : Spots) → is_before (begun ++ ps) (begun ++ qs) �
 before_begun [] ps qs = refl
 before_begun (p ∷ begun) ps qs = before_spot p (begun ++ ps) (begun ++ qs) ∙ before_begun begun ps qs
 
--- with the same spots behind two of as many
+-- With the same spots after two equally long lists.
 before_behind : (ps qs rs : Spots) → length ps ≡ length qs → is_before (ps ++ rs) (qs ++ rs) ≡ is_before ps qs
 before_behind ps qs rs l =
     step_equal (length (ps ++ rs)) (length (qs ++ rs)) (is_earlier (ps ++ rs) (qs ++ rs)) (omega (arith, l, length-append ps rs, length-append qs rs))
@@ -103,7 +103,7 @@ two_swapped ps qs = by (is_before qs ps) (is_before ps qs) refl refl
     by false true e f = refl
     by false false e f = before_same ps qs f e
 
--- what is not before it isn't before one that comes no later
+-- If a schedule is not before another, it isn't before one that comes no later.
 not_before_then : (ps qs rs : Spots) → is_before qs ps ≡ false → is_before rs qs ≡ false → is_before rs ps ≡ false
 not_before_then ps qs rs e f = by (is_before rs ps) (is_before qs rs) refl refl
   where
@@ -165,14 +165,14 @@ none_and a = ap₂ (λ n o. record { count = n; first = o }) (omega arith) refl
 pub and_none : (a : TallyView) → both a no_schedules ≡ a
 and_none a = both_swapped a no_schedules ∙ none_and a
 
--- the first two change places
+-- The first two are exchanged.
 pub exchanged : (a b c : TallyView) → both a (both b c) ≡ both b (both a c)
 exchanged a b c = sym (both_regrouped a b c) ∙ ap (λ t. both t c) (both_swapped a b) ∙ both_regrouped b a c
 
 pub two_by_two : (a b c d : TallyView) → both (both a b) (both c d) ≡ both (both a c) (both b d)
 two_by_two a b c d = both_regrouped a b (both c d) ∙ ap (both a) (exchanged b c d) ∙ sym (both_regrouped a c (both b d))
 
--- ---- behind a beginning
+-- ---- after a beginning
 
 pub behind_both : (c : ℕ) (q : Spots) (a b : TallyView) → behind c q (both a b) ≡ both (behind c q a) (behind c q b)
 behind_both c q a b = ap₂ (λ n o. record { count = n; first = o }) (omega arith) (first_begun q a.first b.first)
@@ -187,7 +187,7 @@ behind_place c q p t = ap (λ o. record { count = c * t.count; first = o }) (by 
     by None = refl
     by (Some ps) = ap (λ xs. Some xs) (sym (append_assoc q (p ∷ []) ps))
 
--- two beginnings of as many spots meet
+-- Two beginnings of equally many spots are joined.
 pub behind_meets : (c d : ℕ) (q r : Spots) (t : TallyView) → length q ≡ length r → both (behind c q t) (behind d r t) ≡ behind (c + d) (first_of_two q r) t
 behind_meets c d q r t l = ap₂ (λ n o. record { count = n; first = o }) (omega arith) (first_meets q r t.first l)
 

@@ -11,34 +11,34 @@ use Rattle.posix.proofs.DeliveryLemmas.{Deliveries, by_act, by_return, by_step}
 use Rattle.posix.proofs.NoticeLemmas.{end_first, end_other, only_hung_up}
 use Rattle.counting.specs.Courses.{course_from}
 
--- its world is that of s
+-- Its world is that of s.
 abbrev Stays : State → State → Type 0
 Stays s t = t.world ≡ s.world
 
--- and so of a state that comes out
+-- So is the world of a resulting state.
 abbrev StaysIn : State → Outcome → Type 0
 StaysIn s o = Stays s o.state
 
--- ---- ends and signals
+-- ---- terminations and signals
 
--- who ends, with an heir for its children
+-- A process terminates, and its children get a new parent.
 world_ends : (s : State) (r : Process) (heir status : ℕ) → StaysIn s (end_with_heir s r heir status)
 world_ends s r heir status = elim (r.pid == 1) as (λ b. (r.pid == 1) ≡ b → StaysIn s (end_with_heir s r heir status)) [
   | true ↦ λ t. ap (λ (n : State). n.world) (end_first s r heir status t)
   | false ↦ λ t. ap (λ (n : State). n.world) (end_other s r heir status t)
 ] refl
 
--- its session's terminal is hung up before
+-- The terminal of its session is hung up before.
 world_end : (s : State) (r : Process) (status : ℕ) → StaysIn s (end_process s r status)
 unfolding end_process
 world_end s r status = world_ends (hang_up s r) r (heir_in (hang_up s r).processes r.pid) status ∙ ap (λ (n : State). n.world) (only_hung_up s r)
 
--- who is stopped
+-- A process is stopped.
 world_stop : (s : State) (r : Process) (n : ℕ) → StaysIn s (stop_process s r n)
 unfolding stop_process
 world_stop s r n = refl
 
--- a signal that acts
+-- A signal that acts.
 world_deliveries : (s : State) (r : Process) → Deliveries (StaysIn s) (Stays s) r
 world_deliveries s r = record {
   kills = λ t n b sig. world_end t r (killed n) ∙ b;
@@ -53,12 +53,12 @@ world_deliveries s r = record {
 
 -- ---- calls
 
--- bytes that are moved
+-- Bytes that are moved.
 world_moved : (p : ℕ) (s t : State) (call : Call) (bytes : List ℕ) → Stays s t → Meets (StaysIn s) (Stays s) (finish_moved t p call bytes)
 world_moved p s t call [] w = w
 world_moved p s t call (x ∷ xs) w = w
 
--- what a process may be blocked in, and each call
+-- The call that a process is blocked in, and each call.
 world_retries : (s : State) (me : Process) → Retries (StaysIn s) (Stays s) s me
 world_retries s me = record {
   refuses = λ call n fails few. refl;
@@ -96,22 +96,22 @@ world_ways granted s me = record {
 
 -- ---- events
 
--- a tick, with a process to rotate or without
+-- A tick, with a process to rotate or without.
 world_rotate : (s : State) (o : Option ℕ) → Stays s (rotate (pass_time s) o)
 world_rotate s None = refl
 world_rotate s (Some p) = refl
 
--- a key, on a console that is there or not
+-- A key, on an existing console or another one.
 world_key : (s : State) (console byte : ℕ) (o : Option Console) → Stays s (key_on s console byte o)
 world_key s console byte None = refl
 world_key s console byte (Some c) = refl
 
--- a hangup, on a console that is there or not
+-- A hangup, on an existing console or another one.
 world_hangup : (s : State) (console : ℕ) (o : Option Console) → Stays s (hangup_on s console o)
 world_hangup s console None = refl
 world_hangup s console (Some c) = refl
 
--- what happens at any event
+-- What happens at any event.
 world_happens : (granted : Bool) (s : State) (x : Event) → StaysIn s (happens granted s x)
 unfolding happens tick key hangup
 world_happens granted s Step = by_step (StaysIn s) granted s refl (λ p r first is. by_act (StaysIn s) (Stays s) (Stays s) granted s r (record {
@@ -129,12 +129,12 @@ world_happens granted s Tick = world_rotate s (current s)
 world_happens granted s (Key console byte) = world_key s console byte (console_at console s.consoles)
 world_happens granted s (Hangup console) = world_hangup s console (console_at console s.consoles)
 
--- an event, after a halt too
+-- An event, also after a halt.
 pub next_keeps_world : (granted : Bool) (s : State) (x : Event) → (next granted s x).state.world ≡ s.world
 unfolding settle give_places clear_foregrounds
 next_keeps_world granted s x = by_next (StaysIn s) granted s x (λ h. refl) (λ h. world_happens granted s x)
 
--- a run where all memory is granted
+-- A run with all memory granted.
 pub course_keeps_world : (k : ℕ) (s : State) (events : List Event) → (course_from k s events).last.world ≡ s.world
 course_keeps_world k s [] = refl
 course_keeps_world k s (x ∷ xs) = course_keeps_world (k + 1) (next true s x).state xs ∙ next_keeps_world true s x

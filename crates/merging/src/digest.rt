@@ -1,4 +1,4 @@
-//! What is nearly never the same in different states.
+//! Digests of states: different states rarely have the same digest.
 
 ghost use Rattle.std.specs.Prelude.{◌≡◌};
 
@@ -6,22 +6,22 @@ use kernel::Kernel;
 use posix::{Blocked, Life, Pid};
 use proctable::{OwnPart, Snapshot};
 
-/// Of so many processes, by number and by turn, at most.
+/// The most processes that go into a digest, by number and again in the order of the run queue.
 const MOST_PROCESSES: u32 = 64;
 
-/// A digest with a number more.
+/// Returns a digest with a number added.
 fn mixed(digest: u64, number: u64) -> u64 {
     (digest ^ number)
         .wrapping_mul(0x9e37_79b9_7f4a_7c15)
         .rotate_left(29)
 }
 
-/// With the number of a process more.
+/// Returns a digest with a process ID added.
 fn with_pid(digest: u64, pid: Pid) -> u64 {
     mixed(digest, u64::from(pid.number()))
 }
 
-/// With what a process does more.
+/// Returns a digest with the state of a process added, and whether a call blocks it.
 fn with_life(digest: u64, life: Life, blocked: Option<Blocked>) -> u64 {
     let lives = match life {
         Life::Running => 0,
@@ -31,7 +31,7 @@ fn with_life(digest: u64, life: Life, blocked: Option<Blocked>) -> u64 {
     mixed(digest, 2 * lives + u64::from(blocked.is_some()))
 }
 
-/// With the small fields of a process more.
+/// Returns a digest with the small fields of a process added.
 fn with_snapshot(digest: u64, it: &Snapshot) -> u64 {
     let digest = with_pid(digest, it.pid);
     let digest = with_pid(digest, it.parent);
@@ -40,7 +40,7 @@ fn with_snapshot(digest: u64, it: &Snapshot) -> u64 {
     mixed(digest, u64::from(it.program))
 }
 
-/// With the words of a process's memory more.
+/// Returns a digest with the words of a process's memory added.
 fn with_words(digest: u64, own: &OwnPart) -> u64 {
     let mut digest = digest;
     for address in 0..=u8::MAX {
@@ -49,7 +49,7 @@ fn with_words(digest: u64, own: &OwnPart) -> u64 {
     digest
 }
 
-/// With the registers and the signals of a process more.
+/// Returns a digest with the registers and the signals of a process added.
 fn with_own(digest: u64, own: &OwnPart) -> u64 {
     let signals = &own.signals;
     let frame = own.cpu.frame(signals.mask());
@@ -62,7 +62,7 @@ fn with_own(digest: u64, own: &OwnPart) -> u64 {
     mixed(digest, signals.pending().bits())
 }
 
-/// With the processes of a machine more. Nothing changes.
+/// Returns a digest with the processes of a machine added. Changes only the count of reads of the kernel.
 fn with_processes(digest: u64, kernel: &mut Kernel) -> u64
     ensures { (kernel.new.state ≡ kernel.old.state) × (kernel.new.events ≡ kernel.old.events) }
 {
@@ -82,7 +82,7 @@ fn with_processes(digest: u64, kernel: &mut Kernel) -> u64
     digest
 }
 
-/// With the order of turns more.
+/// Returns a digest with the order of the run queue added.
 fn with_turns(digest: u64, kernel: &Kernel) -> u64 {
     let mut digest = digest;
     let mut next = kernel.current();
@@ -96,7 +96,7 @@ fn with_turns(digest: u64, kernel: &Kernel) -> u64 {
     digest
 }
 
-/// With what is typed at consoles, and whose they are, more.
+/// Returns a digest with the consoles added: session, foreground process group, and how much is typed.
 fn with_consoles(digest: u64, kernel: &Kernel) -> u64 {
     let mut digest = digest;
     for index in 0..usize::from(kernel.consoles()) {
@@ -110,7 +110,7 @@ fn with_consoles(digest: u64, kernel: &Kernel) -> u64 {
     digest
 }
 
-/// With which texts are marked more.
+/// Returns a digest with the marks of texts added.
 fn with_marks(digest: u64, marks: &[bool]) -> u64 {
     let mut digest = digest;
     for mark in marks {
@@ -119,7 +119,7 @@ fn with_marks(digest: u64, marks: &[bool]) -> u64 {
     digest
 }
 
-/// With the kinds of loose events more.
+/// Returns a digest with the kinds of loose events added.
 fn with_kinds(digest: u64, kinds: &[u8]) -> u64 {
     let mut digest = digest;
     for kind in kinds {
@@ -128,9 +128,11 @@ fn with_kinds(digest: u64, kinds: &[u8]) -> u64 {
     digest
 }
 
-/// A digest of how many spots led to a state, of the loose events that are left, of the marks of texts, and of the state
-/// of a machine. States in which the machine has halted are one, as nothing more happens in them: nothing else of such a
-/// state is in its digest. Nothing changes.
+/// Returns a digest of how many spots led to a state, of the loose events that are left, of the marks of texts, and of
+/// the state of a machine.
+///
+/// All states in which the machine has halted count as one, because nothing more happens in them. So no more of such a
+/// state goes into the digest. Changes only the count of reads of the kernel.
 pub fn digest_of(spots: usize, left: &[u8], marks: &[bool], kernel: &mut Kernel) -> u64
     ensures { (kernel.new.state ≡ kernel.old.state) × (kernel.new.events ≡ kernel.old.events) }
 {

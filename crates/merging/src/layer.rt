@@ -1,4 +1,4 @@
-//! Nodes that are kept together, so that those that are one become one.
+//! Nodes that are kept together, so that nodes of the same state are joined.
 
 ghost use Rattle.std.specs.Prelude.{◌≡◌, ◌++◌, ℕ, [], ◌∷◌, All, IfOk, IfSome, OnOk, slice_get, Some};
 ghost use Rattle.counting.specs.Tallies.{both};
@@ -11,7 +11,7 @@ use crate::node::Node;
 use std::alloc::{AllocError, Global};
 use std::collections::HashMap;
 
-/// What is nearly never the same of nodes that aren't one.
+/// Returns the digest of a node. Nodes that are not one rarely have the same digest.
 fn digest(node: &mut Node) -> u64
     ensures { IsSameNode node.old node.new }
 {
@@ -23,20 +23,21 @@ fn digest(node: &mut Node) -> u64
     )
 }
 
-/// So many states whose digests are the same are told apart.
+/// The most keys that are tried for one digest.
 const MOST_ALIKE: usize = 1_000;
 
-/// States before one event of a list. Where more than so many have one digest, a state can stand there twice: then less is
-/// merged, and all counts are the same.
+/// States before one event of a list. If more than `MOST_ALIKE` of them have the same digest, a state can be here
+/// twice. Then less is merged, and all counts are the same.
 #[derive(Drop)]
 pub struct Layer {
     pub nodes: Vec<Node>,
-    /// Which node has this key: its digest, or, where another state has that, the next that is free.
+    /// The index of the node with each key. The key is the digest of the node, or the next free one if another state
+    /// has that.
     numbers: HashMap<u64, usize>,
 }
 
 impl Layer {
-    /// No states.
+    /// Returns a layer without states.
     pub fn new(alloc: Global) -> Layer
         ensures { result.nodes.items ≡ [] }
     {
@@ -46,7 +47,7 @@ impl Layer {
         }
     }
 
-    /// The number of the node with this key, if it is one with another.
+    /// Returns the index of the node with this key, if that is one with `node`.
     fn find_at(&mut self, key: u64, node: &mut Node) -> Option<usize>
         requires { All (λ n. n.kernel.state.world ≡ node.old.kernel.state.world) self.old.nodes.items }
         ensures one { IfSome result (λ i. (n : NodeValue) × (slice_get self.new.nodes.items i ≡ Some n) × IsOne n node.new) }
@@ -60,7 +61,7 @@ impl Layer {
         None
     }
 
-    /// The number of the node that is one with another, or the key that the other has, if none is found.
+    /// Returns the index of the node that is one with `node`. If none is found, fails with the key for `node`.
     fn find(&mut self, digest: u64, node: &mut Node) -> Result<usize, u64>
         requires { All (λ n. n.kernel.state.world ≡ node.old.kernel.state.world) self.old.nodes.items }
         ensures one { IfOk result (λ i. (n : NodeValue) × (slice_get self.new.nodes.items i ≡ Some n) × IsOne n node.new) }
@@ -80,7 +81,7 @@ impl Layer {
         Err(key)
     }
 
-    /// A node with this key comes behind the others.
+    /// Adds a node with this key after the others.
     fn push(&mut self, key: u64, node: Node) -> Result<(), AllocError>
         ensures { OnOk result (self.new.nodes.items ≡ self.old.nodes.items ++ node ∷ []) }
     {
@@ -96,7 +97,7 @@ impl Layer {
         }
     }
 
-    /// A node comes to those of the layer.
+    /// Adds a node, or joins it to the node that is one with it.
     pub fn insert(&mut self, node: Node) -> Result<(), AllocError>
         requires { All (λ n. n.kernel.state.world ≡ node.kernel.state.world) self.old.nodes.items }
         ensures tally { (go_on : Outlook) (most : ℕ) → ForgetsHalted go_on → OnOk result (tally_of_nodes go_on most self.new.nodes.items ≡ both (tally_of_nodes go_on most self.old.nodes.items) (tally_of_node go_on most node)) }

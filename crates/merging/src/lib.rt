@@ -1,5 +1,5 @@
-//! Schedules of a family that meet in one state are gone on with once. States in which the machine has halted are one, as
-//! nothing more happens in them. What is counted is the same.
+//! Merges the schedules of a family that reach the same state: they continue as one. States in which the machine has
+//! halted are one, because nothing more happens in them. The counts are those of separate runs.
 //!
 //! `merge` runs schedules that reach the same state as one, and returns the same book as `explore` of `counting`
 //! (`book_over`); or it names a place before which there are more states than `--states` keeps (`AreTooMany`), or has

@@ -1,4 +1,4 @@
-//! Schedules that meet in one state are gone on with once.
+//! Merges schedules that reach the same state: they continue as one.
 
 ghost use Rattle.std.specs.Prelude.{◌≡◌, ◌+◌, ◌<◌, ◌≤◌, ◌++◌, ℕ, length, map, All, IfErr, IfOk, OnOk};
 ghost use Rattle.posix.specs.Common.{IsRegular, IsSettled, boot};
@@ -17,7 +17,7 @@ use std::alloc::{AllocError, Global};
 use std::collections::VecDeque;
 use text::EventList;
 
-/// Gives these events to a node, and counts the schedules that begin as it says, and put in no more, by how they end.
+/// Runs the remaining events from a node, and counts the schedules of the node, which insert nothing more.
 fn count_from(
     alloc: Global,
     node: &mut Node,
@@ -38,7 +38,7 @@ fn count_from(
     book.add_many(ending, node.marks.as_slice(), spots.as_slice(), &node.count)
 }
 
-/// Counts the schedules that begin as a node says, and put in no more, by how these events end.
+/// Counts the schedules of a node, which insert nothing more, by how the remaining events end.
 fn count_node(
     alloc: Global,
     node: Node,
@@ -54,12 +54,12 @@ fn count_node(
 {
     let mut node = node;
     let result = count_from(alloc, &mut node, events, texts, book, lines);
-    // A node that is dropped by its name is dropped by one function, whose proof is short.
+    // A node is dropped explicitly, by one function whose proof is short.
     drop(node);
     result
 }
 
-/// Counts the schedules that begin as these nodes say, and put in no more, by how these events end.
+/// Counts the schedules of all nodes, which insert nothing more, by how the remaining events end. Removes the nodes.
 fn count_all(
     nodes: &mut Vec<Node>,
     events: &EventList,
@@ -77,7 +77,7 @@ fn count_all(
     Ok(())
 }
 
-/// The nodes of a row come to others.
+/// Appends the nodes of a row to others.
 fn take_nodes(nodes: &mut Vec<Node>, row: Layer) -> Result<(), AllocError>
     ensures { OnOk result (nodes.new.items ≡ nodes.old.items ++ row.nodes.items) }
 {
@@ -87,7 +87,7 @@ fn take_nodes(nodes: &mut Vec<Node>, row: Layer) -> Result<(), AllocError>
     done
 }
 
-/// The nodes of all rows come to others.
+/// Appends the nodes of all rows to others, and removes the rows.
 fn take_rows(nodes: &mut Vec<Node>, rows: &mut VecDeque<Layer>) -> Result<(), AllocError>
     ensures { OnOk result (nodes.new.items ≡ nodes.old.items ++ nodes_in rows.old.items) }
 {
@@ -97,7 +97,7 @@ fn take_rows(nodes: &mut Vec<Node>, rows: &mut VecDeque<Layer>) -> Result<(), Al
     Ok(())
 }
 
-/// All states of these rows.
+/// Returns all nodes of these rows.
 fn nodes_of(alloc: Global, rows: VecDeque<Layer>) -> Result<Vec<Node>, AllocError>
     ensures { IfOk result (λ nodes. nodes.items ≡ nodes_in rows.items) }
 {
@@ -114,7 +114,7 @@ fn nodes_of(alloc: Global, rows: VecDeque<Layer>) -> Result<Vec<Node>, AllocErro
     }
 }
 
-/// The states before the event behind the first `upto` of a list, each with the beginnings that lead to it.
+/// Returns the states after the first `upto` events of the list, each with the beginnings that lead to it.
 fn reach<P: Progress>(
     first: Layer,
     search: &Search<'_, '_, '_>,
@@ -139,7 +139,7 @@ fn reach<P: Progress>(
     Ok(rows)
 }
 
-/// The state at the start of a world, from which all schedules go on.
+/// Returns the state at the start of a world, from which all schedules continue.
 fn start(search: &Search<'_, '_, '_>) -> Result<Layer, AllocError>
     ensures nodes { IfOk result (λ layer. All (IsNode search.now 0 0) layer.nodes.items) }
     ensures tally { (go_on : Outlook) → ForgetsHalted go_on → IfOk result (λ layer. tally_of_nodes go_on (most_of search.now) layer.nodes.items
@@ -157,7 +157,8 @@ fn start(search: &Search<'_, '_, '_>) -> Result<Layer, AllocError>
     }
 }
 
-/// The states behind the last event before which something is put in, each with the beginnings that lead to it.
+/// Returns the states after the last event before which a schedule can insert, each with the beginnings that lead to
+/// it.
 fn search_all<P: Progress>(
     search: &Search<'_, '_, '_>,
     lines: &mut Vec<Line>,
@@ -172,8 +173,9 @@ fn search_all<P: Progress>(
     Ok(nodes_of(search.alloc, rows)?)
 }
 
-/// Counts all schedules of a family, with texts that are looked for in their lines; those that meet in one state are gone on
-/// with once. The book tells of all of them.
+/// Counts all schedules of a family, by how they end and by the texts that their lines have. Schedules that reach the
+/// same state continue as one. Fails if memory runs out, or if there are more than `family.states` states before one
+/// event.
 pub fn merge<'a, P: Progress>(
     alloc: Global,
     family: &Family<'_>,

@@ -26,22 +26,22 @@ pub type Kinds = ArrayVec<u8, MOST_LOOSE>;
 /// A state of a machine, and the beginnings of schedules that lead to it.
 #[derive(Drop)]
 pub struct Node {
-    /// In this state.
+    /// The machine, in this state.
     pub kernel: Kernel,
-    /// How many they are.
+    /// How many beginnings lead to the state.
     pub count: Count,
-    /// The spots of the first of them.
+    /// The spots of the first beginning.
     pub spots: SpotList,
-    /// The kinds of the loose events that they haven't put in.
+    /// The kinds of the loose events that the beginnings have not inserted.
     pub left: Kinds,
-    /// The events of the first of them.
+    /// The events of the first beginning.
     pub given: EventList,
-    /// Of each text, whether a line has it.
+    /// For each text, whether a line has it.
     pub marks: Vec<bool>,
 }
 
-/// A kernel after these events, from the start of its world on. An error where there is no memory for it, or for what a
-/// process of the world asks.
+/// Returns a kernel after these events, from the start of its world. Fails if memory runs out, also for a call of a
+/// process.
 fn kernel_after(
     alloc: Global,
     world: &World,
@@ -65,7 +65,7 @@ fn kernel_after(
     }
 }
 
-/// Gives an event to a kernel, and marks the texts that its lines have.
+/// Runs an event, and marks the texts that its lines have.
 fn give(
     kernel: &mut Kernel,
     event: Event,
@@ -86,10 +86,11 @@ fn give(
     Ok(())
 }
 
-/// Whether two machines are in one state of a world, as far as is seen. States in which the machine has halted are one, as
-/// nothing more happens in them.
-/// The clock is compared, too: after as many spots it is the same until the machine halts, so to forget it would merge
-/// no more. A world at rest therefore has a state for each number of ticks.
+/// Returns true if two machines were found to be in the same state of a world. States in which the machine has halted
+/// are one, because nothing more happens in them.
+///
+/// The clock is compared, too. After equally many spots and events, the clocks are equal until the machine halts, so
+/// leaving out the clock would merge no more states. A world at rest therefore has a state for each number of ticks.
 fn are_one(kernel: &mut Kernel, other: &mut Kernel) -> bool
     requires world { kernel.old.state.world ≡ other.old.state.world }
     ensures one { result ≡ true → AreOneState kernel.old.state other.old.state }
@@ -99,7 +100,7 @@ fn are_one(kernel: &mut Kernel, other: &mut Kernel) -> bool
     (kernel.is_halted() && other.is_halted()) || kernel.is_same(other)
 }
 
-/// The kinds of so many loose events.
+/// Returns the kinds of this many loose events.
 fn kinds_of(loose: usize) -> Kinds
     requires { loose ≤ MOST_LOOSE }
     ensures { result.items ≡ all_kinds loose }
@@ -111,7 +112,7 @@ fn kinds_of(loose: usize) -> Kinds
     kinds
 }
 
-/// The kinds, copied.
+/// Returns a copy of these kinds.
 fn copied_kinds(kinds: &[u8]) -> Kinds
     requires { length kinds.now ≤ MOST_LOOSE }
     ensures { result.items ≡ kinds.now }
@@ -122,7 +123,7 @@ fn copied_kinds(kinds: &[u8]) -> Kinds
 }
 
 impl Node {
-    /// The start of a world, where no schedule has begun, with so many loose events to put in.
+    /// Returns the node at the start of a world, with this many loose events to insert.
     pub fn first(
         alloc: Global,
         world: &World,
@@ -152,7 +153,7 @@ impl Node {
         })
     }
 
-    /// One more event is given.
+    /// Runs one more event.
     pub fn give(
         &mut self,
         event: Event,
@@ -184,8 +185,10 @@ impl Node {
         Ok(())
     }
 
-    /// The same beginnings, with a kernel of their own.
-    /// A kernel is booted and given the events of the first schedule again: to copy one would fill as many tables.
+    /// Returns a node with the same beginnings, and a kernel of its own.
+    ///
+    /// The kernel is booted and runs the events of the first beginning again. Copying a kernel would fill as many
+    /// tables.
     fn rerun(&self, alloc: Global, world: &World, lines: &mut Vec<Line>) -> Result<Node, AllocError>
         requires few { length self.now.given ≤ most_events }
         requires left { length self.now.left.items ≤ MOST_LOOSE }
@@ -214,7 +217,7 @@ impl Node {
         })
     }
 
-    /// One more event is given, which is put in at this spot.
+    /// Runs one more event, which is inserted at this spot.
     fn put_in(
         &mut self,
         spot: u64,
@@ -239,7 +242,7 @@ impl Node {
         self.give(event, texts, lines)
     }
 
-    /// The beginnings with one more event, which is put in at this spot.
+    /// Returns the node of the beginnings with one more event, which is inserted at this spot.
     pub fn with(
         &self,
         alloc: Global,
@@ -273,8 +276,8 @@ impl Node {
         }
     }
 
-    /// Whether two nodes are one: one state of a world, led to by as many spots, with the same loose events left and the
-    /// same marks.
+    /// Returns true if two nodes were found to be one: the same state of a world, after equally many spots, with the
+    /// same loose events left and the same marks.
     pub fn is_one(&mut self, other: &mut Node) -> bool
         requires world { self.old.kernel.state.world ≡ other.old.kernel.state.world }
         ensures one { result ≡ true → IsOne self.old other.old }
@@ -287,7 +290,8 @@ impl Node {
             && are_one(&mut self.kernel, &mut other.kernel)
     }
 
-    /// The beginnings of another node that is one with this are counted with its own, of which the first stay.
+    /// Adds the count of another node that is one with this one. The spots and events are those of whichever first
+    /// beginning comes first in the family.
     fn join_first(&mut self, other: &mut Node) -> Result<(), AllocError>
         requires { IsOne self.old other.old }
         ensures tally { (go_on : Outlook) (most : ℕ) → ForgetsHalted go_on → OnOk result (tally_of_node go_on most self.new ≡ both (tally_of_node go_on most self.old) (tally_of_node go_on most other.old)) }
@@ -299,7 +303,7 @@ impl Node {
         self.count.add(&other.count)
     }
 
-    /// The beginnings of another node that is one with this come to its own.
+    /// Joins another node that is one with this one, with its beginnings.
     pub fn join(&mut self, mut other: Node) -> Result<(), AllocError>
         requires { IsOne self.old other }
         ensures tally { (go_on : Outlook) (most : ℕ) → ForgetsHalted go_on → OnOk result (tally_of_node go_on most self.new ≡ both (tally_of_node go_on most self.old) (tally_of_node go_on most other)) }

@@ -1,6 +1,6 @@
-//! Rows of layers, each with one spot more than the row before, which go on from before an event to behind it.
+//! Rows of layers, each with one more spot than the row before. They advance from before an event to after it.
 
-ghost use Rattle.std.specs.Prelude.{◌≡◌, ◌+◌, ◌<◌, ◌≤◌, ◌++◌, ℕ, [], ◌∷◌, length, All, IfErr, IfOk, OnOk, Some, slice_get};
+ghost use Rattle.std.specs.Prelude.{◌≡◌, ◌+◌, ◌-◌, ◌^◌, ◌<◌, ◌≤◌, ◌++◌, ℕ, [], ◌∷◌, length, min, All, IfErr, IfOk, OnOk, Some, slice_get};
 ghost use Rattle.merging.specs.declared.search.Search.{Search as SearchValue};
 ghost use Rattle.merging.specs.Merging.{AreRows, IsNode, IsStop, Property, list_of, nodes_in, rows_tally, tally_of_all};
 
@@ -12,7 +12,7 @@ use posix::Event;
 use std::alloc::{AllocError, Global};
 use std::collections::VecDeque;
 
-/// Takes the first row; no states, where there is none.
+/// Removes and returns the first row; returns an empty layer if there is none.
 fn take_row(rows: &mut VecDeque<Layer>, alloc: Global) -> Layer
     ensures rows { (search : SearchValue) (place least : ℕ) → AreRows search place least rows.old.items → All (IsNode search place least) result.nodes.items × AreRows search place (least + 1) rows.new.items }
     ensures nodes { nodes_in rows.old.items ≡ result.nodes.items ++ nodes_in rows.new.items }
@@ -23,7 +23,7 @@ fn take_row(rows: &mut VecDeque<Layer>, alloc: Global) -> Layer
     }
 }
 
-/// One more row comes behind the others.
+/// Adds a row after the others.
 pub fn push_row(rows: &mut VecDeque<Layer>, row: Layer) -> Result<(), AllocError>
     ensures { OnOk result (rows.new.items ≡ rows.old.items ++ row ∷ []) }
 {
@@ -33,7 +33,7 @@ pub fn push_row(rows: &mut VecDeque<Layer>, row: Layer) -> Result<(), AllocError
 
 /// Returns how many states these rows have, at most `usize::MAX`.
 pub fn count_states(rows: &VecDeque<Layer>) -> usize
-    ensures { result ≤ length (nodes_in rows.now.items) }
+    ensures { result ≡ min (length (nodes_in rows.now.items)) (2 ^ 64 - 1) }
 {
     let mut states: usize = 0;
     for index in 0..rows.len() {
@@ -85,7 +85,7 @@ fn row_behind(
     }
 }
 
-/// All rows go on from before the event with this place, and come behind it to the next rows.
+/// Advances all rows from before the event with this place to after it, where they become the next rows.
 fn all_behind(
     rows: &mut VecDeque<Layer>,
     next: &mut VecDeque<Layer>,
@@ -114,7 +114,8 @@ fn all_behind(
     Ok(())
 }
 
-/// The states behind the event with this place, from those before it. Row by row they go on with one more spot.
+/// Returns the states after the event with this place, from those before it. Each row also adds states with one more
+/// spot to the next row.
 pub fn rows_behind(
     rows: VecDeque<Layer>,
     place: u64,

@@ -3,10 +3,10 @@
 use counting::Family;
 use std::alloc::{AllocError, Global};
 
-/// Why schedules aren't gone on with.
+/// Why a search stops.
 #[derive(Clone, Copy)]
 pub enum Stop {
-    /// There is no memory.
+    /// Memory ran out.
     Memory,
     /// There are more states than the first number after as many events as the second number.
     States(usize, u64),
@@ -28,6 +28,6 @@ impl From<AllocError> for Stop {
 pub struct Search<'a, 'f, 't> {
     pub alloc: Global,
     pub family: &'a Family<'f>,
-    /// The texts that are looked for.
+    /// The texts to find.
     pub texts: &'a [&'t str],
 }

@@ -7,17 +7,17 @@ ghost use Rattle.merging.specs.SpotLists.{AreRuns, begin_above, begin_below, spo
 use std::alloc::{AllocError, Global};
 use std::marker::Model;
 
-/// So many times one spot, once at least.
+/// A spot that is repeated, with the number of times, from 1.
 #[derive(Clone, Copy)]
 struct SpotRun {
     spot: u64,
     times: usize,
 }
 
-/// The spots of a beginning of a schedule. They take memory for each run of equal spots, whatever their number.
+/// The spots of a beginning of a schedule. Each run of equal spots takes the same memory, however long it is.
 #[derive(Drop)]
 pub struct SpotList {
-    /// Each has another spot than the one before it.
+    /// No two adjacent runs have the same spot.
     runs: Vec<SpotRun>,
     len: usize,
 }
@@ -33,7 +33,7 @@ impl Model for SpotList {
     ghost invariant = { λ l. AreRuns l.runs.items × (l.len ≡ length (spots_of l.runs.items)) };
 }
 
-/// Whether these runs begin with an earlier spot than this.
+/// Returns true if the first spot of these runs is earlier than this one.
 fn begins_below(runs: &[SpotRun], spot: u64) -> bool
     ensures { result ≡ begin_below runs.now spot }
 {
@@ -43,7 +43,7 @@ fn begins_below(runs: &[SpotRun], spot: u64) -> bool
     }
 }
 
-/// Whether these runs begin with a later spot than this.
+/// Returns true if the first spot of these runs is later than this one.
 fn begins_above(runs: &[SpotRun], spot: u64) -> bool
     ensures { result ≡ begin_above runs.now spot }
 {
@@ -53,7 +53,7 @@ fn begins_above(runs: &[SpotRun], spot: u64) -> bool
     }
 }
 
-/// Whether the one list, of as many spots, has the earlier spot where they first differ.
+/// Returns true if the first of two equally long lists has the earlier spot where they first differ.
 fn is_earlier(runs: &[SpotRun], others: &[SpotRun]) -> bool
     requires runs { AreRuns runs.now }
     requires others { AreRuns others.now }
@@ -75,8 +75,7 @@ fn is_earlier(runs: &[SpotRun], others: &[SpotRun]) -> bool
     is_earlier(rest, other_rest)
 }
 
-/// Adds one spot to the last run, where that is of the same spot. The answer is whether it is; else the runs are
-/// unchanged.
+/// Adds a spot to the last run and returns true, if that run has the same spot. Otherwise returns false.
 fn grow_last(runs: &mut Vec<SpotRun>, spot: u64) -> bool
     requires runs { AreRuns runs.old.items }
     requires few { length (spots_of runs.old.items) < 2 ^ 40 }
@@ -93,7 +92,7 @@ fn grow_last(runs: &mut Vec<SpotRun>, spot: u64) -> bool
     }
 }
 
-/// Adds one spot: to the last run, where that is of the same spot. Without memory the runs are unchanged.
+/// Adds a spot, to the last run if that has the same spot. If memory runs out, the runs stay unchanged.
 #[tactic(auto, using(crate::proofs::SpotLemmas::spots_push))]
 fn push_run(runs: &mut Vec<SpotRun>, spot: u64) -> Result<(), AllocError>
     requires runs { AreRuns runs.old.items }
@@ -119,7 +118,7 @@ fn add_run(spots: &mut Vec<u64>, run: SpotRun) -> Result<(), AllocError>
 }
 
 impl SpotList {
-    /// No spots.
+    /// Returns an empty list.
     pub fn new(alloc: Global) -> SpotList
         ensures { result ≡ [] }
     {
@@ -129,7 +128,7 @@ impl SpotList {
         }
     }
 
-    /// The same spots once more.
+    /// Returns a copy.
     pub fn try_clone(&self, alloc: Global) -> Result<SpotList, AllocError>
         ensures { IfOk result (λ spots. spots ≡ self.now) }
     {
@@ -139,14 +138,14 @@ impl SpotList {
         })
     }
 
-    /// How many they are.
+    /// Returns the number of spots.
     pub fn len(&self) -> usize
         ensures { result ≡ length self.now }
     {
         self.len
     }
 
-    /// Adds a spot behind the others. Without memory they are unchanged.
+    /// Adds a spot after the others. If memory runs out, the list stays unchanged.
     pub fn push(&mut self, spot: u64) -> Result<(), AllocError>
         requires { length self.old < 2 ^ 40 }
         ensures ok { OnOk result (self.new ≡ self.old ++ spot ∷ []) }
@@ -157,7 +156,7 @@ impl SpotList {
         Ok(())
     }
 
-    /// Whether a schedule that begins so comes before another in a family.
+    /// Returns true if a schedule with these spots comes before one with the other spots in a family.
     pub fn is_before(&self, other: &SpotList) -> bool
         ensures { result ≡ comes_before self.now other.now }
     {
@@ -165,7 +164,7 @@ impl SpotList {
             || (self.len == other.len && is_earlier(self.runs.as_slice(), other.runs.as_slice()))
     }
 
-    /// The spots, one by one.
+    /// Returns the spots, one by one.
     pub fn to_vec(&self, alloc: Global) -> Result<Vec<u64>, AllocError>
         ensures { IfOk result (λ spots. spots.items ≡ self.now) }
     {

@@ -1,4 +1,4 @@
-//! How a state goes on from before an event: with a tick or a loose event put in, or behind the event.
+//! Advances nodes from before an event: a tick or a loose event is inserted, or the event itself runs.
 
 ghost use Rattle.std.specs.Prelude.{◌≡◌, ◌+◌, ◌<◌, ℕ, true, false, [], length, All, IfErr, IfOk, OnOk, Some, slice_get};
 ghost use Rattle.counting.specs.Tallies.{both};
@@ -12,7 +12,8 @@ use posix::Event;
 use schedules::{event_of, spot};
 use std::alloc::AllocError;
 
-/// The beginnings of a node with a tick put in before the event with this place come to a layer, if there may be one.
+/// Adds to a layer the beginnings of a node with a tick inserted before the event with this place, if one more tick is
+/// allowed.
 fn put_tick(
     more: &mut Layer,
     node: &Node,
@@ -40,7 +41,7 @@ fn put_tick(
     more.insert(ticked)
 }
 
-/// The beginnings of a node with one of the loose events that are left put in before the event with this place.
+/// Returns the beginnings of a node with one of the remaining loose events inserted before the event with this place.
 fn with_loose(
     node: &Node,
     place: u64,
@@ -69,8 +70,8 @@ fn with_loose(
     Ok(with)
 }
 
-/// The beginnings of a node with each of the loose events that are left put in before the event with this place come to
-/// a layer.
+/// Adds to a layer the beginnings of a node with each of the remaining loose events inserted before the event with this
+/// place.
 fn put_loose(
     more: &mut Layer,
     node: &Node,
@@ -90,7 +91,8 @@ fn put_loose(
     Ok(())
 }
 
-/// Whether a loose event is left to a node, and the event with this place is the last before which it can be put in.
+/// Returns true if a node has a loose event left, and the event with this place is the last that it can be inserted
+/// before.
 fn is_late(node: &Node, place: u64, search: &Search<'_, '_, '_>) -> bool
     requires { place < search.now.family.now.upto }
     ensures late { result ≡ true → (place + 1 ≡ search.now.family.now.upto) × (0 < length node.now.left.items) }
@@ -99,8 +101,8 @@ fn is_late(node: &Node, place: u64, search: &Search<'_, '_, '_>) -> bool
     place + 1 == search.family.upto && !node.left.is_empty()
 }
 
-/// A node is given the event with this place and comes to a layer, unless a loose event is left and this was the last
-/// event before which one can be put in.
+/// Runs the event with this place from a node, and adds the node to a layer. Drops the node instead if it has a loose
+/// event left and this is the last event that can have insertions.
 fn give_to(
     next: &mut Layer,
     node: Node,
@@ -129,7 +131,7 @@ fn give_to(
     }
 }
 
-/// The beginnings of a node with one more spot before the event with this place come to a layer.
+/// Adds to a layer the beginnings of a node with one more spot before the event with this place.
 fn put_one_more(
     more: &mut Layer,
     node: &Node,
@@ -147,8 +149,8 @@ fn put_one_more(
     put_loose(more, node, place, search, lines)
 }
 
-/// A node goes on from before the event with this place: with one more spot it comes to one layer, and behind the event
-/// to the other.
+/// Advances a node from before the event with this place: adds it to `more` with each additional spot, and to `next`
+/// after the event.
 fn spread(
     more: &mut Layer,
     next: &mut Layer,
@@ -174,7 +176,8 @@ fn spread(
     }
 }
 
-/// Nodes go on from before the event with this place, the last one first, until none is left.
+/// Advances all nodes from before the event with this place, and removes them, the last one first. Fails if a layer has
+/// more states than the search may keep.
 fn spread_all(
     nodes: &mut Vec<Node>,
     more: &mut Layer,
@@ -208,8 +211,8 @@ fn spread_all(
     Ok(())
 }
 
-/// All nodes of a row go on from before the event with this place: with one more spot they come to the next row before the
-/// event, and behind the event to the row that comes back.
+/// Advances all nodes of a row from before the event with this place. Adds them to `more` with each additional spot,
+/// and returns the row after the event.
 pub fn spread_row(
     row: Layer,
     more: &mut Layer,

@@ -1,4 +1,4 @@
--- Lines without a line feed, and what stands for them.
+-- Lines without a line feed, and what replaces them.
 use Rattle.std.proofs.Common.{◌≡◌, ◌≢◌, ℕ, List, [], ◌∷◌, ◌++◌, ◌==◌, Bor, length, not, take, drop, refl, ap, subst, sym, true, ◌∙◌}
 use Rattle.std.specs.Prelude.{All}
 use Rattle.std.proofs.Math.Seq.{take-append_seam, drop-append_seam}
@@ -11,7 +11,7 @@ use Rattle.trace.specs.Lines.{is_one_line}
 use Rattle.naming.specs.Lines.{IsOneLine}
 use Rattle.naming.specs.Sets.{behind_second}
 
--- said of all bytes, and of each
+-- for all bytes, and for each
 pub each_of_one : (line : List ℕ) → is_one_line line ≡ true → IsOneLine line
 each_of_one line one = λ i d within is. false≢true (sym (list_all_at (λ b. not (b == 10)) line i d within (rw is refl)) ∙ one)
 
@@ -19,7 +19,7 @@ each_of_one line one = λ i d within is. false≢true (sym (list_all_at (λ b. n
 pub both_one_line : (xs ys : List ℕ) → IsOneLine xs → IsOneLine ys → IsOneLine (xs ++ ys)
 both_one_line xs ys h k = All-append (λ b. b ≢ 10) xs ys h k
 
--- and a part of one is one
+-- a part of one line is one line
 pub front_one_line : (whole xs ys : List ℕ) → whole ≡ xs ++ ys → IsOneLine whole → IsOneLine xs
 front_one_line whole xs ys e h =
     let same : take (length xs) whole ≡ xs = ap (take (length xs)) e ∙ take-append_seam xs ys in

@@ -1,4 +1,4 @@
--- Texts of which some lines were named.
+-- Texts of which some lines were replaced.
 use Rattle.std.proofs.Common.{◌≡◌, ℕ, Bool, true, false, List, [], ◌∷◌, ◌++◌, ◌==◌, not, ap, refl, sym, ◌∙◌, append_assoc, append-nil}
 use Rattle.std.specs.Prelude.{All, flat_map, ◌||◌}
 use Rattle.std.proofs.lemmas.Bool.{and_parts, or_parts}
@@ -14,7 +14,7 @@ use Rattle.naming.specs.Texts.{AddsLine, IsNamed, IsNamedLine, NamedLine, is_ref
 
 -- ---- one line
 
--- A line was added, and its faults, if any, were reported.
+-- A line and the messages about it were added.
 pub adds_line : (line named text text_then told told_then : List ℕ) → text_then ≡ text ++ named → Grows told told_then → IsOneLine line → IsOneLine named → named ≡ (renamed line).text
     → ((renamed line).is_refused ≡ false → told_then ≡ told) → AddsLine line text text_then told told_then
 adds_line line named text text_then told told_then put (more, grown) given one is quiet =
@@ -80,7 +80,7 @@ pub record HasNamed (text rest named told : List ℕ) : Type 0 where
   pub all : named ++ named_text rest ≡ named_text text
   pub quiet : is_refused text ≡ false → (is_refused rest ≡ false) × (told ≡ [])
 
--- none of them
+-- no lines
 pub has_named_none : (text named told : List ℕ) → named ≡ [] → told ≡ [] → HasNamed text text named told
 has_named_none text named told none quiet =
     record { lines = []; each = All-nil IsNamedLine; text_is = refl; named_is = none; told_is = quiet; all = ap (λ (x : List ℕ). x ++ named_text text) none; quiet = λ fine. (fine, quiet) }
@@ -92,7 +92,7 @@ cut : (front line more : List ℕ) → front ++ (line ++ 10 ∷ more) ≡ (front
 cut front line more =
     sym (append_assoc front (line ++ 10 ∷ []) more ∙ ap (λ (x : List ℕ). front ++ x) (append_assoc line (10 ∷ []) more))
 
--- one more
+-- one more line
 pub has_named_more : (text rest line more named named_then ended told told_then : List ℕ) → HasNamed text rest named told → rest ≡ line ++ 10 ∷ more → is_one_line line ≡ true
     → AddsLine line named named_then told told_then → ended ≡ named_then ++ 10 ∷ [] → HasNamed text more ended told_then
 unfolding named_text is_refused
@@ -117,7 +117,7 @@ has_named_more text rest line more named named_then ended told told_then h e one
           (two.1, faults_are ∙ ap (λ (x : List ℕ). told ++ x) (is_named.quiet two.0) ∙ append-nil told ∙ q.1);
     }
 
--- and the last one
+-- the last line
 pub has_named_all : (text rest named named_then told told_then : List ℕ) → HasNamed text rest named told → is_one_line rest ≡ true → AddsLine rest named named_then told told_then
     → IsNamed text named_then told_then
 unfolding named_text is_refused

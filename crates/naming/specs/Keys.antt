@@ -8,7 +8,7 @@ use Rattle.text.specs.Words.{before_comment, is_separator, words}
 use Rattle.naming.specs.Lines.{Renamed}
 use Rattle.naming.specs.Sets.{behind_second}
 
--- `^?`, and `^@` to `^_`, of the capital letter
+-- the byte of Ctrl and a character, whose letters are capitals: `^?`, and `^@` to `^_`
 abbrev pub byte_with_control : ℕ → Option ℕ
 byte_with_control b = if b == 63 then Some 127 else if nat_le 64 b && nat_le b 95 then Some (b - 64) else None
 
@@ -21,7 +21,7 @@ control _ = None
 unfoldable pub key_named : List ℕ → List ℕ
 key_named word = option_map_or two_digits (control word) word
 
--- The word begins with `^`, but isn't a key.
+-- True if the word begins with `^`, but is not a key.
 unfoldable pub is_no_key : List ℕ → Bool
 is_no_key word = (get_or word 0 0 == 94) && is_none (control word)
 

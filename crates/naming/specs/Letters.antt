@@ -11,23 +11,24 @@ use Rattle.naming.specs.declared.type_line.Letter.TheVariants.{Byte, Digits, End
 
 -- ---- letters
 
--- the byte that a letter after `\` stands for
+-- the byte of an escape of one letter
 abbrev pub unescaped : ℕ → Option ℕ
 unescaped b = if b == 110 then Some 10 else if b == 116 then Some 9 else if b == 114 then Some 13
     else if (b == 92) || (b == 34) then Some b else None
 
--- how much of a letter was read
+-- what was read of a letter so far
 pub data Begun : Type 0 where
   Nothing : Begun
   Backslash : Begun
   Hex : Begun  -- `\x`
   HexDigit : ℕ → Begun
 
--- bytes in hexadecimal, with a blank between two
+-- bytes in hexadecimal and another byte, with a space between two bytes
 abbrev pub with_digits : List ℕ → List ℕ → List ℕ
 with_digits bytes digits = (if length bytes == 0 then bytes else bytes ++ 32 ∷ []) ++ digits
 
--- The bytes of all letters before `"`, after the bytes read so far, and what follows the `"`. `None` if an escape is invalid or the `"` is missing.
+-- The bytes read so far and the bytes of all letters before the closing `"`; and what follows this `"`. `None` if an
+-- escape is unknown or the `"` is missing.
 abbrev pub letters_from : List ℕ → Begun → List ℕ → Option (List ℕ × List ℕ)
 letters_from bytes begun [] = None
 letters_from bytes Nothing (b ∷ bs) = if b == 34 then Some (bytes, bs)
@@ -38,19 +39,19 @@ letters_from bytes Backslash (b ∷ bs) = if b == 120 then letters_from bytes He
 letters_from bytes Hex (b ∷ bs) = if is_ascii_hexdigit b then letters_from bytes (HexDigit b) bs else None
 letters_from bytes (HexDigit high) (b ∷ bs) = if is_ascii_hexdigit b then letters_from (with_digits bytes (high ∷ b ∷ [])) Nothing bs else None
 
--- the same if this letter is first
+-- the result of `letters_from` if this letter comes first
 abbrev pub letters_behind : List ℕ → Letter → Option (List ℕ × List ℕ)
 letters_behind bytes (Byte byte rest) = letters_from (with_digits bytes (two_digits byte)) Nothing rest.now
 letters_behind bytes (Digits digits rest) = letters_from (with_digits bytes digits) Nothing rest.now
 letters_behind bytes (End rest) = Some (bytes, rest.now)
 
--- what follows it is less than the text
+-- What follows a letter is shorter than the text.
 abbrev pub IsShorter : List ℕ → Letter → Type 0
 IsShorter text (Byte byte rest) = length rest.now < length text
 IsShorter text (Digits digits rest) = length rest.now < length text
 IsShorter text (End rest) = length rest.now < length text
 
--- no line feed is in it, or follows it
+-- No line feed follows a letter, or is one of its two digits.
 abbrev pub IsOneLineLetter : Letter → Type 0
 IsOneLineLetter (Byte byte rest) = IsOneLine rest.now
 IsOneLineLetter (Digits digits rest) = IsOneLine digits × IsOneLine rest.now
@@ -58,21 +59,22 @@ IsOneLineLetter (End rest) = IsOneLine rest.now
 
 -- ---- the line
 
--- A text has a byte, and `#`, a separator or nothing follows its `"`.
+-- True if a text has at least one byte, and nothing, `#` or a separator follows its closing `"`.
 abbrev pub is_whole : List ℕ → List ℕ → Bool
 is_whole bytes [] = not (length bytes == 0)
 is_whole bytes (b ∷ bs) = not (length bytes == 0) && ((b == 35) || is_separator b)
 
--- a line of at most 200 bytes
+-- the line, if it has at most 200 bytes
 abbrev pub if_short : List ℕ → Option (List ℕ)
 if_short line = if nat_le (length line) 200 then Some line else None
 
--- the line `key`, from the part before the word `type`, the part between that word and the text, and what follows the first `"`
+-- the line `key`, made of the part before the word `type`, the part between that word and the opening `"` of the text,
+-- and what follows this `"`
 abbrev pub typed_from : List ℕ → List ℕ → List ℕ → Option (List ℕ)
 typed_from indent console text = option_and_then (λ ended. if is_whole ended.0 ended.1 then if_short (indent ++ (codes "key" ++ (console ++ (ended.0 ++ ended.1)))) else None)
     (letters_from [] Nothing text)
 
--- the same for a line whose console has neither `"` nor `#`, and whose text begins with `"`
+-- the line `key` for a line `type` whose console has neither `"` nor `#`, and whose text begins with `"`
 abbrev pub typed : List ℕ → Option (List ℕ)
 typed line =
     let behind_type = behind_word line in

@@ -1,4 +1,4 @@
--- What becomes of a line.
+-- The sorts of lines, and the lines that replace them.
 use Rattle.std.specs.Prelude.{◌≡◌, ◌≢◌, ℕ, ◌==◌, ◌||◌, not, Bool, true, false, List, All, Option, None, Some, codes, length, if◌then◌else◌}
 use Rattle.std.specs.Char.{is_ascii_uppercase}
 use Rattle.std.specs.List.{list_any}
@@ -10,11 +10,11 @@ use Rattle.naming.specs.declared.line.Outcome.TheVariants.{Same, Named, Refused}
 use Rattle.naming.specs.declared.line.Sort.{Sort}
 use Rattle.naming.specs.declared.line.Sort.TheVariants.{Set, Key, Typed, Other}
 
--- no line feed is in it
+-- a line without a line feed
 abbrev pub IsOneLine : List ℕ → Type 0
 IsOneLine line = All (λ b. b ≢ 10) line
 
--- ---- what a line is for
+-- ---- sorts of lines
 
 abbrev pub sort_named : List ℕ → Sort
 sort_named word = if bytes_eq word (codes "set") then Set
@@ -22,21 +22,21 @@ sort_named word = if bytes_eq word (codes "set") then Set
     else if bytes_eq word (codes "type") then Typed
     else Other
 
--- A word alone, without a separator behind it, is for nothing.
+-- A line has no names if nothing follows its first word.
 abbrev pub sort_of : List ℕ → Sort
 sort_of line = if length (behind_word line) == 0 then Other else sort_named (first_word line)
 
--- A to Z, `{`, `^` and `"`
+-- the bytes with which names, sets, keys and texts begin: A to Z, `{`, `^` and `"`
 abbrev pub begins_name : ℕ → Bool
 begins_name b = is_ascii_uppercase b || b == 123 || b == 94 || b == 34
 
--- no byte before its comment can begin a name, a set, a key or a text
+-- True if no name, set, key or text can begin before the comment of a line.
 abbrev pub is_plain : List ℕ → Bool
 is_plain line = not (list_any begins_name (before_comment line))
 
 -- ---- the line that replaces a line
 
--- the line that replaces a line, and whether something in the old line is rejected
+-- the line that replaces a line, and whether something in the replaced line is rejected
 pub record Renamed : Type 0 where
   pub text : List ℕ
   pub is_refused : Bool
@@ -57,7 +57,7 @@ said line Same = kept line
 said line (Named text) = record { text = text.items; is_refused = false }
 said line Refused = refused line
 
--- Only a rejected line may add to the faults that were reported before.
+-- Only a rejected line may add messages.
 abbrev pub IsTold : Outcome → List ℕ → List ℕ → Type 0
 IsTold Same old new = new ≡ old
 IsTold (Named text) old new = new ≡ old

@@ -1,4 +1,4 @@
--- What names stand for: one name, or several that are joined.
+-- The numbers of names: of one name, or of several that are combined.
 use Rattle.std.specs.Prelude.{ℕ, ℤ, pos, ◌==◌, ◌||◌, Bool, true, false, List, [], ◌∷◌, ◌++◌, Option, None, Some, bit_or, codes, drop, take, length, option_map, if◌then◌else◌}
 use Rattle.std.specs.Int.{cast_signed, cast_unsigned, int_wrapping_sub, w64}
 use Rattle.std.specs.Option.{option_and_then, option_map_or, option_or}
@@ -21,7 +21,7 @@ use Rattle.naming.specs.declared.number.Sum.{Sum}
 unfoldable pub realtime : List ℕ → Option ℤ
 realtime name = if bytes_eq (take 3 name) (codes "SIG") then wording.realtime (drop 3 name) else None
 
--- The name of an error stands for its negative number.
+-- The number of an error is negative, because it is the result of a call that fails.
 abbrev pub signed : Kind → ℤ → ℤ
 signed Errno number = int_wrapping_sub w64 (pos 0) number
 signed Signal number = number
@@ -31,13 +31,13 @@ signed Handler number = number
 signed Flag number = number
 signed How number = number
 
--- the kind and the number of a name, which is in the table or is a real-time signal
+-- the kind and the number of a name in the table, or of a real-time signal
 unfoldable pub meaning_of : List ℕ → Option Meaning
 meaning_of name = option_or (option_map (λ m. record { kind = m.0; number = signed m.0 m.1 }) (named_as name)) (option_map (λ n. record { kind = Signal; number = n }) (realtime name))
 
 -- ---- several names
 
--- Only signals, wait options and flags can be joined: signals become a set, the others bits.
+-- Only signals, wait options and flags can be combined: signals as a set, options and flags by bitwise OR.
 abbrev pub can_join : Kind → Bool
 can_join Signal = true
 can_join Errno = false
@@ -82,7 +82,7 @@ abbrev pub fits : Form → Kind → Bool
 fits Joined kind = true
 fits Set kind = is_same kind Signal
 
--- Only in braces may a name be missing between two dividers.
+-- Only in braces may a name be empty.
 abbrev pub add_nothing : Form → Sum → Option Sum
 add_nothing Joined sum = None
 add_nothing Set sum = Some sum
@@ -95,7 +95,7 @@ abbrev pub add_names : Form → Sum → List (List ℕ) → Option Sum
 add_names form sum [] = Some sum
 add_names form sum (name ∷ more) = option_and_then (λ s. add_names form s more) (add_name form sum name)
 
--- `|` divides names. In braces, a separator divides names, too.
+-- A `|` separates names. In braces, a separator of words does so, too.
 abbrev pub divides : Form → ℕ → Bool
 divides Joined b = b == 124
 divides Set b = (b == 124) || is_separator b
@@ -111,7 +111,7 @@ names_in form text = names_from form [] text
 abbrev pub nothing : Sum
 nothing = record { first = None; is_one = false; bits = 0 }
 
--- One name outside braces stands for its number. Other names stand for their bits.
+-- A single name outside braces has its own number. Otherwise, the number is the bits of all names.
 abbrev pub number_by : Form → Option Meaning → Sum → Option ℤ
 number_by form None sum = Some (cast_signed w64 sum.bits)
 number_by Joined (Some first) sum = if sum.is_one then Some first.number else if can_join first.kind then Some (cast_signed w64 sum.bits) else None
@@ -120,6 +120,6 @@ number_by Set (Some first) sum = if can_join first.kind then Some (cast_signed w
 abbrev pub sum_number : Form → Sum → Option ℤ
 sum_number form sum = number_by form sum.first sum
 
--- the number that names stand for; `None` if a name is rejected
+-- the number of names; `None` if a name is rejected
 unfoldable pub number_of : Form → List ℕ → Option ℤ
 number_of form text = option_and_then (λ sum. sum_number form sum) (add_names form nothing (names_in form text))

@@ -29,7 +29,7 @@ abbrev pub trimmed : List ℕ → List ℕ
 trimmed [] = []
 trimmed (b ∷ bs) = and_trimmed b (trimmed bs)
 
--- the text with one more byte, and without blanks around a `|`
+-- the text and one more byte, without blanks around a `|`
 abbrev pub with_byte : List ℕ → ℕ → List ℕ
 with_byte text b = if b == 124 then trimmed text ++ b ∷ []
     else if is_blank b && (get_or text (length text - 1) 0 == 124) then text
@@ -46,7 +46,7 @@ without_blanks text = with_bytes [] text
 abbrev pub is_in_names : ℕ → Bool
 is_in_names b = is_ascii_uppercase b || is_ascii_digit b || ((b == 95) || (b == 124) || (b == 43))
 
--- A separator or nothing follows names.
+-- True if nothing, or a separator of words, follows the names.
 abbrev pub is_ended : List ℕ → Bool
 is_ended [] = true
 is_ended (b ∷ bs) = is_separator b

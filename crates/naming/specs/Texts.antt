@@ -1,4 +1,4 @@
--- What becomes of a text.
+-- The text that replaces a text.
 use Rattle.std.specs.Prelude.{◌≡◌, ℕ, ◌==◌, ◌||◌, Bool, false, List, [], ◌∷◌, ◌++◌, All, flat_map, if◌then◌else◌}
 use Rattle.naming.specs.Keys.{keys_named}
 use Rattle.naming.specs.Letters.{type_named}
@@ -47,29 +47,30 @@ is_refused text = refused_from [] text
 
 -- ---- the lines of a text
 
--- a line, the line that replaces it, and the faults that are reported for it
+-- a line, the line that replaces it, and the messages about it
 pub record NamedLine : Type 0 where
   pub line : List ℕ
   pub named : List ℕ
   pub told : List ℕ
 
--- One line replaces one line. If nothing in it is rejected, no fault is reported.
+-- One line replaces one line. If nothing in it is rejected, there are no messages.
 pub record IsNamedLine (l : NamedLine) : Type 0 where
   pub given : IsOneLine l.line
   pub one_line : IsOneLine l.named
   pub is : l.named ≡ (renamed l.line).text
   pub quiet : (renamed l.line).is_refused ≡ false → l.told ≡ []
 
--- A line stands for a line, and what was told of that is told.
+-- A line replaces a line, and the messages about it were added.
 abbrev pub StandsFor : List ℕ → List ℕ → List ℕ → List ℕ → Type 0
 StandsFor line named told told_then =
     (more : List ℕ) × (told_then ≡ told ++ more) × IsNamedLine (record { line = line; named = named; told = more })
 
--- A line was added that stands for a line.
+-- The line that replaces a line, and the messages about it, were added.
 abbrev pub AddsLine : List ℕ → List ℕ → List ℕ → List ℕ → List ℕ → Type 0
 AddsLine line text text_then told told_then = (named : List ℕ) × (text_then ≡ text ++ named) × StandsFor line named told told_then
 
--- The named text, by its lines: a line feed ends each but the last. If nothing is rejected, no fault is reported.
+-- The text that replaces a text, by its lines: a line feed ends each but the last. If nothing is rejected, there are no
+-- messages.
 pub record IsNamed (text named told : List ℕ) : Type 0 where
   pub is : named ≡ named_text text
   pub quiet : is_refused text ≡ false → told ≡ []

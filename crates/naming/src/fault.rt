@@ -1,44 +1,44 @@
-//! What is wrong with a name.
+//! Errors in names, keys and texts, and their messages.
 
 ghost use Rattle.wording.specs.Proses.{Grows};
 
 use wording::{Prose, meant};
 
-/// What is wrong with a name, a key or a text.
+/// An error in a name, a key or a typed text.
 #[derive(Clone, Copy)]
 pub enum Fault<'a> {
-    /// A name is missing beside `|`.
+    /// A name is missing before or after a `|`.
     Missing,
-    /// No number has this name.
+    /// This name is unknown.
     Unknown(&'a [u8]),
-    /// A name goes on with bytes that no name has.
+    /// Bytes that cannot be part of names follow these names directly.
     NoName(&'a [u8], &'a [u8]),
-    /// A set has a name of another kind.
+    /// This name in a set is not the name of a signal.
     NoSignal(&'a [u8]),
-    /// Names of two kinds are joined.
+    /// Names of different kinds are combined: the first name, and the first name of another kind.
     TwoKinds(&'a [u8], &'a [u8]),
-    /// A name is joined with others, and is of a kind of which one alone is given.
+    /// Several names of a kind that cannot be combined; this is the first name.
     Alone(&'a [u8]),
-    /// A set doesn't end.
+    /// The `}` of a set is missing.
     OpenSet,
-    /// No key has this name.
+    /// This word begins with `^`, but is not a key.
     NoKey(&'a [u8]),
-    /// A line `type` has another form.
+    /// A line `type` lacks its console or its quoted text.
     NoText,
-    /// A text doesn't end.
+    /// The closing `"` of a text is missing.
     OpenText,
-    /// No byte is written so behind `\`.
+    /// This letter after a `\` forms no escape; empty at the end of the line.
     NoEscape(&'a [u8]),
     /// A text is empty.
     EmptyText,
-    /// A text goes on behind its end.
+    /// A byte other than a separator or `#` follows the closing `"` of a text.
     GluedText,
-    /// The bytes of a text make the line too long.
+    /// The line would be longer than 200 bytes with the bytes of its text.
     LongText,
 }
 
 impl Fault<'_> {
-    /// Adds a line with it, for a line of a text.
+    /// Adds a line with the message, and with the number of the faulty line.
     pub fn tell(self, line: u64, told: &mut Prose)
         ensures { Grows told.old.text told.new.text }
     {
@@ -48,46 +48,50 @@ impl Fault<'_> {
         told.push_str("\n");
     }
 
-    /// Adds its words.
+    /// Adds the message.
     fn say(self, told: &mut Prose)
         ensures { Grows told.old.text told.new.text }
     {
         match self {
-            Fault::Missing => told.push_str("a name is missing beside `|`"),
+            Fault::Missing => told.push_str("expected a name on each side of |"),
             Fault::Unknown(name) => {
-                told.push_word("no name is ", name);
+                told.push_word("unknown name ", name);
                 let near = meant(told.alloc(), name);
                 told.push_meant(near);
             }
             Fault::NoName(name, more) => {
-                told.push_word("no name is ", name);
+                told.push_word("unknown name ", name);
                 told.push_bytes(more);
             }
-            Fault::NoSignal(name) => told.push_around("", name, NO_SIGNAL),
+            Fault::NoSignal(name) => told.push_around("expected a signal, found ", name, NO_SIGNAL),
             Fault::TwoKinds(first, name) => {
-                told.push_around("", first, " and ");
-                told.push_around("", name, " are of two kinds");
+                told.push_around("cannot combine ", first, " and ");
+                told.push_around("", name, "; they are different kinds of constants");
             }
-            Fault::Alone(name) => told.push_around("", name, ALONE),
-            Fault::OpenSet => told.push_str("a set that begins with { ends with }"),
-            Fault::NoKey(key) => told.push_around("no key is ", key, KEYS),
-            Fault::NoText => told.push_str("a line is written: type 1 \"fg\\n\""),
-            Fault::OpenText => told.push_str("a text ends with \""),
-            Fault::NoEscape(letter) => told.push_around("no letter is \\", letter, ESCAPES),
-            Fault::EmptyText => told.push_str("a text has at least one letter"),
-            Fault::GluedText => told.push_str("a text ends with \" and a blank"),
+            Fault::Alone(name) => told.push_around("cannot combine ", name, ALONE),
+            Fault::OpenSet => told.push_str("expected } at the end of the set"),
+            Fault::NoKey(key) => told.push_around("unknown key ", key, KEYS),
+            Fault::NoText => told.push_str(
+                "expected a console and a quoted text: type 1 \"fg\\n\"",
+            ),
+            Fault::OpenText => told.push_str("expected \" at the end of the text"),
+            Fault::NoEscape(letter) => told.push_around("unknown escape \\", letter, ESCAPES),
+            Fault::EmptyText => told.push_str("expected at least one character in the text"),
+            Fault::GluedText => told.push_str(
+                "expected a space after the closing \"; inside a text, write \\\"",
+            ),
             Fault::LongText => told.push_str(LONG_TEXT),
         }
     }
 }
 
-const NO_SIGNAL: &str = " is no signal; a set has signals alone";
+const NO_SIGNAL: &str = "; a set contains only signals";
 
-const ALONE: &str = " is joined with another name; only signals, options and flags are";
+const ALONE: &str = "; only signals, options and flags can be combined";
 
-const KEYS: &str = "; ^A to ^Z are, ^@ ^[ ^\\ ^] ^^ ^_ and ^?";
+const KEYS: &str = "; expected ^A to ^Z, ^@ ^[ ^\\ ^] ^^ ^_ or ^?";
 
-const ESCAPES: &str = "; \\n \\t \\r \\\\ \\\" and \\x1B are";
+const ESCAPES: &str = "; expected \\n \\t \\r \\\\ \\\" or a byte such as \\x1B";
 
 const LONG_TEXT: &str =
-    "this text makes a line of more than 200 bytes, three for each letter; divide it";
+    "text too long: each character takes 3 of the 200 bytes of a line; use several lines";

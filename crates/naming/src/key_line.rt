@@ -13,7 +13,7 @@ use std::alloc::{AllocError, Global};
 use text::{next_word, split_comment};
 use wording::Prose;
 
-/// The byte of a key that is pressed with Ctrl, as `^C`.
+/// Returns the byte of a key pressed with Ctrl, such as `^C`; `None` if the word is no such key.
 fn control(key: &[u8]) -> Option<u8>
     ensures { result ≡ control_of key.now }
 {
@@ -27,7 +27,7 @@ fn control(key: &[u8]) -> Option<u8>
     }
 }
 
-/// A digit to base 16.
+/// Returns the hexadecimal digit of a number below 16.
 fn digit(number: u8) -> u8
     requires { number < 16 }
     ensures { result ≡ digit_glyph true number }
@@ -39,7 +39,7 @@ fn digit(number: u8) -> u8
     }
 }
 
-/// Adds a byte as a word of two digits.
+/// Adds a byte as two hexadecimal digits.
 pub fn push_byte(text: &mut Vec<u8>, byte: u8) -> Result<(), AllocError>
     ensures { OnOk result (text.new.items ≡ text.old.items ++ two_digits byte) }
 {
@@ -48,7 +48,7 @@ pub fn push_byte(text: &mut Vec<u8>, byte: u8) -> Result<(), AllocError>
     Ok(())
 }
 
-/// Adds a word, or its byte if the word is a key. Reports a word that begins with `^` but isn't a key.
+/// Adds a word, or its byte if the word is a key. Reports a word that begins with `^` but is not a key.
 #[tactic(auto, unfolding(crate::specs::Keys::is_no_key, crate::specs::Keys::key_named))]
 fn push_word(
     text: &mut Vec<u8>,
@@ -72,7 +72,8 @@ fn push_word(
     }
 }
 
-/// A line `key`, the `number`-th of its text, with the bytes of its keys. A key that is none stays, and is told.
+/// Returns what replaces a line `key`, the `number`-th of its text: the line with a byte in place of each key. A word
+/// that begins with `^` but is not a key stays, and is reported.
 pub fn key_line(
     alloc: Global,
     number: u64,

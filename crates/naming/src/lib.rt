@@ -1,4 +1,4 @@
-//! Texts with names in place of numbers: a world or a list of events with numbers for the names.
+//! Names in the texts of worlds and events, and the numbers that replace them.
 //!
 //! `name_text` returns the `named_text`: each name is replaced by its number, each key by its byte, each typed text by
 //! its bytes (`Names`, `Sets`, `Keys`, `Letters`); a rejected name or key stays. Nothing is reported if nothing is

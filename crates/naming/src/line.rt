@@ -1,4 +1,4 @@
-//! What a line is for.
+//! The sorts of lines, and the lines that replace them.
 
 ghost use Rattle.std.specs.Prelude.{◌≡◌, All, IfOk, flat_map};
 ghost use Rattle.std.specs.List.{list_any};
@@ -9,7 +9,7 @@ ghost use Rattle.naming.specs.Sets.{behind_second as behind_second_word};
 use std::alloc::{AllocError, Global};
 use text::{next_word, split_comment};
 
-/// What a line is for: its first word tells.
+/// The sort of a line, by its first word.
 #[derive(Clone, Copy)]
 pub enum Sort {
     Set,
@@ -31,7 +31,7 @@ pub enum Outcome {
 }
 
 impl Outcome {
-    /// Returns the line that replaces a line: the line itself, unless there is another.
+    /// Returns the line that replaces a line: the line itself, unless this is `Named`.
     pub fn text<'t>(&'t self, line: &'t [u8]) -> &'t [u8]
         ensures { result.now ≡ (said line.entry.now self.entry.now).text }
     {
@@ -42,7 +42,7 @@ impl Outcome {
     }
 }
 
-/// What a line is for. A word alone, without a blank behind it, is for nothing.
+/// Returns the sort of a line: `Other` if nothing follows its first word, because then it has no names.
 pub fn sort_of(line: &[u8]) -> Sort
     ensures { result ≡ sort_of_line line.now }
 {
@@ -52,7 +52,7 @@ pub fn sort_of(line: &[u8]) -> Sort
     }
 }
 
-/// What a first word says that a line is for.
+/// Returns the sort of a line with this first word.
 fn sort_named(word: &[u8]) -> Sort
     ensures { result ≡ sort_named_of word.now }
 {
@@ -64,21 +64,21 @@ fn sort_named(word: &[u8]) -> Sort
     }
 }
 
-/// Whether a byte can begin a name, a set, a key or a text.
+/// Returns true if a name, a set, a key or a text can begin with this byte.
 fn begins_name(byte: u8) -> bool
     ensures { result ≡ begins_name_of byte }
 {
     byte.is_ascii_uppercase() || matches!(byte, b'{' | b'^' | b'"')
 }
 
-/// Whether one of the bytes can begin a name, a set, a key or a text.
+/// Returns true if a name, a set, a key or a text can begin with one of the bytes.
 fn has_beginning(code: &[u8]) -> bool
     ensures { result ≡ list_any begins_name_of code.now }
 {
     code.iter().any(|b| begins_name(*b))
 }
 
-/// Whether a line has no byte before its comment that can begin a name, a set, a key or a text.
+/// Returns true if no name, set, key or text can begin before the comment of a line.
 pub fn is_plain(line: &[u8]) -> bool
     ensures { result ≡ is_plain_of line.now }
 {
@@ -103,7 +103,7 @@ fn behind_first(line: &[u8]) -> &[u8]
     }
 }
 
-/// Texts, one behind the other.
+/// Concatenates texts.
 pub fn joined(alloc: Global, texts: &[&[u8]]) -> Result<Vec<u8>, AllocError>
     ensures items { IfOk result (λ v. v.items ≡ flat_map (λ t. t.now) texts.now) }
     ensures one_line { All (λ t. IsOneLine t.now) texts.now → IfOk result (λ v. IsOneLine v.items) }

@@ -1,4 +1,4 @@
-//! What names stand for.
+//! The numbers of names.
 
 ghost use Rattle.std.specs.Prelude.{◌≡◌, ◌<◌, ◌≤◌, ◌∷◌, [], IfSome, MatchOption, MatchResult, None, OnErr, OnOk, Some, false, length, option_map, true};
 ghost use Rattle.std.specs.List.{position_or_len};
@@ -9,7 +9,7 @@ use posix::SigSet;
 use text::is_separator;
 use wording::{Kind, named, realtime as realtime_from, signal_in};
 
-/// How names stand together.
+/// The form in which names are written.
 #[derive(Clone, Copy, PartialEq, Eq)]
 pub enum Form {
     /// One name, or several with `|` between them.
@@ -19,7 +19,7 @@ pub enum Form {
 }
 
 impl Form {
-    /// Returns true if a byte divides names.
+    /// Returns true if a byte separates names in this form.
     fn divides(self, byte: u8) -> bool
         ensures { result ≡ divides_names self byte }
     {
@@ -38,7 +38,7 @@ fn realtime(name: &[u8]) -> Option<i64>
     realtime_from(name.strip_prefix(b"SIG")?)
 }
 
-/// What a name stands for.
+/// The kind and the number of a name.
 #[derive(Clone, Copy)]
 pub struct Meaning {
     kind: Kind,
@@ -60,7 +60,8 @@ impl Meaning {
     }
 }
 
-/// Returns what a name stands for: for an error, the negative number, because a call that fails returns that number.
+/// Returns the kind and the number of a name. For an error, the number is negative, because it is the result of a call
+/// that fails.
 #[tactic(auto, unfolding(crate::specs::Names::meaning_of))]
 fn known_as(word: &[u8]) -> Option<Meaning>
     ensures { result ≡ meaning_of word.now }
@@ -73,14 +74,14 @@ fn known_as(word: &[u8]) -> Option<Meaning>
     Some(Meaning { kind, number })
 }
 
-/// Returns true if numbers of a kind can be joined.
+/// Returns true if several names of this kind can be combined.
 fn can_join(kind: Kind) -> bool
     ensures { result ≡ can_be_joined kind }
 {
     matches!(kind, Kind::Signal | Kind::WaitOption | Kind::Flag)
 }
 
-/// What some names of one kind come to.
+/// The first of the names read so far, which are all of one kind, and the bits of all.
 #[derive(Clone, Copy)]
 struct Sum {
     first: Option<Meaning>,
@@ -89,14 +90,14 @@ struct Sum {
 }
 
 impl Sum {
-    /// No name.
+    /// No names.
     const NONE: Sum = Sum {
         first: None,
         is_one: false,
         bits: 0,
     };
 
-    /// Adds a name and returns true, unless the names before it are of another kind.
+    /// Adds a name and returns true. Returns false if the names before it are of another kind.
     fn add(&mut self, known: Meaning) -> bool
         ensures added { result ≡ true → add self.old known ≡ Some self.new }
         ensures refused { result ≡ false → add self.old known ≡ None }
@@ -117,7 +118,8 @@ impl Sum {
         true
     }
 
-    /// Returns the number that the names stand for; `None` if names of their kind can't be joined.
+    /// Returns the number of the names. A single name outside braces has its own number. Otherwise, the number is the
+    /// bits of all names. `None` if there are several, and names of their kind cannot be combined.
     fn number(&self, form: Form) -> Option<i64>
         ensures { result ≡ sum_number form self.now }
     {
@@ -129,7 +131,7 @@ impl Sum {
     }
 }
 
-/// Adds a name. In braces a name may be missing. `first` is the first of all names, and is reported if kinds differ.
+/// Adds a name, which may be empty in braces. `first` is the first of all names: the error `TwoKinds` contains it.
 fn add_name<'a>(sum: &mut Sum, form: Form, first: &'a [u8], name: &'a [u8]) -> Result<(), Fault<'a>>
     ensures ok { OnOk result (added form sum.old name.now ≡ Some sum.new) }
     ensures err { OnErr result (added form sum.old name.now ≡ None) }
@@ -153,7 +155,7 @@ fn add_name<'a>(sum: &mut Sum, form: Form, first: &'a [u8], name: &'a [u8]) -> R
     }
 }
 
-/// Returns the length of the first name, which ends at a divider or at the end.
+/// Returns the length of the first name, which ends at a separator of names or at the end.
 fn name_len(form: Form, names: &[u8]) -> usize
     ensures len { result ≡ position_or_len (divides_names form) names.now }
     ensures within { result ≤ length names.now }
@@ -164,7 +166,7 @@ fn name_len(form: Form, names: &[u8]) -> usize
         .unwrap_or(names.len())
 }
 
-/// The first of some names, and those behind it, if there are more.
+/// Returns the first name, and the names after it, if a separator of names follows it.
 fn first_name(form: Form, names: &[u8]) -> (&[u8], Option<&[u8]>)
     ensures names { MatchOption result.1 (names_in form names.now ≡ result.0.now ∷ []) (λ more. names_in form names.now ≡ result.0.now ∷ names_in form more.now) }
     ensures shorter { IfSome result.1 (λ more. length more.now < length names.now) }
@@ -176,7 +178,8 @@ fn first_name(form: Form, names: &[u8]) -> (&[u8], Option<&[u8]>)
     }
 }
 
-/// The number that names stand for: one alone, a set of signals, or options or flags that are joined.
+/// Returns the number of one name, of a set of signals, or of combined options or flags. Fails if a name is missing or
+/// unknown, is not a signal in braces, or cannot be combined with the others.
 #[tactic(auto, unfolding(crate::specs::Names::number_of))]
 pub fn number_of<'a>(form: Form, names: &'a [u8]) -> Result<i64, Fault<'a>>
     ensures { MatchResult result (λ number. number_meant form names.entry.now ≡ Some number) (λ fault. number_meant form names.entry.now ≡ None) }

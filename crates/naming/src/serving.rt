@@ -1,4 +1,4 @@
-//! What the program does: a text with numbers for its names, and the statuses.
+//! The command `names`: prints a text with numbers in place of its names.
 
 ghost use Rattle.std.specs.Prelude.{◌≡◌, ◌≤◌, map};
 ghost use Rattle.naming.specs.Serving.{Ends, EndsText, Means, answer_of, text_in_words};
@@ -8,7 +8,7 @@ use inputs::{FileFailure, ReadFiles, named_file};
 use std::alloc::Global;
 use trace::{Sink, put_all};
 
-/// Puts a text with numbers for its names. What is wrong with names.
+/// Writes a text with numbers in place of its names. Returns the messages about rejected names.
 fn serve_text<'a, O: Sink>(
     alloc: Global,
     text: &[u8],
@@ -21,7 +21,8 @@ fn serve_text<'a, O: Sink>(
     Ok(told)
 }
 
-/// Does what the words ask for. What is wrong with names.
+/// Writes the text of the file that the arguments name, with numbers in place of its names. Returns the messages about
+/// rejected names.
 fn serve_words<'a, F: ReadFiles, O: Sink>(
     alloc: Global,
     words: &'a [&'a str],
@@ -35,7 +36,7 @@ fn serve_words<'a, F: ReadFiles, O: Sink>(
     serve_text(alloc, text.as_slice(), out)
 }
 
-/// The status of the program. What is wrong with names is told, and so is a failure.
+/// Returns the exit status. Writes the messages about rejected names, or about the failure.
 fn ended<E: Sink>(done: Result<Vec<u8>, FileFailure<'_>>, err: &mut E) -> u8
     ensures status { result ≡ answer_of done.entry }
     ensures silent { result ≡ 0 → err.new ≡ err.old }
@@ -52,9 +53,11 @@ fn ended<E: Sink>(done: Result<Vec<u8>, FileFailure<'_>>, err: &mut E) -> u8
     }
 }
 
-/// Prints a text with numbers for its names, which the words of the command line name, without the program's name, and
-/// gives the status of the program: 0, or 1 where a name is refused, whose line stays as it is, 2 for other words, and 3
-/// for a device or memory. What is wrong with names goes to `err` behind the text. A failing `err` changes no status.
+/// Prints the text of the file that the arguments after `names` name, with numbers in place of its names. A rejected
+/// name, key or text stays as it is. The messages about rejected names go to `err`, after the text.
+///
+/// Returns the exit status: 0 on success, 1 if a name is rejected, 2 for a usage error, 3 if the file cannot be read,
+/// the text cannot be written, or there is no memory. A failing `err` changes no status.
 pub fn serve<'a, F: ReadFiles, O: Sink, E: Sink>(
     alloc: Global,
     words: &'a [&'a str],

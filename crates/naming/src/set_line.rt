@@ -42,7 +42,7 @@ fn ends_joined(text: &[u8]) -> bool
     }
 }
 
-/// Takes the blanks at the end away.
+/// Removes the blanks at the end.
 fn trim_blanks(text: &mut Vec<u8>)
     ensures items { text.new.items ≡ trimmed text.old.items }
     ensures one_line { IsOneLine text.old.items → IsOneLine text.new.items }
@@ -52,7 +52,7 @@ fn trim_blanks(text: &mut Vec<u8>)
     }
 }
 
-/// Adds a byte, unless it is a blank behind a `|`; a `|` takes the blanks before it away.
+/// Adds a byte, unless it is a blank after a `|`. A `|` first removes the blanks before it.
 fn push_joined(text: &mut Vec<u8>, byte: u8) -> Result<(), AllocError>
     ensures items { OnOk result (text.new.items ≡ with_byte text.old.items byte) }
     ensures one_line { IsOneLine text.old.items → byte ≢ 10 → OnOk result (IsOneLine text.new.items) }
@@ -66,7 +66,7 @@ fn push_joined(text: &mut Vec<u8>, byte: u8) -> Result<(), AllocError>
     Ok(())
 }
 
-/// A text without the blanks beside each `|`.
+/// Returns a text without the blanks around each `|`.
 fn without_blanks(alloc: Global, text: &[u8]) -> Result<Vec<u8>, AllocError>
     ensures items { IfOk result (λ v. v.items ≡ closed_up text.now) }
     ensures one_line { IsOneLine text.now → IfOk result (λ v. IsOneLine v.items) }
@@ -78,14 +78,14 @@ fn without_blanks(alloc: Global, text: &[u8]) -> Result<Vec<u8>, AllocError>
     Ok(all)
 }
 
-/// Whether a byte may stand in names that are joined.
+/// Returns true if a byte can be part of names outside braces.
 fn is_in_names(byte: u8) -> bool
     ensures { result ≡ is_in_names_of byte }
 {
     byte.is_ascii_uppercase() || byte.is_ascii_digit() || matches!(byte, b'_' | b'|' | b'+')
 }
 
-/// Returns how many bytes at the front of a text can be in names.
+/// Returns how many bytes at the start of a text can be part of names outside braces.
 fn names_len(text: &[u8]) -> usize
     ensures len { result ≡ position_or_len (λ b. not (is_in_names_of b)) text.now }
     ensures within { result ≤ length text.now }
@@ -103,7 +103,7 @@ fn end_of_set(text: &[u8]) -> Option<usize>
     text.iter().position(|b| *b == b'}')
 }
 
-/// Returns true if a separator or nothing follows names.
+/// Returns true if nothing, or a separator of words, follows the names.
 fn is_ended(behind: &[u8]) -> bool
     ensures { result ≡ are_ended behind.now }
 {
@@ -113,7 +113,7 @@ fn is_ended(behind: &[u8]) -> bool
     }
 }
 
-/// Returns the number that names stand for, if a separator or nothing follows them.
+/// Returns the number of the names. Fails if a name is rejected, or if another byte than a separator follows the names.
 fn number_before<'a>(form: Form, names: &'a [u8], behind: &'a [u8]) -> Result<i64, Fault<'a>>
     ensures { MatchResult result (λ number. number_of_names form names.entry.now behind.entry.now ≡ Some number) (λ fault. number_of_names form names.entry.now behind.entry.now ≡ None) }
 {
@@ -137,7 +137,7 @@ fn inside(names: &[u8]) -> &[u8]
     }
 }
 
-/// A place in a line: what stands before the names, and the comment.
+/// The parts of a line that stay: the part before the names, and the comment.
 #[derive(Clone, Copy)]
 struct Around<'a> {
     before: &'a [u8],
@@ -145,7 +145,7 @@ struct Around<'a> {
 }
 
 impl Around<'_> {
-    /// The line with a number in place of the names.
+    /// Returns the line with a number in place of the names, before the part between the names and the comment.
     fn with_number(self, alloc: Global, number: i64, behind: &[u8]) -> Result<Vec<u8>, AllocError>
         ensures items { IfOk result (λ v. v.items ≡ self.entry.before.now ++ (signed_decimal number ++ (behind.now ++ self.entry.comment.now))) }
         ensures one_line { IsOneLine self.entry.before.now → IsOneLine self.entry.comment.now → IsOneLine behind.now → IfOk result (λ v. IsOneLine v.items) }

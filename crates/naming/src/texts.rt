@@ -1,4 +1,4 @@
-//! A text with numbers for its names.
+//! Texts with numbers in place of their names.
 
 ghost use Rattle.std.specs.Prelude.{◌≡◌, ℕ, List, IfOk, OnOk, false};
 ghost use Rattle.naming.specs.Lines.{IsOneLine, IsOneLineOutcome, IsTold, said};
@@ -14,11 +14,11 @@ use std::alloc::{AllocError, Global};
 use trace::next_line;
 use wording::Prose;
 
-/// A text with numbers for its names, and what is wrong with names.
+/// A text with numbers in place of its names, and the messages about rejected names.
 #[derive(Drop)]
 pub struct Named {
     pub text: Vec<u8>,
-    /// A line for each fault; nothing where no name is refused.
+    /// A line for each rejected name, key or text; empty if there is none.
     pub told: Vec<u8>,
 }
 
@@ -63,7 +63,7 @@ fn named_line(
     }
 }
 
-/// Adds the line that stands for a line of a text, the `number`-th.
+/// Adds the line that replaces a line, the `number`-th of its text.
 fn push_line(
     alloc: Global,
     number: u64,
@@ -78,7 +78,7 @@ fn push_line(
     text.extend_from_slice(outcome.text(line))
 }
 
-/// A text with numbers for its names.
+/// Returns a text with numbers in place of its names, and the messages about rejected names.
 pub fn name_text(alloc: Global, text: &[u8]) -> Result<Named, AllocError>
     ensures { IfOk result (λ n. IsNamed text.now n.text.items n.told.items) }
 {

@@ -18,13 +18,13 @@ use wording::Prose;
 enum Letter<'a> {
     /// A letter, and what follows it.
     Byte(u8, &'a [u8]),
-    /// A letter in two digits, and what follows it.
+    /// A letter that is written as two hexadecimal digits, and what follows it.
     Digits([u8; 2], &'a [u8]),
     /// The end of the text, and what follows it.
     End(&'a [u8]),
 }
 
-/// The byte that a letter behind a `\` stands for.
+/// Returns the byte of an escape of one letter; `None` if there is no such escape.
 fn unescaped(letter: u8) -> Option<u8>
     ensures { result ≡ byte_unescaped letter }
 {
@@ -37,7 +37,7 @@ fn unescaped(letter: u8) -> Option<u8>
     }
 }
 
-/// The letter of what stands behind a `\`.
+/// Returns the letter of an escape. `text` is what follows its `\`. Fails if the escape is unknown.
 fn escaped(text: &[u8]) -> Result<Letter<'_>, Fault<'_>>
     ensures letter { (bytes : List ℕ) → MatchResult result (λ l. letters_from bytes Backslash text.now ≡ letters_behind bytes l) (λ fault. letters_from bytes Backslash text.now ≡ None) }
     ensures shorter { IfOk result (λ l. IsShorter text.now l) }
@@ -55,7 +55,7 @@ fn escaped(text: &[u8]) -> Result<Letter<'_>, Fault<'_>>
     }
 }
 
-/// The next letter of a text, or its end.
+/// Returns the next letter of a text, or its end. Fails if the closing `"` is missing, or an escape is unknown.
 fn next_letter(text: &[u8]) -> Result<Letter<'_>, Fault<'_>>
     ensures letter { (bytes : List ℕ) → MatchResult result (λ l. letters_from bytes Nothing text.now ≡ letters_behind bytes l) (λ fault. letters_from bytes Nothing text.now ≡ None) }
     ensures shorter { IfOk result (λ l. IsShorter text.now l) }
@@ -69,7 +69,7 @@ fn next_letter(text: &[u8]) -> Result<Letter<'_>, Fault<'_>>
     }
 }
 
-/// Adds a blank, unless there is nothing before it.
+/// Adds a space, unless nothing is before it.
 fn push_blank(bytes: &mut Vec<u8>) -> Result<(), AllocError>
     ensures items { OnOk result ((digits : List ℕ) → bytes.new.items ++ digits ≡ with_digits bytes.old.items digits) }
     ensures one_line { IsOneLine bytes.old.items → OnOk result (IsOneLine bytes.new.items) }
@@ -80,7 +80,7 @@ fn push_blank(bytes: &mut Vec<u8>) -> Result<(), AllocError>
     Ok(())
 }
 
-/// Adds the letters of a text as bytes, with a blank between two. What follows the text.
+/// Adds the letters of a text as bytes, with a space between two. Returns what follows the text, or the error in it.
 fn push_letters<'a>(
     bytes: &mut Vec<u8>,
     text: &'a [u8],
@@ -107,7 +107,8 @@ fn push_letters<'a>(
     }
 }
 
-/// Returns why a text is rejected: it has no bytes, or other bytes follow its `"` directly. Otherwise `None`.
+/// Returns why a text is rejected: it is empty, or a byte other than a separator or `#` follows its closing `"`. `None`
+/// if it is accepted.
 fn fault_of<'a>(bytes: &[u8], behind: &[u8]) -> Option<Fault<'a>>
     ensures { is_none result ≡ is_whole bytes.now behind.now }
 {
@@ -123,22 +124,22 @@ fn fault_of<'a>(bytes: &[u8], behind: &[u8]) -> Option<Fault<'a>>
 /// The parts of a line `type C "TEXT"`.
 #[derive(Clone, Copy)]
 struct TypeLine<'a> {
-    /// What stands before the word `type`.
+    /// The part before the word `type`.
     indent: &'a [u8],
-    /// What stands between that word and the text.
+    /// The part between that word and the opening `"` of the text.
     console: &'a [u8],
-    /// What stands behind the `"` at the front of the text.
+    /// What follows the opening `"` of the text.
     text: &'a [u8],
 }
 
-/// Returns true if a text or a comment begins in a word.
+/// Returns true if a text or a comment begins within a word.
 fn has_text(word: &[u8]) -> bool
     ensures { result ≡ list_any (λ b. (b == 34) || (b == 35)) word.now }
 {
     word.iter().any(|b| *b == b'"' || *b == b'#')
 }
 
-/// The parts of a line `type C "TEXT"`; none of one that has another form.
+/// Returns the parts of a line `type C "TEXT"`; `None` if the line has another form.
 fn parts_of(line: &[u8]) -> Option<TypeLine<'_>>
     ensures parts { typed line.now ≡ option_and_then (λ p. typed_from p.indent.now p.console.now p.text.now) result }
     ensures one_line { IsOneLine line.now → IfSome result (λ p. IsOneLine p.indent.now × IsOneLine p.console.now × IsOneLine p.text.now) }
@@ -161,7 +162,7 @@ fn parts_of(line: &[u8]) -> Option<TypeLine<'_>>
     }
 }
 
-/// The line `key` of a line `type`, or what is wrong with it.
+/// Returns the line `key` that replaces a line `type`, or why the line is rejected.
 fn key_line_of<'a>(alloc: Global, line: &'a [u8]) -> Result<Result<Vec<u8>, Fault<'a>>, AllocError>
     ensures is { IfOk result (λ r. MatchResult r (λ v. typed line.entry.now ≡ Some v.items) (λ fault. typed line.entry.now ≡ None)) }
     ensures one_line { IsOneLine line.entry.now → IfOk result (λ r. IfOk r (λ v. IsOneLine v.items)) }
@@ -173,7 +174,7 @@ fn key_line_of<'a>(alloc: Global, line: &'a [u8]) -> Result<Result<Vec<u8>, Faul
 }
 
 impl<'a> TypeLine<'a> {
-    /// Returns the line `key`, or what is wrong with the text.
+    /// Returns the line `key`, or why the text is rejected.
     fn key_line(self, alloc: Global) -> Result<Result<Vec<u8>, Fault<'a>>, AllocError>
         ensures is { IfOk result (λ r. MatchResult r (λ v. typed_from self.entry.indent.now self.entry.console.now self.entry.text.now ≡ Some v.items) (λ fault. typed_from self.entry.indent.now self.entry.console.now self.entry.text.now ≡ None)) }
         ensures one_line { IsOneLine self.entry.indent.now → IsOneLine self.entry.console.now → IsOneLine self.entry.text.now → IfOk result (λ r. IfOk r (λ v. IsOneLine v.items)) }

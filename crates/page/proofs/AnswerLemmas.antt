@@ -1,4 +1,4 @@
--- What a page is answered to its words.
+-- Proofs about the answers to a page.
 use Rattle.std.proofs.Common.{◌≡◌, ◌⊎◌, ◌∙◌, ℕ, false, ◌≤◌, List, [], ◌∷◌, ◌++◌, Option, None, Some, map, length, take, drop, refl, ap, sym, subst, arith, append-nil, inl, inr, codes, Ok, Err, IsUtf8}
 use Rattle.std.specs.Io.KnownBytes.{Appends}
 use Rattle.std.specs.List.{AllByRecursion}
@@ -23,7 +23,7 @@ use Rattle.page.specs.Answers.{AreServed, BeginsTrace, IsAnswered, IsAudited, Is
 use Rattle.page.specs.Files.{files_of}
 use Rattle.page.specs.Words.{AreWordsOf, text_of, words_of, words_to_audit, words_to_run}
 
--- ---- a sink is known by what is read of it
+-- ---- the contracts depend only on what is seen of a sink
 
 exploring_along : {S T : Type 0} (f : S → T) (contents : Contents) (asked : Option AskedOfExploring) (old new : S) (before after : Seen) (status : ℕ)
     → MeansOfExploring contents asked old new before after status → MeansOfExploring contents asked (f old) (f new) before after status
@@ -136,9 +136,9 @@ serves_most contents (Err Memory) old new before after status h = omega (arith, 
 pub most_answered : (words trace world events put : List ℕ) (status : ℕ) → IsAnswered words trace world events put status → status ≤ 4
 most_answered words trace world events put status h = serves_most _ h.said _ _ _ _ status h.served.serves
 
--- ---- words that ask for a run or an audit
+-- ---- the commands of words
 
--- Words that are UTF-8 are served by what they are for, unless there is no memory for them.
+-- Words that are UTF-8 are served as their command, unless there is no memory for them.
 served : (contents : Contents) (text : List ℕ) (said : Words) (words : List Text) (put : List ℕ) (before after : Seen) (status : ℕ) → AreWordsOf text said
     → words_of text ≡ Some words → AllByRecursion IsUtf8 words → named_in words ≡ None → Serves contents said [] put before after status
     → ServesAs contents [] put before after status (purpose_of words) ⊎ ((status ≡ 3) × (put ≡ []))
@@ -192,7 +192,7 @@ traced before after world events put began taken h =
     let whole = put_all before.taken after.taken put _ began taken h.1.taken.taken in
     record { happened = h.1.events; lines = h.1.lines; last = h.1.last; run = h.1.run; printed = sym whole ∙ sym (append-nil put) }
 
--- with these words' texts in place of those that they ask for
+-- the requested files are the world and the events of the page
 of_run : (trace world events : List ℕ) (P : List ℕ → List ℕ → Type 0)
     → OfTexts (AskFor (files_of trace world events) (run_asked (codes "world" ∷ codes "events" ∷ []))) P → P world events
 of_run trace world events P h =
@@ -252,7 +252,7 @@ is_audited words trace world events put status is h =
       }
     ]
 
--- what is in the room
+-- what is in the buffer
 pub trace_given : (world events put old new : List ℕ) (count status : ℕ) → IsRun world events put status → IsGiven put old new count → status ≡ 0 → count ≤ length old → IsTrace world events (take count new)
 trace_given world events put old new count status h given is within =
     let same : take count new ≡ put = ap (λ bytes. take count bytes) (given.given within) ∙ ap (λ n. take n (put ++ drop count old)) given.counted ∙ take-append_seam put (drop count old) in

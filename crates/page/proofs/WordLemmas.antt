@@ -1,4 +1,4 @@
--- Texts of words, cut at their zero bytes.
+-- Proofs about texts of words, which are cut at their zero bytes.
 use Rattle.std.proofs.Common.{◌≡◌, ◌≢◌, ◌∙◌, ℕ, zero, suc, ◌+◌, ◌-◌, ◌<◌, ◌==◌, true, false, List, [], ◌∷◌, ◌++◌, Option, None, Some, length, take, drop, get_or, refl, ap, arith, length-drop, IfSome, IsUtf8}
 use Rattle.std.specs.List.{AllByRecursion}
 use Rattle.std.proofs.lemmas.List.{take_all}
@@ -15,7 +15,7 @@ begins : (b : ℕ) (word : Text) (words : Option (List Text)) → (b == 0) ≡ f
 begins b word None h = refl
 begins b word (Some words) h = rw h refl
 
--- a text is its first word and the words behind its zero byte
+-- a text is its first word and the words after its zero byte
 cut_at : (text : List ℕ) (end : ℕ) → end < length text → (get_or text end 0 == 0) ≡ true → ((k : ℕ) → k < end → (get_or text k 0 == 0) ≡ false)
     → words_of text ≡ with_word (take end text) (words_of (drop (suc end) text))
 cut_at [] end within is before = absurd (omega (arith, within))
@@ -24,7 +24,7 @@ cut_at (b ∷ text) (suc end) within is before =
     ap (with_byte_if b) (cut_at text end (omega (arith, within)) is (λ k h. before (suc k) (omega (arith, h))))
     ∙ begins b (take end text) (words_of (drop (suc end) text)) (before 0 (omega arith))
 
--- nothing ends a word
+-- no word has a zero byte at its end
 nowhere_ended : (text : List ℕ) → text ≢ [] → ((k : ℕ) → k < length text → (get_or text k 0 == 0) ≡ false) → words_of text ≡ None
 nowhere_ended [] some none = absurd (some refl)
 nowhere_ended (b ∷ []) some none = let h : (b == 0) ≡ false = none 0 (omega arith) in rw h refl
@@ -39,7 +39,7 @@ first_cut text word rest end h is_word is_rest =
     let whole : rest ≡ drop (suc end) text = is_rest ∙ take_all (length text - (end + 1)) (drop (end + 1) text) (omega (arith, length-drop (end + 1) text)) ∙ ap (λ n. drop n text) next in
     rw (is_word, whole) cut
 
--- ---- what is no text of words that are UTF-8
+-- ---- texts that are not lists of UTF-8 words
 
 pub not_ended : (text : List ℕ) → IsFirstByte (is_byte 0) text None → text ≢ [] → IsNoText text
 not_ended text h some =

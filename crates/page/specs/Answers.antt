@@ -1,4 +1,4 @@
--- What a page is answered.
+-- The answers to a page.
 use Rattle.std.specs.Prelude.{◌≡◌, ◌≢◌, ◌≤◌, ◌<◌, ◌⊎◌, ℕ, List, [], ◌∷◌, ◌++◌, Some, codes, drop, length}
 use Rattle.posix.specs.declared.event.Event.{Event}
 use Rattle.posix.specs.Common.{Line, State, print}
@@ -14,7 +14,7 @@ use Rattle.page.specs.Words.{AreWordsOf}
 
 -- ---- of any words
 
--- The words were served over these files, with this status, and these bytes were put as the standard output.
+-- The command ran with these arguments over these files, and returned this status. These bytes are its standard output.
 pub record AreServed (contents : Contents) (words : Words) (put : List ℕ) (status : ℕ) : Type 0 where
   pub before : Seen
   pub after : Seen
@@ -22,14 +22,13 @@ pub record AreServed (contents : Contents) (words : Words) (put : List ℕ) (sta
   pub taken : after.taken ≡ Some put
   pub serves : Serves contents words [] put before after status
 
--- The words of a text were served, over the files of a page.
+-- The command ran with the arguments in a text, over the files of a page.
 pub record IsAnswered (words trace world events put : List ℕ) (status : ℕ) : Type 0 where
   pub said : Words
   pub are : AreWordsOf words said
   pub served : AreServed (files_of trace world events) said put status
 
--- Bytes were copied to the beginning of a room, and counted; nothing else of the room changed, and nothing at all where
--- they are more than there is room for.
+-- Bytes were counted and, if all of them fit, copied to the beginning of a buffer. Nothing else of the buffer changed.
 pub record IsGiven (bytes old new : List ℕ) (count : ℕ) : Type 0 where
   pub counted : count ≡ length bytes
   pub given : count ≤ length old → new ≡ bytes ++ drop count old
@@ -37,7 +36,7 @@ pub record IsGiven (bytes old new : List ℕ) (count : ℕ) : Type 0 where
 
 -- ---- of `run world events`
 
--- The bytes begin the printed trace of a run of the machine on the world and the events of these texts, of which this is left.
+-- The printed trace of a run of the machine on the world and events of these texts is the bytes, followed by `rest`.
 pub record BeginsTrace (world events bytes rest : List ℕ) : Type 0 where
   pub happened : List Event
   pub lines : List Line
@@ -45,7 +44,7 @@ pub record BeginsTrace (world events bytes rest : List ℕ) : Type 0 where
   pub run : RunsTexts world events happened lines last
   pub printed : print lines ≡ bytes ++ rest
 
--- They are that trace.
+-- The bytes are that whole trace.
 abbrev pub IsTrace : List ℕ → List ℕ → List ℕ → Type 0
 IsTrace world events bytes = BeginsTrace world events bytes []
 
@@ -55,7 +54,7 @@ pub record IsRun (world events put : List ℕ) (status : ℕ) : Type 0 where
   pub traced : status ≡ 0 → IsTrace world events put
   pub refused : status ≡ 1 → IsRefused world events × (put ≡ [])
   pub known : status ≢ 2
-  -- there was no memory: nothing was put, or a beginning of the trace
+  -- memory ran out: nothing was put, or a beginning of the trace
   pub cut_short : status ≡ 3 → (put ≡ []) ⊎ ((rest : List ℕ) × BeginsTrace world events put rest)
 
 -- ---- of `audit trace`

@@ -3,7 +3,7 @@ use Rattle.std.specs.Prelude.{ℕ, List, None, Some, codes, if◌then◌else◌}
 use Rattle.std.specs.Str.{bytes_eq}
 use Rattle.inputs.specs.Reads.{Contents}
 
--- a trace, a world and its events, each under its name; there is no other file
+-- the files `trace`, `world` and `events`; there is no other file
 abbrev pub files_of : List ℕ → List ℕ → List ℕ → Contents
 files_of trace world events name = if bytes_eq name (codes "trace") then Some trace
     else if bytes_eq name (codes "world") then Some world

@@ -1,4 +1,4 @@
-//! What a page is answered.
+//! The answers to a page.
 
 ghost use Rattle.page.specs.Answers.{AreServed, IsAnswered, IsGiven};
 ghost use Rattle.page.specs.Files.{files_of};
@@ -12,17 +12,17 @@ use kernel::WriteSink;
 use std::alloc::Global;
 use std::hash::RandomState;
 
-/// What the program does.
+/// The output and the exit status of a command.
 #[derive(Drop)]
 pub struct Answer {
-    /// What it puts as its standard output.
+    /// The bytes of standard output.
     pub put: Vec<u8>,
-    /// What it puts as its error output.
+    /// The bytes of standard error.
     pub told: Vec<u8>,
     pub status: u8,
 }
 
-/// What the program does with these words.
+/// Runs the command with these arguments, or with the reason why there are none.
 fn served(
     alloc: Global,
     words: Result<&[&str], WordsFault>,
@@ -41,7 +41,7 @@ fn served(
     }
 }
 
-/// What the program does with the words of a text.
+/// Runs the command with the arguments in a text, each of which ends with a zero byte.
 pub fn answer_to(
     alloc: Global,
     words: &[u8],
@@ -56,7 +56,7 @@ pub fn answer_to(
     }
 }
 
-/// Copies bytes to the beginning of a room, where there is room for all of them. The answer is how many they are.
+/// Copies bytes to the beginning of a buffer, if all of them fit. Returns the number of bytes, even if they don't fit.
 pub fn give(bytes: &[u8], room: &mut [u8]) -> usize
     ensures { IsGiven bytes.now room.old room.new result }
 {

@@ -17,7 +17,7 @@ pub struct TextFiles<'a> {
 }
 
 impl TextFiles<'_> {
-    /// What the file with this name holds; none where there is no such file.
+    /// Returns the contents of the file with this name, if there is such a file.
     fn text(&self, name: &str) -> Option<&[u8]>
         ensures { option_map (λ text. text.now) result ≡ files_of self.now.trace.now self.now.world.now self.now.events.now name.now }
     {

@@ -1,9 +1,10 @@
-//! The randomness of an audit.
+//! The random bytes for an audit.
 
 use std::io;
 use std::random::RandomSource;
 
-/// Two numbers, which the caller has drawn, as a source of random bytes. A hasher takes 16 of them.
+/// A source of random bytes, made of two random numbers from the caller. The bytes repeat after 16, the number that a
+/// hasher takes.
 #[derive(Drop)]
 pub struct GivenKeys {
     pub key0: u64,

@@ -1,8 +1,8 @@
-//! What a page calls: the commands of the program, over texts in memory.
+//! The function that the page calls: the commands of the program, over texts in memory.
 //!
 //! The export serves the same commands as the program, over texts in memory (`answer`): one export with command lines
-//! has the contracts of all commands. `run` and `audit` say what a status means of these two. The caller's buffer gets
-//! the output and its length; it is unchanged if the output does not fit (`IsGiven`).
+//! has the contracts of all commands. The clauses `run` and `audit` say what a status means for these two commands. The
+//! caller's buffer gets the output, and is unchanged if the output does not fit (`IsGiven`).
 #![tactic(auto)]
 
 mod answers;
@@ -21,13 +21,13 @@ use crate::keys::GivenKeys;
 use std::alloc::Global;
 use std::hash::RandomState;
 
-/// Does what the words of a command line ask for, and gives the status of the program: 0 when it is done, 1 for a refused
-/// text or a faulty trace, 2 for other words, 3 for want of memory or of a file, 4 where `explore` found what it looked for.
+/// Runs a command, and returns the exit status of the program: 0 on success, 1 if an input is rejected or a trace is
+/// faulty, 2 for a usage error, 3 if a file cannot be read or memory runs out, 4 if `explore` found what it looked for.
 ///
-/// In `words` each word is ended by a zero byte. The files are `trace`, `world` and `events`, and there is no terminal. An
-/// audit finds its numbers by random keys; its answer doesn't depend on them. What the program would write to the standard
-/// output is put into `out`, and what to the error output into `told`, each where there is room for all of it; the counts
-/// say how many bytes there are.
+/// In `words` each argument ends with a zero byte. The files are `trace`, `world` and `events`, and there is no
+/// terminal. An audit hashes with the keys `key0` and `key1`; its result does not depend on them. `out` gets the
+/// standard output, and `told` the standard error, each only if all of it fits. The counts are the numbers of bytes,
+/// even if they don't fit.
 #[unsafe(no_mangle)]
 pub extern "C" fn serve(
     alloc: Global,

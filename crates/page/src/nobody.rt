@@ -1,10 +1,10 @@
-//! Nobody is at a terminal.
+//! The absence of a terminal.
 
 use exploring::Progress;
 use inputs::ReadFault;
 use showing::Ask;
 
-/// Is told nothing, and asks for nothing.
+/// A terminal that is absent: it ignores progress, and has no input.
 #[derive(Drop)]
 pub struct Nobody;
 

@@ -1,4 +1,4 @@
-//! The words of a command line, as a page gives them.
+//! The arguments of a command line, in the form in which the page passes them.
 
 ghost use Rattle.std.specs.Prelude.{◌≡◌, ◌≢◌, ◌<◌, [], IfErr, IfOk, MatchResult, OnErr, Some, length, map};
 ghost use Rattle.page.specs.Words.{IsNoText, with_word, words_of};
@@ -7,7 +7,8 @@ use inputs::WordsFault;
 use memchr::memchr;
 use std::alloc::Global;
 
-/// The first word of a text, and what follows its zero byte. The error is that none is ended, or that it isn't UTF-8.
+/// Returns the first word of a text, and what follows its zero byte. Fails if there is no zero byte, or the word is not
+/// UTF-8.
 fn first_word(text: &[u8]) -> Result<(&str, &[u8]), WordsFault>
     ensures ok { IfOk result (λ cut. words_of text.now ≡ with_word cut.0.now (words_of cut.1.now)) }
     ensures less { IfOk result (λ cut. length cut.1.now < length text.now) }
@@ -23,7 +24,8 @@ fn first_word(text: &[u8]) -> Result<(&str, &[u8]), WordsFault>
     }
 }
 
-/// The words of a text. An error where one isn't ended or isn't UTF-8, or there is no memory for the list of them.
+/// Returns the words of a text. Fails if a word has no zero byte or is not UTF-8, or if there is no memory for the
+/// list.
 pub fn words_in(alloc: Global, text: &[u8]) -> Result<Vec<&str>, WordsFault>
     ensures { MatchResult result (λ words. words_of text.now ≡ Some (map (λ w. w.now) words.items)) (λ fault. fault ≡ WordsFault.NotText → IsNoText text.now) }
 {

@@ -22,11 +22,11 @@ bag p (GiveUp m other ∷ cs) size ok role n =
     let rest = bag (given_up p m other) cs (length-set p.rows m (one_less other (row p.rows m)) ∙ size) ok.1 role n in
     grind (arith, eqb-true, rest, ok.0.1, row_with p.rows m n (one_less other) (λ e. omega (arith, e, size, ok.0.0)))
 
--- a row that nobody bears counts nothing
+-- the row of an unused ID counts nothing
 no_count : (role : Role) → count_of role unborne ≡ 0
 no_count role = grind arith
 
--- from the start on, the count of a row is the times borne less the times given up
+-- from the start on, the count of a row is the uses added less the uses removed
 pub counts : (pidmax : ℕ) (cs : List Change) → AreAllowed (unborne_table pidmax) cs → (role : Role) (n : ℕ)
     → count_of role (row (after (unborne_table pidmax) cs).rows n) + times_given_up role n cs ≡ times_borne role n cs
 counts pidmax cs ok role n =
@@ -34,20 +34,20 @@ counts pidmax cs ok role n =
     let z = ap (count_of role) (no_row (pidmax + 1) n) ∙ no_count role in
     omega (arith, b, z)
 
--- a count is 0 where as many were given up as were borne
+-- a count is 0 if as many uses were removed as added
 even : (count given borne : ℕ) → count + given ≡ borne → (count == 0) ≡ (borne == given)
 even count given borne e = grind (arith, nat_tests, e)
 
--- the next free number by the rows is the next free one by the changes
+-- the next free ID by the rows is the next free one by the changes
 pub next_after : (pidmax last : ℕ) (cs : List Change) → AreAllowed (unborne_table pidmax) cs
     → next_free (is_free_in (after (unborne_table pidmax) cs).rows) last pidmax ≡ next_free (is_free_after cs) last pidmax
 unfolding is_free_in is_free_after
 next_after pidmax last cs ok = next_free_same _ _ last pidmax (λ n l.
     rw (even _ _ _ (counts pidmax cs ok Process n), even _ _ _ (counts pidmax cs ok Group n), even _ _ _ (counts pidmax cs ok Session n)) refl)
 
--- ---- the number given last
+-- ---- the last ID given out
 
--- the number that a table gave last is that of the last process borne, or the one that it gave before
+-- the last ID given out is the last process ID used by the changes, or the last one before them
 last_from : (p : Pids) (cs : List Change) (d : ℕ) → (after p cs).last ≡ unwrap_or (last_or (Some p.last) (filter_map number_of_process cs)) d
 unfolding after borne given_up
 last_from p [] d = refl
@@ -61,7 +61,7 @@ last_else : (n : ℕ) (ns : List ℕ) → unwrap_or (last_or (Some n) ns) n ≡ 
 last_else n [] = refl
 last_else n (m ∷ ns) = refl
 
--- from the start on, the number given last is that of the last process borne
+-- from the start on, the last ID given out is the last process ID used
 pub last_after : (pidmax : ℕ) (cs : List Change) → (after (unborne_table pidmax) cs).last ≡ last_borne cs
 unfolding last_borne
 last_after pidmax cs = last_from (unborne_table pidmax) cs 1 ∙ last_else 1 (filter_map number_of_process cs)

@@ -1,4 +1,4 @@
--- How many numbers of a page are borne.
+-- How many IDs of a page are in use.
 use Rattle.std.proofs.Common.{◌≡◌, ◌≢◌, ℕ, ◌+◌, ◌-◌, ◌*◌, ◌/◌, ◌<◌, ◌≤◌, ◌==◌, Bool, true, false, cond, not, ◌&&◌, List, [], length, map, count_by, length-set, refl, ap, sym, ◌∙◌, arith, inl, inr}
 use Rattle.std.specs.Prelude.{slice_set, slice_index_or}
 use Rattle.std.specs.List.{range_with_len, position_or_len}
@@ -9,9 +9,9 @@ use Rattle.std.proofs.lemmas.List.Sums.{count_by-le-length, sum_by-set, sum_by-l
 use Rattle.pidalloc.specs.Rows.{Row, unborne, is_free_row, is_borne, row_in, one, borne_on, IsRowChanged}
 use Rattle.pidalloc.proofs.RowLemmas.{map_same, map_set}
 
--- ---- the numbers of a range
+-- ---- the IDs of a range
 
--- how many of n numbers from a on are borne, by their rows
+-- how many of n IDs from a on are in use, by their rows
 abbrev borne_in : (ℕ → Row) → ℕ → ℕ → ℕ
 borne_in f a n = count_by is_borne (map f (range_with_len a n))
 
@@ -21,22 +21,22 @@ place_in f a n q lo hi = let size = length-map-range_with_len f a n in omega (ar
 row_at : (f : ℕ → Row) (a n q : ℕ) → a ≤ q → q < a + n → slice_index_or (map f (range_with_len a n)) (q - a) unborne ≡ f q
 row_at f a n q lo hi = get_or-map-range_with_len f a n (q - a) q unborne (omega (arith, lo, hi)) (omega (arith, lo))
 
--- the count follows where a row is set
+-- the count follows when a row is set
 set_in : (f : ℕ → Row) (a n q : ℕ) (r : Row) → a ≤ q → q < a + n → count_by is_borne (slice_set (map f (range_with_len a n)) (q - a) r) + one (is_borne (f q)) ≡ borne_in f a n + one (is_borne r)
 set_in f a n q r lo hi = rw (← row_at f a n q lo hi) (sum_by-set (λ x. one (is_borne x)) (map f (range_with_len a n)) (q - a) r unborne (place_in f a n q lo hi))
 
--- and where one number gets another row
+-- and when one ID gets another row
 moved_in : (f g : ℕ → Row) (a n q : ℕ) → a ≤ q → q < a + n → ((k : ℕ) → k ≢ q → g k ≡ f k) → borne_in g a n + one (is_borne (f q)) ≡ borne_in f a n + one (is_borne (g q))
 moved_in f g a n q lo hi h = rw (map_set f g a n (q - a) q (omega (arith, lo, hi)) (omega (arith, lo)) h) (set_in f a n q (g q) lo hi)
 
 few_in : (f : ℕ → Row) (a n : ℕ) → borne_in f a n ≤ n
 few_in f a n = let size = length-map-range_with_len f a n in let few = count_by-le-length is_borne (map f (range_with_len a n)) in omega (arith, size, few)
 
--- where none is counted, each is free
+-- if none is counted, each is free
 none_in : (f : ℕ → Row) (a n : ℕ) → borne_in f a n ≡ 0 → (q : ℕ) → a ≤ q → q < a + n → is_free_row (f q) ≡ true
 none_in f a n e q lo hi = true_from_ne_false (is_free_row (f q)) (λ it. let set = rw it at (set_in f a n q unborne lo hi) in omega (arith, set, e))
 
--- where n are counted, each is borne: else a borne row in its place would make more than n
+-- if n are counted, each is in use: otherwise a used row in place of its row would make the count more than n
 all_in : (f : ℕ → Row) (a n : ℕ) → borne_in f a n ≡ n → (q : ℕ) → a ≤ q → q < a + n → is_free_row (f q) ≡ false
 all_in f a n e q lo hi =
     let r : Row = record unborne { process = 1 } in
@@ -44,7 +44,7 @@ all_in f a n e q lo hi =
     let few = count_by-le-length is_borne (slice_set (map f (range_with_len a n)) (q - a) r) in
     false_from_ne_true (is_free_row (f q)) (λ free. let set = rw free at (set_in f a n q r lo hi) in omega (arith, set, size, few, e))
 
--- where some are counted, the first one that is borne
+-- if some are counted, the first one in use
 some_in : (f : ℕ → Row) (a n : ℕ) → borne_in f a n ≢ 0 → (q : ℕ) × (a ≤ q) × (q < a + n) × (is_free_row (f q) ≡ false)
 some_in f a n some =
     let rows = map f (range_with_len a n) in
@@ -55,7 +55,7 @@ some_in f a n some =
       | inr none ↦ absurd (some (let all = sum_by-le (λ x. one (is_borne x)) 0 rows (λ k d l. rw (fails_before_first is_borne rows k d (omega (arith, l, none))) (omega arith)) in omega (arith, all)))
     ]
 
--- ---- the numbers of a page
+-- ---- the IDs of a page
 
 in_page : (k q : ℕ) → q / 1024 ≡ k → (k * 1024 ≤ q) × (q < k * 1024 + 1024)
 in_page k q same = (omega (arith, same), omega (arith, same))
@@ -79,23 +79,23 @@ pub all_on : (pages : List (List Row)) (k : ℕ) → borne_on pages k ≡ 1024 �
 unfolding borne_on
 all_on pages k e q same = let at = in_page k q same in all_in (row_in pages) (k * 1024) 1024 e q at.0 at.1
 
--- none is at the start
+-- none is in use at the start
 pub none_counted : (k : ℕ) → borne_on [] k ≡ 0
 none_counted k = elim (cases_eq (borne_on [] k) 0) [ inl e ↦ e | inr some ↦ absurd (let it = some_on [] k some in let f : true ≡ false = unfold row_in in it.2 in cc) ]
 
--- as many are where all rows are the same
+-- the counts are the same if all rows are
 pub count_kept : (old new : List (List Row)) → ((n : ℕ) → row_in new n ≡ row_in old n) → (k : ℕ) → borne_on new k ≡ borne_on old k
 unfolding borne_on
 count_kept old new same k = ap (count_by is_borne) (map_same (row_in old) (row_in new) (k * 1024) 1024 (λ q lo hi. same q))
 
--- where one row changed it is the new one, and the others stay as they are
+-- the row that changed is the new one, and the others stay
 pub own_changed : (n : ℕ) (f : Row → Row) (old new : List (List Row)) → IsRowChanged n f old new → row_in new n ≡ f (row_in old n)
 own_changed n f old new change = change n ∙ ap (λ b. cond b (f (row_in old n)) (row_in old n)) (eq-eqb n n refl)
 
 pub others_same : (n : ℕ) (f : Row → Row) (old new : List (List Row)) → IsRowChanged n f old new → (q : ℕ) → q ≢ n → row_in new q ≡ row_in old q
 others_same n f old new change q other = change q ∙ ap (λ b. cond b (f (row_in old n)) (row_in old q)) (ne_eqb n q (λ e. other (sym e)))
 
--- so the count of its page follows, and no other
+-- so the count of its page follows, and no other count
 moved_on : (n : ℕ) (f : Row → Row) (old new : List (List Row)) → IsRowChanged n f old new → borne_on new (n / 1024) + one (is_borne (row_in old n)) ≡ borne_on old (n / 1024) + one (is_borne (row_in new n))
 unfolding borne_on
 moved_on n f old new change = let at = in_page (n / 1024) n refl in moved_in (row_in old) (row_in new) (n / 1024 * 1024) 1024 n at.0 at.1 (others_same n f old new change)
@@ -109,11 +109,11 @@ pub record Follows (n : ℕ) (old new : List (List Row)) (before after : List �
   pub other : (k : ℕ) → k ≢ n / 1024 → slice_index_or after k 0 ≡ slice_index_or before k 0
   pub own : slice_index_or after (n / 1024) 0 + one (is_borne (row_in old n)) ≡ slice_index_or before (n / 1024) 0 + one (is_borne (row_in new n))
 
--- it stays where n is borne before and after
+-- the count stays if n is in use before and after
 pub follows_still : (n : ℕ) (old new : List (List Row)) (counts : List ℕ) → is_free_row (row_in old n) ≡ false → is_free_row (row_in new n) ≡ false → Follows n old new counts counts
 follows_still n old new counts was is = record { other = λ k ne. refl; own = rw (was, is) refl }
 
--- it is one more where nobody bore n
+-- it is one more if n was free
 pub follows_more : (n page : ℕ) (old new : List (List Row)) (before after : List ℕ) (was_free : Bool) → page ≡ n / 1024 → was_free ≡ is_free_row (row_in old n) → is_free_row (row_in new n) ≡ false
     → ((k : ℕ) → slice_index_or after k 0 ≡ slice_index_or before k 0 + one (was_free && (k == page))) → Follows n old new before after
 follows_more n page old new before after was_free at was is count = record {
@@ -129,7 +129,7 @@ follows_more n page old new before after was_free at was is count = record {
     here m true = omega arith
     here m false = omega arith
 
--- and one less where nobody bears it any more
+-- and one less if n is free now
 pub follows_less : (n page v : ℕ) (old new : List (List Row)) (before : List ℕ) → page ≡ n / 1024 → page < length before → v ≡ slice_index_or before page v → 1 ≤ v → is_free_row (row_in old n) ≡ false → is_free_row (row_in new n) ≡ true
     → Follows n old new before (slice_set before page (v - 1))
 follows_less n page v old new before at l read some was is = record {
@@ -137,7 +137,7 @@ follows_less n page v old new before at l read some was is = record {
   own = rw (was, is, ← at, get_or-set_same before page (v - 1) 0 l) (let here = read ∙ get_or_default before page v 0 l in omega (arith, here, some));
 }
 
--- the counts of the pages are right where that of its page does
+-- the counts of the pages stay right if the count of the page of n follows
 pub counted_so : (n : ℕ) (f : Row → Row) (old new : List (List Row)) (before after : List ℕ) → IsRowChanged n f old new → ((k : ℕ) → slice_index_or before k 0 ≡ borne_on old k) → Follows n old new before after → (k : ℕ) → slice_index_or after k 0 ≡ borne_on new k
 counted_so n f old new before after change counted follows k = elim (cases_eq k (n / 1024)) [
   | inl same ↦ rw same (let moved = moved_on n f old new change in let was = counted (n / 1024) in let own = follows.own in omega (arith, moved, was, own))

@@ -1,4 +1,4 @@
--- Who is in a list of numbers, and how many distinct numbers are in it.
+-- Membership in a list of IDs, and how many distinct IDs are in it.
 use Rattle.std.proofs.Common.{◌≡◌, ℕ, zero, suc, ◌<◌, ◌≤◌, true, arith, List, [], ◌∷◌, length, ◌==◌}
 use Rattle.std.proofs.lemmas.Bool.{or_right}
 use Rattle.posix.specs.Common.{is_in, without, IsDistinct}
@@ -6,12 +6,12 @@ use Rattle.posix.proofs.MemberLemmas.{in_first, is_other}
 use Rattle.posix.proofs.OrderLemmas.{one_less_at_most}
 use Rattle.posix.proofs.RegularLemmas.{distinct_without}
 
--- who is in a list is in a longer one
+-- a member of a list is a member of a longer one
 pub in_longer : (q x : ℕ) (xs : List ℕ) → is_in q xs ≡ true → is_in q (x ∷ xs) ≡ true
 unfolding is_in
 in_longer q x xs e = or_right (x == q) _ e
 
--- distinct numbers below n are no more than n
+-- there are at most n distinct numbers below n
 pub at_most : (n : ℕ) (xs : List ℕ) → IsDistinct xs → ((i : ℕ) → is_in i xs ≡ true → i < n) → length xs ≤ n
 at_most n [] d h = omega arith
 at_most zero (x ∷ xs) d h = let l = h x (in_first x xs) in absurd (omega (arith, l))

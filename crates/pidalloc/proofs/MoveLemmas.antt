@@ -1,4 +1,4 @@
--- The rows of a table of numbers where a process gets another group, or another group and session.
+-- The rows of a table of IDs when a process moves to another process group, or another group and session.
 use Rattle.std.proofs.Common.{◌≡◌, ℕ, ◌<◌, ◌≤◌, ◌^◌, Bool, refl, ap, ◌∙◌, arith, List, length, Some, ◌==◌, length-set}
 use Rattle.std.proofs.lemmas.Bool.{eq-eqb}
 use Rattle.posix.specs.Processes as records
@@ -13,7 +13,7 @@ use Rattle.pidalloc.proofs.TallyLemmas.{tally_front, tally_found, tally_within}
 
 -- ---- counts
 
--- the numbers of a record that changed, and those of the others
+-- the uses of a record that changed, and those of the others
 tally_changed : (n p : ℕ) (f : records.Process → records.Process) → ((r : records.Process) → (f r).pid ≡ r.pid) → (r : records.Process) (rs : List records.Process) → IsRising rs → lookup p rs ≡ Some r
     → tally n (changed p f rs) ≡ more (r.pid == n) ((f r).group == n) ((f r).session == n) (tally n (removed p rs))
 unfolding changed
@@ -30,7 +30,7 @@ tally_changed n p f keeps r rs up e =
 other_numbers : (p g s d e : Bool) (r : Row) → when s (one_less Session) (when g (one_less Group) (when e (one_more Session) (when d (one_more Group) (more p g s r)))) ≡ more p d e r
 other_numbers p g s d e r = same_row _ _ (grind arith) (grind arith) (grind arith)
 
--- ---- a process that is in another group and session
+-- ---- a process that moves to another group and session
 
 row_regrouped : (p : Pids) (group session to_group to_session n : ℕ) → n < length p.rows
     → row (regrouped p group session to_group to_session).rows n ≡ when (session == n) (one_less Session) (when (group == n) (one_less Group) (when (to_session == n) (one_more Session) (when (to_group == n) (one_more Group) (row p.rows n))))
@@ -49,7 +49,7 @@ tallied_regrouped p pid f keeps r rs i up t e = λ n l.
     rw (row_regrouped p r.group r.session (f r).group (f r).session n (omega (arith, size, l)), t n l, tally_changed n pid f keeps r rs up e, tally_front n pid r rs up e)
     (other_numbers (r.pid == n) (r.group == n) (r.session == n) ((f r).group == n) ((f r).session == n) (tally n (removed pid rs)))
 
--- all else stays
+-- everything else stays
 pub pids_regrouped : (p : Pids) (group session to_group to_session : ℕ) → IsPids p → IsPids (regrouped p group session to_group to_session)
 unfolding borne given_up regrouped
 pids_regrouped p group session to_group to_session i =
@@ -59,14 +59,14 @@ pub greatest_regrouped : (p : Pids) (group session to_group to_session : ℕ) �
 unfolding borne given_up regrouped
 greatest_regrouped p group session to_group to_session = refl
 
--- what a table needs before it
+-- what a table requires before the move
 pub record CanRegroup (p : Pids) (group session to_group to_session : ℕ) : Type 0 where
   pub group_count : 1 ≤ (row p.rows group).group
   pub session_count : 1 ≤ (row p.rows session).session
   pub to_group_count : (row p.rows to_group).group < 4294967295
   pub to_session_count : (row p.rows to_session).session < 4294967295
 
--- one that counts few enough records has it
+-- a table that counts few enough records fulfils this
 pub can_regroup : (p : Pids) (pid to_group to_session : ℕ) (r : records.Process) (rs : List records.Process) → IsTallied p rs → length rs < 2 ^ 31 → lookup pid rs ≡ Some r → r.group ≤ p.pidmax → r.session ≤ p.pidmax → to_group ≤ p.pidmax → to_session ≤ p.pidmax
     → CanRegroup p r.group r.session to_group to_session
 can_regroup p pid to_group to_session r rs t few e group session group_range session_range =

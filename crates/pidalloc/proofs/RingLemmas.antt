@@ -1,4 +1,4 @@
--- The nodes of an order, as processes get a place and lose it.
+-- The nodes of a run queue, when processes are added and removed.
 use Rattle.std.proofs.Common.{◌≡◌, ◌≢◌, ℕ, suc, ◌+◌, ◌-◌, ◌/◌, ◌≤◌, ◌==◌, true, false, not, cond, refl, ap, sym, ◌∙◌, arith, subst, List, [], ◌∷◌, ◌++◌, length, length-append, None, Some, slice_get, inl, inr}
 use Rattle.std.proofs.lemmas.Bool.{eqb-true, eq-eqb, ne_eqb, cases_eq}
 use Rattle.std.proofs.lemmas.Bool.Decides.{nat_tests}
@@ -13,9 +13,9 @@ use Rattle.pidalloc.specs.Places.{Places}
 use Rattle.pidalloc.specs.Rings.{Nodes, node_of, next_of, prev_of, read_off, IsLinked, IsJoined, IsRing, IsKept}
 use Rattle.pidalloc.proofs.LinkLemmas.{next_set, prev_set, next_read, prev_read, read_back, read_length, next_in, prev_in, stay, appended, turned, taken_out}
 
--- ---- what a ring says of its nodes
+-- ---- what a ring says about its nodes
 
--- who comes after one of it, and before it, is in it
+-- the nodes after and before a member of the ring are members
 pub next_inside : (ns : Nodes) (f p : ℕ) (ps : List ℕ) → IsRing ns f ps → is_in p ps ≡ true → is_in (next_of ns p) ps ≡ true
 unfolding IsRing
 next_inside ns f p [] r e = absurd (in_none p e)
@@ -26,7 +26,7 @@ unfolding IsRing
 prev_inside ns f p [] r e = absurd (in_none p e)
 prev_inside ns f p (x ∷ xs) r e = prev_in ns x xs x r.1 p e
 
--- so is the first, where there is one
+-- so is the first, if there is one
 pub first_inside : (ns : Nodes) (f : ℕ) (ps : List ℕ) → IsRing ns f ps → f ≢ 0 → is_in f ps ≡ true
 unfolding IsRing
 first_inside ns f [] r ne = absurd (ne r)
@@ -37,21 +37,21 @@ unfolding IsRing
 first_is ns f [] k = grind (arith, eq-eqb, k.ring)
 first_is ns f (x ∷ xs) k = grind (arith, nat_tests, k.ring.0, k.low x (in_first x xs))
 
--- who is in it has a row
+-- a member has a row
 pub inside : (ns : Nodes) (f : ℕ) (ps : List ℕ) → IsKept ns f ps → (i : ℕ) → is_in i ps ≡ true → HasRow ns i
 inside ns f ps k i e = elim (row_or_none ns i (record { prev = 0; next = 0 })) [
   | inl h ↦ h
   | inr none ↦ let t : true ≡ false = sym e ∙ k.told i ∙ ap (λ n. not (n == 0)) (next_read ns i _ none) in absurd (cc)
 ]
 
--- so have those next to it
+-- and so have its neighbours
 pub prev_row : (ns : Nodes) (f : ℕ) (ps : List ℕ) → IsKept ns f ps → (p : ℕ) (m : Node) → is_in p ps ≡ true → node_of ns p ≡ m → HasRow ns m.prev
 prev_row ns f ps k p m e is = subst (HasRow ns) (prev_read ns p m is) (inside ns f ps k (prev_of ns p) (prev_inside ns f p ps k.ring e))
 
 pub next_row : (ns : Nodes) (f : ℕ) (ps : List ℕ) → IsKept ns f ps → (p : ℕ) (m : Node) → is_in p ps ≡ true → node_of ns p ≡ m → HasRow ns m.next
 next_row ns f ps k p m e is = subst (HasRow ns) (next_read ns p m is) (inside ns f ps k (next_of ns p) (next_inside ns f p ps k.ring e))
 
--- it is read off
+-- the ring is read off
 read_ring : (ns : Nodes) (f : ℕ) (ps : List ℕ) → IsRing ns f ps → read_off (length ps) ns f ≡ ps
 unfolding IsRing read_off
 read_ring ns f [] r = refl
@@ -59,7 +59,7 @@ read_ring ns f (x ∷ xs) r = subst (λ p. read_off (suc (length xs)) ns p ≡ x
 
 -- ---- the ring changes
 
--- p comes last
+-- p becomes the last
 ring_added : (old mid new : Nodes) (x p : ℕ) (xs : List ℕ) → IsLinked old x xs x → IsDistinct (x ∷ xs) → is_in p (x ∷ xs) ≡ false → IsJoined old mid (prev_of old x) p → IsJoined mid new p x → IsLinked new x (xs ++ p ∷ []) x
 unfolding IsLinked IsDistinct is_in
 ring_added old mid new x p xs l d o j k =
@@ -67,7 +67,7 @@ ring_added old mid new x p xs l d o j k =
     let still : IsLinked new x xs p = stay mid new x xs p (λ i e. grind (arith, eqb-true, k.next i, e, o)) (λ i e. grind (arith, eqb-true, k.prev i, e, d.0, o)) led in
     appended new x xs p [] x still (grind (arith, eq-eqb, k.next p), grind (arith, eq-eqb, k.prev x))
 
--- the first goes
+-- the first is removed
 first_gone : (old mid : Nodes) (x : ℕ) (xs : List ℕ) → IsLinked old x xs x → IsDistinct (x ∷ xs) → IsJoined old mid (prev_of old x) (next_of old x) → IsRing mid (cond (next_of old x == x) 0 (next_of old x)) xs
 unfolding IsRing IsLinked IsDistinct is_in
 first_gone old mid x [] l d j = grind (arith, eq-eqb, l.0)
@@ -77,7 +77,7 @@ without_first : (x : ℕ) (xs : List ℕ) → is_in x xs ≡ false → without x
 unfolding without
 without_first x xs o = rw (eq-eqb x x refl) (without_absent x xs o)
 
--- p goes
+-- p is removed
 ring_removed : (old mid : Nodes) (x p : ℕ) (xs : List ℕ) → IsLinked old x xs x → IsDistinct (x ∷ xs) → is_in p (x ∷ xs) ≡ true → IsJoined old mid (prev_of old p) (next_of old p)
     → IsRing mid (cond (p == x) (cond (next_of old p == p) 0 (next_of old p)) x) (without p (x ∷ xs))
 unfolding IsRing IsDistinct is_in without
@@ -89,15 +89,15 @@ ring_removed old mid x p xs l d e j = elim (cases_eq x p) [
   | inr ne ↦ rw (ne_eqb x p ne, ne_eqb p x (λ s. ne (sym s))) (refl, taken_out old mid p x xs x l j d.0 d.0 d.1 (grind (arith, eqb-true, e, ne)))
 ]
 
--- the first goes to the end
+-- the first becomes the last
 ring_turned : (ns : Nodes) (x : ℕ) (xs : List ℕ) → IsLinked ns x xs x → IsRing ns (next_of ns x) (xs ++ x ∷ [])
 unfolding IsRing IsLinked
 ring_turned ns x [] l = (l.0, l)
 ring_turned ns x (y ∷ ys) l = (l.0, appended ns y ys x [] y l.2 (l.0, l.1))
 
--- ---- an order changes
+-- ---- a run queue changes
 
--- so many numbers, whose nodes are well kept
+-- n IDs, whose nodes are right
 pub record IsOrder (ns : Nodes) (n f : ℕ) (ps : List ℕ) : Type 0 where
   pub kept : IsKept ns f ps
   pub count : n ≡ length ps
@@ -112,12 +112,12 @@ read ns n f ps o = ap (λ k. read_off k ns f) o.count ∙ read_ring ns f ps o.ke
 pub kept : (ns : Nodes) (n f : ℕ) (ps : List ℕ) → IsOrder ns n f ps → IsKept ns f (read_off n ns f)
 kept ns n f ps o = subst (IsKept ns f) (sym (read ns n f ps o)) o.kept
 
--- nobody has a place
+-- the run queue is empty
 pub kept_new : IsKept [] 0 []
 unfolding IsRing IsDistinct next_of is_in
 kept_new = record { ring = refl; distinct = tt; low = λ i e. absurd (in_none i e); high = λ i e. absurd (in_none i e); told = λ i. refl }
 
--- the nodes lead on as before, and back for those that have a place
+-- the nodes lead on as before, and back for the members
 ring_stays : (old new : Nodes) (f : ℕ) (ps : List ℕ) → ((i : ℕ) → is_in i ps ≡ true → next_of new i ≡ next_of old i) → ((i : ℕ) → is_in i ps ≡ true → prev_of new i ≡ prev_of old i) → IsRing old f ps → IsRing new f ps
 unfolding IsRing
 ring_stays old new f [] n p r = r
@@ -136,7 +136,7 @@ pub order_grown : (old new : Nodes) (n f : ℕ) (ps : List ℕ) → IsOrder old 
 unfolding prev_of next_of
 order_grown old new n f ps o same = order_stays old new n f ps o (λ i. ap (λ (m : Node). m.next) (same i)) (λ i e. ap (λ (m : Node). m.prev) (same i))
 
--- a page goes
+-- a page is freed
 pub order_left : (old : Nodes) (n f p : ℕ) (ps : List ℕ) → IsOrder old n f ps → ((i : ℕ) → is_in i ps ≡ true → IsOnAnotherPage i p) → IsOrder (without_page old p) n f ps
 unfolding prev_of next_of
 order_left old n f p ps o apart = order_stays old (without_page old p) n f ps o
@@ -146,7 +146,7 @@ order_left old n f p ps o apart = order_stays old (without_page old p) n f ps o
     ])
     (λ i e. ap (λ (m : Node). m.prev) (row_left old p i (record { prev = 0; next = 0 }) (apart i e)))
 
--- p is the first that gets a place
+-- p is added to an empty run queue
 pub order_first : (old new : Nodes) (n f p : ℕ) (ps : List ℕ) → IsOrder old n f ps → f ≡ 0 → 1 ≤ p → p ≤ 2147483647 → IsJoined old new p p → IsOrder new (n + 1) p (ps ++ p ∷ [])
 unfolding IsRing IsLinked IsDistinct is_in
 order_first old new n f p [] o e low high j = record {
@@ -161,7 +161,7 @@ order_first old new n f p [] o e low high j = record {
 }
 order_first old new n f p (x ∷ xs) o e low high j = absurd (let l = o.kept.low x (in_first x xs) in let s = o.kept.ring.0 in omega (arith, l, s, e))
 
--- p gets the last place, behind the one before the first
+-- p is added at the end, after the node before the first
 pub order_last : (old mid new : Nodes) (n f p : ℕ) (ps : List ℕ) (m : Node) → IsOrder old n f ps → f ≢ 0 → 1 ≤ p → p ≤ 2147483647 → is_in p ps ≡ false → node_of old f ≡ m → IsJoined old mid m.prev p → IsJoined mid new p f
     → IsOrder new (n + 1) f (ps ++ p ∷ [])
 unfolding IsRing
@@ -181,7 +181,7 @@ order_last old mid new n f p (x ∷ xs) m o some low high out is j k =
       count = omega (arith, o.count, length-append (x ∷ xs) (p ∷ []));
     }
 
--- p loses its place, and its node is cleared
+-- p is removed, and its node is cleared
 pub order_dropped : (old mid new : Nodes) (n f g p : ℕ) (ps : List ℕ) (m : Node) → IsOrder old n f ps → is_in p ps ≡ true → node_of old p ≡ m → IsJoined old mid m.prev m.next → new ≡ with_row mid p (record { prev = 0; next = 0 })
     → g ≡ cond (p == f) (cond (m.next == p) 0 m.next) f → IsOrder new (n - 1) g (without p ps)
 unfolding IsRing
@@ -206,7 +206,7 @@ order_dropped old mid new n f g p (x ∷ xs) m o e is h set first =
       count = omega (arith, o.count, one_less p ps k.distinct e);
     })
 
--- the first gets the last place
+-- the first becomes the last
 pub order_turned : (ns : Nodes) (n f p : ℕ) (ps : List ℕ) (m : Node) → IsOrder ns n f ps → p ≡ f → is_in p ps ≡ true → node_of ns p ≡ m → IsOrder ns n m.next (without p ps ++ p ∷ [])
 unfolding IsRing IsDistinct
 order_turned ns n f p [] m o s e is = absurd (in_none p e)

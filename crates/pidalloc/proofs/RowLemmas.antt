@@ -1,4 +1,4 @@
--- Rows of a table of which some are changed.
+-- Rows of a table some of which are changed.
 use Rattle.std.proofs.Common.{◌≡◌, ◌≢◌, ℕ, zero, suc, ◌+◌, ◌<◌, ◌≤◌, ◌==◌, Bool, false, cond, List, ◌∷◌, length, map, refl, ap, ◌∙◌, arith, replicate, length-set}
 use Rattle.std.specs.Prelude.{slice_set}
 use Rattle.std.specs.List.{range_with_len}
@@ -27,7 +27,7 @@ same_row a b p g s =
     let of = λ (process : ℕ) (group : ℕ) (session : ℕ). let r : Row = record { process = process; group = group; session = session } in r in
     ap (λ n. of n a.group a.session) p ∙ ap (λ n. of b.process n a.session) g ∙ ap (λ n. of b.process b.group n) s
 
--- the row of one who bears three numbers, or not, more
+-- a row with one more use in each role whose flag is set
 abbrev pub more : Bool → Bool → Bool → Row → Row
 more p g s r = when s (one_more Session) (when g (one_more Group) (when p (one_more Process) r))
 
@@ -37,24 +37,24 @@ less p g s r = when s (one_less Session) (when g (one_less Group) (when p (one_l
 pub less_more : (p g s : Bool) (r : Row) → less p g s (more p g s r) ≡ r
 less_more p g s r = same_row _ _ (grind arith) (grind arith) (grind arith)
 
--- a row that counts something is that of a number that somebody bears
+-- a row that counts something is that of an ID in use
 pub counted_borne : (role : Role) (r : Row) → 1 ≤ count_of role r → is_free_row r ≡ false
 counted_borne role r l = grind (arith, nat_tests, l)
 
--- at the start nobody bears a number
+-- at the start no ID is in use
 pub no_row : (k n : ℕ) → row (replicate k unborne) n ≡ unborne
 no_row zero n = refl
 no_row (suc k) zero = refl
 no_row (suc k) (suc n) = no_row k n
 
--- ---- rows of a range of numbers
+-- ---- rows of a range of IDs
 
--- two functions that agree on the numbers of a range give the same rows
+-- two functions that agree on the IDs of a range give the same rows
 pub map_same : (f g : ℕ → Row) (a n : ℕ) → ((k : ℕ) → a ≤ k → k < a + n → g k ≡ f k) → map g (range_with_len a n) ≡ map f (range_with_len a n)
 map_same f g a zero h = refl
 map_same f g a (suc n) h = rw (h a (omega arith) (omega arith)) (ap (λ rs. f a ∷ rs) (map_same f g (a + 1) n (λ k lo hi. h k (omega arith) (omega arith))))
 
--- where they differ at one number, one row is set
+-- if they differ at one ID, one row is set
 pub map_set : (f g : ℕ → Row) (a n i q : ℕ) → i < n → a + i ≡ q → ((k : ℕ) → k ≢ q → g k ≡ f k) → map g (range_with_len a n) ≡ slice_set (map f (range_with_len a n)) i (g q)
 map_set f g a zero i q l at h = absurd (omega (arith, l))
 map_set f g a (suc n) zero q l at h = let e : q ≡ a = omega (arith, at) in rw e (ap (λ rs. g a ∷ rs) (map_same f g (a + 1) n (λ k lo hi. h k (λ same. omega (arith, lo, same, at)))))

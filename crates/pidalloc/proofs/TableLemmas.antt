@@ -12,17 +12,17 @@ use Rattle.pidalloc.specs.Rows.{Row, Role, Pids, IsPids, IsTable, unborne, unbor
 use Rattle.pidalloc.proofs.CountLemmas.{Follows, count_kept, counted_so, few_on, all_on, none_counted, none_on, some_on, others_same, own_changed}
 use Rattle.pidalloc.proofs.RowLemmas.{same_row, counted_borne, map_same, map_set}
 
--- a row of a number that nobody bears
+-- the row of a free ID
 pub free_row_is : (r : Row) → is_free_row r ≡ true → r ≡ unborne
 free_row_is r e = same_row r unborne (grind (arith, eqb-true, e)) (grind (arith, eqb-true, e)) (grind (arith, eqb-true, e))
 
--- ---- rows by number
+-- ---- rows by ID
 
 -- the rows are the same
 abbrev pub AreSame : List (List Row) → List (List Row) → Type 0
 AreSame old new = (n : ℕ) → row_in new n ≡ row_in old n
 
--- the row of a number up to the greatest
+-- the row of an ID up to the largest
 pub row_of : (pidmax : ℕ) (pages : List (List Row)) (n : ℕ) → n ≤ pidmax → row (rows_in pidmax pages) n ≡ row_in pages n
 unfolding rows_in
 row_of pidmax pages n l = get_or-map-range_with_len (row_in pages) 0 (pidmax + 1) n n unborne (omega arith) (omega arith)
@@ -34,7 +34,7 @@ rows_same pidmax old new same = map_same (row_in old) (row_in new) 0 (pidmax + 1
 pub rows_changed : (pidmax n : ℕ) (f : Row → Row) (old new : List (List Row)) → n ≤ pidmax → IsRowChanged n f old new → rows_in pidmax new ≡ slice_set (rows_in pidmax old) n (f (row (rows_in pidmax old) n))
 rows_changed pidmax n f old new l change = unfold rows_in in map_set (row_in old) (row_in new) 0 (pidmax + 1) n n (omega (arith, l)) (omega arith) (others_same n f old new change) ∙ ap (slice_set (map (row_in old) (range_with_len 0 (pidmax + 1))) n) (own_changed n f old new change ∙ ap f (sym (row_of pidmax old n l)))
 
--- nobody bears a number at the start
+-- no ID is in use at the start
 none_in : (a n : ℕ) → map (row_in []) (range_with_len a n) ≡ replicate n unborne
 unfolding row_in
 none_in a zero = refl
@@ -44,7 +44,7 @@ pub rows_unborne : (pidmax : ℕ) → rows_in pidmax [] ≡ replicate (pidmax + 
 unfolding rows_in
 rows_unborne pidmax = none_in 0 (pidmax + 1)
 
--- one row is another
+-- one row is replaced by another
 pub row_changed : (pages : List (List Row)) (n : ℕ) (f : Row → Row) (was : Row) → HasRow pages n → ((other : Row) → row_or other pages n ≡ was) → IsRowChanged n f pages (with_row pages n (f was))
 unfolding row_in
 row_changed pages n f was here is q = row_set pages n q (f was) unborne here ∙ grind (arith, nat_tests, is unborne)
@@ -57,12 +57,12 @@ pub row_set_read : (pages new : List (List Row)) (n : ℕ) (r : Row) → new ≡
 unfolding row_in
 row_set_read pages new n r is here = rw is (row_set pages n n r unborne here ∙ ap (λ b. cond b r (row_or unborne pages n)) (eq-eqb n n refl))
 
--- the row of a number that is borne is there
+-- an ID in use has a row
 pub row_there : (pages : List (List Row)) (n : ℕ) → is_free_row (row_in pages n) ≡ false → HasRow pages n
 unfolding row_in
 row_there pages n e = elim (row_or_none pages n unborne) [ inl here ↦ here | inr none ↦ absurd (let f : true ≡ false = sym (ap is_free_row none) ∙ e in cc) ]
 
--- and nobody bears one that has none
+-- and an ID without a row is free
 pub absent : (pages : List (List Row)) (n : ℕ) → nat_lt (n % 1024) (length (slice_index_or pages (n / 1024) [])) ≡ false → is_free_row (row_in pages n) ≡ true
 unfolding row_in
 absent pages n e = elim (row_or_none pages n unborne) [ inl here ↦ absurd (grind (arith, nat_tests, here, e)) | inr none ↦ ap is_free_row none ]
@@ -73,14 +73,14 @@ pub rows_size : (pidmax : ℕ) (pages : List (List Row)) → length (rows_in pid
 unfolding rows_in
 rows_size pidmax pages = length-map-range_with_len (row_in pages) 0 (pidmax + 1)
 
--- what a table is worth
+-- the model of a table
 abbrev pub pids_in : ℕ → ℕ → List (List Row) → List ℕ → Pids
 pids_in pidmax last pages counts = record { pidmax = pidmax; last = last; rows = rows_in pidmax pages; sizes = sizes_in pidmax counts pages }
 
 pub pids_of : (pidmax last : ℕ) (pages : List (List Row)) (counts : List ℕ) (borne_below borne_from : ℕ) → IsTable pidmax last pages counts borne_below borne_from → IsPids (pids_in pidmax last pages counts)
 pids_of pidmax last pages counts borne_below borne_from t = record { size = rows_size pidmax pages; given = t.given; least = t.least; limit = t.limit }
 
--- a table stays one with the same rows and counts
+-- a table stays valid with the same rows and counts
 pub table_kept : (pidmax last : ℕ) (old new : List (List Row)) (before after : List ℕ) (borne_below borne_from : ℕ) → IsTable pidmax last old before borne_below borne_from
     → AreSame old new → ((k : ℕ) → slice_index_or after k 0 ≡ slice_index_or before k 0) → IsTable pidmax last new after borne_below borne_from
 table_kept pidmax last old new before after borne_below borne_from t same counts = record {
@@ -98,9 +98,9 @@ pub rows_kept : (old new : List (List Row)) → ((n : ℕ) → row_or unborne ne
 unfolding row_in
 rows_kept old new same = same
 
--- ---- free numbers
+-- ---- free IDs
 
--- nobody bears a number on a page of numbers that nobody bears
+-- an ID is free if its page has no ID in use
 pub free_on : (pidmax k : ℕ) (pages : List (List Row)) → borne_on pages k ≡ 0 → (q : ℕ) → q / 1024 ≡ k → is_free_in (rows_in pidmax pages) q ≡ true
 unfolding is_free_in
 free_on pidmax k pages none q same = elim (cases_lt pidmax q) [
@@ -108,19 +108,19 @@ free_on pidmax k pages none q same = elim (cases_lt pidmax q) [
   | inr l ↦ ap is_free_row (row_of pidmax pages q l) ∙ none_on pages k none q same
 ]
 
--- and somebody bears one on a page where somebody bears one
+-- a page with a count has an ID in use
 pub borne_one : (pidmax k : ℕ) (pages : List (List Row)) → AreUnborneAbove pidmax pages → borne_on pages k ≢ 0 → (q : ℕ) × (q / 1024 ≡ k) × (is_free_in (rows_in pidmax pages) q ≡ false)
 unfolding is_free_in
 borne_one pidmax k pages beyond some =
     let it = some_on pages k some in
     (it.0, it.1, elim (cases_lt pidmax it.0) [ inl past ↦ absurd (let f : false ≡ true = sym it.2 ∙ beyond it.0 past in cc) | inr l ↦ ap is_free_row (row_of pidmax pages it.0 l) ∙ it.2 ])
 
--- and each number where all are borne
+-- all its IDs are in use if it counts them all
 pub all_borne : (pidmax k : ℕ) (pages : List (List Row)) → borne_on pages k ≡ 1024 → (q : ℕ) → q / 1024 ≡ k → q ≤ pidmax → is_free_in (rows_in pidmax pages) q ≡ false
 unfolding is_free_in
 all_borne pidmax k pages full q same l = ap is_free_row (row_of pidmax pages q l) ∙ all_on pages k full q same
 
--- a number that somebody bears is at most the greatest one
+-- an ID in use is at most the largest
 pub within : (pidmax q : ℕ) (pages : List (List Row)) → is_free_in (rows_in pidmax pages) q ≡ false → q ≤ pidmax
 unfolding is_free_in
 within pidmax q pages e = elim (cases_lt pidmax q) [
@@ -128,14 +128,14 @@ within pidmax q pages e = elim (cases_lt pidmax q) [
   | inr l ↦ l
 ]
 
--- a number that nobody bears has the row of one
+-- a free ID has an unused row
 pub unborne_is : (pidmax q : ℕ) (pages : List (List Row)) → AreUnborneAbove pidmax pages → is_free_in (rows_in pidmax pages) q ≡ true → row_in pages q ≡ unborne
 unfolding is_free_in
 unborne_is pidmax q pages beyond free = elim (cases_lt pidmax q) [ inl past ↦ free_row_is _ (beyond q past) | inr l ↦ free_row_is _ (ap is_free_row (sym (row_of pidmax pages q l)) ∙ free) ]
 
--- ---- a number is borne, or given up
+-- ---- a use is added or removed
 
--- nobody bears one above the greatest once one up to it has changed
+-- no ID above the largest is in use after the row of an ID up to it has changed
 pub beyond_changed : (pidmax n : ℕ) (f : Row → Row) (old new : List (List Row)) → n ≤ pidmax → IsRowChanged n f old new → AreUnborneAbove pidmax old → AreUnborneAbove pidmax new
 beyond_changed pidmax n f old new top change beyond k past = ap is_free_row (others_same n f old new change k (λ e. omega (arith, e, past, top))) ∙ beyond k past
 
@@ -156,14 +156,14 @@ pub borne_rows : (pidmax n : ℕ) (role : Role) (old new : List (List Row)) → 
 unfolding is_free_in
 borne_rows pidmax n role old new l change = ap is_free_row (row_of pidmax new n l) ∙ newly_borne role n old new change
 
--- who was borne stays so
+-- an ID in use stays in use
 pub still_rows : (pidmax n q : ℕ) (role : Role) (old new : List (List Row)) → n ≤ pidmax → IsRowChanged n (one_more role) old new → is_free_in (rows_in pidmax old) q ≡ false → is_free_in (rows_in pidmax new) q ≡ false
 unfolding is_free_in
 still_rows pidmax n q role old new l change e =
     let m = within pidmax q old e in
     rw (row_of pidmax new q m, change q) (grind (arith, never_free role (row_in old n), row_of pidmax old q m, e))
 
--- a table stays one where a row changed, with what is known of where the free numbers are
+-- a table stays valid when a row changes, with what is known about where the free IDs are
 pub table_changed : (pidmax last given n : ℕ) (f : Row → Row) (old new : List (List Row)) (before after : List ℕ) (borne_below borne_from below from : ℕ) → IsTable pidmax last old before borne_below borne_from → n ≤ pidmax → IsRowChanged n f old new
     → Follows n old new before after → given ≤ pidmax → below ≤ borne_below → borne_from ≤ from → (is_free_row (row_in new n) ≡ false) ⊎ ((below ≤ n) × (n < from)) → IsTable pidmax given new after below from
 table_changed pidmax last given n f old new before after borne_below borne_from below from t top change follows g lower higher is = record {
@@ -183,11 +183,11 @@ table_changed pidmax last given n f old new before after borne_below borne_from 
       | inr ne ↦ ap is_free_row (others_same n f old new change k (λ e. ne (sym e))) ∙ was
     ]
 
--- a page counts no more numbers than it has
+-- a page counts no more IDs than it has
 pub count_small : (pidmax last page : ℕ) (pages : List (List Row)) (counts : List ℕ) (borne_below borne_from : ℕ) → IsTable pidmax last pages counts borne_below borne_from → slice_index_or counts page 0 ≤ 1024
 count_small pidmax last page pages counts borne_below borne_from t = rw (t.counted page) (few_on pages page)
 
--- and it counts those that are borne
+-- and it counts the IDs in use
 pub count_some : (pidmax last n page : ℕ) (pages : List (List Row)) (counts : List ℕ) (borne_below borne_from : ℕ) → IsTable pidmax last pages counts borne_below borne_from → page ≡ n / 1024 → is_free_row (row_in pages n) ≡ false → (page < length counts) × (1 ≤ slice_index_or counts page 0)
 count_some pidmax last n page pages counts borne_below borne_from t at borne =
     let some : 1 ≤ slice_index_or counts page 0 = elim (cases_eq (slice_index_or counts page 0) 0) [
@@ -215,7 +215,7 @@ new_table pidmax least limit = record {
   beyond = beyond_none pidmax;
 }
 
--- ---- the memory for numbers
+-- ---- the memory for IDs
 
 pub room_in : (pidmax n : ℕ) (pages : List (List Row)) (counts : List ℕ) → HasRoom (sizes_in pidmax counts pages) n → (pidmax / 1024 < length counts) × HasRow pages n
 room_in pidmax n pages counts h = elim (nat_lt (pidmax / 1024) (length counts)) as (λ b. nat_lt (pidmax / 1024) (length counts) ≡ b → HasRoom (cond b (sizes_of pages) []) n → (pidmax / 1024 < length counts) × HasRow pages n) [
@@ -226,14 +226,14 @@ room_in pidmax n pages counts h = elim (nat_lt (pidmax / 1024) (length counts)) 
 pub room_where : (pidmax n : ℕ) (pages : List (List Row)) (counts : List ℕ) → pidmax / 1024 < length counts → HasRow pages n → HasRoom (sizes_in pidmax counts pages) n
 room_where pidmax n pages counts l here = rw (lt-ltb _ _ l) (room_is pages n here)
 
--- it grows with the rows
+-- the memory grows with the rows
 pub room_grows : (pidmax : ℕ) (old new : List (List Row)) (before after : List ℕ) → length before ≤ length after → ((n : ℕ) → HasRow old n → HasRow new n) → Grows (sizes_in pidmax before old) (sizes_in pidmax after new)
 room_grows pidmax old new before after longer grows n h = let it = room_in pidmax n old before h in let l = it.0 in room_where pidmax n new after (omega (arith, l, longer)) (grows n it.1)
 
 pub sizes_same : (pidmax : ℕ) (old new : List (List Row)) (before after : List ℕ) → length after ≡ length before → sizes_of new ≡ sizes_of old → sizes_in pidmax after new ≡ sizes_in pidmax before old
 sizes_same pidmax old new before after length_is sizes = rw (length_is, sizes) refl
 
--- there is a row for a number that can be borne
+-- there is a row for an ID whose use may be added
 pub row_ready : (pidmax n : ℕ) (pages : List (List Row)) (counts : List ℕ) → n ≤ pidmax → (is_free_in (rows_in pidmax pages) n ≡ true → HasRoom (sizes_in pidmax counts pages) n) → HasRow pages n
 unfolding is_free_in
 row_ready pidmax n pages counts l room = elim (is_free_row (row_in pages n)) as (λ b. is_free_row (row_in pages n) ≡ b → HasRow pages n) [
@@ -246,7 +246,7 @@ pub count_ready : (pidmax n page : ℕ) (pages : List (List Row)) (counts : List
 unfolding is_free_in
 count_ready pidmax n page pages counts l room at free = let it = (room_in pidmax n pages counts (room (ap is_free_row (row_of pidmax pages n l) ∙ free))).0 in omega (arith, it, l, at)
 
--- ---- a page is given up
+-- ---- a page is freed
 
 page_same : (pidmax n : ℕ) (pages : List (List Row)) → AreUnborneAbove pidmax pages → ((q : ℕ) → q / 1024 ≡ n / 1024 → is_free_in (rows_in pidmax pages) q ≡ true) → AreSame pages (without_page pages n)
 unfolding row_in
@@ -264,7 +264,7 @@ page_given_up pidmax last n pages new counts borne_below borne_from p is e t fre
     let same = page_same pidmax n pages t.beyond (rw (← is) at free) in
     rw (e, ← is) (table_kept pidmax last pages (without_page pages n) counts counts borne_below borne_from t same (λ k. refl), rw (rows_same pidmax pages (without_page pages n) same, sizes_gone pidmax n pages counts) refl)
 
--- ---- what a table is worth after a change
+-- ---- the model of a table after a change
 
 -- with more room
 pub pids_rest : (pidmax last : ℕ) (old new : List (List Row)) (before after : List ℕ) (p : Pids) → pids_in pidmax last old before ≡ p → AreSame old new → pids_in pidmax last new after ≡ record p { sizes = sizes_in pidmax after new }

@@ -1,12 +1,12 @@
--- The run queue: who has a place, in which order, and for which numbers there is room.
+-- The run queue: its processes in order, and for which IDs there is room.
 use Rattle.std.specs.Prelude.{ℕ, ◌==◌, List, [], ◌∷◌, Option, None, cond, slice_get}
 
--- the pids in order, and for how many numbers of each page there is memory
+-- the process IDs in order, and for how many IDs of each page there is room
 pub record Places : Type 0 where
   pub pids : List ℕ
   pub sizes : List ℕ
 
--- who comes after p; none after the last one, and where p isn't there
+-- the process after p; none after the last one, or if p isn't in the list
 unfoldable pub next_behind : ℕ → List ℕ → Option ℕ
 next_behind p [] = None
 next_behind p (q ∷ qs) = cond (q == p) (slice_get qs 0) (next_behind p qs)

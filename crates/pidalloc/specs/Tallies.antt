@@ -3,7 +3,7 @@ use Rattle.std.specs.Prelude.{◌≡◌, ℕ, ◌≤◌, ◌==◌, List, length,
 use Rattle.posix.specs.Common.{Process}
 use Rattle.pidalloc.specs.Rows.{Row, Pids, row}
 
--- how often n is the number of a process, of its group and of its session
+-- how often n is the ID of a process, of its process group and of its session
 unfoldable pub tally : ℕ → List Process → Row
 tally n rs = record {
   process = length (filter (λ r. r.pid == n) rs);

@@ -1,4 +1,4 @@
-//! Which processes have a place, and in which order.
+//! The run queue.
 
 ghost use Rattle.std.specs.Prelude.{ℕ, ◌≡◌, ◌+◌, ◌≤◌, ◌==◌, cond, true, false, [], ◌∷◌, ◌++◌, length, slice_get, OnOk};
 ghost use Rattle.posix.specs.Common.{is_in, without, IsDistinct};
@@ -11,7 +11,7 @@ use posix::Pid;
 use std::alloc::{AllocError, Global};
 use std::marker::Model;
 
-/// Who stands before and after a process. After the last comes the first.
+/// The processes before and after a process in the run queue. The first comes after the last.
 #[derive(Clone, Copy)]
 struct Node {
     prev: Pid,
@@ -19,21 +19,20 @@ struct Node {
 }
 
 impl Node {
-    /// The node of a process that has no place.
+    /// The node of a process that isn't in the run queue.
     const NOWHERE: Node = Node {
         prev: Pid::NONE,
         next: Pid::NONE,
     };
 }
 
-/// The processes that have a place, by their numbers. The first is current (own).
+/// The run queue: process IDs in order. The first is the current process (own).
 ///
-/// They stand in a ring, in which the last one gets to its place by a look at the first. Memory is taken in
-/// [`Order::reserve`] alone.
+/// The nodes are a ring, so the last process is found from the first. Allocates only in [`Order::reserve`].
 #[derive(Drop)]
 pub struct Order {
     nodes: Rows<Node>,
-    /// The current process; number 0 for none.
+    /// The current process; 0 for none.
     first: Pid,
     len: usize,
 }
@@ -51,7 +50,7 @@ impl Model for Order {
 }
 
 impl Order {
-    /// An order of nobody. It takes no memory.
+    /// Creates an empty run queue. Allocates nothing.
     #[tactic(auto, using(crate::proofs::RingLemmas::kept_new), unfolding(crate::specs::Rings::read_off))]
     pub fn new(alloc: Global) -> Order
         ensures { result ≡ record { pids = []; sizes = [] } }
@@ -63,8 +62,8 @@ impl Order {
         }
     }
 
-    /// Makes room for the process with a number. The order stays, and room that was there, also at the error that there
-    /// is no memory.
+    /// Makes room for the process with an ID. The run queue is unchanged and all room stays, even if this fails for
+    /// lack of memory.
     #[inline]
     pub fn reserve(&mut self, pid: Pid) -> Result<(), AllocError>
         ensures room { OnOk result (HasRoom self.new.sizes pid) }
@@ -74,7 +73,7 @@ impl Order {
         self.nodes.reserve(pid, Node::NOWHERE)
     }
 
-    /// The room for a number goes, and that for all others on its page of 1,024 numbers. None of them has a place.
+    /// Frees the room for an ID and for all others on its page of 1,024 IDs. None of them may be in the run queue.
     pub fn give_up_page(&mut self, pid: Pid)
         requires { (p : ℕ) → is_in p self.old.pids ≡ true → IsOnAnotherPage p pid }
         ensures { self.new ≡ record { pids = self.old.pids; sizes = sizes_without self.old.sizes pid } }
@@ -82,7 +81,7 @@ impl Order {
         self.nodes.give_up_page(pid);
     }
 
-    /// How many processes have a place. Each has one.
+    /// Returns the number of processes in the run queue. Each is in it once.
     #[tactic(auto, using(crate::proofs::LinkLemmas::read_length))]
     pub fn len(&self) -> usize
         ensures value { result ≡ length self.now.pids }
@@ -91,7 +90,7 @@ impl Order {
         self.len
     }
 
-    /// The current process: the first; none where nobody has a place.
+    /// Returns the current process, the first in the run queue.
     #[inline]
     pub fn current(&self) -> Option<Pid>
         ensures { result ≡ slice_get self.now.pids 0 }
@@ -103,7 +102,7 @@ impl Order {
         }
     }
 
-    /// Who comes after a process; none after the last one, and after one that has no place.
+    /// Returns the process after another; `None` after the last one, or if the other isn't in the run queue.
     pub fn behind(&self, pid: Pid) -> Option<Pid>
         ensures { result ≡ next_behind pid self.now.pids }
     {
@@ -114,7 +113,7 @@ impl Order {
         if next == self.first { None } else { Some(next) }
     }
 
-    /// Whether the same processes have a place in another order, one after another as here.
+    /// Returns true if both run queues have the same processes in the same order.
     pub fn is_same(&self, other: &Order) -> bool
         ensures { result ≡ true → self.now.pids ≡ other.now.pids }
     {
@@ -137,7 +136,7 @@ impl Order {
         true
     }
 
-    /// Whether a process has a place.
+    /// Returns true if a process is in the run queue.
     #[inline]
     pub fn has(&self, pid: Pid) -> bool
         ensures { result ≡ is_in pid self.now.pids }
@@ -145,7 +144,7 @@ impl Order {
         self.nodes.has(pid) && self.nodes.get(pid).next != Pid::NONE
     }
 
-    /// Gives a process the last place.
+    /// Adds a process to the end of the run queue.
     #[inline]
     pub fn place(&mut self, pid: Pid)
         requires some { 1 ≤ pid }
@@ -165,7 +164,7 @@ impl Order {
         }
     }
 
-    /// A process loses its place, where it has one.
+    /// Removes a process from the run queue, if present.
     #[inline]
     pub fn drop_place(&mut self, pid: Pid)
         ensures pids { self.new.pids ≡ without pid self.old.pids }
@@ -181,8 +180,8 @@ impl Order {
         self.first = first_without(self.first, pid, next);
     }
 
-    /// A process that has a place gets the last one. For the current one the ring is turned.
-    /// In a ring, the next process becomes the first, and no node changes.
+    /// Moves a process to the end of the run queue. If it is the current process, the next process becomes the first of
+    /// the ring, and no node changes.
     #[inline]
     pub fn go_last(&mut self, pid: Pid)
         requires { is_in pid self.old.pids ≡ true }
@@ -198,7 +197,7 @@ impl Order {
     }
 }
 
-/// Who is first once a process has lost its place, where `next` came after it.
+/// Returns the first process after `pid` has left the run queue. `next` came after `pid`.
 #[inline]
 fn first_without(first: Pid, pid: Pid, next: Pid) -> Pid
     ensures { result ≡ cond (pid == first) (cond (next == pid) 0 next) first }
@@ -212,7 +211,7 @@ fn first_without(first: Pid, pid: Pid, next: Pid) -> Pid
     }
 }
 
-/// `next` comes right after `prev` from now on.
+/// Makes `next` the process after `prev`.
 #[inline]
 fn join(nodes: &mut Rows<Node>, prev: Pid, next: Pid)
     requires prev_inside { HasRow nodes.old prev }

@@ -1,10 +1,10 @@
-//! How often one number is borne.
+//! How many processes use one ID.
 
 ghost use Rattle.std.specs.Prelude.{◌≡◌, ◌<◌, ◌≤◌};
 ghost use Rattle.pidalloc.specs.Rows.{is_free_row, count_of, one_more, one_less};
 
-/// What a number is borne as: by a process, as its own number, that of its process group or that of
-/// its session (XBD 3 Process ID, Process Group ID, Session).
+/// The role of an ID that a process uses: its process ID, its process group ID or its session ID (XBD 3 Process ID,
+/// Process Group ID, Session).
 #[derive(Clone, Copy)]
 pub enum Role {
     Process,
@@ -12,7 +12,7 @@ pub enum Role {
     Session,
 }
 
-/// How many processes bear a number, as each of the three.
+/// How many processes use an ID in each role.
 #[derive(Clone, Copy)]
 pub struct Row {
     pub process: u32,
@@ -21,21 +21,21 @@ pub struct Row {
 }
 
 impl Row {
-    /// The row of a number that nobody bears.
+    /// The row of an ID that is not in use.
     pub const UNBORNE: Row = Row {
         process: 0,
         group: 0,
         session: 0,
     };
 
-    /// Whether nobody bears the number.
+    /// Returns true if the ID is not in use.
     pub fn is_free(self) -> bool
         ensures { result ≡ is_free_row self }
     {
         self.process == 0 && self.group == 0 && self.session == 0
     }
 
-    /// One process more bears it in this role.
+    /// Adds a use of the ID in this role.
     pub fn bear(&mut self, role: Role)
         requires { count_of role self.old < 4294967295 }
         ensures { self.new ≡ one_more role self.old }
@@ -47,7 +47,7 @@ impl Row {
         }
     }
 
-    /// One process less bears it in this role.
+    /// Removes a use of the ID in this role.
     pub fn give_up(&mut self, role: Role)
         requires { 1 ≤ count_of role self.old }
         ensures { self.new ≡ one_less role self.old }

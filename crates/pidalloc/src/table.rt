@@ -1,4 +1,4 @@
-//! The numbers up to a greatest one, and who bears them.
+//! The IDs up to a largest one, and how many processes use each.
 
 ghost use Rattle.std.specs.Prelude.{◌≡◌, ◌+◌, ◌-◌, ◌<◌, ◌≤◌, ◌/◌, ◌%◌, ◌*◌, ◌⊎◌, ◌==◌, ◌&&◌, ℕ, true, false, Some, None, [], OnOk, length, slice_index_or};
 ghost use Rattle.posix.specs.Common.{next_free, first_free};
@@ -11,22 +11,21 @@ use posix::Pid;
 use std::alloc::{AllocError, Global};
 use std::marker::Model;
 
-/// How often each number from 0 to a greatest one is borne as a process's own, a group's and a
-/// session's, and the number that was given last.
+/// How many processes use each ID from 0 to a largest one, as process ID, process group ID and session ID; and the last
+/// process ID given out.
 ///
-/// The rows are in pages of 1,024 numbers, so the size follows the numbers that are borne. Memory is taken in
-/// [`PidTable::reserve`] alone.
-/// In one sorted list of IDs a removal would move 16 MB.
+/// The rows are in pages of 1,024 IDs, so the size depends on the IDs in use. Allocates only in [`PidTable::reserve`].
+/// In one sorted list of IDs, a removal could move 16 MB.
 #[derive(Drop)]
 pub struct PidTable {
     pidmax: u32,
     last: u32,
     rows: Rows<Row>,
-    /// How many numbers of each page are borne.
+    /// How many IDs of each page are in use.
     counts: Vec<u32>,
-    /// All numbers from 2 on that are below this one are borne.
+    /// All IDs from 2 on that are below this one are in use.
     borne_below: u32,
-    /// All numbers from this one on are borne.
+    /// All IDs from this one on are in use.
     borne_from: u32,
 }
 
@@ -40,7 +39,7 @@ impl Model for PidTable {
     ghost invariant = { λ t. IsTable t.pidmax t.last t.rows t.counts.items t.borne_below t.borne_from };
 }
 
-/// On which page a number is.
+/// Returns the page number of an ID.
 #[inline(always)]
 fn page_of(number: u32) -> usize
     ensures { result ≡ number / 1024 }
@@ -48,7 +47,7 @@ fn page_of(number: u32) -> usize
     (number / 1024) as usize
 }
 
-/// Makes `count` counts, of which the new ones are 0. An error where there is no memory for them.
+/// Makes `count` counts; new ones are 0. Fails if there is no memory for them.
 #[inline]
 fn make_counts(counts: &mut Vec<u32>, count: usize) -> Result<(), AllocError>
     ensures same { (k : ℕ) → slice_index_or counts.new.items k 0 ≡ slice_index_or counts.old.items k 0 }
@@ -61,7 +60,7 @@ fn make_counts(counts: &mut Vec<u32>, count: usize) -> Result<(), AllocError>
     counts.resize(count, 0)
 }
 
-/// How many numbers of a page are borne.
+/// Returns how many IDs of a page are in use.
 #[inline]
 fn count_at(counts: &Vec<u32>, page: usize) -> u32
     ensures { result ≡ slice_index_or counts.now.items page 0 }
@@ -72,7 +71,7 @@ fn count_at(counts: &Vec<u32>, page: usize) -> u32
     }
 }
 
-/// One number more of a page is borne, if nobody bore it before.
+/// Counts one more ID of a page as in use, if it was free before.
 #[inline]
 fn count_borne(counts: &mut Vec<u32>, page: usize, was_free: bool)
     requires inside { was_free ≡ true → page < length counts.old.items }
@@ -85,7 +84,7 @@ fn count_borne(counts: &mut Vec<u32>, page: usize, was_free: bool)
     }
 }
 
-/// One process more bears a number in this role; whether nobody bore it before.
+/// Adds a use of an ID in this role. Returns true if the ID was free before.
 #[inline]
 fn bear_in(rows: &mut Rows<Row>, pid: Pid, role: Role) -> bool
     requires there { HasRow rows.old pid }
@@ -101,7 +100,7 @@ fn bear_in(rows: &mut Rows<Row>, pid: Pid, role: Role) -> bool
     was_free
 }
 
-/// One process less bears a number in this role; whether nobody bears it any more.
+/// Removes a use of an ID in this role. Returns true if the ID is free now.
 #[inline]
 fn give_up_in(rows: &mut Rows<Row>, pid: Pid, role: Role) -> bool
     requires { 1 ≤ count_of role (row_in rows.old pid) }
@@ -115,7 +114,7 @@ fn give_up_in(rows: &mut Rows<Row>, pid: Pid, role: Role) -> bool
     row.is_free()
 }
 
-/// The number given last once `number` is borne in this role.
+/// Returns the last ID given out, after a new use of `number` in this role.
 fn given(role: Role, number: u32, last: u32) -> u32
     ensures { result ≡ last_given role number last }
 {
@@ -126,8 +125,8 @@ fn given(role: Role, number: u32, last: u32) -> u32
 }
 
 impl PidTable {
-    /// A table of the numbers up to `pidmax`, 2 to 4,194,304: nobody bears any, and number 1 counts as
-    /// the last one given. It takes no memory.
+    /// Creates a table of the IDs up to `pidmax`, 2 to 4,194,304. None is in use, and ID 1 counts as the last one given
+    /// out. Allocates nothing.
     pub fn new(alloc: Global, pidmax: u32) -> PidTable
         requires { (2 ≤ pidmax) × (pidmax ≤ 4194304) }
         ensures value { result ≡ unborne_table pidmax }
@@ -143,8 +142,8 @@ impl PidTable {
         }
     }
 
-    /// Makes it certain that a number can be borne, where it is none above the greatest. Nothing else changes, also at
-    /// the error that there is no memory for it.
+    /// Makes room for uses of an ID, which is at most the largest one. Nothing else changes, even if this fails for
+    /// lack of memory.
     #[inline]
     pub fn reserve(&mut self, pid: Pid) -> Result<(), AllocError>
         ensures room { OnOk result (HasRoom self.new.sizes pid) }
@@ -155,7 +154,7 @@ impl PidTable {
         self.rows.reserve(pid, Row::UNBORNE)
     }
 
-    /// The greatest number: 2 to 4,194,304.
+    /// Returns the largest ID: 2 to 4,194,304.
     pub fn pidmax(&self) -> u32
         ensures value { result ≡ self.now.pidmax }
         ensures range { (2 ≤ result) × (result ≤ 4194304) }
@@ -164,16 +163,16 @@ impl PidTable {
         self.pidmax
     }
 
-    /// The number given last.
+    /// Returns the last process ID given out.
     pub fn last(&self) -> Pid
         ensures { result ≡ self.now.last }
     {
         Pid::new(self.last).unwrap_or(Pid::NONE)
     }
 
-    /// Whether the page of a number can go: nobody bears any of the 1,024 numbers on it, and the one given last isn't
-    /// on it, so that the next one given may not be either.
-    /// The page of the last ID given stays, so that births and terminations on one page do not make it again and again.
+    /// Returns true if the page of an ID can be freed: none of its 1,024 IDs is in use, and the last ID given out isn't
+    /// on it. The page of the last ID stays, because the next one may be on it, too. Otherwise forks and terminations
+    /// on one page could free and allocate it again and again.
     #[inline]
     pub fn can_give_up_page(&self, pid: Pid) -> bool
         ensures free { result ≡ true → (q : ℕ) → q / 1024 ≡ pid / 1024 → is_free_in self.now.rows q ≡ true }
@@ -183,7 +182,7 @@ impl PidTable {
         page != page_of(self.last) && count_at(&self.counts, page) == 0
     }
 
-    /// The room for a number goes, and that for all others on its page of 1,024 numbers, none of which is borne.
+    /// Frees the room for an ID and for all others on its page of 1,024 IDs. None of them may be in use.
     pub fn give_up_page(&mut self, pid: Pid)
         requires { (q : ℕ) → q / 1024 ≡ pid / 1024 → is_free_in self.old.rows q ≡ true }
         ensures { self.new ≡ record (self.old) { sizes = sizes_without self.old.sizes pid } }
@@ -191,7 +190,7 @@ impl PidTable {
         self.rows.give_up_page(pid);
     }
 
-    /// Whether nobody bears a number.
+    /// Returns true if an ID is not in use.
     #[inline]
     fn is_free(&self, pid: Pid) -> bool
         ensures { pid ≤ self.now.pidmax → result ≡ is_free_in self.now.rows pid }
@@ -199,7 +198,7 @@ impl PidTable {
         !self.rows.has(pid) || self.rows.get(pid).is_free()
     }
 
-    /// The least free number from `from` on. A page of which all numbers are borne is passed over.
+    /// Returns the lowest free ID from `from` on. Skips pages on which all IDs are in use.
     fn first_free(&self, from: u32) -> Option<Pid>
         requires { from ≤ self.now.pidmax + 1 }
         ensures { result ≡ first_free (is_free_in self.now.rows) from (self.now.pidmax + 1 - from) }
@@ -218,7 +217,7 @@ impl PidTable {
         None
     }
 
-    /// The least free number above the one given last. If there is none, the next search needn't look there.
+    /// Returns the lowest free ID above the last one given out. If there is none, the next search skips this range.
     fn first_above_last(&mut self) -> Option<Pid>
         ensures value { result ≡ first_free (is_free_in self.old.rows) (self.old.last + 1) (self.old.pidmax - self.old.last) }
         ensures same { self.new ≡ self.old }
@@ -234,7 +233,7 @@ impl PidTable {
         pid
     }
 
-    /// The least free number from 2 on. The next search begins there.
+    /// Returns the lowest free ID from 2 on. The next search starts there.
     fn first_of_all(&mut self) -> Option<Pid>
         ensures value { result ≡ first_free (is_free_in self.old.rows) 2 (self.old.pidmax - 1) }
         ensures same { self.new ≡ self.old }
@@ -247,9 +246,9 @@ impl PidTable {
         pid
     }
 
-    /// The number of the next process: the least that nobody bears above the one given last, else the
-    /// least from 2 on; none where all are borne (own). A number that still names a process group or a
-    /// session isn't given (XSH fork). Where one number alone is free, it is found at once from the second time on.
+    /// Returns the ID of the next process: the lowest free one above the last given out; if there is none, the lowest
+    /// free one from 2 on; `None` if all are in use (own). An ID is in use as long as it is that of a process group or
+    /// session (XSH fork). If only one ID is free, every search after the first finds it at once.
     #[tactic(auto, unfolding(posix::specs::NextPid::next_free))]
     pub fn next(&mut self) -> Option<Pid>
         ensures value { result ≡ next_free (is_free_in self.old.rows) self.old.last self.old.pidmax }
@@ -261,8 +260,7 @@ impl PidTable {
         self.first_of_all()
     }
 
-    /// One process more bears `pid` in this role. As a process's own number it is also the one given
-    /// last.
+    /// Adds a use of `pid` in this role. A process ID also becomes the last one given out.
     pub fn bear(&mut self, pid: Pid, role: Role)
         requires range { pid ≤ self.old.pidmax }
         requires count { count_of role (row self.old.rows pid) < 4294967295 }
@@ -278,7 +276,7 @@ impl PidTable {
         self.last = given(role, number, self.last);
     }
 
-    /// One process less bears `pid` in this role.
+    /// Removes a use of `pid` in this role.
     pub fn give_up(&mut self, pid: Pid, role: Role)
         requires range { pid ≤ self.old.pidmax }
         requires count { 1 ≤ count_of role (row self.old.rows pid) }
@@ -294,8 +292,8 @@ impl PidTable {
         self.borne_from = self.borne_from.max(number + 1);
     }
 
-    /// A process was born: it bears its own number, which is the one given last, its group's and its
-    /// session's.
+    /// Adds the uses of a new process: of its own ID, which becomes the last one given out, and of its process group's
+    /// and its session's.
     #[tactic(auto, unfolding(crate::specs::Rows::borne, crate::specs::Rows::born_in))]
     pub fn bear_all(&mut self, pid: Pid, group: Pid, session: Pid)
         requires pid_range { pid ≤ self.old.pidmax }
@@ -317,8 +315,8 @@ impl PidTable {
         self.bear(session, Role::Session);
     }
 
-    /// A process is gone: it gives up its own number, its group's and its session's. The number given
-    /// last stays.
+    /// Removes the uses of a removed process: of its own ID, its process group's and its session's. The last ID given
+    /// out is unchanged.
     #[tactic(auto, unfolding(crate::specs::Rows::given_up, crate::specs::Rows::gone_from))]
     pub fn give_up_all(&mut self, pid: Pid, group: Pid, session: Pid)
         requires pid_range { pid ≤ self.old.pidmax }
@@ -337,8 +335,8 @@ impl PidTable {
         self.give_up(session, Role::Session);
     }
 
-    /// A process that was in one process group and session is in others: it bears their numbers, and gives up
-    /// the two that it bore. The number given last stays.
+    /// Moves a process from one process group and session to others: adds its uses of the new IDs, and removes those of
+    /// the old ones. The last ID given out is unchanged.
     #[tactic(auto, unfolding(crate::specs::Rows::borne, crate::specs::Rows::given_up, crate::specs::Rows::regrouped))]
     pub fn regroup(&mut self, group: Pid, session: Pid, to_group: Pid, to_session: Pid)
         requires group_range { group ≤ self.old.pidmax }

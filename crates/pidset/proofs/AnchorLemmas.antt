@@ -1,6 +1,6 @@
--- What moves in the index of those that keep their process groups from being orphaned: whose key changes where one record
--- changes, comes or goes. It is the key of the process itself, and of its children, if what these see of it changes: its
--- group and its session, and whether it is there.
+-- The index of anchors, which keep their process groups from being orphaned: whose key changes when one record is
+-- changed, removed or inserted. It is the key of the process itself. If its group, its session or its existence
+-- changes, the keys of its children change, too.
 use Rattle.std.proofs.Common.{◌≡◌, ◌≢◌, ℕ, ◌&&◌, Bool, false, not, cond, map, refl, ap, sym, ◌∙◌, List, Option, Some, None, option_map, ◌==◌, inl, inr, arith}
 use Rattle.std.specs.Option.{option_map_or}
 use Rattle.std.specs.List.{list_any}
@@ -25,7 +25,7 @@ stance r = record { group = r.group; session = r.session }
 abbrev pub stance_of : ℕ → List Process → Option Stance
 stance_of p rs = option_map stance (lookup p rs)
 
--- a process whose parent takes the same stance is an anchor as before
+-- an anchor stays an anchor if its parent's stance is the same
 pub same_anchor : (rs ts : List Process) (r : Process) → stance_of r.parent ts ≡ stance_of r.parent rs → anchor_key ts r ≡ anchor_key rs r
 unfolding is_anchor
 same_anchor rs ts r same = ap (λ (b : Bool). cond (is_living r && b) (Some r.group) None) (outside (lookup r.parent ts) ∙ ap (λ (o : Option Stance). option_map_or there o false) same ∙ sym (outside (lookup r.parent rs)))
@@ -37,30 +37,31 @@ same_anchor rs ts r same = ap (λ (b : Bool). cond (is_living r && b) (Some r.gr
     outside None = refl
     outside (Some q) = refl
 
--- all but p have the same key where the record of p is changed, comes or goes, and their parents take the same stance
+-- when the record of p is changed, removed or inserted, another process keeps its key if its parent's stance is the
+-- same
 pub same_elsewhere : (p q : ℕ) (rs ts : List Process) → IsElsewhere p rs ts → q ≢ p → ((r : Process) → lookup q rs ≡ Some r → stance_of r.parent ts ≡ stance_of r.parent rs) → key_of (anchor_key ts) q ts ≡ key_of (anchor_key rs) q rs
 same_elsewhere p q rs ts same ne stays = ap (option_and_then (anchor_key ts)) (same q ne) ∙ elim (lookup q rs) as (λ o. lookup q rs ≡ o → option_and_then (anchor_key ts) o ≡ option_and_then (anchor_key rs) o) [
   | None ↦ λ e. refl
   | Some r ↦ λ e. same_anchor rs ts r (stays r e)
 ] refl
 
--- where p takes the same stance, all do
+-- if the stance of p is the same, so is that of every process
 pub stance_stays : (p : ℕ) (rs ts : List Process) → IsElsewhere p rs ts → stance_of p ts ≡ stance_of p rs → (q : ℕ) → stance_of q ts ≡ stance_of q rs
 stance_stays p rs ts same stays q = grind (arith, same q, stays)
 
--- and its children have the same key: a change of its life, say, moves it alone
+-- if the stance of p is the same, only the key of p changes: for example, when its life changes
 pub anchors_moved : (p : ℕ) (rs ts : List Process) (old new : List Pair) → IsElsewhere p rs ts → stance_of p ts ≡ stance_of p rs → IsAnchorIndex rs old → IsMoved p (key_of (anchor_key ts) p ts) old new → IsAnchorIndex ts new
 anchors_moved p rs ts old new same stays h moved =
     keyed_moved p (λ q. key_of (anchor_key rs) q rs) (λ q. key_of (anchor_key ts) q ts) old new (λ q ne. same_elsewhere p q rs ts same ne (λ r e. stance_stays p rs ts same stays r.parent)) h moved
 
--- so does one that is nobody's parent, where it comes or goes
+-- the same if p is the parent of no process, and is inserted or removed
 pub anchors_apart : (p : ℕ) (rs ts : List Process) (old new : List Pair) → IsElsewhere p rs ts → ((q : ℕ) (r : Process) → lookup q rs ≡ Some r → r.parent ≢ p) → IsMoved p (key_of (anchor_key ts) p ts) old new → IsAnchorIndex rs old → IsAnchorIndex ts new
 anchors_apart p rs ts old new same apart moved h =
     keyed_moved p (λ q. key_of (anchor_key rs) q rs) (λ q. key_of (anchor_key ts) q ts) old new (λ q ne. same_elsewhere p q rs ts same ne (λ r e. ap (option_map stance) (same r.parent (apart q r e)))) h moved
 
 -- ---- children
 
--- the children of p come under these keys
+-- the children of p get these keys
 keyed_turned : (p : ℕ) (key : Process → Option ℕ) (rs : List Process) (keys now : ℕ → Option ℕ) (old new : List Pair) → AreTurned p key rs old new → IsKeyed keys old → ((q : ℕ) (r : Process) → lookup q rs ≡ Some r → r.parent ≡ p → key r ≡ now q)
     → ((q : ℕ) → ((r : Process) → lookup q rs ≡ Some r → r.parent ≢ p) → keys q ≡ now q) → IsKeyed now new
 keyed_turned p key rs keys now old new turned h children others q k = turned k q ∙ at (lookup q rs) refl
@@ -69,7 +70,7 @@ keyed_turned p key rs keys now old new turned h children others q k = turned k q
     at None e = h q k ∙ ap (is_key k) (others q (λ r f. let no : None ≡ Some r = sym e ∙ f in absurd (cc)))
     at (Some r) e = grind (arith, h q k, children q r e, λ (ne : r.parent ≢ p). others q (λ x f. let one : Some x ≡ Some r = sym f ∙ e in let is : x ≡ r = cc in rw is ne))
 
--- p moves, and then its children, by what they see of it
+-- the key of p changes, and then those of its children, which see p
 pub anchors_turned : (p : ℕ) (key : Process → Option ℕ) (rs ts : List Process) (old mid new : List Pair) → IsElsewhere p rs ts → IsMoved p (key_of (anchor_key ts) p ts) old mid → AreTurned p key ts mid new → ((r : Process) → r.parent ≡ p → key r ≡ anchor_key ts r)
     → IsAnchorIndex rs old → IsAnchorIndex ts new
 anchors_turned p key rs ts old mid new same moved turned keys h = keyed_turned p key ts between now mid new turned (keyed_moved p was between old mid (λ q ne. rw (ne_eqb q p ne) refl) h (rw (eq-eqb p p refl) moved))
@@ -87,7 +88,7 @@ anchors_turned p key rs ts old mid new same moved turned keys h = keyed_turned p
     between : ℕ → Option ℕ
     between q = cond (q == p) (now p) (was q)
 
--- the children of one process move, and then they become those of another
+-- the keys of the children of one process change, and then they become children of another
 pub anchors_adopted : (from to : ℕ) (key : Process → Option ℕ) (rs : List Process) (old new : List Pair) → AreTurned from key rs old new → ((r : Process) → key r ≡ anchor_key rs (record r { parent = to })) → IsAnchorIndex rs old → IsAnchorIndex (adopted from to rs) new
 unfolding adopted
 anchors_adopted from to key rs old new turned keys h = keyed_turned from key rs (λ q. key_of (anchor_key rs) q rs) (λ q. key_of (anchor_key ts) q ts) old new turned h
@@ -115,7 +116,7 @@ anchors_adopted from to key rs old new turned keys h = keyed_turned from key rs 
 
 -- ---- a walk over the children
 
--- all who aren't children stand as they did
+-- a process that isn't a child keeps its key
 pub turned_none : (p : ℕ) (key : Process → Option ℕ) (rs : List Process) (old : List Pair) (q : ℕ) → list_any (has_pid q) (children_in p rs) ≡ false → (k : ℕ) → is_pair_in k q old ≡ is_turned p key rs old k q
 unfolding children_in
 turned_none p key rs old q none k = at (lookup q rs) refl
@@ -124,7 +125,7 @@ turned_none p key rs old q none k = at (lookup q rs) refl
     at None e = refl
     at (Some r) e = grind (arith, λ (child : r.parent ≡ p). any_looked (λ r. is_child p r && has_pid q r) q rs r e (rw (eq-eqb r.parent p child) (eq-eqb r.pid q (pid_looked q rs r e))), none, any_filter (is_child p) (has_pid q) rs)
 
--- and the child c stands as it is to, with those that aren't left
+-- after the child c has got its key, all processes except the children that are left have theirs
 pub turned_one : (p c : ℕ) (key : Process → Option ℕ) (rs : List Process) (old mid new : List Pair) (next : Option ℕ) → (i : AtChild rs p c) → next ≡ Some c → IsMoved c (key i.what) mid new
     → ((q : ℕ) → list_any (has_pid q) (left_of next (children_in p rs)) ≡ false → (k : ℕ) → is_pair_in k q mid ≡ is_turned p key rs old k q)
     → (q : ℕ) → list_any (has_pid q) (left_of (first_pid (above c (children_in p rs))) (children_in p rs)) ≡ false → (k : ℕ) → is_pair_in k q new ≡ is_turned p key rs old k q

@@ -1,4 +1,4 @@
--- What keeps an index right, whatever its key.
+-- What keeps an index right, for any key.
 use Rattle.std.proofs.Common.{◌≡◌, ◌≢◌, ℕ, ◌<◌, ◌≤◌, Bool, true, false, cond, not, ◌&&◌, ◌||◌, refl, ap, sym, ◌∙◌, arith, List, [], ◌∷◌, length, map, filter, Option, Some, None, IfSome, option_map, is_some, nat_lt, ◌==◌, inl, inr}
 use Rattle.std.specs.List.{AllByRecursion, list_any}
 use Rattle.std.specs.Option.{IsSome}
@@ -21,7 +21,7 @@ use Rattle.pidset.proofs.PairLemmas.{in_order, rises_in_order, key_in_order, len
 
 -- ---- one record
 
--- all records but that of p are the same
+-- all records except that of p are the same
 abbrev pub IsElsewhere : ℕ → List Process → List Process → Type 0
 IsElsewhere p rs ts = (q : ℕ) → q ≢ p → lookup q ts ≡ lookup q rs
 
@@ -34,23 +34,23 @@ elsewhere_inserted new rs q ne = lookup_inserted new q rs ne
 pub elsewhere_removed : (p : ℕ) (rs : List Process) → IsElsewhere p rs (removed p rs)
 elsewhere_removed p rs q ne = lookup_kept p q rs ne
 
--- and once it has gone
+-- a removed process has no key
 pub key_removed : (key : Process → Option ℕ) (p : ℕ) (rs : List Process) → key_of key p (removed p rs) ≡ None
 key_removed key p rs = ap (option_and_then key) (lookup_removed p rs)
 
--- where the keys of all but p stay, and p moves to its key, the index stays right
+-- if all others keep their keys and p is moved to its key, the index stays right
 pub keyed_moved : (p : ℕ) (keys now : ℕ → Option ℕ) (old new : List Pair) → ((q : ℕ) → q ≢ p → now q ≡ keys q) → IsKeyed keys old → IsMoved p (now p) old new → IsKeyed now new
 keyed_moved p keys now old new same h moved q k = grind (arith, eqb-true, moved k q, h q k, same q)
 
--- so where the record of p is changed, comes or goes
+-- the same if the record of p is changed, removed or inserted
 pub index_moved : (key : Process → Option ℕ) (p : ℕ) (rs ts : List Process) (old new : List Pair) → IsElsewhere p rs ts → IsIndex key rs old → IsMoved p (key_of key p ts) old new → IsIndex key ts new
 index_moved key p rs ts old new same h moved = keyed_moved p (λ q. key_of key q rs) (λ q. key_of key q ts) old new (λ q ne. ap (option_and_then key) (same q ne)) h moved
 
--- where its key stays, nothing moves
+-- if the key of p stays, the pairs may stay
 pub unmoved : (key : Process → Option ℕ) (p : ℕ) (rs : List Process) (pairs : List Pair) (k : Option ℕ) → IsIndex key rs pairs → k ≡ key_of key p rs → IsMoved p k pairs pairs
 unmoved key p rs pairs o h same k q = grind (arith, eqb-true, h p k, same)
 
--- it stands under one key at most
+-- a process has at most one key
 pub at_once : (p : ℕ) (a b : Option ℕ) (pairs : List Pair) → IsAt p a pairs → IsAt p b pairs → a ≡ b
 at_once p None None pairs h i = refl
 at_once p None (Some k) pairs h i = let no : false ≡ true = sym (h k) ∙ i k ∙ eq-eqb k k refl in absurd (cc)
@@ -59,24 +59,24 @@ at_once p (Some k) (Some n) pairs h i = ap Some (sym (eqb-true n k (sym (i k) �
 
 -- ---- all records
 
--- where no key changes, the index stays right
+-- if no key changes, the index stays right
 pub index_same : (key : Process → Option ℕ) (rs ts : List Process) (pairs : List Pair) → ((q : ℕ) → key_of key q ts ≡ key_of key q rs) → IsIndex key rs pairs → IsIndex key ts pairs
 index_same key rs ts pairs same h q k = h q k ∙ ap (is_key k) (sym (same q))
 
--- so where each record comes to have the key that it had by another rule
+-- the same if each changed record has by one rule the key that it had by another
 pub index_map : (key was : Process → Option ℕ) (g : Process → Process) → ((r : Process) → (g r).pid ≡ r.pid) → ((r : Process) → key (g r) ≡ was r) → (rs : List Process) (pairs : List Pair) → IsIndex was rs pairs → IsIndex key (map g rs) pairs
 index_map key was g named is rs pairs h q k = h q k ∙ ap (is_key k) (sym (ap (option_and_then key) (lookup_map g named q rs) ∙ elim (lookup q rs) as (λ o. option_and_then key (option_map g o) ≡ option_and_then was o) [ None ↦ refl | Some r ↦ is r ]))
 
 -- ---- a walk
 
--- the next under a key is the next of the processes that have it
+-- the next process with a key in the index is the next one in the list that has it
 pub next_pair : (key : Process → Option ℕ) (rs : List Process) (pairs : List Pair) (k n : ℕ) (next : Option ℕ) → IsRising rs → IsIndex key rs pairs → IsNextPair k n pairs next → next ≡ first_pid (above n (filter (λ r. is_key k (key r)) rs))
 next_pair key rs pairs k n next up h i = same next (first_pid (filter passes rs)) i (first_passes passes rs up) (none_passes_before passes rs up) ∙ ap first_pid (sym (both_pass (λ r. is_key k (key r)) (λ r. nat_lt n r.pid) rs))
   where
     passes : Process → Bool
     passes r = is_key k (key r) && nat_lt n r.pid
 
-    -- who passes is in the index
+    -- a process that passes is in the index
     inside : (p : ℕ) → Passes passes rs p → (n < p) × (is_pair_in k p pairs ≡ true)
     inside p t =
         let named = pid_looked p rs t.0 t.1 in
@@ -84,7 +84,7 @@ next_pair key rs pairs k n next up h i = same next (first_pid (filter passes rs)
         let high = ltb-true _ _ both.1 in
         (omega (arith, named, high), h p k ∙ ap (λ (o : Option Process). is_key k (option_and_then key o)) t.1 ∙ both.0)
 
-    -- and who is in the index above n passes
+    -- a process above n in the index passes
     outside : (p : ℕ) → n < p → is_pair_in k p pairs ≡ true → Passes passes rs p
     outside p l e = elim (lookup p rs) as (λ o. lookup p rs ≡ o → Passes passes rs p) [
       | None ↦ λ t. let no : true ≡ false = sym e ∙ h p k ∙ ap (λ (o : Option Process). is_key k (option_and_then key o)) t in absurd (cc)
@@ -106,7 +106,7 @@ next_pair key rs pairs k n next up h i = same next (first_pid (filter passes rs)
         let l = i.least c j.1 j.0 in
         grind (arith, l.1, l.2, λ (low : m < c). g m k.0 k.1 k.2 low)
 
--- those that stand under a group where they pass a test are its members that pass it
+-- if the key is the group for those that pass a test, the processes with that key are the members that pass
 pub members_passing : (t : Process → Bool) (key : Process → Option ℕ) → ((r : Process) → key r ≡ cond (t r) (Some r.group) None) → (group : ℕ) (rs : List Process) → filter (λ r. is_key group (key r)) rs ≡ filter t (members_in group rs)
 unfolding members_in
 members_passing t key is group [] = refl
@@ -114,7 +114,7 @@ members_passing t key is group (r ∷ rs) = rw (is r) (grind (arith, members_pas
 
 -- ---- how many there are
 
--- a rising list whose numbers all stand in another rising list is no longer
+-- a rising list whose numbers are all in another rising list is no longer than that list
 pub shorter : (ns ms : List ℕ) → Rises ns → Rises ms → ((q : ℕ) → is_in q ns ≡ true → is_in q ms ≡ true) → length ns ≤ length ms
 unfolding Rises is_in
 shorter [] ms a b h = omega arith
@@ -129,19 +129,19 @@ above_pids : (n : ℕ) (rs : List Process) → AllByRecursion (λ (r : Process).
 above_pids n [] h = tt
 above_pids n (r ∷ rs) h = (h.0, above_pids n rs h.1)
 
--- the numbers of processes in rising order rise
+-- the IDs of processes in rising order rise
 pub rises_pids : (rs : List Process) → IsRising rs → Rises (pids rs)
 unfolding IsRising Rises
 rises_pids [] u = tt
 rises_pids (r ∷ rs) u = (above_pids r.pid rs u.0, rises_pids rs u.1)
 
--- who is found is in the list of numbers
+-- the ID of an existing process is in the list of IDs
 pub in_pids : (p : ℕ) (rs : List Process) (r : Process) → lookup p rs ≡ Some r → is_in p (pids rs) ≡ true
 unfolding lookup is_in
 in_pids p [] r e = absurd (cc)
 in_pids p (x ∷ rs) r e = grind (arith, in_pids p rs r)
 
--- no more pairs than processes
+-- there are no more pairs than processes
 pub few_pairs : (key : Process → Option ℕ) (rs : List Process) (pairs : List Pair) → IsRising rs → ArePairs pairs → IsIndex key rs pairs → length pairs ≤ length rs
 few_pairs key rs pairs up once h =
     let long = length_in_order pairs once (λ k m p a b. one k m (key_of key p rs) (sym (h p k) ∙ a) (sym (h p m) ∙ b)) in
@@ -159,13 +159,13 @@ few_pairs key rs pairs up once h =
 
 -- ---- an index with its room
 
--- one record less where one goes
+-- a removal makes the list shorter
 shorter_removed : (p : ℕ) (rs : List Process) → IsSome (lookup p rs) → length (removed p rs) < length rs
 unfolding lookup removed
 shorter_removed p [] h = absurd (cc)
 shorter_removed p (r ∷ rs) h = grind (arith, shorter_removed p rs, filter_at_most (λ (r : Process). not (r.pid == p)) rs)
 
--- fewer pairs than processes where p has no key
+-- there are fewer pairs than processes if p has no key
 few_without : (key : Process → Option ℕ) (p : ℕ) (rs : List Process) (pairs : List Pair) → IsRising rs → ArePairs pairs → IsIndex key rs pairs → key_of key p rs ≡ None → IsSome (lookup p rs) → length pairs < length rs
 few_without key p rs pairs up once h none here =
     let same : (q : ℕ) → key_of key q (removed p rs) ≡ key_of key q rs = λ q. grind (arith, key_removed key p rs, elsewhere_removed p rs q, none) in
@@ -186,7 +186,7 @@ indexed_moved key p rs ts old new same fits h k = record { index = index_moved k
 pub indexed_map : (key was : Process → Option ℕ) (g : Process → Process) → ((r : Process) → (g r).pid ≡ r.pid) → ((r : Process) → key (g r) ≡ was r) → (rs : List Process) (set : IndexView) → IsIndexed was rs set → IsIndexed key (map g rs) set
 indexed_map key was g named is rs set h = record { index = index_map key was g named is rs set.pairs h.index; once = h.once; room = let long = length-map rs g in let room = h.room in omega (arith, long, room) }
 
--- all that stand under one key come under another
+-- the new key after all processes with one key get another
 abbrev pub rekeyed : ℕ → ℕ → Option ℕ → Option ℕ
 rekeyed from to None = None
 rekeyed from to (Some k) = cond (k == from) (Some to) (Some k)
@@ -201,7 +201,7 @@ index_rekeyed key from to ne rs old new h is q k = is k q ∙ rw (h q k, h q fro
 pub indexed_rekeyed : (key : Process → Option ℕ) (from to : ℕ) → from ≢ to → (rs : List Process) (old new : IndexView) → IsIndexed key rs old → IsRekeyed from to old new → IsIndexed (λ r. rekeyed from to (key r)) rs new
 indexed_rekeyed key from to ne rs old new h is = record { index = index_rekeyed key from to ne rs old.pairs new.pairs h.index is.pairs; once = is.once; room = let room = h.room in let e = is.room in omega (arith, room, e) }
 
--- and where none does that, the index is as it was
+-- if no process has the old key, the index stays as it is
 pub rekeyed_none : (from to : ℕ) (set : IndexView) → ArePairs set.pairs → ((p : ℕ) → is_pair_in from p set.pairs ≡ false) → IsRekeyed from to set set
 rekeyed_none from to set once none = record {
   pairs = λ k p. grind (arith, eqb-true, none p);
@@ -209,12 +209,12 @@ rekeyed_none from to set once none = record {
   room = refl;
 }
 
--- at the start
+-- the index at the start
 pub indexed_none : (key : Process → Option ℕ) (set : IndexView) → set.pairs ≡ [] → ArePairs set.pairs → IsIndexed key [] set
 unfolding lookup is_pair_in
 indexed_none key set none once = record { index = λ p k. ap (is_pair_in k p) none; once = once; room = omega arith }
 
--- nobody stands in it where nobody has a key
+-- the index is empty exactly if no process has a key
 pub index_empty : (key : Process → Option ℕ) (t : Process → Bool) → ((r : Process) → is_some (key r) ≡ t r) → (rs : List Process) (pairs : List Pair) → IsRising rs → IsIndex key rs pairs → (length pairs == 0) ≡ not (list_any t rs)
 unfolding is_pair_in
 index_empty key t has rs [] up h = ap not (sym (false_from_ne_true _ (λ e. let i = some_looked t rs up e in none (key i.0) (has i.0 ∙ i.2) (λ k. sym (h i.0.pid k ∙ ap (λ (o : Option Process). is_key k (option_and_then key o)) i.1)))))

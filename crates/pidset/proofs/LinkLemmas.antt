@@ -1,4 +1,4 @@
--- Lists that are linked, as a process goes into one or is taken out.
+-- Linked lists, when a process is inserted or removed.
 use Rattle.std.proofs.Common.{◌≡◌, ◌≢◌, ◌⊎◌, ℕ, ◌<◌, ◌≤◌, cond, refl, ap, sym, ◌∙◌, subst, arith, ◌==◌, inl, inr}
 use Rattle.std.proofs.lemmas.Bool.{ne_eqb}
 use Rattle.std.proofs.lemmas.Bool.Decides.{nat_tests}
@@ -8,9 +8,9 @@ use Rattle.pidset.specs.Lists.{Nodes, node_of, list_of, behind_of, before_of, St
 use Rattle.pidset.proofs.RowLemmas.{row_kept}
 use Rattle.pidset.proofs.NodeLemmas.{nowhere, node_or_none, IsPlaced, placed, links_same, joins}
 
--- ---- who stands inside
+-- ---- nodes within the pages
 
--- who stands in a list has a node
+-- a process in a list has a node
 pub inside : (ns : Nodes) (i : ℕ) → list_of ns i ≢ 0 → HasRow ns i
 unfolding list_of
 inside ns i some = elim (node_or_none ns i) [ inl h ↦ h | inr e ↦ absurd (some (ap (λ (n : Node). n.list) e)) ]
@@ -22,23 +22,23 @@ first_none ns k e = ap (λ (n : Node). n.first) e
 pub stands_inside : (ns : Nodes) (k i : ℕ) → k ≢ 0 → Stands ns k i → i ≢ 0 → HasRow ns i
 stands_inside ns k i nk h ni = inside ns i (λ e. grind arith)
 
--- so has who stands beside it
+-- so has the process next to it
 pub behind_inside : (ns : Nodes) (k a m : ℕ) → AreLinked ns → k ≢ 0 → Stands ns k a → m ≡ behind_of ns k a → m ≢ 0 → HasRow ns m
 behind_inside ns k a m l nk h is = rw is (λ some. stands_inside ns k (behind_of ns k a) nk (grind (arith, (l.behind k a nk h).there)) some)
 
 pub before_inside : (ns : Nodes) (k b m : ℕ) → AreLinked ns → k ≢ 0 → Stands ns k b → m ≡ before_of ns k b → m ≢ 0 → HasRow ns m
 before_inside ns k b m l nk h is = rw is (stands_inside ns k (before_of ns k b) nk (l.before k b nk h).0)
 
--- a list in which somebody stands has a node
+-- a list that contains a process has a node
 pub list_inside : (ns : Nodes) (p : ℕ) → AreLinked ns → list_of ns p ≢ 0 → 1 ≤ p → HasRow ns (list_of ns p)
 list_inside ns p l some h = elim (node_or_none ns (list_of ns p)) [
   | inl h ↦ h
   | inr e ↦ absurd (let m = (l.behind (list_of ns p) 0 some (inl refl)).least p refl h in let z = first_none ns (list_of ns p) e in omega (arith, m.0, z))
 ]
 
--- ---- the process p, between a and b in the list k, is taken out
+-- ---- the process p, between a and b in the list k, is removed
 
--- in a list n, z is behind x now, where y was
+-- in a list n, z is after x now, where y was
 removed_behind : (old new : Nodes) (k p a b n x y z : ℕ) → k ≢ 0 → p ≢ 0 → n ≢ 0 → Stands new n x → (Stands old n x → IsLeast old n x y) → IsLeast old k p b → Stands old k a → list_of old p ≡ k → IsLeast old k a p
     → ((i : ℕ) → list_of new i ≡ cond (i == p) 0 (list_of old i)) → (n ≡ k → z ≡ cond (x == a) b y) → (n ≢ k → (x ≡ a → a ≡ 0) → z ≡ y) → IsLeast new n x z
 removed_behind old new k p a b n x y z nk np nn hx m g ha e l list is at = record { there = grind (arith, nat_tests); least = λ q hq h. grind (arith, nat_tests) }
@@ -75,21 +75,21 @@ removed old new k p a b l nk some e ea eb is =
       list = list;
     }
 
--- ---- the process p is put in, between a and b in the list k
+-- ---- the process p is inserted between a and b in the list k
 
--- in a list n, z is behind x now, where y was
+-- in a list n, z is after x now, where y was
 added_behind : (old new : Nodes) (k p a b n x y z : ℕ) → k ≢ 0 → p ≢ 0 → n ≢ 0 → Stands new n x → (Stands old n x → IsLeast old n x y) → IsLeast old k a b → Stands old k a → a < p → (b ≡ 0) ⊎ (p < b) → list_of old p ≡ 0
     → ((i : ℕ) → list_of new i ≡ cond (i == p) k (list_of old i)) → (n ≡ k → z ≡ cond (x == p) b (cond (x == a) p y)) → (n ≢ k → (x ≡ p → p ≡ 0) → (x ≡ a → a ≡ 0) → z ≡ y) → IsLeast new n x z
 added_behind old new k p a b n x y z nk np nn hx m l ha less high e list is at = record { there = grind (arith, nat_tests); least = λ q hq g. grind (arith, nat_tests) }
 
--- y is p, or was behind x, and neither is where p comes between
+-- y is p, or was after x; in a list other than k, neither is a or b unless it is 0
 abbrev WasBehind : Nodes → ℕ → ℕ → ℕ → ℕ → ℕ → ℕ → ℕ → Type 0
 WasBehind old k p a b n x y = ((n ≡ k) × (y ≡ p)) ⊎ ((y ≢ p) × (x ≢ p) × Stands old n x × (behind_of old n x ≡ y) × (n ≢ k → (x ≡ a → a ≡ 0) × (y ≡ b → b ≡ 0)))
 
 was_behind : (old new : Nodes) (k p a b n x y : ℕ) → k ≢ 0 → p ≢ 0 → n ≢ 0 → Stands new n y → (Stands old n y → Stands old n x × (behind_of old n x ≡ y)) → Stands old k a → Stands old k b → list_of old p ≡ 0 → ((i : ℕ) → list_of new i ≡ cond (i == p) k (list_of old i)) → WasBehind old k p a b n x y
 was_behind old new k p a b n x y nk np nn hy m ha hb e list = grind (arith, nat_tests)
 
--- z is before y now, where x was: it stands there, and y is behind it
+-- z is before y now, where x was: z is in the list, and y is after it
 added_stands : (old new : Nodes) (k p a b n x y z : ℕ) → p ≢ 0 → WasBehind old k p a b n x y → Stands old k a → list_of old p ≡ 0
     → ((i : ℕ) → list_of new i ≡ cond (i == p) k (list_of old i)) → (n ≡ k → z ≡ cond (y == p) a (cond (y == b) p x)) → (n ≢ k → (y ≡ b → b ≡ 0) → (y ≡ p → p ≡ 0) → z ≡ x) → Stands new n z
 added_stands old new k p a b n x y z np m ha e list is at = grind (arith, nat_tests)
@@ -126,13 +126,13 @@ added old new k p a b l some hk one hp e place is =
       list = list;
     }
 
--- ---- nodes that say the same
+-- ---- nodes with the same contents
 
 stands_still : (old new : Nodes) (k a : ℕ) → ((i : ℕ) → list_of new i ≡ list_of old i) → Stands new k a → Stands old k a
 stands_still old new k a list (inl e) = inl e
 stands_still old new k a list (inr e) = inr (sym (list a) ∙ e)
 
--- the links of all that stand in lists, and of all lists, are the same
+-- the links of all processes in lists, and of all lists, are the same
 pub kept : (old new : Nodes) → ((i : ℕ) → list_of new i ≡ list_of old i) → ((k a : ℕ) → k ≢ 0 → Stands old k a → (behind_of new k a ≡ behind_of old k a) × (before_of new k a ≡ before_of old k a)) → AreLinked old → AreLinked new
 kept old new list same l = record {
   none = list 0 ∙ l.none;

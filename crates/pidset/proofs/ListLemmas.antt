@@ -23,21 +23,21 @@ in_step ns a n k q rest ih = grind (arith, nat_tests)
 in_none : (a n k q : ℕ) (b : Bool) → n ≡ a → false ≡ (not (nat_lt q a) && (nat_lt q n && b))
 in_none a n k q b e = grind (arith, nat_tests)
 
--- who stands among some numbers
+-- which processes among some IDs are in lists
 in_range : (ns : Nodes) (a n k q : ℕ) → is_pair_in k q (filter_map (pair_of ns) (range_with_len a n)) ≡ (not (nat_lt q a) && (nat_lt q (a + n) && (not (k == 0) && list_of ns q == k)))
 unfolding is_pair_in
 in_range ns a zero k q = in_none a (a + 0) k q _ (omega arith)
 in_range ns a (suc n) k q = in_step ns a n k q _ (in_range ns (a + 1) n k q)
 
--- a number without a node is in none
+-- an ID without a node is in no list
 pub list_outside : (ns : Nodes) (p : ℕ) → (HasRow ns p → ⊥) → list_of ns p ≡ 0
 list_outside ns p out = elim (cases_eq (list_of ns p) 0) [ inl e ↦ e | inr ne ↦ absurd (out (inside ns p ne)) ]
 
--- who stands in a list is among the numbers of the pages
+-- a process in a list has an ID on an existing page
 within : (ns : Nodes) (i : ℕ) → 0 + 1024 * length ns ≤ i → list_of ns i ≡ 0
 within ns i past = list_outside ns i (λ h. let l = page_there ns i h in omega (arith, past, l))
 
--- the pairs say in which list each process stands
+-- the pairs say which list contains each process
 pub in_pairs : (ns : Nodes) (k p : ℕ) → is_pair_in k p (pairs_in ns) ≡ (not (k == 0) && list_of ns p == k)
 unfolding pairs_in
 in_pairs ns k p = in_range ns 0 (1024 * length ns) k p ∙ grind (arith, nat_tests, within ns p)
@@ -55,11 +55,11 @@ nobody ns k p l (inr out) h t =
     let nk : k ≢ 0 = grind (arith, nat_tests) in
     out (subst (HasRow ns) e (list_inside ns p l (λ z. nk (sym e ∙ z)) h))
 
--- a list with no node has nobody
+-- a list without a node is empty
 pub next_outside : (ns : Nodes) (k n : ℕ) (pairs : List Pair) → pairs ≡ pairs_in ns → AreLinked ns → (k ≡ 0) ⊎ (HasRow ns k → ⊥) → IsNextPair k n pairs None
 next_outside ns k n pairs is l out = record { there = λ p e. grind arith; least = λ p e h. absurd (nobody ns k p l out (omega (arith, h)) (sym (in_pairs ns k p) ∙ ap (is_pair_in k p) (sym is) ∙ e)) }
 
--- a list has a number
+-- the ID of a list is not 0
 pub key_is : (key : Option ℕ) (sizes : List ℕ) → IfSome key (λ k. (1 ≤ k) × HasRoom sizes k) → IfSome key (λ k. 1 ≤ k)
 key_is None sizes h = tt
 key_is (Some k) sizes h = h.0
@@ -70,11 +70,11 @@ moved old new p l key was is e f to some list k q = grind (arith, nat_tests, in_
 pub rekeyed : (old new : Nodes) (from to : ℕ) (was is : List Pair) → was ≡ pairs_in old → is ≡ pairs_in new → from ≢ to → 1 ≤ from → 1 ≤ to → ((i : ℕ) → list_of new i ≡ cond (list_of old i == from) to (list_of old i)) → ArePairsRekeyed from to was is
 rekeyed old new from to was is e f apart hf ht list k p = grind (arith, nat_tests, in_pairs new k p, in_pairs old k p, in_pairs old from p, list p)
 
--- a process stands in its list alone, or in none
+-- a process is only in its list, or in none
 pub at_list : (ns : Nodes) (p : ℕ) (key : Option ℕ) (pairs : List Pair) → pairs ≡ pairs_in ns → list_of ns p ≡ unwrap_or key 0 → IfSome key (λ k. 1 ≤ k) → IsAt p key pairs
 at_list ns p key pairs is e some k = grind (arith, nat_tests, in_pairs ns k p)
 
--- ---- memory for more numbers, and for fewer
+-- ---- memory for more IDs, and for fewer
 
 same_pair : (old new : Nodes) (i : ℕ) → list_of new i ≡ list_of old i → pair_of new i ≡ pair_of old i
 same_pair old new i e = ap (λ k. cond (k == 0) None (Some (record { key = k; pid = i }))) e
@@ -82,7 +82,7 @@ same_pair old new i e = ap (λ k. cond (k == 0) None (Some (record { key = k; pi
 no_pair : (ns : Nodes) (i : ℕ) → list_of ns i ≡ 0 → pair_of ns i ≡ None
 no_pair ns i e = ap (λ k. cond (k == 0) None (Some (record { key = k; pid = i }))) e
 
--- where all stand in their lists as before, and none beyond some numbers, the pairs are the same
+-- if all are in the same lists as before, and none above some IDs, the pairs are the same
 same_range : (old new : Nodes) (a m n : ℕ) → ((i : ℕ) → list_of new i ≡ list_of old i) → ((i : ℕ) → a + m ≤ i → list_of old i ≡ 0) → ((i : ℕ) → a + n ≤ i → list_of old i ≡ 0)
     → filter_map (pair_of new) (range_with_len a m) ≡ filter_map (pair_of old) (range_with_len a n)
 same_range old new a zero zero list f g = refl
@@ -94,7 +94,7 @@ same_pairs : (old new : Nodes) → ((i : ℕ) → list_of new i ≡ list_of old 
 unfolding pairs_in
 same_pairs old new list = same_range old new 0 (1024 * length new) (1024 * length old) list (λ i l. sym (list i) ∙ within new i l) (within old)
 
--- what stays
+-- what stays the same
 pub record AreSameLists (new : Nodes) (was : List Pair) : Type 0 where
   pub linked : AreLinked new
   pub pairs : pairs_in new ≡ was
@@ -106,9 +106,9 @@ grown old new pairs is l same = record {
   pairs = same_pairs old new (λ i. ap (λ (n : Node). n.list) (same i)) ∙ is;
 }
 
--- ---- a page is given up
+-- ---- a page is freed
 
--- who stands in a list keeps its node, and so does the list
+-- a process in a list and that list keep their nodes
 apart_from : (ns : Nodes) (n k p : ℕ) → IsPageUnused n (pairs_in ns) → k ≢ 0 → list_of ns p ≡ k → IsOnAnotherPage k n × IsOnAnotherPage p n
 apart_from ns n k p apart nk e = apart k p (in_pairs ns k p ∙ grind (arith, nat_tests))
 
@@ -119,7 +119,7 @@ left_list ns n apart i = elim (cases_eq (i / 1024) (n / 1024)) [
   | inl same ↦ ap (λ (n : Node). n.list) (node_gone ns n i same) ∙ sym (elim (cases_eq (list_of ns i) 0) [ inl e ↦ e | inr some ↦ absurd ((apart_from ns n (list_of ns i) i apart some refl).1 same) ])
 ]
 
--- a list whose node goes has no first and no last
+-- a list whose node is freed has no first and no last process
 ends : (ns : Nodes) (n k : ℕ) → IsPageUnused n (pairs_in ns) → AreLinked ns → k ≢ 0 → k / 1024 ≡ n / 1024 → (behind_of ns k 0 ≡ 0) × (before_of ns k 0 ≡ 0)
 ends ns n k apart l nk same =
     let nobody : (p : ℕ) → list_of ns p ≢ k = λ p e. (apart_from ns n k p apart nk e).0 same in

@@ -1,4 +1,4 @@
--- What the nodes of lists say, and what of it a change of one node changes.
+-- The contents of the nodes of lists, and what a change of one node changes.
 use Rattle.std.proofs.Common.{◌≡◌, ◌≢◌, ◌⊎◌, ℕ, ◌/◌, cond, refl, ◌∙◌, arith, ◌==◌, inl, inr}
 use Rattle.std.proofs.lemmas.Bool.{eq-eqb, ne_eqb, cases_eq}
 use Rattle.std.proofs.lemmas.Bool.Decides.{nat_tests}
@@ -17,7 +17,7 @@ pub node_or_none : (ns : Nodes) (i : ℕ) → HasRow ns i ⊎ (node_of ns i ≡ 
 unfolding node_of
 node_or_none ns i = row_or_none ns i nowhere
 
--- ---- a page of nodes is given up
+-- ---- a page of nodes is freed
 
 pub node_left : (ns : Nodes) (n i : ℕ) → IsOnAnotherPage i n → node_of (without_page ns n) i ≡ node_of ns i
 unfolding node_of
@@ -33,7 +33,7 @@ node_set : (ns : Nodes) (x i : ℕ) (n : Node) → HasRow ns x → node_of (with
 unfolding node_of
 node_set ns x i n h = row_set ns x i n nowhere h
 
--- p stands in the list k from now on, between a and b, and nothing else changed
+-- p is now in the list k between a and b, and nothing else changed
 pub record IsPlaced (old new : Nodes) (p k a b : ℕ) : Type 0 where
   pub sizes : sizes_of new ≡ sizes_of old
   pub list : (i : ℕ) → list_of new i ≡ cond (i == p) k (list_of old i)
@@ -58,7 +58,7 @@ pub links_same : (ns : Nodes) (p k n : ℕ) → p ≢ 0 → (behind_of ns n p �
 unfolding behind_of before_of
 links_same ns p k n some = rw (ne_eqb p 0 some) (refl, refl)
 
--- x comes behind a in the list k from now on, and y before b, and nothing else changed
+-- x is now after a in the list k, and y before b, and nothing else changed
 pub record IsJoined (old new : Nodes) (k a x b y : ℕ) : Type 0 where
   pub sizes : sizes_of new ≡ sizes_of old
   pub list : (i : ℕ) → list_of new i ≡ list_of old i
@@ -67,7 +67,7 @@ pub record IsJoined (old new : Nodes) (k a x b y : ℕ) : Type 0 where
   pub else_behind : (n i : ℕ) → n ≢ k → (i ≡ a → a ≡ 0) → behind_of new n i ≡ behind_of old n i
   pub else_before : (n i : ℕ) → n ≢ k → (i ≡ b → b ≡ 0) → before_of new n i ≡ before_of old n i
 
--- whose node changes where one comes behind a in the list k, and how
+-- which node changes when another process comes after a in the list k, and how
 abbrev IsBehindSet : Nodes → Nodes → ℕ → ℕ → ℕ → Type 0
 IsBehindSet old new k a b = (i : ℕ) → node_of new i ≡ cond (a == 0) (cond (i == k) (record (node_of old k) { first = b }) (node_of old i)) (cond (i == a) (record (node_of old a) { behind = b }) (node_of old i))
 
@@ -90,7 +90,7 @@ sizes_before : (ns : Nodes) (k b a : ℕ) → sizes_of (with_before ns k b a) �
 unfolding with_before
 sizes_before ns k b a = elim (cases_eq b 0) [ inl e ↦ rw (eq-eqb b 0 e) (sizes_kept ns k _) | inr ne ↦ rw (ne_eqb b 0 ne) (sizes_kept ns b _) ]
 
--- it has the nodes that it had
+-- no node is lost
 pub row_behind : (ns new : Nodes) (k a b i : ℕ) → new ≡ with_behind ns k a b → HasRow ns i → HasRow new i
 row_behind ns new k a b i is h = rw is (row_kept ns (with_behind ns k a b) i (sizes_behind ns k a b) h)
 

@@ -16,14 +16,14 @@ use Rattle.pidset.proofs.ItemLemmas.{find_none, find_at, find_point, read_at, fi
 module _ {T : Type 0} where
   -- ---- the numbers of a page
 
-  -- where no number above n has a value, there is none
+  -- if no ID above n has a value, there is no first one
   pub above_none : (n k : ℕ) (vs : List (Option T)) → ((i : ℕ) → i < length vs → n < k + i → value_at vs i ≡ None) → first_above n (entries_from k vs) ≡ None
   unfolding entries_from
   above_none n k [] h = refl
   above_none n k (None ∷ vs) h = above_none n (k + 1) vs (λ i l m. h (suc i) (omega (arith, l)) (omega (arith, m)))
   above_none n k (Some v ∷ vs) h = grind (arith, nat_tests, above_none n (k + 1) vs (λ i l m. h (suc i) (omega (arith, l)) (omega (arith, m))), λ (m : n < k). h 0 (omega arith) (omega (arith, m)))
 
-  -- the first of those above n that has a value is the next one
+  -- the first ID above n that has a value is the next one
   pub above_some : (n k i : ℕ) (vs : List (Option T)) → ((j : ℕ) → j < i → n < k + j → value_at vs j ≡ None) → n < k + i → is_some (value_at vs i) ≡ true → first_above n (entries_from k vs) ≡ Some (k + i)
   unfolding entries_from
   above_some n k i [] h l e = absurd (cc)
@@ -41,7 +41,7 @@ module _ {T : Type 0} where
   first_used n k (None ∷ vs) l u = let c = sum_by-cons (λ (o : Option T). cond (is_some o) 1 0) None vs in first_used n (k + 1) vs (omega (arith, l)) (omega (arith, u, c))
   first_used n k (Some v ∷ vs) l u = grind (arith, nat_tests)
 
-  -- what all numbers of the places have, all numbers with values have
+  -- a property of the IDs of all places is one of all IDs with values
   all_from : (P : ℕ → Type 0) (k : ℕ) (vs : List (Option T)) → ((m : ℕ) → k ≤ m → m < k + length vs → P m) → AllByRecursion P (pids_of (entries_from k vs))
   unfolding entries_from
   all_from P k [] h = tt
@@ -92,7 +92,7 @@ module _ {T : Type 0} where
   last_of : (p : Page T) → IsUsed p → AllByRecursion (λ m. m ≤ p.number * 64 + 63) (pids_of (entries_in p))
   last_of p u = all_from _ (p.number * 64) p.values.items (λ m lo hi. let size = u.page.size in omega (arith, hi, size))
 
-  -- the numbers of later pages are greater
+  -- the IDs of later pages are higher
   pages_above : (n k : ℕ) (ps : List (Page T)) → n < k * 64 + 64 → AllAbove k (numbers_of ps) → AllAbove n (pids_of (entries_of ps))
   unfolding entries_of
   pages_above n k [] l a = tt
@@ -124,7 +124,7 @@ module _ {T : Type 0} where
         λ (l : n / 64 < p.number). entry_above n (entries_in p) (from_above n (p.number * 64) p.values.items (omega (arith, l))),
       )
 
-  -- the least number above n stands in its own page, or is the first of the next one
+  -- the lowest ID above n is on its own page, or is the first of the next page
   pub first_pages : (ps : List (Page T)) → AllByRecursion IsUsed ps → Rises (numbers_of ps) → (n : ℕ)
       → first_above n (entries_of ps) ≡ option_or (option_and_then (λ (p : Page T). first_above n (entries_in p)) (page_of (n / 64) ps)) (option_and_then (λ (p : Page T). first_above n (entries_in p)) (slice_get (filter (λ (p : Page T). nat_lt (n / 64) p.number) ps) 0))
   unfolding entries_of Rises
@@ -150,7 +150,7 @@ module _ {T : Type 0} where
   rest_same : (x : Entry T) (xs : List (Entry T)) (y : Entry T) (ys : List (Entry T)) → AllAbove x.pid (pids_of xs) → AllAbove y.pid (pids_of ys) → x ≡ y → ((q : ℕ) → entry_of q (x ∷ xs) ≡ entry_of q (y ∷ ys)) → (q : ℕ) → entry_of q xs ≡ entry_of q ys
   rest_same x xs y ys a b same h q = grind (arith, eqb-true, h q, entry_above x.pid xs a, entry_above y.pid ys b)
 
-  -- rising entries with the same value for each number are the same
+  -- rising entries with the same value for each ID are the same
   same_entries : (xs ys : List (Entry T)) → Rises (pids_of xs) → Rises (pids_of ys) → ((q : ℕ) → entry_of q xs ≡ entry_of q ys) → xs ≡ ys
   unfolding Rises
   same_entries [] [] up high h = refl
@@ -161,7 +161,7 @@ module _ {T : Type 0} where
       let rest = same_entries xs ys up.1 high.1 (rest_same x xs y ys up.0 high.0 same h) in
       ap (λ z. z ∷ xs) same ∙ ap (λ zs. y ∷ zs) rest
 
-  -- ---- a value put in or taken out
+  -- ---- a value inserted or removed
 
   pub entries_put : (old new : List (Page T)) (n : ℕ) (v : T) → ArePages old → entry_of n (entries_of old) ≡ None → AreChanged n (Some v) old new → entries_of new ≡ inserted_in_order (λ e. e.pid) (entry n v) (entries_of old)
   entries_put old new n v s none change =
@@ -177,19 +177,19 @@ module _ {T : Type 0} where
       same_entries (entries_of new) _ (rises_pages new t.used t.rising) (rises_passing f (λ m. not (m == n)) (entries_of old) (rises_pages old s.used s.rising)) (λ q.
       grind (arith, eqb-true, entry_pages new t.used t.rising q, change.changed q, entry_pages old s.used s.rising q, find_gone f (entries_of old) n, λ (ne : q ≢ n). find_other f (entries_of old) n q ne))
 
-  -- one page is another now, with another value for n, where before it had these values
+  -- one page was replaced by one with another value for n; before, it had these values
   pub page_changed : (old new : List (Page T)) (p : Page T) (n : ℕ) (vs : List (Option T)) (o : Option T) → ((k : ℕ) → page_of k new ≡ cond (p.number == k) (Some p) (page_of k old)) → p.number ≡ n / 64
       → ((i : ℕ) → value_at vs i ≡ option_and_then (λ (p : Page T). value_at p.values.items i) (page_of (n / 64) old)) → length vs ≡ 64 → p.values.items ≡ slice_set vs (n % 64) o → IsChanged n o old new
   page_changed old new p n vs o pages number was size is q = grind (arith, nat_tests, pages (q / 64), was (q % 64), get_or-set_same vs (n % 64) o None (omega (arith, size)), get_or-set_other vs (n % 64) (q % 64) o None)
 
-  -- a page without values
+  -- a page without values has none at any place
   pub no_value : (vs : List (Option T)) → count_by is_some vs ≡ 0 → (i : ℕ) → value_at vs i ≡ None
   no_value [] e i = refl
   no_value (None ∷ vs) e zero = refl
   no_value (None ∷ vs) e (suc i) = no_value vs (omega (arith, e, sum_by-cons (λ (o : Option T). cond (is_some o) 1 0) None vs)) i
   no_value (Some v ∷ vs) e i = absurd (omega (arith, e, sum_by-cons (λ (o : Option T). cond (is_some o) 1 0) (Some v) vs))
 
-  -- a page without values may go
+  -- a page without values may be removed
   pub page_gone : (n : ℕ) (o : Option T) (old new last : List (Page T)) (p : Page T) → page_of p.number new ≡ Some p → count_by is_some p.values.items ≡ 0 → last ≡ filter (λ (r : Page T). not (r.number == p.number)) new → IsChanged n o old new → IsChanged n o old last
   page_gone n o old new last p at none is change q = rw is ((elim (cases_eq p.number (q / 64)) [
     | inl e ↦
@@ -211,7 +211,7 @@ module _ {T : Type 0} where
   pub value_pages : (ps : List (Page T)) (n : ℕ) → ArePages ps → option_map (λ (e : Entry T). e.value) (entry_of n (entries_of ps)) ≡ value_of n ps
   value_pages ps n s = ap (option_map (λ (e : Entry T). e.value)) (entry_pages ps s.used s.rising n) ∙ elim (value_of n ps) as (λ o. option_map (λ (e : Entry T). e.value) (option_map (entry n) o) ≡ o) [ None ↦ refl | Some v ↦ refl ]
 
-  -- a number without an entry has no value
+  -- an ID without an entry has no value
   pub no_entry : (ps : List (Page T)) (n : ℕ) → ArePages ps → entry_of n (entries_of ps) ≡ None → value_of n ps ≡ None
   no_entry ps n s e = sym (value_pages ps n s) ∙ ap (option_map (λ (e : Entry T). e.value)) e
 
@@ -221,13 +221,13 @@ module _ {T : Type 0} where
   pub page_there : (ps : List (Page T)) (k i : ℕ) (p : Page T) → ArePages ps → IsNumberAt (numbers_of ps) k i → p ≡ get_or ps i p → page_of k ps ≡ Some p
   page_there ps k i p s at is = find_at (λ (p : Page T). p.number) ps s.rising k i at ∙ read_at (λ (p : Page T). p.number) ps k i p at is
 
-  -- what all pages have, and another in the place of one
+  -- a property of all pages, and of a page that replaces one, is one of all after that
   all_set : (P : Page T → Type 0) (ps : List (Page T)) (i : ℕ) (p : Page T) → AllByRecursion P ps → P p → AllByRecursion P (slice_set ps i p)
   all_set P [] i p a h = tt
   all_set P (x ∷ ps) zero p a h = (h, a.1)
   all_set P (x ∷ ps) (suc i) p a h = (a.0, all_set P ps i p a.1 h)
 
-  -- a page with another value for n in the place of that of n
+  -- a page with another value for n replaces that of n
   pub record IsSet (ps : List (Page T)) (n i k : ℕ) (p new : Page T) (o : Option T) : Type 0 where
     pub was : value_at p.values.items k ≡ value_of n ps
     pub number : new.number ≡ n / 64
@@ -251,11 +251,11 @@ module _ {T : Type 0} where
         changed = page_changed ps (slice_set ps i new) new n p.values.items o pages number (λ j. sym (ap (option_and_then (λ (p : Page T). value_at p.values.items j)) there)) used.0.page.size (values ∙ ap (λ k. slice_set p.values.items k o) place);
       }
 
-  -- it stays where it has a value
+  -- the new page stays if it has a value
   pub page_stays : (ps : List (Page T)) (n i k : ℕ) (p new : Page T) (o : Option T) → ArePages ps → IsSet ps n i k p new o → IsUsed new → AreChanged n o ps (slice_set ps i new)
   page_stays ps n i k p new o s h u = record { pages = record { rising = h.rising; used = all_set IsUsed ps i new s.used u }; changed = h.changed }
 
-  -- and goes where it has none
+  -- and it is removed if it has none
   gone_set : (ps : List (Page T)) (i : ℕ) (p : Page T) → remove (slice_set ps i p) i ≡ remove ps i
   gone_set [] i p = refl
   gone_set (x ∷ ps) zero p = refl
@@ -273,7 +273,7 @@ module _ {T : Type 0} where
         changed = page_gone n None ps later (remove later i) new (ap (λ k. page_of k later) h.number ∙ h.found) (sym free.page.count ∙ free.unused) (sym (others_at f later h.rising new.number i still)) h.changed;
       }
 
-  -- a page goes in where there was none
+  -- a page is inserted where there was none
   pub page_laid : (ps : List (Page T)) (n i k : ℕ) (old new : Page T) (v : T) → ArePages ps → IsInsertionPoint (numbers_of ps) (n / 64) i → IsUnused old → IsUsed new → k ≡ n % 64 → new.number ≡ n / 64 → new.values.items ≡ slice_set old.values.items k (Some v) → AreChanged n (Some v) ps (insert ps i new)
   page_laid ps n i k old new v s point free used place number values =
       let f : Page T → ℕ = λ p. p.number in
@@ -287,7 +287,7 @@ module _ {T : Type 0} where
         changed = subst (IsChanged n (Some v) ps) is (page_changed ps (inserted_in_order f new ps) new n vs (Some v) (find_inserted f ps new absent) number was free.page.size (values ∙ ap (λ k. slice_set vs k (Some v)) place));
       }
 
-  -- the first page behind k
+  -- the first page after k
   pub later_page : (k : ℕ) (ps : List (Page T)) → AllByRecursion IsUsed ps → IfSome (slice_get (filter (λ (r : Page T). nat_lt k r.number) ps) 0) (λ p. IsPage p × (k < p.number))
   later_page k [] u = tt
   later_page k (x ∷ ps) u = elim (nat_lt k x.number) as (λ b. nat_lt k x.number ≡ b → IfSome (slice_get (cond b (x ∷ filter (λ (r : Page T). nat_lt k r.number) ps) (filter (λ (r : Page T). nat_lt k r.number) ps)) 0) (λ p. IsPage p × (k < p.number))) [

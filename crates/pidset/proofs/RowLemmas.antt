@@ -11,7 +11,7 @@ use Rattle.pidset.specs.Rows.{HasRoom, IsOnAnotherPage, HasRow, page_at, sizes_o
 size_at : {T : Type 0} (pages : List (List T)) (k : ℕ) → slice_index_or (sizes_of pages) k 0 ≡ length (page_at pages k)
 size_at pages k = map_at length pages k []
 
--- they tell where there is a row
+-- the sizes say which rows exist
 pub room_is : {T : Type 0} (pages : List (List T)) (n : ℕ) → HasRow pages n → HasRoom (sizes_of pages) n
 room_is pages n h = subst (λ s. n % 1024 < s) (sym (size_at pages (n / 1024))) h
 
@@ -24,7 +24,7 @@ row_kept old new n e h = row_is new (sizes_of old) n (sym e) (room_is old n h)
 pub row_or_none : {T : Type 0} (pages : List (List T)) (n : ℕ) (other : T) → HasRow pages n ⊎ (row_or other pages n ≡ other)
 row_or_none pages n other = elim (cases_lt (n % 1024) (length (page_at pages (n / 1024)))) [ inl h ↦ inl h | inr past ↦ inr (get_or_past (page_at pages (n / 1024)) (n % 1024) other past) ]
 
--- a row stands in a page
+-- the page of a row exists
 pub page_there : {T : Type 0} (pages : List (List T)) (n : ℕ) → HasRow pages n → n / 1024 < length pages
 page_there pages n h = elim (cases_lt (n / 1024) (length pages)) [ inl l ↦ l | inr past ↦ let none = ap length (get_or_past pages (n / 1024) [] past) in absurd (omega (arith, h, none)) ]
 
@@ -55,20 +55,20 @@ inside rows pages k l = subst (λ n. k < n) (length-map pages rows) l
 read_in : {T V : Type 0} (rows : V → List T) (pages : List V) (k : ℕ) (page : V) → page ≡ get_or pages k page → k < length pages → rows page ≡ page_at (map rows pages) k
 read_in rows pages k page is l = ap rows is ∙ sym (get_or-map rows pages k page [] l)
 
--- as it is done in pages of another form
+-- the same for pages of another form
 pub set_in : {T V : Type 0} (rows : V → List T) (pages : List V) (view : List (List T)) (n k i : ℕ) (old new : V) (row : T) → map rows pages ≡ view → HasRow view n → k ≡ n / 1024 → i ≡ n % 1024 → old ≡ get_or pages k old → rows new ≡ slice_set (rows old) i row → map rows (slice_set pages k new) ≡ with_row view n row
 unfolding with_row
 set_in rows pages view n k i old new row v h a b is e =
     let l : k < length pages = inside rows pages k (rw (a, v) (page_there view n h)) in
     rw (← a, ← b, ← v) (map-set rows pages k new ∙ ap (slice_set (map rows pages) k) (e ∙ ap (λ page. slice_set page i row) (read_in rows pages k old is l)))
 
--- ---- a page is given up
+-- ---- a page is freed
 
 pub sizes_left : {T : Type 0} (pages : List (List T)) (n : ℕ) → sizes_of (without_page pages n) ≡ sizes_without (sizes_of pages) n
 unfolding without_page
 sizes_left pages n = map-set length pages (n / 1024) []
 
--- there is room for numbers of other pages as before
+-- the IDs of other pages keep their room
 pub room_stays : (sizes : List ℕ) (n m : ℕ) → IsOnAnotherPage m n → HasRoom sizes m → HasRoom (sizes_without sizes n) m
 room_stays sizes n m apart room = rw (get_or-set_other sizes (n / 1024) (m / 1024) 0 0 apart) room
 
@@ -76,12 +76,12 @@ pub row_left : {T : Type 0} (pages : List (List T)) (n m : ℕ) (other : T) → 
 unfolding without_page
 row_left pages n m other apart = ap (λ p. get_or p (m % 1024) other) (get_or-set_other pages (n / 1024) (m / 1024) [] [] apart)
 
--- as it is done in pages of another form
+-- the same for pages of another form
 pub left_in : {T V : Type 0} (rows : V → List T) (pages : List V) (view : List (List T)) (n k : ℕ) (new : V) → map rows pages ≡ view → k ≡ n / 1024 → rows new ≡ [] → map rows (slice_set pages k new) ≡ without_page view n
 unfolding without_page
 left_in rows pages view n k new v a e = rw (← a, ← v) (map-set rows pages k new ∙ ap (slice_set (map rows pages) k) e)
 
--- where there is none, none goes
+-- if there is no such page, none is freed
 pub left_none : {T V : Type 0} (rows : V → List T) (pages : List V) (view : List (List T)) (n k : ℕ) → map rows pages ≡ view → k ≡ n / 1024 → nat_lt k (length pages) ≡ false → map rows pages ≡ without_page view n
 unfolding without_page
 left_none rows pages view n k v a e = rw (← a, ← v) (sym (set_past (map rows pages) k [] (subst (λ m. m ≤ k) (sym (length-map pages rows)) (ltb-false k (length pages) e))))
@@ -122,7 +122,7 @@ grown rows row old pages k was page same is l size more =
       ]);
     }
 
--- there is a row where the page has one
+-- there is a row if the page has one
 pub room_made : {T V : Type 0} (rows : V → List T) (pages : List V) (n k i : ℕ) (page : V) → k ≡ n / 1024 → i ≡ n % 1024 → k < length pages → i < length (rows page) → HasRow (map rows (slice_set pages k page)) n
 room_made rows pages n k i page a b l h =
     let low : k < length (map rows pages) = subst (λ n. k < n) (sym (length-map pages rows)) l in

@@ -1,8 +1,8 @@
--- Items behind a gap.
+-- Vectors with a gap before their items.
 use Rattle.std.specs.Prelude.{ℕ, List, refl}
 use Rattle.std.specs.Coded.{Coded, code_by, coded×, coded_ℕ, coded_list}
 
--- the items, and how many there is memory for, with those that are there
+-- the items, and how many there is room for, including these
 pub record GapVecView (T : Type 0) : Type 0 where
   pub items : List T
   pub room : ℕ

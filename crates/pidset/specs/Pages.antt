@@ -1,4 +1,4 @@
--- Values by number, in pages of 64 numbers.
+-- Values by process ID, in pages of 64 IDs.
 use Rattle.std.specs.Prelude.{◌≡◌, ℕ, ◌+◌, ◌*◌, ◌/◌, ◌%◌, ◌≤◌, ◌==◌, if◌then◌else◌, Bool, List, [], ◌∷◌, ◌++◌, length, map, find, count_by, Option, Some, None, is_some, slice_get, slice_index_or, refl}
 use Rattle.std.specs.Coded.{Coded, code_by, coded×, coded_ℕ, coded_bool, coded_list}
 use Rattle.std.specs.List.{AllByRecursion}
@@ -6,12 +6,12 @@ use Rattle.std.specs.Option.{option_and_then}
 use Rattle.pidset.specs.declared.page.Page.{Page}
 use Rattle.pidset.specs.Numbers.{Rises, numbers_above}
 
--- a number and its value
+-- an ID and its value
 pub record Entry (T : Type 0) : Type 0 where
   pub pid : ℕ
   pub value : T
 
--- the entries in rising order of their numbers, and whether there is memory for one more
+-- the entries in rising order of their IDs, and whether there is room for one more
 pub record PagesView (T : Type 0) : Type 0 where
   pub entries : List (Entry T)
   pub ready : Bool
@@ -37,7 +37,7 @@ module _ {T : Type 0} where
   abbrev pub value_at : List (Option T) → ℕ → Option T
   value_at vs i = slice_index_or vs i None
 
-  -- the values from the number n on
+  -- the values of the IDs from n on
   unfoldable pub entries_from : ℕ → List (Option T) → List (Entry T)
   entries_from n [] = []
   entries_from n (None ∷ vs) = entries_from (n + 1) vs
@@ -50,7 +50,7 @@ module _ {T : Type 0} where
   entries_of [] = []
   entries_of (p ∷ ps) = entries_in p ++ entries_of ps
 
-  -- a page has 64 places, and counts its values, of which none stands from its end on
+  -- a page has 64 places and counts its values, none of which is at its end or after it
   pub record IsPage (p : Page T) : Type 0 where
     pub size : length p.values.items ≡ 64
     pub count : p.used ≡ count_by is_some p.values.items
@@ -69,7 +69,7 @@ module _ {T : Type 0} where
   abbrev pub numbers_of : List (Page T) → List ℕ
   numbers_of ps = map (λ p. p.number) ps
 
-  -- the pages rise, and each has a value
+  -- the page numbers rise, and each page has a value
   pub record ArePages (ps : List (Page T)) : Type 0 where
     pub rising : Rises (numbers_of ps)
     pub used : AllByRecursion IsUsed ps
@@ -80,19 +80,19 @@ module _ {T : Type 0} where
   abbrev pub value_in : ℕ → Option (Page T) → Option T
   value_in n o = option_and_then (λ p. value_at p.values.items (n % 64)) o
 
-  -- the value of a number
+  -- the value of an ID
   abbrev pub value_of : ℕ → List (Page T) → Option T
   value_of n ps = value_in n (page_of (n / 64) ps)
 
-  -- n has another value, or none, and all others are as they were
+  -- n has another value, or none, and all other IDs keep theirs
   abbrev pub IsChanged : ℕ → Option T → List (Page T) → List (Page T) → Type 0
   IsChanged n o old new = (q : ℕ) → value_of q new ≡ if n == q then o else value_of q old
 
-  -- and they are pages
+  -- the value of n has changed, and the pages are valid
   pub record AreChanged (n : ℕ) (o : Option T) (old new : List (Page T)) : Type 0 where
     pub pages : ArePages new
     pub changed : IsChanged n o old new
 
-  -- the least number above another
+  -- the lowest ID above n
   abbrev pub first_above : ℕ → List (Entry T) → Option ℕ
   first_above n es = slice_get (numbers_above n (pids_of es)) 0

@@ -1,4 +1,4 @@
-//! A vector that loses its first item without moving the others.
+//! A vector whose first item is removed without moving the others.
 
 ghost use Rattle.std.specs.Prelude.{◌≡◌, ◌+◌, ◌<◌, ◌≤◌, ◌^◌, ◌==◌, IsSome, OnErr, OnOk, [], not, max, map, filter, find, insert, remove, length};
 ghost use Rattle.pidset.specs.Numbers.{Rises};
@@ -7,11 +7,12 @@ use crate::numbered::{Numbered, insert_at, search};
 use std::alloc::{AllocError, Global};
 use std::marker::Model;
 
-/// Items behind a gap. Where the first is taken out the gap grows, and nothing moves. Else those behind an item that is
-/// put in or taken out do, and all where no other room is left than that of the gap. It takes memory in
-/// [`GapVec::reserve`] and [`GapVec::reserve_exact`] alone.
-/// When all processes are killed and reaped, each list loses its first item again and again; with the gap nothing
-/// moves.
+/// A vector with a gap before its items.
+///
+/// Removing the first item only widens the gap. Insertions and other removals move the items after the index. If only
+/// the gap has room left, an insertion moves all items. When all processes are killed and reaped, each list loses its
+/// first item repeatedly, and the gap makes that cheap. Allocates only in [`GapVec::reserve`] and
+/// [`GapVec::reserve_exact`].
 #[derive(Drop)]
 pub(crate) struct GapVec<T: Copy> {
     items: Vec<T>,
@@ -33,7 +34,7 @@ impl<T: Copy> Model for GapVec<T> {
 }
 
 impl<T: Copy> GapVec<T> {
-    /// No items. It takes no memory.
+    /// Creates an empty vector. Allocates nothing.
     pub fn new(alloc: Global) -> GapVec<T>
         ensures { result ≡ record { items = []; room = 0 } }
     {
@@ -43,7 +44,7 @@ impl<T: Copy> GapVec<T> {
         }
     }
 
-    /// The items.
+    /// Returns the items.
     #[inline]
     pub fn as_slice(&self) -> &[T]
         ensures { result.now ≡ self.now.items }
@@ -51,14 +52,14 @@ impl<T: Copy> GapVec<T> {
         &self.items[self.gap..]
     }
 
-    /// For how many items there is room, counting those that are there.
+    /// Returns how many items there is room for, including those present.
     pub fn room(&self) -> usize
         ensures { result ≡ self.now.room }
     {
         self.items.capacity()
     }
 
-    /// Makes room for `capacity` items, counting those that are there, or for more.
+    /// Makes room for at least `capacity` items, including those present.
     pub fn reserve(&mut self, capacity: usize) -> Result<(), AllocError>
         requires { capacity < 2 ^ 63 }
         ensures room { OnOk result (capacity ≤ self.new.room) }
@@ -69,7 +70,7 @@ impl<T: Copy> GapVec<T> {
         self.items.reserve(additional)
     }
 
-    /// Makes room for `capacity` items, counting those that are there, and for no more where there was less.
+    /// Makes room for `capacity` items, including those present. If it grows, it has room for exactly that many.
     pub fn reserve_exact(&mut self, capacity: usize) -> Result<(), AllocError>
         requires { capacity < 2 ^ 63 }
         ensures room { OnOk result (self.new.room ≡ max self.old.room capacity) }
@@ -80,7 +81,7 @@ impl<T: Copy> GapVec<T> {
         self.items.reserve_exact(additional)
     }
 
-    /// Puts an item in at an index, where there is room.
+    /// Inserts an item at an index, within reserved room.
     pub fn insert(&mut self, at: usize, item: T)
         requires at { at ≤ length self.old.items }
         requires room { length self.old.items < self.old.room }
@@ -96,7 +97,7 @@ impl<T: Copy> GapVec<T> {
         insert_at(&mut self.items, at, item);
     }
 
-    /// Takes out the item at an index.
+    /// Removes the item at an index.
     pub fn remove(&mut self, at: usize)
         requires { at < length self.old.items }
         ensures items { self.new.items ≡ remove self.old.items at }
@@ -113,7 +114,7 @@ impl<T: Copy> GapVec<T> {
         }
     }
 
-    /// Takes out all items.
+    /// Removes all items.
     pub fn clear(&mut self)
         ensures items { self.new.items ≡ [] }
         ensures room { self.new.room ≡ self.old.room }
@@ -124,7 +125,7 @@ impl<T: Copy> GapVec<T> {
 }
 
 impl<T: Numbered + Copy> GapVec<T> {
-    /// Takes out the item with the number of `key`, if it is there.
+    /// Removes the item with the number of `key`, if present.
     pub fn take_out<K: Numbered>(&mut self, key: &K)
         requires { Rises (map T.number self.old.items) }
         ensures items { self.new.items ≡ filter (λ item. not (T.number item == K.number key.now)) self.old.items }

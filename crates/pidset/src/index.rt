@@ -1,4 +1,4 @@
-//! An index of processes: their numbers by a key that each has or hasn't.
+//! An index of processes by key. A process may have no key.
 
 ghost use Rattle.std.specs.Prelude.{◌≡◌, ◌≢◌, ◌+◌, ◌<◌, ◌≤◌, ◌^◌, ◌==◌, ◌&&◌, ◌||◌, ℕ, not, false, true, [], length, Option, OnOk};
 ghost use Rattle.pidset.specs.Indexes.{ArePairs, has_within as has_within_keys, IsNextPair, CanReplace, IsReplaced, IsRekeyed, is_pair_in, pair_number};
@@ -9,13 +9,12 @@ use posix::Pid;
 use std::alloc::{AllocError, Global};
 use std::marker::Model;
 
-/// A process under a key.
-/// 16 bytes, because the key of an alarm is a tick.
+/// A process ID with its key. A pair has 16 bytes, because the key of an alarm is a tick.
 #[derive(Clone, Copy)]
 pub struct Pair {
     /// The key.
     pub key: u64,
-    /// The number of the process.
+    /// The process ID.
     pub pid: Pid,
 }
 
@@ -27,7 +26,7 @@ impl Numbered for Pair {
     }
 }
 
-/// This process under this key.
+/// Returns the pair of a key and a process ID.
 fn keyed(key: u64, pid: Pid) -> Pair
     ensures is { result ≡ record { key = key; pid = pid } }
     ensures range { (pid < 4294967296) × (key ≤ 18446744073709551615) }
@@ -35,9 +34,10 @@ fn keyed(key: u64, pid: Pid) -> Pair
     Pair { key, pid }
 }
 
-/// Processes by keys, each pair of a key and a number once, by falling keys and then by rising numbers. So the
-/// least key stands last, where little is moved: of alarms that is the next one that is due. Where the first, of the
-/// greatest key, is taken out, nothing is moved. It takes memory in [`Index::reserve`] alone.
+/// Pairs of a key and a process ID, each once, by falling keys and then by rising IDs.
+///
+/// The lowest key is last, where insertions and removals move little; for alarms, that is the next one due. Removing
+/// the first pair, which has the largest key, moves nothing. Allocates only in [`Index::reserve`].
 #[derive(Drop)]
 pub struct Index {
     pairs: GapVec<Pair>,
@@ -54,7 +54,7 @@ impl Model for Index {
 }
 
 impl Index {
-    /// No processes. It takes no memory.
+    /// Creates an empty index. Allocates nothing.
     #[tactic(auto, unfolding(crate::specs::Numbers::Rises))]
     pub fn new(alloc: Global) -> Index
         ensures pairs { result.pairs ≡ [] }
@@ -65,8 +65,8 @@ impl Index {
         }
     }
 
-    /// Makes room for `capacity` pairs, counting those that are there. They stay, and the room never
-    /// falls, also at the error that there is no memory.
+    /// Makes room for `capacity` pairs, including those present. The pairs are unchanged and the room never shrinks,
+    /// even if this fails for lack of memory.
     pub fn reserve(&mut self, capacity: usize) -> Result<(), AllocError>
         requires { capacity < 2 ^ 63 }
         ensures room { OnOk result (capacity ≤ self.new.room) }
@@ -76,13 +76,13 @@ impl Index {
         self.pairs.reserve(capacity)
     }
 
-    /// The process under a key with the least number above `after`.
+    /// Returns the lowest process ID above `after` with this key.
     #[inline]
     pub fn next(&self, key: u64, after: Pid) -> Option<Pid>
         ensures next { IsNextPair key after self.now.pairs result }
         ensures rising { ArePairs self.now.pairs }
     {
-        // Mostly nobody stands in it.
+        // Usually the index is empty.
         self.pairs.as_slice().first()?;
         let from = keyed(key, after);
         match next_above(self.pairs.as_slice(), &from) {
@@ -91,7 +91,7 @@ impl Index {
         }
     }
 
-    /// Whether some process stands under a key from `low` to `high`.
+    /// Returns true if some process has a key from `low` to `high`, inclusive.
     #[inline]
     pub fn has_within(&self, low: u64, high: u64) -> bool
         ensures { result ≡ has_within_keys low high self.now.pairs }
@@ -102,7 +102,7 @@ impl Index {
         }
     }
 
-    /// Puts a process in under a key, unless it is there.
+    /// Adds a pair of a key and a process, if it is not present.
     pub fn insert(&mut self, key: u64, pid: Pid)
         requires room { is_pair_in key pid self.old.pairs ≡ false → length self.old.pairs < self.old.room }
         requires pid { 1 ≤ pid }
@@ -116,7 +116,7 @@ impl Index {
         }
     }
 
-    /// Takes a process out under a key, where it is there.
+    /// Removes a pair of a key and a process, if present.
     pub fn remove(&mut self, key: u64, pid: Pid)
         ensures pairs { (k p : ℕ) → is_pair_in k p self.new.pairs ≡ (not (k == key && p == pid) && is_pair_in k p self.old.pairs) }
         ensures room { self.new.room ≡ self.old.room }
@@ -127,7 +127,7 @@ impl Index {
         self.pairs.take_out(&pair);
     }
 
-    /// A process that stood under one key, or under none, stands under another, or under none.
+    /// Changes the key of a process from `old` to `new`. `None` is no key.
     #[inline(always)]
     pub fn replace(&mut self, pid: Pid, old: Option<u64>, new: Option<u64>)
         requires can { CanReplace pid old self.old }
@@ -146,7 +146,7 @@ impl Index {
         }
     }
 
-    /// Whether there are none.
+    /// Returns true if there are no pairs.
     #[inline]
     pub fn is_empty(&self) -> bool
         ensures { result ≡ (length self.now.pairs == 0) }
@@ -154,7 +154,7 @@ impl Index {
         self.pairs.as_slice().is_empty()
     }
 
-    /// The processes under one key come under another.
+    /// Changes the key of all processes that have key `from` to `to`.
     pub fn rekey(&mut self, from: u64, to: u64)
         requires { from ≢ to }
         ensures { IsRekeyed from to self.old self.new }

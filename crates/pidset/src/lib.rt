@@ -1,8 +1,8 @@
-//! Sets of process numbers, indexes of processes by keys, and items that have numbers.
+//! Sets of process IDs, indexes of processes by key, and vectors of items in rising order of their numbers.
 //!
-//! `search` and `next_above` find items in rising order of their numbers. `Pages` has a value for each number. `PidSet`
-//! is a set. `Index` has pairs of a key and a process, `Lists` each process in at most one list, and `Rows` a row for
-//! each number, in pages that can be freed. Within reserved room none of them takes memory.
+//! `search` and `next_above` find items in such a vector. `Pages` maps process IDs to values. `PidSet` is a set.
+//! `Index` has pairs of a key and a process. `Lists` has each process in at most one list. `Rows` has a row for each
+//! ID, in pages that can be freed. None of them allocates within reserved room.
 #![tactic(auto)]
 
 mod gap_vec;

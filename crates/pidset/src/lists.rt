@@ -1,5 +1,5 @@
-//! Processes in lists with numbers, such as the members of process groups: nodes that are linked both ways, and found
-//! by the number.
+//! Doubly linked lists of processes, such as the members of process groups. Each list has an ID, and nodes are found by
+//! ID.
 
 ghost use Rattle.std.specs.Prelude.{◌≡◌, ◌≢◌, ◌<◌, ◌≤◌, ◌==◌, ℕ, [], IfSome, OnOk, cond};
 ghost use Rattle.pidset.specs.Indexes.{ArePairsRekeyed, IsNextPair, IsMoved, IsAt};
@@ -11,18 +11,18 @@ use posix::Pid;
 use std::alloc::{AllocError, Global};
 use std::marker::Model;
 
-/// Where the process with a number stands, and the ends of the list with this number.
+/// The node of an ID: the position of the process with this ID, and the ends of the list with this ID.
 #[derive(Clone, Copy)]
 struct Node {
-    /// The list in which the process stands; number 0 for none.
+    /// The list that contains the process; 0 if none does.
     list: Pid,
-    /// Who stands before it in there; number 0 for nobody.
+    /// The previous process in that list; 0 if there is none.
     before: Pid,
-    /// Who stands behind it in there; number 0 for nobody.
+    /// The next process in that list; 0 if there is none.
     behind: Pid,
-    /// The first in the list with this number; number 0 for nobody.
+    /// The first process in the list with this ID; 0 if it is empty.
     first: Pid,
-    /// The last in the list with this number; number 0 for nobody.
+    /// The last process in the list with this ID; 0 if it is empty.
     last: Pid,
 }
 
@@ -37,8 +37,8 @@ impl Node {
     };
 }
 
-/// Processes in lists, each process in one of them or in none, and each list in rising order. It takes memory in
-/// [`Lists::reserve`] alone: for a node of each number, of a process or of a list.
+/// Lists of processes: each process is in at most one, and each list is in rising order. Each ID of a process or a list
+/// needs a node. Allocates only in [`Lists::reserve`].
 #[derive(Drop)]
 pub struct Lists {
     nodes: Rows<Node>,
@@ -56,7 +56,7 @@ impl Model for Lists {
 }
 
 impl Lists {
-    /// No processes. It takes no memory.
+    /// Creates lists without processes. Allocates nothing.
     #[tactic(auto, unfolding(crate::specs::Lists::pairs_in, crate::specs::Lists::node_of, crate::specs::Lists::list_of, crate::specs::Lists::behind_of, crate::specs::Lists::before_of))]
     pub fn new(alloc: Global) -> Lists
         ensures { result ≡ record { pairs = []; sizes = [] } }
@@ -66,8 +66,8 @@ impl Lists {
         }
     }
 
-    /// Makes room for a number. Who stands in the lists stays, and room that was there, also at the error that there is
-    /// no memory.
+    /// Makes room for the node of an ID. The lists are unchanged and all room stays, even if this fails for lack of
+    /// memory.
     #[inline]
     pub fn reserve(&mut self, pid: Pid) -> Result<(), AllocError>
         ensures room { OnOk result (HasRoom self.new.sizes pid) }
@@ -77,8 +77,8 @@ impl Lists {
         self.nodes.reserve(pid, Node::NOWHERE)
     }
 
-    /// The room for a number goes, and that for all others on its page of 1,024 numbers, where none of them stands in a
-    /// list or is the number of one in which somebody stands.
+    /// Frees the room for an ID and for all others on its page of 1,024 IDs. None of them may be in a list, or be the
+    /// ID of a list that contains a process.
     pub fn give_up_page(&mut self, pid: Pid)
         requires { IsPageUnused pid self.old.pairs }
         ensures { self.new ≡ without_page_of pid self.old }
@@ -86,7 +86,7 @@ impl Lists {
         self.nodes.give_up_page(pid);
     }
 
-    /// The process in a list with the least number above `after`.
+    /// Returns the lowest process ID above `after` in a list.
     #[inline]
     pub fn next(&self, list: Pid, after: Pid) -> Option<Pid>
         ensures { IsNextPair list after self.now.pairs result }
@@ -101,7 +101,7 @@ impl Lists {
         if next == Pid::NONE { None } else { Some(next) }
     }
 
-    /// The list in which a process stands.
+    /// Returns the list that contains a process.
     #[inline]
     pub fn list(&self, pid: Pid) -> Option<Pid>
         ensures { IsAt pid result self.now.pairs }
@@ -113,7 +113,7 @@ impl Lists {
         if list == Pid::NONE { None } else { Some(list) }
     }
 
-    /// Puts a process into a list, or into none, and takes it out of that in which it stood.
+    /// Moves a process to a list, or to none.
     #[inline]
     pub fn put(&mut self, pid: Pid, list: Option<Pid>)
         requires pid { (1 ≤ pid) × HasRoom self.old.sizes pid }
@@ -131,7 +131,7 @@ impl Lists {
         }
     }
 
-    /// All that stand in one list stand in another from now on. The time is that of walking both lists once.
+    /// Moves all processes in one list to another. The cost is that of walking both lists once.
     #[inline]
     pub fn rekey(&mut self, from: Pid, to: Pid)
         requires apart { from ≢ to }
@@ -144,7 +144,7 @@ impl Lists {
     }
 }
 
-/// The node of a number.
+/// Returns the node of an ID.
 #[inline(always)]
 #[tactic(auto, unfolding(crate::specs::Lists::node_of))]
 fn node_at(nodes: &Rows<Node>, pid: Pid) -> Node
@@ -154,7 +154,7 @@ fn node_at(nodes: &Rows<Node>, pid: Pid) -> Node
     nodes.get(pid)
 }
 
-/// The list in which a process stands; number 0 for none.
+/// Returns the list that contains a process; 0 if none does.
 #[inline]
 #[tactic(auto, unfolding(crate::specs::Lists::list_of))]
 fn list_at(nodes: &Rows<Node>, pid: Pid) -> Pid
@@ -164,7 +164,7 @@ fn list_at(nodes: &Rows<Node>, pid: Pid) -> Pid
     node_at(nodes, pid).list
 }
 
-/// Who stands behind another in a list, and its first behind number 0; number 0 for nobody.
+/// Returns the process after `at` in a list, or the first if `at` is 0; 0 if there is none.
 #[inline]
 #[tactic(auto, unfolding(crate::specs::Lists::behind_of))]
 fn behind(nodes: &Rows<Node>, list: Pid, at: Pid) -> Pid
@@ -179,7 +179,7 @@ fn behind(nodes: &Rows<Node>, list: Pid, at: Pid) -> Pid
     }
 }
 
-/// Who stands before another in a list, and its last before number 0; number 0 for nobody.
+/// Returns the process before `at` in a list, or the last if `at` is 0; 0 if there is none.
 #[inline]
 #[tactic(auto, unfolding(crate::specs::Lists::before_of))]
 fn before(nodes: &Rows<Node>, list: Pid, at: Pid) -> Pid
@@ -194,7 +194,7 @@ fn before(nodes: &Rows<Node>, list: Pid, at: Pid) -> Pid
     }
 }
 
-/// A process stands in a list from now on, or in none, with these before and behind it.
+/// Sets the list of a process, and the processes before and after it there.
 #[inline]
 #[tactic(auto, unfolding(crate::specs::Lists::with_place))]
 fn set_place(nodes: &mut Rows<Node>, pid: Pid, list: Pid, before: Pid, behind: Pid)
@@ -210,7 +210,7 @@ fn set_place(nodes: &mut Rows<Node>, pid: Pid, list: Pid, before: Pid, behind: P
     nodes.set(pid, node);
 }
 
-/// One comes right behind another in a list from now on, or is its first.
+/// Makes `to` the process after `at` in a list, or the first if `at` is 0.
 #[inline]
 #[tactic(auto, unfolding(crate::specs::Lists::with_behind))]
 fn set_behind(nodes: &mut Rows<Node>, list: Pid, at: Pid, to: Pid)
@@ -229,7 +229,7 @@ fn set_behind(nodes: &mut Rows<Node>, list: Pid, at: Pid, to: Pid)
     }
 }
 
-/// One comes right before another in a list from now on, or is its last.
+/// Makes `to` the process before `at` in a list, or the last if `at` is 0.
 #[inline]
 #[tactic(auto, unfolding(crate::specs::Lists::with_before))]
 fn set_before(nodes: &mut Rows<Node>, list: Pid, at: Pid, to: Pid)
@@ -248,8 +248,8 @@ fn set_before(nodes: &mut Rows<Node>, list: Pid, at: Pid, to: Pid)
     }
 }
 
-/// From where on the process with the least number above `after` in a list is looked for: behind `after`, where it
-/// stands there, else at the first.
+/// Returns where to start looking for the lowest ID above `after` in a list: after `after` if it is in the list,
+/// otherwise at the first.
 #[inline]
 fn next_near(nodes: &Rows<Node>, list: Pid, after: Pid) -> Pid
     requires linked { AreLinked nodes.now }
@@ -263,8 +263,8 @@ fn next_near(nodes: &Rows<Node>, list: Pid, after: Pid) -> Pid
     }
 }
 
-/// Who stands right before the place of a process that goes into a list. It is looked for from `above` back to the
-/// first: from one there with a greater number, or from number 0 behind the last.
+/// Returns the process after which `pid` belongs in a list; 0 if it belongs first. Searches backwards from `above`,
+/// which is in the list and has a higher ID, or from the end if `above` is 0.
 #[tactic(auto, using(crate::proofs::LinkLemmas::inside))]
 fn place_for(nodes: &Rows<Node>, list: Pid, pid: Pid, above: Pid) -> Pid
     requires linked { AreLinked nodes.now }
@@ -274,7 +274,7 @@ fn place_for(nodes: &Rows<Node>, list: Pid, pid: Pid, above: Pid) -> Pid
     requires above { IsAbove nodes.now list pid above }
     ensures { IsPlaceFor nodes.now list pid result (behind_of nodes.now list result) }
 {
-    // Mostly it comes right before `above`.
+    // Usually it belongs right before `above`.
     let mut at = before(nodes, list, above);
     while pid < at {
         at = before(nodes, list, at);
@@ -282,7 +282,7 @@ fn place_for(nodes: &Rows<Node>, list: Pid, pid: Pid, above: Pid) -> Pid
     at
 }
 
-/// Takes a process out of the list in which it stands, if it stands in one.
+/// Removes a process from the list that contains it, if one does.
 #[inline]
 #[tactic(auto, using(crate::proofs::LinkLemmas::list_inside))]
 fn take_out(nodes: &mut Rows<Node>, pid: Pid)
@@ -301,7 +301,7 @@ fn take_out(nodes: &mut Rows<Node>, pid: Pid)
     set_place(nodes, pid, Pid::NONE, before, behind);
 }
 
-/// Puts a process that stands in no list into one, in which `above` has a greater number or is number 0.
+/// Adds a process that is in no list to one. `above` is in that list and has a higher ID, or is 0.
 #[inline]
 fn put_in(nodes: &mut Rows<Node>, list: Pid, pid: Pid, above: Pid)
     requires linked { AreLinked nodes.old }
@@ -318,7 +318,7 @@ fn put_in(nodes: &mut Rows<Node>, list: Pid, pid: Pid, above: Pid)
     set_place(nodes, pid, list, before, behind);
 }
 
-/// Puts all that stand in one list into another.
+/// Moves all processes in one list to another.
 #[tactic(auto, using(crate::proofs::LinkLemmas::inside))]
 fn move_all(nodes: &mut Rows<Node>, from: Pid, to: Pid)
     requires linked { AreLinked nodes.old }
@@ -329,7 +329,7 @@ fn move_all(nodes: &mut Rows<Node>, from: Pid, to: Pid)
     ensures linked { AreLinked nodes.new }
     ensures sizes { sizes_of nodes.new ≡ sizes_of nodes.old }
 {
-    // The place of each is before that of the one moved last, whose number is greater.
+    // The last process moved has a higher ID, so the search for each place starts from it.
     let mut above = Pid::NONE;
     let mut next = before(nodes, from, Pid::NONE);
     while next != Pid::NONE {

@@ -1,4 +1,4 @@
-//! Items of a vector that have a number each, in rising order of their numbers.
+//! Items with numbers, in rising order of these numbers in a vector.
 
 ghost use Rattle.std.specs.Prelude.{◌≡◌, ◌+◌, ◌<◌, ◌≤◌, ◌==◌, ℕ, false, nat_lt, map, filter, insert, length, slice_get, vec_len, vec_capacity, IfOk, IfErr};
 ghost use Rattle.std.specs.Option.{option_copied, option_map_or};
@@ -6,12 +6,12 @@ ghost use Rattle.pidset.specs.Numbers.{Rises, IsNumberAt, IsInsertionPoint, inde
 
 use posix::Pid;
 
-/// What has a number.
+/// An item that has a number.
 pub trait Numbered: Drop {
-    /// The number.
+    /// The number of the item.
     ghost number: { Self → ℕ };
 
-    /// The number.
+    /// Returns the number of the item.
     fn number(&self) -> u128
         ensures { result ≡ number self.now };
 }
@@ -33,7 +33,7 @@ impl Numbered for u32 {
     }
 }
 
-/// Where the item with the number of `key` stands, or where it would go.
+/// Returns the index of the item with the number of `key`, or the index where it would be inserted.
 pub fn search<T: Numbered, K: Numbered>(items: &[T], key: &K) -> Result<usize, usize>
     requires { Rises (map T.number items.now) }
     ensures found { IfOk result (IsNumberAt (map T.number items.now) (K.number key.now)) }
@@ -43,12 +43,12 @@ pub fn search<T: Numbered, K: Numbered>(items: &[T], key: &K) -> Result<usize, u
     let Some(last) = items.last() else {
         return Err(0);
     };
-    // Most numbers that go in are above all others.
+    // Most inserted numbers are above all others.
     let greatest = last.number();
     if greatest < number {
         return Err(items.len());
     }
-    // Others are mostly the first, or go before it.
+    // Most other numbers equal the first or go before it.
     let least = items[0].number();
     if number < least {
         return Err(0);
@@ -56,7 +56,7 @@ pub fn search<T: Numbered, K: Numbered>(items: &[T], key: &K) -> Result<usize, u
     if number == least {
         return Ok(0);
     }
-    // Where one that is looked for is there, mostly all between it and the last one are.
+    // If the number is present, usually so is every number from it to the last, and this is its index.
     let behind = greatest - number;
     if behind < items.len() as u128 {
         let at = items.len() - 1 - behind as usize;
@@ -67,7 +67,7 @@ pub fn search<T: Numbered, K: Numbered>(items: &[T], key: &K) -> Result<usize, u
     items.binary_search_by_key(&number, |item| item.number())
 }
 
-/// Whether an item stands at an index, and has this number.
+/// Returns true if the item at an index exists and has this number.
 #[inline]
 pub(crate) fn stands_at<T: Numbered>(items: &[T], at: usize, number: u128) -> bool
     ensures { result ≡ option_map_or (λ item. T.number item == number) (slice_get items.now at) false }
@@ -78,7 +78,7 @@ pub(crate) fn stands_at<T: Numbered>(items: &[T], at: usize, number: u128) -> bo
     }
 }
 
-/// The item behind the place of another, or at the place where one would go.
+/// Returns the item after the one found, or the item at the insertion point if none was found.
 #[inline]
 pub(crate) fn behind<T>(items: &[T], place: Result<usize, usize>) -> Option<&T>
     requires { IfOk place (λ at. at < length items.now) }
@@ -90,7 +90,7 @@ pub(crate) fn behind<T>(items: &[T], place: Result<usize, usize>) -> Option<&T>
     }
 }
 
-/// The item with the least number above that of `key`.
+/// Returns the item with the lowest number above that of `key`.
 #[tactic(auto, using(crate::proofs::ItemLemmas::behind_place))]
 pub fn next_above<'a, T: Numbered, K: Numbered>(items: &'a [T], key: &K) -> Option<&'a T>
     requires { Rises (map T.number items.now) }
@@ -99,7 +99,7 @@ pub fn next_above<'a, T: Numbered, K: Numbered>(items: &'a [T], key: &K) -> Opti
     behind(items, search(items, key))
 }
 
-/// Puts an item in at an index, where there is room.
+/// Inserts an item at an index, within the vector's capacity.
 pub fn insert_at<T: Drop>(items: &mut Vec<T>, at: usize, item: T)
     requires at { at ≤ vec_len items.old }
     requires room { vec_len items.old < vec_capacity items.old }

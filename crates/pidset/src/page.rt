@@ -1,4 +1,4 @@
-//! The values of 64 numbers that follow each other.
+//! The values of 64 consecutive process IDs.
 
 ghost use Rattle.std.specs.Prelude.{◌≡◌, ◌+◌, ◌*◌, ◌/◌, ◌%◌, ◌<◌, ◌≤◌, ◌==◌, None, Some, IfOk, slice_get, slice_set};
 ghost use Rattle.pidset.specs.Numbers.{numbers_above};
@@ -8,13 +8,13 @@ use crate::numbered::Numbered;
 use posix::Pid;
 use std::alloc::{AllocError, Global};
 
-/// The values of the numbers from 64 times that of the page on, each of which has one or none.
+/// The optional values of 64 consecutive IDs, starting at 64 times the page number.
 #[derive(Drop)]
 pub(crate) struct Page<T: Copy> {
     number: u32,
-    /// How many values there are.
+    /// How many values are present.
     used: usize,
-    /// No place from here on has one.
+    /// No value is at this place or after it.
     end: usize,
     values: Vec<Option<T>>,
 }
@@ -28,7 +28,7 @@ impl<T: Copy> Numbered for Page<T> {
 }
 
 impl<T: Copy> Page<T> {
-    /// A page of no values. An error where there is no memory for it.
+    /// Creates a page without values. Fails if there is no memory for it.
     pub fn unused(alloc: Global) -> Result<Page<T>, AllocError>
         ensures { IfOk result IsUnused }
     {
@@ -41,7 +41,7 @@ impl<T: Copy> Page<T> {
         })
     }
 
-    /// A page of no values is of other numbers.
+    /// Changes the number of a page without values.
     pub fn renumber(&mut self, number: u32)
         requires unused { IsUnused self.old }
         requires number { number ≤ 33554431 }
@@ -52,14 +52,14 @@ impl<T: Copy> Page<T> {
         self.end = 0;
     }
 
-    /// Whether it has no values.
+    /// Returns true if the page has no values.
     pub fn is_unused(&self) -> bool
         ensures { result ≡ (self.now.used == 0) }
     {
         self.used == 0
     }
 
-    /// The value at a place.
+    /// Returns the value at a place.
     pub fn get(&self, at: usize) -> Option<T>
         requires page { IsPage self.now }
         requires at { at < 64 }
@@ -68,7 +68,7 @@ impl<T: Copy> Page<T> {
         self.values[at]
     }
 
-    /// Puts a value in at a place that has none.
+    /// Adds a value at a place that has none.
     pub fn put(&mut self, at: usize, value: T)
         requires page { IsPage self.old }
         requires at { at < 64 }
@@ -83,7 +83,7 @@ impl<T: Copy> Page<T> {
         self.end = self.end.max(at + 1);
     }
 
-    /// Takes out the value at a place, if there is one.
+    /// Removes and returns the value at a place, if there is one.
     pub fn take(&mut self, at: usize) -> Option<T>
         requires page { IsPage self.old }
         requires at { at < 64 }
@@ -100,7 +100,7 @@ impl<T: Copy> Page<T> {
         value
     }
 
-    /// The least number above another that has a value. The other isn't behind the page.
+    /// Returns the lowest ID above `after` that has a value. The page is that of `after` or a later one.
     pub fn next_above(&self, after: Pid) -> Option<Pid>
         requires page { IsPage self.now }
         requires after { after / 64 ≤ self.now.number }
@@ -118,7 +118,7 @@ impl<T: Copy> Page<T> {
     }
 }
 
-/// The place of the first number above another in a page with this first number, or 64.
+/// Returns the first place of an ID above `after` on the page whose lowest ID is `first`, or 64 if there is none.
 fn place_behind(after: Pid, first: u32) -> usize
     requires first { first % 64 ≡ 0 }
     requires after { after < first + 64 }

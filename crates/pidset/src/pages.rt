@@ -1,4 +1,4 @@
-//! Values by number, in pages.
+//! Values by process ID, in pages.
 
 ghost use Rattle.std.specs.Prelude.{◌≡◌, ◌/◌, ◌%◌, ◌≤◌, ◌<◌, ◌==◌, nat_lt, true, not, Some, None, is_some, IfErr, IfOk, IfSome, [], OnOk, filter, length, option_map, slice_get, vec_len, vec_capacity};
 ghost use Rattle.std.specs.Option.{option_and_then, option_copied};
@@ -11,17 +11,17 @@ use posix::Pid;
 use std::alloc::{AllocError, Global};
 use std::marker::Model;
 
-/// Values by number, each number once, seen as the list of both in rising order of the numbers.
+/// A map from process IDs to values, modelled as a list of both in rising order of the IDs.
 ///
-/// Each 64 numbers that follow each other, of which one has a value, have a page of values, and there is one page more
-/// at most: so the size follows how many there are, and how close, and not the greatest number. Memory is taken in
-/// [`Pages::reserve`] alone.
+/// Each 64 consecutive IDs share a page if at least one of them has a value, and at most one more page is spare. So the
+/// size depends on how many IDs have values and how close they are, not on the highest ID. Allocates only in
+/// [`Pages::reserve`].
 #[derive(Drop)]
 pub struct Pages<T: Copy> {
     alloc: Global,
-    /// In rising order of their numbers. None is without values.
+    /// The pages in rising order of their numbers. Each has a value.
     pages: Vec<Page<T>>,
-    /// A page without values.
+    /// A page without values, for the next insertion that needs one.
     spare: Option<Page<T>>,
 }
 
@@ -38,7 +38,7 @@ impl<T: Copy> Model for Pages<T> {
     ghost invariant = { λ t. ArePages t.pages.items × IfSome t.spare IsUnused };
 }
 
-/// The page of a number.
+/// Returns the page number of an ID.
 #[inline(always)]
 fn page_of(pid: Pid) -> u32
     ensures is { result ≡ pid / 64 }
@@ -47,7 +47,7 @@ fn page_of(pid: Pid) -> u32
     pid.number() / 64
 }
 
-/// Its place in there.
+/// Returns the place of an ID on its page.
 #[inline(always)]
 fn place_of(pid: Pid) -> usize
     ensures is { result ≡ pid % 64 }
@@ -57,7 +57,7 @@ fn place_of(pid: Pid) -> usize
 }
 
 impl<T: Copy> Pages<T> {
-    /// No values. It takes no memory.
+    /// Creates an empty map. Allocates nothing.
     #[tactic(auto, unfolding(crate::specs::Pages::entries_of, crate::specs::Numbers::Rises))]
     pub fn new(alloc: Global) -> Pages<T>
         ensures { result.entries ≡ [] }
@@ -69,8 +69,7 @@ impl<T: Copy> Pages<T> {
         }
     }
 
-    /// Makes room for one more value, whichever its number is. The values stay, also at the error that there is no
-    /// memory for it.
+    /// Makes room for one more value, whatever its ID. The values are unchanged, even if this fails for lack of memory.
     pub fn reserve(&mut self) -> Result<(), AllocError>
         ensures ready { OnOk result (self.new.ready ≡ true) }
         ensures stays { self.old.ready ≡ true → self.new.ready ≡ true }
@@ -83,7 +82,7 @@ impl<T: Copy> Pages<T> {
         Ok(())
     }
 
-    /// There are no more values than numbers. It reads nothing.
+    /// Proves that there are no more values than IDs. Does nothing when run.
     #[inline(always)]
     #[tactic(auto, using(crate::proofs::PageLemmas::few_pages))]
     pub fn size_holds(&self)
@@ -92,7 +91,7 @@ impl<T: Copy> Pages<T> {
         let _ = &self.pages;
     }
 
-    /// The value of a number, if it has one.
+    /// Returns the value of an ID, if it has one.
     #[inline]
     pub fn get(&self, pid: Pid) -> Option<T>
         ensures { result ≡ option_map (λ e. e.value) (entry_of pid self.now.entries) }
@@ -103,7 +102,7 @@ impl<T: Copy> Pages<T> {
         }
     }
 
-    /// Puts in the value of a number that has none, where there is room.
+    /// Adds a value for an ID that has none, within reserved room.
     pub fn put(&mut self, pid: Pid, value: T)
         requires room { self.old.ready ≡ true }
         requires absent { entry_of pid self.old.entries ≡ None }
@@ -119,7 +118,7 @@ impl<T: Copy> Pages<T> {
         }
     }
 
-    /// Takes out the value of a number, if it has one. A page goes with its last one.
+    /// Removes and returns the value of an ID, if it has one. A page without values leaves the map.
     pub fn remove(&mut self, pid: Pid) -> Option<T>
         ensures value { result ≡ option_map (λ e. e.value) (entry_of pid self.old.entries) }
         ensures entries { self.new.entries ≡ filter (λ e. not (e.pid == pid)) self.old.entries }
@@ -131,7 +130,7 @@ impl<T: Copy> Pages<T> {
         }
     }
 
-    /// The least number above another that has a value.
+    /// Returns the lowest ID above `after` that has a value.
     pub fn next_above(&self, after: Pid) -> Option<Pid>
         ensures value { result ≡ first_above after self.now.entries }
         ensures rising { Rises (pids_of self.now.entries) }
@@ -144,14 +143,14 @@ impl<T: Copy> Pages<T> {
     }
 }
 
-/// Where the page of a number stands, or where it would go.
+/// Returns the index of the page of an ID, or the index where the page would be inserted.
 #[inline]
 fn index_of<T: Copy>(pages: &[Page<T>], pid: Pid) -> Result<usize, usize>
     requires { Rises (numbers_of pages.now) }
     ensures found { IfOk result (IsNumberAt (numbers_of pages.now) (pid / 64)) }
     ensures absent { IfErr result (IsInsertionPoint (numbers_of pages.now) (pid / 64)) }
 {
-    // Mostly all pages from the first on are there.
+    // Usually there is a page for each number from 0 on.
     let number = page_of(pid);
     let at = number as usize;
     if stands_at(pages, at, u128::from(number)) {
@@ -160,7 +159,7 @@ fn index_of<T: Copy>(pages: &[Page<T>], pid: Pid) -> Result<usize, usize>
     search(pages, &number)
 }
 
-/// The page of a number, if it is there.
+/// Returns the page of an ID, if present.
 #[inline]
 fn page<T: Copy>(pages: &[Page<T>], pid: Pid) -> Option<&Page<T>>
     requires { ArePages pages.now }
@@ -173,7 +172,7 @@ fn page<T: Copy>(pages: &[Page<T>], pid: Pid) -> Option<&Page<T>>
     }
 }
 
-/// The first page behind that of a number.
+/// Returns the first page after the page number of an ID.
 #[inline]
 fn page_behind<T: Copy>(pages: &[Page<T>], pid: Pid) -> Option<&Page<T>>
     requires { ArePages pages.now }
@@ -183,7 +182,7 @@ fn page_behind<T: Copy>(pages: &[Page<T>], pid: Pid) -> Option<&Page<T>>
     behind(pages, index_of(pages, pid))
 }
 
-/// Puts in the value of a number that has none, in the page at an index.
+/// Adds a value for an ID that has none to the page at an index.
 fn put_at<T: Copy>(pages: &mut Vec<Page<T>>, at: usize, pid: Pid, value: T)
     requires pages { ArePages pages.old.items }
     requires at { IsNumberAt (numbers_of pages.old.items) (pid / 64) at }
@@ -193,7 +192,7 @@ fn put_at<T: Copy>(pages: &mut Vec<Page<T>>, at: usize, pid: Pid, value: T)
     pages[at].put(place_of(pid), value);
 }
 
-/// Puts in the value of a number that has no page, in a page without values, which goes to an index.
+/// Inserts a page for an ID that has none, with its value. The given page has no values yet.
 fn lay<T: Copy>(pages: &mut Vec<Page<T>>, at: usize, page: Page<T>, pid: Pid, value: T)
     requires pages { ArePages pages.old.items }
     requires at { IsInsertionPoint (numbers_of pages.old.items) (pid / 64) at }
@@ -207,7 +206,7 @@ fn lay<T: Copy>(pages: &mut Vec<Page<T>>, at: usize, page: Page<T>, pid: Pid, va
     insert_at(pages, at, page);
 }
 
-/// Takes out the value of a number, if it has one, from the page at an index. A page without values is spare.
+/// Removes and returns the value of an ID, if it has one, from the page at an index. A page left empty becomes spare.
 fn take_at<T: Copy>(
     pages: &mut Vec<Page<T>>,
     spare: &mut Option<Page<T>>,
@@ -232,7 +231,7 @@ fn take_at<T: Copy>(
     value
 }
 
-/// The least number above another in a page, if there is one, that isn't before it.
+/// Returns the lowest ID above `after` that has a value on a page. The page is that of `after` or a later one.
 #[inline]
 fn next_in<T: Copy>(page: Option<&Page<T>>, after: Pid) -> Option<Pid>
     requires { IfSome (option_copied page) (λ p. IsPage p × (after / 64 ≤ p.number)) }

@@ -1,4 +1,4 @@
-//! Numbers of processes in rising order, each once.
+//! Sets of process IDs.
 
 ghost use Rattle.std.specs.Prelude.{◌≡◌, ◌<◌, ◌^◌, false, [], length, max, slice_get, OnOk, OnErr, IfOk, IfErr};
 ghost use Rattle.posix.specs.Common.{is_in, without};
@@ -10,8 +10,8 @@ use posix::Pid;
 use std::alloc::{AllocError, Global};
 use std::marker::Model;
 
-/// A set of process numbers, in rising order. Where the least is taken out, nothing is moved; else those behind a
-/// number that is put in or taken out are. It takes memory in [`PidSet::reserve`] alone.
+/// A set of process IDs, in rising order. Removing the lowest ID moves nothing; insertions and other removals move the
+/// higher IDs. Allocates only in [`PidSet::reserve`].
 #[derive(Drop)]
 pub struct PidSet {
     pids: GapVec<Pid>,
@@ -28,7 +28,7 @@ impl Model for PidSet {
 }
 
 impl PidSet {
-    /// A set of no numbers. It takes no memory.
+    /// Creates an empty set. Allocates nothing.
     #[tactic(auto, unfolding(crate::specs::Numbers::Rises))]
     pub fn new(alloc: Global) -> PidSet
         ensures { result ≡ record { pids = []; room = 0 } }
@@ -38,8 +38,8 @@ impl PidSet {
         }
     }
 
-    /// Makes room for `capacity` numbers, counting those that are there, and for no more where there was less. They
-    /// stay. At an error there is no memory for them, and nothing changes.
+    /// Makes room for `capacity` IDs, including those present. If it grows, it has room for exactly that many. The IDs
+    /// are unchanged. If this fails for lack of memory, nothing changes.
     pub fn reserve(&mut self, capacity: usize) -> Result<(), AllocError>
         requires { capacity < 2 ^ 63 }
         ensures room { OnOk result (self.new.room ≡ max self.old.room capacity) }
@@ -49,14 +49,14 @@ impl PidSet {
         self.pids.reserve_exact(capacity)
     }
 
-    /// For how many numbers there is room, counting those that are there.
+    /// Returns how many IDs there is room for, including those present.
     pub fn room(&self) -> usize
         ensures { result ≡ self.now.room }
     {
         self.pids.room()
     }
 
-    /// Where a number stands, or where it would go.
+    /// Returns the index of an ID, or the index where it would be inserted.
     fn search(&self, pid: Pid) -> Result<usize, usize>
         ensures found { IfOk result (IsNumberAt self.now.pids pid) }
         ensures absent { IfErr result (IsInsertionPoint self.now.pids pid) }
@@ -65,7 +65,7 @@ impl PidSet {
         search(self.pids.as_slice(), &pid)
     }
 
-    /// The least number.
+    /// Returns the lowest ID.
     pub fn first(&self) -> Option<Pid>
         ensures is { result ≡ slice_get self.now.pids 0 }
         ensures rising { Rises self.now.pids }
@@ -73,7 +73,7 @@ impl PidSet {
         self.pids.as_slice().first().copied()
     }
 
-    /// The least number above another.
+    /// Returns the lowest ID above `after`.
     pub fn next_above(&self, after: Pid) -> Option<Pid>
         ensures is { result ≡ slice_get (numbers_above after self.now.pids) 0 }
         ensures rising { Rises self.now.pids }
@@ -81,7 +81,7 @@ impl PidSet {
         next_above(self.pids.as_slice(), &after).copied()
     }
 
-    /// Puts a number in, unless it is there.
+    /// Adds an ID, if it is not present.
     pub fn insert(&mut self, pid: Pid)
         requires room { is_in pid self.old.pids ≡ false → length self.old.pids < self.old.room }
         ensures pids { self.new.pids ≡ with_number pid self.old.pids }
@@ -92,7 +92,7 @@ impl PidSet {
         }
     }
 
-    /// Takes a number out, where it is there.
+    /// Removes an ID, if present.
     #[tactic(auto, using(crate::proofs::NumberLemmas::rises_filter), unfolding(posix::specs::States::without))]
     pub fn remove(&mut self, pid: Pid)
         ensures pids { self.new.pids ≡ without pid self.old.pids }
@@ -101,7 +101,7 @@ impl PidSet {
         self.pids.take_out(&pid);
     }
 
-    /// Takes all numbers out.
+    /// Removes all IDs.
     #[tactic(auto, unfolding(crate::specs::Numbers::Rises))]
     pub fn clear(&mut self)
         ensures pids { self.new.pids ≡ [] }

@@ -1,4 +1,4 @@
-//! Rows by number, in pages.
+//! Rows by process ID, in pages.
 
 ghost use Rattle.std.specs.Prelude.{◌≡◌, ◌/◌, ◌%◌, ◌<◌, ◌≤◌, ℕ, [], OnOk, nat_lt, length, map, slice_index_or};
 ghost use Rattle.pidset.specs.Rows.{HasRow, page_at, row_or, with_row, without_page};
@@ -7,11 +7,10 @@ use posix::Pid;
 use std::alloc::{AllocError, Global};
 use std::marker::Model;
 
-/// A row for each number that room was made for.
+/// A row for each ID for which room was made.
 ///
-/// Each 1,024 numbers that follow each other have a page of rows, as long as was asked for, which can be given up: so
-/// the size follows the numbers in use, and how close they are, and not the greatest one. Memory is taken in
-/// [`Rows::reserve`] alone.
+/// Each 1,024 consecutive IDs share a page of rows, which grows as needed and can be freed. So the size depends on the
+/// IDs in use and how close they are, not on the highest ID. Allocates only in [`Rows::reserve`].
 #[derive(Drop)]
 pub struct Rows<T: Copy> {
     alloc: Global,
@@ -29,7 +28,7 @@ impl<T: Copy> Model for Rows<T> {
     ghost view = { λ t. map (λ p. p.items) t.pages.items };
 }
 
-/// The page of a number.
+/// Returns the page number of an ID.
 #[inline(always)]
 fn page_of(pid: Pid) -> usize
     ensures { result ≡ pid / 1024 }
@@ -37,7 +36,7 @@ fn page_of(pid: Pid) -> usize
     (pid.number() / 1024) as usize
 }
 
-/// Its place in there.
+/// Returns the place of an ID on its page.
 #[inline(always)]
 fn place_of(pid: Pid) -> usize
     ensures is { result ≡ pid % 1024 }
@@ -46,7 +45,7 @@ fn place_of(pid: Pid) -> usize
     (pid.number() % 1024) as usize
 }
 
-/// Makes the pages up to one, of which the new ones have no rows. An error where there is no memory for them.
+/// Adds pages up to index `at`; new pages have no rows. Fails if there is no memory for them.
 fn make_pages<T: Copy>(pages: &mut Vec<Vec<T>>, alloc: Global, at: usize) -> Result<(), AllocError>
     ensures same { (k : ℕ) → page_at (map (λ p. p.items) pages.new.items) k ≡ page_at (map (λ p. p.items) pages.old.items) k }
     ensures there { OnOk result (at < length pages.new.items) }
@@ -57,8 +56,8 @@ fn make_pages<T: Copy>(pages: &mut Vec<Vec<T>>, alloc: Global, at: usize) -> Res
     Ok(())
 }
 
-/// Makes room at a place of a page: it has this row there, if it has none yet. A page grows to twice that place, up to
-/// 1,024 rows.
+/// Fills a page with `row` until it has a row at `place`. A page that is too short grows to about twice `place`, at
+/// most 1,024 rows.
 fn make_rows<T: Copy>(page: &mut Vec<T>, place: usize, row: T) -> Result<(), AllocError>
     requires { place < 1024 }
     ensures room { OnOk result (place < length page.new.items) }
@@ -72,7 +71,7 @@ fn make_rows<T: Copy>(page: &mut Vec<T>, place: usize, row: T) -> Result<(), All
 }
 
 impl<T: Copy> Rows<T> {
-    /// No rows. It takes no memory.
+    /// Creates a table without rows. Allocates nothing.
     pub fn new(alloc: Global) -> Rows<T>
         ensures { result ≡ [] }
     {
@@ -82,7 +81,7 @@ impl<T: Copy> Rows<T> {
         }
     }
 
-    /// Whether there is a row for a number.
+    /// Returns true if an ID has a row.
     #[inline(always)]
     pub fn has(&self, pid: Pid) -> bool
         ensures { result ≡ nat_lt (pid % 1024) (length (page_at self.now (pid / 1024))) }
@@ -93,7 +92,7 @@ impl<T: Copy> Rows<T> {
         }
     }
 
-    /// The row of a number.
+    /// Returns the row of an ID.
     #[inline(always)]
     pub fn get(&self, pid: Pid) -> T
         requires { HasRow self.now pid }
@@ -102,7 +101,7 @@ impl<T: Copy> Rows<T> {
         self.pages[page_of(pid)][place_of(pid)]
     }
 
-    /// A number has another row.
+    /// Sets the row of an ID.
     #[inline(always)]
     pub fn set(&mut self, pid: Pid, row: T)
         requires { HasRow self.old pid }
@@ -111,8 +110,8 @@ impl<T: Copy> Rows<T> {
         self.pages[page_of(pid)][place_of(pid)] = row;
     }
 
-    /// Makes room for a number: it has this row, if it has none yet. Others have their rows as before, or this one, also
-    /// at the error that there is no memory.
+    /// Makes room for an ID: it gets `row` if it has no row yet. Other IDs keep their rows, and some without one may
+    /// get `row`, too, even if this fails for lack of memory.
     #[inline]
     pub fn reserve(&mut self, pid: Pid, row: T) -> Result<(), AllocError>
         ensures room { OnOk result (HasRow self.new pid) }
@@ -125,7 +124,7 @@ impl<T: Copy> Rows<T> {
         self.grow(pid, row)
     }
 
-    /// So where there may be no row yet. It stands by itself, since few births come so far.
+    /// Makes room for an ID that may have no row yet. Not inlined because few new processes need it.
     #[inline(never)]
     fn grow(&mut self, pid: Pid, row: T) -> Result<(), AllocError>
         ensures room { OnOk result (HasRow self.new pid) }
@@ -137,7 +136,7 @@ impl<T: Copy> Rows<T> {
         make_rows(&mut self.pages[at], place_of(pid), row)
     }
 
-    /// The page of a number goes, with the rows of all numbers on it.
+    /// Frees the page of an ID, with the rows of all IDs on it.
     pub fn give_up_page(&mut self, pid: Pid)
         ensures { self.new ≡ without_page self.old pid }
     {

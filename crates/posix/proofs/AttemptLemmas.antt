@@ -150,7 +150,7 @@ module _ (M : Outcome → Type 0) (A : State → Type 0) (s : State) (me : Proce
       on None has = by_refusal Read refl ENOTTY
       on (Some c) has = within c (span_in (argument me 1) (argument me 2)) has refl
 
-  -- What holds of the ways of calls that a process may be blocked in holds of each attempt afresh.
+  -- What holds of each call that a process may be blocked in holds when it is attempted again.
   pub by_again : (b : Blocked) → Meets M A (attempt_again s me b)
   unfolding attempt_again
   by_again (blocked.Wait call) = by_waits call

@@ -111,7 +111,7 @@ lookup_signalled signal r p rs e =
     let itself : (r.pid == r.pid) ≡ true = eq-eqb r.pid r.pid refl in
     lookup_on (at r.pid (signalled signal)) (at_pid r.pid (signalled signal) (unseen_signalled signal).pid) r.pid rs r (ap (λ n. lookup n rs) named ∙ e) ∙ ap Some (rw itself refl)
 
--- what a signal comes to that was generated for who is there
+-- the result of a signal that was generated for an existing process
 pub generated_as : (signal : PendingSignal) (p : ℕ) (rs : List Process) (r : Process) (w : Effect) → lookup p rs ≡ Some r → effect_of r.pid r.life signal r.signals ≡ w → generated_for signal (lookup p rs) rs ≡ acted_upon w r (changed r.pid (signalled signal) rs)
 generated_as signal p rs r w e is = ap (λ o. generated_for signal o rs) e ∙ ap (λ w. acted_upon w r (changed r.pid (signalled signal) rs)) is
 

@@ -35,11 +35,11 @@ consoles_with n cs k d other h = record {
       (found_put cs k i d b e);
 }
 
--- so it is where d has the session of the one that was there
+-- this holds if d has the session of the console before
 pub consoles_set : (n : ℕ) (cs : List Console) (k : ℕ) (c d : Console) → slice_get cs k ≡ Some c → d.session ≡ c.session → AreConsoles n cs → AreConsoles n (slice_set cs k d)
 consoles_set n cs k c d found keeps h = consoles_with n cs k d (λ j b away e some same. away (h.apart j k b c e found (λ z. some (sym same ∙ z)) (same ∙ keeps))) h
 
--- where d is nobody's
+-- this holds if d has no session
 pub consoles_freed : (n : ℕ) (cs : List Console) (k : ℕ) (d : Console) → d.session ≡ 0 → AreConsoles n cs → AreConsoles n (slice_set cs k d)
 consoles_freed n cs k d free h = consoles_with n cs k d (λ j b away e some same. some free) h
 
@@ -67,7 +67,7 @@ before f keeps cs i c e some = from (slice_get cs i) refl (sym (slice_get-map f 
         let own : (f d).session ≡ c.session = ap (λ (c : Console). c.session) is in
         (d, t, ⊎_elim (λ same. sym own ∙ same) (λ free. absurd (some (sym own ∙ free))) (keeps d))
 
--- a session has one console at most where each is changed, and keeps its session or is nobody's
+-- a session has at most one console after each is changed, if each keeps its session or has none
 pub consoles_map : (n : ℕ) (f : Console → Console) (cs : List Console) → ((c : Console) → ((f c).session ≡ c.session) ⊎ ((f c).session ≡ 0)) → AreConsoles n cs → AreConsoles n (map f cs)
 consoles_map n f cs keeps h = record {
   count = length-map cs f ∙ h.count;

@@ -57,13 +57,13 @@ unfolding is_group_of inserted
 group_inserted new session group [] e = absurd (cc)
 group_inserted new session group (r ∷ rs) e = grind (arith, e, group_inserted new session group rs)
 
--- and so does one more
+-- they stay fresh with one more process
 pub fresh_inserted : (new : Process) (rs : List Process) (cs : List Console) → AllFresh rs cs → AllFresh (inserted new rs) cs
 fresh_inserted new rs cs h = fresh_still rs (inserted new rs) (λ session group e. group_inserted new session group rs e) cs h
 
 -- ---- the start
 
--- a console that nobody uses has no foreground process group
+-- an unused console has no foreground process group
 unused_fresh : (n : ℕ) (rs : List Process) → AllByRecursion (λ c. is_fresh rs c ≡ true) (replicate n unused_console)
 unused_fresh zero rs = tt
 unused_fresh (suc n) rs = (refl, unused_fresh n rs)

@@ -21,7 +21,7 @@ nearest_found living p (suc n) q = by (λ k. nearest_found living p n k) (living
 pub heir_found : (living : ℕ → Option Forebear) (p : ℕ) → IsFound living p (heir_among living p)
 heir_found living p = cond_both (p == 1) 1 (nearest_marked living p most_processes p) (IsFound living p) (λ t. inl refl) (λ t. nearest_found living p most_processes p)
 
--- who is a forebear is there, and no zombie
+-- an ancestor exists, and is not a zombie
 forebear_placed : (rs : List Process) (p : ℕ) (f : Forebear) → forebears rs p ≡ Some f → IsPlaced rs p
 forebear_placed rs p f e = of (lookup p rs) refl e
   where
@@ -47,7 +47,7 @@ nearest_next living p (suc n) q some =
     let less : n ≡ suc n - 1 = omega arith in
     ap (λ m. option_map_or (λ (f : Forebear). cond (f.is_marked && not (q == p)) q (nearest_marked living p m f.parent)) (living q) 1) less
 
--- it ends where nobody lives
+-- the walk ends at an ID that no living process has
 pub nearest_gone : (living : ℕ → Option Forebear) (p n q : ℕ) → n ≢ 0 → living q ≡ None → nearest_marked living p n q ≡ 1
 nearest_gone living p n q some gone = nearest_next living p n q some ∙ rw gone refl
 
@@ -60,7 +60,7 @@ pub nearest_on : (living : ℕ → Option Forebear) (p n q : ℕ) (f : Forebear)
     → nearest_marked living p n q ≡ nearest_marked living p (n - 1) f.parent
 nearest_on living p n q f some there mark = nearest_next living p n q some ∙ rw (there, mark) refl
 
--- At process 1 it ends, too: nobody is above it.
+-- The walk ends at process 1, too, which has no parent.
 pub nearest_first : (living : ℕ → Option Forebear) (p n : ℕ) → living 0 ≡ None → ((f : Forebear) → living 1 ≡ Some f → f.parent ≡ 0) → nearest_marked living p n 1 ≡ 1
 unfolding nearest_marked
 nearest_first living p zero nobody first = refl
@@ -74,7 +74,7 @@ nearest_first living p (suc n) nobody first = by (living 1) refl
     by None is = refl
     by (Some f) is = cond_both (f.is_marked && not (1 == p)) 1 (nearest_marked living p n f.parent) (λ h. h ≡ 1) (λ t. refl) (λ t. ap (nearest_marked living p n) (first f is) ∙ above n)
 
--- Process 1 is found where nobody is marked.
+-- The result is process 1 if no process is marked.
 pub nearest_none : (living : ℕ → Option Forebear) (p n q : ℕ) → ((i : ℕ) (f : Forebear) → living i ≡ Some f → f.is_marked ≡ false) → nearest_marked living p n q ≡ 1
 unfolding nearest_marked
 nearest_none living p zero q none = refl

@@ -29,7 +29,7 @@ pub record Lasts (old new : List Process) : Type 0 where
   pub rising : IsRising new
   pub same : map lasting new ≡ map lasting old
 
--- so it is after two such changes
+-- two such changes are one, too
 pub lasts_then : (a b c : List Process) → Lasts a b → Lasts b c → Lasts a c
 lasts_then a b c h k = record { rising = k.rising; same = k.same ∙ h.same }
 
@@ -144,7 +144,7 @@ lasting_one o q r e same = record {
 lasting_lookup : (p : ℕ) (old new : List Process) → map lasting new ≡ map lasting old → option_map lasting (lookup p new) ≡ option_map lasting (lookup p old)
 lasting_lookup p old new same = sym (lookup_map lasting (λ r. refl) p new) ∙ ap (lookup p) same ∙ lookup_map lasting (λ r. refl) p old
 
--- who is there goes on to be there
+-- an existing process still exists
 pub still_there : (p : ℕ) (old new : List Process) → map lasting new ≡ map lasting old → (r : Process) → lookup p old ≡ Some r → IsLasting (lookup p new) r
 still_there p old new same r e =
     let b = back (lookup p new) lasting (lasting r) (sym (lasting_lookup p old new same ∙ ap (option_map lasting) e)) in

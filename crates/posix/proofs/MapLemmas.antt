@@ -28,7 +28,7 @@ lookup_back g keeps q rs r e = back (lookup q rs) g r (sym e ∙ lookup_map g ke
 pub lookup_on : (g : Process → Process) → ((r : Process) → (g r).pid ≡ r.pid) → (q : ℕ) (rs : List Process) (r : Process) → lookup q rs ≡ Some r → lookup q (map g rs) ≡ Some (g r)
 lookup_on g keeps q rs r e = lookup_map g keeps q rs ∙ ap (option_map g) e
 
--- who is there is there after a change of each record
+-- an existing process exists after a change of each record
 pub some_map : (g : Process → Process) → ((r : Process) → (g r).pid ≡ r.pid) → (q : ℕ) (rs : List Process) → IsSome (lookup q rs) → IsSome (lookup q (map g rs))
 some_map g keeps q rs h = ap is_some (lookup_map g keeps q rs) ∙ some_mapped (lookup q rs) g ∙ h
 
@@ -73,7 +73,7 @@ unfolding changed adopted
 adopted_changed p q n f c [] = refl
 adopted_changed p q n f c (r ∷ rs) = grind (arith, c r, adopted_changed p q n f c rs)
 
--- nobody is left
+-- no child is left
 pub children_adopted : (p q : ℕ) → q ≢ p → (rs : List Process) → children_in p (adopted p q rs) ≡ []
 unfolding children_in adopted
 children_adopted p q ne [] = refl

@@ -66,7 +66,7 @@ pub apart_rest : (q p : ℕ) (ps : List ℕ) → is_in q (p ∷ ps) ≡ false �
 unfolding is_in
 apart_rest q p ps e = (or_parts (p == q) _ e).1
 
--- nobody is in an empty list
+-- an empty list has no member
 pub in_none : (q : ℕ) → is_in q [] ≡ true → ⊥
 unfolding is_in
 in_none q e = absurd (cc)
@@ -82,7 +82,7 @@ unfolding is_in
 each P [] h q e = absurd (cc)
 each P (p ∷ ps) h q e = elim (or_cases (p == q) _ e) [ inl t ↦ subst P (eqb-true p q t) h.0 | inr k ↦ each P ps h.1 q k ]
 
--- ---- a list, and p behind it
+-- ---- a list followed by p
 
 pub in_last : (q p : ℕ) (ps : List ℕ) → is_in q (ps ++ p ∷ []) ≡ (is_in q ps || (p == q))
 unfolding is_in

@@ -11,7 +11,7 @@ named_found p rs me z r found e =
     let t = named_there me z rs r (ap (λ n. lookup n rs) (pid_looked p rs me found) ∙ found) e in
     ap (λ n. lookup n rs) (pid_looked t.0 rs r t.1) ∙ t.1
 
--- nobody moves where nobody is named
+-- no process moves if none is named
 pub moves_nobody : (me : Process) (z : ℤ) (rs : List Process) (g : ℕ) → move_to me None z rs ≡ Ok g → ⊥
 moves_nobody me (pos n) rs g e = absurd (cc)
 moves_nobody me (negsuc n) rs g e = absurd (cc)

@@ -15,7 +15,7 @@ next_found f last pidmax k e =
       | None ↦ λ u h. let i = find_range f 2 (pidmax - 1) k h in (i.0, omega (arith, i.1), omega (arith, i.1, i.2))
     ] refl e
 
--- nobody has a free number
+-- no process has a free ID
 free_none : (n : ℕ) (rs : List Process) → is_free rs n ≡ true → lookup n rs ≡ None
 unfolding is_free lookup
 free_none n [] e = refl
@@ -28,7 +28,7 @@ free_group n rs e p r found same =
     let no : bears n r ≡ false = none_found (bears n) rs (grind (arith, e)) p r found in
     absurd (grind (arith, no, eq-eqb r.group n same))
 
--- a number from 1 up to pidmax that is free: nobody has it, as its own or as its group's
+-- a free ID from 1 to pidmax: no process has it, as its own or as its group's
 pub record IsNew (rs : List Process) (pidmax n : ℕ) : Type 0 where
   pub least : 1 ≤ n
   pub greatest : n ≤ pidmax

@@ -6,7 +6,7 @@ use Rattle.posix.specs.Common.{Process, State, change, Console, console_of, is_d
 abbrev pub OnlyRecords : State → State → Type 0
 OnlyRecords old new = new ≡ record old { processes = new.processes; dropped = new.dropped }
 
--- so it is after two such changes
+-- two such changes are one, too
 only_after : (a b c : State) → OnlyRecords a b → OnlyRecords b c → OnlyRecords a c
 only_after a b c h k = k ∙ ap (λ (s : State). record s { processes = c.processes; dropped = c.dropped }) h
 

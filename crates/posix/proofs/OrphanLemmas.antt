@@ -42,7 +42,7 @@ lasting_told s heir (z ∷ zs) q r e out =
     let k = lasting_told one heir zs q i.what i.found (apart_rest q z.pid (pids zs) out) in
     lasting_one _ k.what r k.found (k.same ∙ i.same)
 
--- who is no zombie among the children of p isn't among those whose end is told
+-- a process that is not a zombie child of p is not among those whose termination is reported to the new parent
 pub not_told : (s : State) → IsRising s.processes → (p q : ℕ) (r : Process) → process s q ≡ Some r → (is_zombie r.life ≡ true → r.parent ≢ p) → is_in q (pids (zombies_of p s.processes)) ≡ false
 unfolding zombies_of children_in
 not_told s up p q r e other = false_from_ne_true _ (λ k.
@@ -53,7 +53,7 @@ not_told s up p q r e other = false_from_ne_true _ (λ k.
     let same : z.0 ≡ r = let both = sym b.found ∙ e in cc in
     other (ap (λ (r : Process). is_zombie r.life) (sym same) ∙ a.passes) (ap (λ (r : Process). r.parent) (sym same) ∙ eqb-true _ _ b.passes))
 
--- the state once the process is a zombie, and its heir was told of those of its children
+-- the state after the process is a zombie, and its new parent is notified of its zombie children
 abbrev pub after_departure : State → ℕ → ℕ → ℕ → State
 after_departure s p heir status = tell_of_all (leave_children_and_die s p heir status) heir (zombies_of p s.processes)
 
@@ -66,7 +66,7 @@ pub record Remains (p : ℕ) (o : Option Process) (r : Process) : Type 0 where
   pub zombie : is_zombie what.life ≡ is_zombie r.life
   pub parent : r.parent ≢ p → what.parent ≡ r.parent
 
--- so it is with each other that is no zombie among the children of p
+-- every other process that is not a zombie child of p remains, too
 pub remains : (s : State) → IsRegular s → (p heir status q : ℕ) (r : Process) → process s q ≡ Some r → q ≢ p → (is_zombie r.life ≡ true → r.parent ≢ p) → Remains p (process (after_departure s p heir status) q) r
 unfolding adopted made_zombie
 remains s i p heir status q r e ne other =

@@ -4,12 +4,12 @@ use Rattle.std.proofs.lemmas.Bool.{cond_both}
 use Rattle.posix.specs.Common.{Process, is_stopped, at, changed, removed, reparented, adopted, members_in, State, change, signalled, ignores_children, noticed, child_signal, some_stopped, has_stopped, is_newly_orphaned, newly_orphaned, group_numbers, made_zombie, leave_children_and_die, is_dropping, drop_child, notice_of_end, tell_of_all, status_of, zombies_of}
 use Rattle.posix.proofs.OrphanLemmas.{after_departure}
 
--- nobody is stopped among some of them
+-- if no process is stopped, none is in a part of the list
 none_filter : (t : Process → Bool) (rs : List Process) → some_stopped rs ≡ false → some_stopped (filter t rs) ≡ false
 none_filter t [] e = refl
 none_filter t (r ∷ rs) e = grind (arith, e, none_filter t rs)
 
--- whom a change leaves as it was, or makes run or end, isn't stopped by it
+-- the change leaves a process as it was, or makes it run or terminate, so it stops no process
 abbrev pub StopsNobody : (Process → Process) → Type 0
 StopsNobody f = (r : Process) → (is_stopped (f r).life && not (is_stopped r.life)) ≡ false
 
@@ -24,7 +24,7 @@ none_map f stays (r ∷ rs) e = let here = stays r in grind (arith, e, here, non
 stops_at : (p : ℕ) (f : Process → Process) → StopsNobody f → StopsNobody (at p f)
 stops_at p f k r = cond_both (r.pid == p) (f r) r (λ q. (is_stopped q.life && not (is_stopped r.life)) ≡ false) (λ e. k r) (λ e. stays_so (is_stopped r.life))
 
--- so a notice of an end stops nobody
+-- so SIGCHLD for a termination stops no process
 none_noticed : (s : State) (parent child status : ℕ) → some_stopped s.processes ≡ false → some_stopped (notice_of_end s parent child status).processes ≡ false
 unfolding notice_of_end changed removed noticed signalled
 none_noticed s parent child status e =

@@ -1,4 +1,4 @@
--- Whom a change of consoles can let act: who reads from one of them.
+-- The processes that a change of consoles can make runnable: the readers of one of them.
 use Rattle.std.proofs.Common.{◌≡◌, ◌≢◌, ℕ, zero, suc, ◌≤◌, Bool, true, false, cond, not, ◌&&◌, refl, ap, sym, ◌∙◌, arith, List, [], ◌∷◌, length, map, find, slice_get, slice_set, Some, ◌==◌, Result, Ok, Err, ◌⊎◌}
 use Rattle.std.proofs.lemmas.Bool.{eqb-true, eq-eqb, ne_eqb, or_parts}
 use Rattle.posix.specs.declared.errno.Errno.{Errno}
@@ -11,7 +11,7 @@ use Rattle.posix.proofs.TouchLemmas.{Touches, stands}
 
 -- ---- consoles change, and nothing else does
 
--- where each read waits that did, nobody is touched
+-- if each read that waited still waits, no process is touched
 pub touches_waiting : (s t : State) → t.processes ≡ s.processes → t.order ≡ s.order
     → ((p : ℕ) (r : Process) → lookup p s.processes ≡ Some r → waits_to_read s.consoles r ≡ true → waits_to_read t.consoles r ≡ true)
     → Touches s t []
@@ -49,7 +49,7 @@ waits_set me session k c d [] e owner foreground hung lines w = absurd (cc)
 waits_set me session zero c d (x ∷ xs) e owner foreground hung lines w = grind (arith, e, owner, w, waits_still me c d (span_in (argument me 1) (argument me 2)) foreground hung lines)
 waits_set me session (suc k) c d (x ∷ xs) e owner foreground hung lines w = grind (arith, w, waits_set me session k c d xs e owner foreground hung lines)
 
--- where it has the same session and foreground process group, and no line where there was none, nobody is touched
+-- if d has the same session and foreground process group, and no line if c had none, no process is touched
 pub touches_unread : (s : State) (k : ℕ) (c d : Console) → slice_get s.consoles k ≡ Some c → d.session ≡ c.session → d.foreground ≡ c.foreground → d.hung_up ≡ c.hung_up → (c.lines ≡ [] → d.lines ≡ [])
     → Touches s (record s { consoles = slice_set s.consoles k d }) []
 unfolding waits_to_read
@@ -58,7 +58,7 @@ touches_unread s k c d e owner foreground hung lines =
 
 -- ---- foregrounds that are cleared
 
--- nobody in the background waits for a line
+-- no process in the background waits for a line
 background : (r : Process) (c : Console) (span : Result Span Errno) → (r.group == c.foreground) ≡ false → waits_in r c span ≡ false
 background r c (Err why) h = refl
 background r c (Ok span) h = rw h refl
@@ -87,7 +87,7 @@ waits_cleared rs p r (x ∷ xs) e least =
       | false ↦ λ k. waits_cleared rs p r xs e least
     ] refl
 
--- so nobody is touched
+-- so no process is touched
 pub touches_cleared : (s : State) → IsRegular s → Touches s (clear_foregrounds s) []
 unfolding clear_foregrounds
 touches_cleared s i = touches_waiting s (clear_foregrounds s) refl refl (λ p r e w. waits_cleared s.processes p r s.consoles e (i.bounded p r e).group_least ∙ w)

@@ -23,7 +23,7 @@ generated_alone m p (Some r) rs e is =
     ap (λ w. acted_upon w r (changed r.pid (signalled m) rs)) (realtime_effect r.pid r.life m r.signals e)
     ∙ ap (λ q. changed q (signalled m) rs) (pid_looked p rs r is)
 
--- the signal of a key is a standard signal, and continues nobody
+-- the signal of a key is a standard signal, and continues no process
 pub key_standard : (byte sig : ℕ) → key_signal byte ≡ Some sig → (is_realtime sig ≡ false) × ((sig == CONT) ≡ false)
 unfolding key_signal
 key_standard byte sig e = (grind (arith, e), grind (arith, e))

@@ -120,7 +120,7 @@ regular_change p f s k i = regular_map (at p f) s.ticks s (keeps_at p f k) (keep
 
 -- ---- the order
 
--- what is left of an order names nobody twice
+-- a run queue without p still has no process twice
 pub distinct_without : (p : ℕ) (o : List ℕ) → IsDistinct o → IsDistinct (without p o)
 unfolding IsDistinct without
 distinct_without p [] d = tt
@@ -277,7 +277,7 @@ unfolding lookup inserted
 lookup_inserted new q [] ne = rw (ne_eqb new.pid q (λ e. ne (sym e))) refl
 lookup_inserted new q (r ∷ rs) ne = grind (arith, ne, lookup_inserted new q rs ne, eqb-true, eqb-false)
 
--- who is there is there when a new one goes in
+-- an existing process exists after another one is inserted
 pub some_inserted : (new : Process) (q : ℕ) (rs : List Process) → IsSome (lookup q rs) → IsSome (lookup q (inserted new rs))
 unfolding lookup inserted
 some_inserted new q [] h = absurd (cc)
@@ -289,7 +289,7 @@ unfolding lookup inserted
 lookup_new new [] e = rw (eq-eqb new.pid new.pid refl) refl
 lookup_new new (r ∷ rs) e = grind (arith, lookup_new new rs, eqb-true, eqb-false, eq-eqb new.pid new.pid refl)
 
--- the birth of another's child gives nobody one
+-- creating a child of another process gives q no child
 pub children_inserted : (new : Process) (q : ℕ) (rs : List Process) → new.parent ≢ q → children_in q (inserted new rs) ≡ children_in q rs
 unfolding children_in inserted
 children_inserted new q [] ne = rw (ne_eqb new.parent q ne) refl
@@ -382,43 +382,43 @@ regular_removed p zombie s i other there dead = record {
 
 -- ---- changes that keep
 
--- so does another content of the cpu
+-- another content of the cpu keeps it
 pub keeps_set_cpu : {now : ℕ} (c : Cpu) → Keeps now (set_cpu c)
 unfolding set_cpu
 keeps_set_cpu c = record { pid = λ r. refl; parent = λ r. refl; group = λ r. refl; session = λ r. refl; zombie = λ r. refl; alarm = λ r h. h }
 
--- so do news that are told
+-- a consumed status change keeps it
 pub keeps_news_told : {now : ℕ} → Keeps now news_told
 unfolding news_told
 keeps_news_told = record { pid = λ r. refl; parent = λ r. refl; group = λ r. refl; session = λ r. refl; zombie = λ r. refl; alarm = λ r h. h }
 
--- so does a handler that is entered, or that there is no room for
+-- a handler that is entered, or that there is no room for, keeps it
 pub keeps_handles : {now : ℕ} (signal : PendingSignal) (address : ℤ) → Keeps now (handles signal address)
 unfolding handles
 keeps_handles signal address = keeps_cond (λ r. is_full r.signals) _ _ (record { pid = λ r. refl; parent = λ r. refl; group = λ r. refl; session = λ r. refl; zombie = λ r. refl; alarm = λ r h. h })
     (record { pid = λ r. refl; parent = λ r. refl; group = λ r. refl; session = λ r. refl; zombie = λ r. refl; alarm = λ r h. h })
 
--- so does a signal that is taken out
+-- a signal that is removed keeps it
 pub keeps_take_out : {now : ℕ} (n : ℕ) → Keeps now (take_out n)
 unfolding take_out
 keeps_take_out n = record { pid = λ r. refl; parent = λ r. refl; group = λ r. refl; session = λ r. refl; zombie = λ r. refl; alarm = λ r h. h }
 
--- so does a signal that is generated
+-- a signal that is generated keeps it
 pub keeps_signalled : {now : ℕ} (signal : PendingSignal) → Keeps now (signalled signal)
 unfolding signalled
 keeps_signalled signal = record { pid = λ r. refl; parent = λ r. refl; group = λ r. refl; session = λ r. refl; zombie = λ r. refl; alarm = λ r h. h }
 
--- so does a notice of an end
+-- SIGCHLD for a termination keeps it
 pub keeps_noticed : {now : ℕ} (signal : PendingSignal) → Keeps now (noticed signal)
 unfolding noticed
 keeps_noticed signal = keeps_cond (λ r. ignores_children r.signals) (λ r. r) (signalled signal) keeps_none (keeps_signalled signal)
 
--- so does an alarm that rings
+-- an alarm that goes off keeps it
 pub keeps_ring : {now : ℕ} (at : ℕ) → Keeps now (ring_at at)
 unfolding rung with_alarm signalled
 keeps_ring at = keeps_cond (λ r. is_due at r.alarm) rung (λ r. r) (record { pid = λ r. refl; parent = λ r. refl; group = λ r. refl; session = λ r. refl; zombie = λ r. refl; alarm = λ r h. tt }) keeps_none
 
--- so does an alarm that is set to a later tick, or cleared
+-- an alarm that is set to a later tick, or cleared, keeps it
 pub keeps_with_alarm : {now : ℕ} (due : Option ℕ) → IsAhead now due → Keeps now (with_alarm due)
 unfolding with_alarm
 keeps_with_alarm due ahead = record { pid = λ r. refl; parent = λ r. refl; group = λ r. refl; session = λ r. refl; zombie = λ r. refl; alarm = λ r h. ahead }
@@ -445,7 +445,7 @@ regular_pass s i = regular_map (ring_at (s.ticks + 1)) (s.ticks + 1) s (keeps_ri
 
 -- ---- the start
 
--- consoles that are nobody's
+-- consoles without a session
 pub consoles_unused : (n : ℕ) → AreConsoles n (replicate n unused_console)
 consoles_unused n = record {
   count = length-replicate n unused_console;

@@ -86,7 +86,7 @@ reported rs up caller group choice options o child e named =
 
 -- ---- the table afterwards
 
--- process 1 is nobody's child
+-- process 1 is not a child of any process
 pub not_first : (s : State) → IsRegular s → (caller child : ℕ) (ended : Bool) → 1 ≤ caller → IsChild s.processes caller child ended → child ≢ 1
 not_first s i caller child ended least h same =
     let one : i.first.what ≡ h.what = let both = sym i.first.found ∙ ap (λ n. lookup n s.processes) (sym same) ∙ h.found in cc in
@@ -99,7 +99,7 @@ caller_stays rs caller child me h =
     let apart : caller ≢ child = λ same. grind (arith, same, me.found, me.living, h.found, h.dead) in
     subst IsSome (sym (lookup_kept child caller rs apart ∙ me.found)) refl
 
--- who is there is there after a change
+-- an existing process exists after a change
 pub some_changed : (p q : ℕ) (f : Process → Process) → ((r : Process) → (f r).pid ≡ r.pid) → (rs : List Process) → IsSome (lookup q rs) → IsSome (lookup q (changed p f rs))
 unfolding changed
 some_changed p q f keeps rs h = some_map (at p f) (at_pid p f keeps) q rs h

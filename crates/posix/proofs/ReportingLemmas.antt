@@ -54,12 +54,12 @@ first_found t c (x ∷ xs) up e = elim (t x) as (λ b. t x ≡ b → first_pid (
       (h.0, rw (ne_eqb x.pid c (λ same. omega (arith, low, same))) h.1, rw k h.2)
 ] refl e
 
--- where there is none, nobody is found
+-- if there is no first process, none is found
 none_first : (t : Process → Bool) (rs : List Process) → first_pid (filter t rs) ≡ None → find t rs ≡ None
 none_first t [] e = refl
 none_first t (x ∷ xs) e = grind (arith, e, none_first t xs)
 
--- the least of the children that are meant and wanted is there, and a wait reports it
+-- the lowest of the selected and wanted children exists, and a wait reports it
 pub record IsWanted (rs : List Process) (p : ℕ) (means : Process → Bool) (options c : ℕ) : Type 0 where
   pub what : Process
   pub found : lookup c rs ≡ Some what
@@ -78,7 +78,7 @@ wanted_some rs up p means options c e =
     among [] r e = absurd (cc)
     among (k ∷ ks) r e = ap (report_found options) e
 
--- where there is none, there is no child that is meant, and else nothing to report
+-- the report if there is none: no selected child, or nothing to report
 abbrev pub unreported : Bool → Report
 unreported has_child = cond has_child found.Nothing found.NoChild
 
@@ -94,7 +94,7 @@ wanted_none rs p means options has_child e h =
 
 -- ---- the walk over them
 
--- The one that comes next is the least that is left, and the least that is meant is left.
+-- The next process is the lowest that is left, and the lowest selected one is left.
 pub record IsWantedWalk (rs : List Process) (p : ℕ) (means : Process → Bool) (options : ℕ) (next : Option ℕ) : Type 0 where
   pub here : first_pid (left_of next (wanted_in options p rs)) ≡ next
   pub todo : first_pid (filter means (left_of next (wanted_in options p rs))) ≡ first_pid (filter means (wanted_in options p rs))
@@ -121,7 +121,7 @@ pub wanted_found : (rs : List Process) → IsRising rs → (p c options : ℕ) (
 unfolding children_in
 wanted_found rs up p c options h = (in_filter (is_child p) rs up c h.what h.found).found
 
--- where it is meant, it is the least
+-- if it is selected, it is the lowest
 pub wanted_here : {rs : List Process} {p c options : ℕ} {means : Process → Bool} {next : Option ℕ} (up : IsRising rs) (w : IsWantedWalk rs p means options next) (comes : next ≡ Some c) → means (at_wanted up w comes).what ≡ true → Some c ≡ first_pid (filter means (wanted_in options p rs))
 unfolding wanted_in
 wanted_here {rs = rs} {p = p} {c = c} {options = options} {means = means} up w comes is =
@@ -130,7 +130,7 @@ wanted_here {rs = rs} {p = p} {c = c} {options = options} {means = means} up w c
     let first : first_pid (filter means (left_of (Some c) (wanted_in options p rs))) ≡ Some h.what.pid = ap (λ l. first_pid (filter means l)) h.left ∙ rw is refl in
     ap Some (sym named) ∙ sym first ∙ ap (λ o. first_pid (filter means (left_of o (wanted_in options p rs)))) (sym comes) ∙ w.todo
 
--- else the least is behind it
+-- otherwise the lowest is after it
 pub wanted_on : {rs : List Process} {p c options : ℕ} {means : Process → Bool} {next after : Option ℕ} (up : IsRising rs) (w : IsWantedWalk rs p means options next) (comes : next ≡ Some c) → means (at_wanted up w comes).what ≡ false → after ≡ first_pid (above c (wanted_in options p rs)) → IsWantedWalk rs p means options after
 unfolding wanted_in
 wanted_on {rs = rs} {p = p} {c = c} {options = options} {means = means} up w comes isnt e =
@@ -142,11 +142,11 @@ wanted_on {rs = rs} {p = p} {c = c} {options = options} {means = means} up w com
       todo = ap (λ o. first_pid (filter means (left_of o ws))) e ∙ sym rest ∙ ap (λ o. first_pid (filter means (left_of o ws))) (sym comes) ∙ w.todo;
     }
 
--- where none is left, none is meant
+-- if none is left, none is selected
 pub wanted_over : {rs : List Process} {p options : ℕ} {means : Process → Bool} {next : Option ℕ} → IsWantedWalk rs p means options next → next ≡ None → None ≡ first_pid (filter means (wanted_in options p rs))
 wanted_over {rs = rs} {p = p} {options = options} {means = means} w over = sym (ap (λ o. first_pid (filter means (left_of o (wanted_in options p rs)))) over) ∙ w.todo
 
--- fewer are left behind it
+-- fewer are left after it
 pub wanted_less : {rs : List Process} {p c options : ℕ} {means : Process → Bool} {next after : Option ℕ} → IsRising rs → IsWantedWalk rs p means options next → next ≡ Some c → after ≡ first_pid (above c (wanted_in options p rs)) → length (left_of after (wanted_in options p rs)) < length (left_of next (wanted_in options p rs))
 unfolding wanted_in
 wanted_less {rs = rs} {p = p} {c = c} {options = options} {next = next} {after = after} up w comes e = let less = one_less (reports options) c (children_in p rs) next after (at_wanted up w comes) comes e in omega (arith, less)

@@ -44,7 +44,7 @@ woken_is s p r h a e i c =
 wakes_later : (s : State) (o : List ℕ) (r : Process) → is_in r.pid o ≡ false → wakes (record s { order = s.order ++ o }) r ≡ wakes s r
 wakes_later s o r e = ap (λ b. not b && can_act (record s { order = s.order ++ o }) r) (in_append r.pid s.order o ∙ ap (λ b. is_in r.pid s.order || b) e ∙ or-false _) ∙ ap (λ b. not (is_in r.pid s.order) && b) (can_act_order s (s.order ++ o) r)
 
--- nobody above p has the number p
+-- no process above p has the ID p
 not_numbered : (t : Process → Bool) (p q : ℕ) (rs : List Process) → p < q → is_in q (pids (filter t (numbered p rs))) ≡ false
 unfolding is_in
 not_numbered t p q [] l = refl
@@ -89,7 +89,7 @@ asking_goes_on s up p next n =
     ∙ ap (λ o. record s { order = o }) (append_assoc s.order asked (pids (filter (wakes s) (above p rs))))
     ∙ ap (λ o. record s { order = s.order ++ o }) (sym (ap pids (walk_splits (wakes s) p rs up) ∙ map-append (λ r. r.pid) (filter (wakes s) (numbered p rs)) (filter (wakes s) (above p rs))))
 
--- at the end nobody is
+-- at the end, no process is asked
 pub asking_ends : (s : State) → settled_from None s ≡ s
 unfolding settled_from
 asking_ends s = ap (λ o. record s { order = o }) (append-nil _)
@@ -98,7 +98,7 @@ asking_ends s = ap (λ o. record s { order = o }) (append-nil _)
 pub wakes_placed : (s : State) (p : ℕ) (r : Process) → lookup p s.processes ≡ Some r → can_act s r ≡ true → IsPlaced s.processes p
 wakes_placed s p r e c = record { what = r; found = e; living = can_act_lives s r c }
 
--- where nobody passes a test the filter is empty
+-- if no process passes a test, the filter is empty
 pub none_passes : (t : Process → Bool) (rs : List Process) → AllByRecursion (λ r. t r ≡ false) rs → filter t rs ≡ []
 none_passes t [] h = refl
 none_passes t (r ∷ rs) h = rw h.0 (none_passes t rs h.1)

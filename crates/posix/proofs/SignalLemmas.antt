@@ -13,7 +13,7 @@ use Rattle.posix.proofs.RangeLemmas.{find_range}
 
 -- ---- the signal that is chosen
 
--- who is found in one list behind another is found in one of them
+-- what is found in two lists joined is found in one of them
 found_in : (t : ℕ → Bool) (xs ys : List ℕ) (k : ℕ) → find t (xs ++ ys) ≡ Some k → (find t xs ≡ Some k) ⊎ (find t ys ≡ Some k)
 found_in t [] ys k e = inr e
 found_in t (x ∷ xs) ys k e = elim (t x) as (λ b. cond b (Some x) (find t (xs ++ ys)) ≡ Some k → (cond b (Some x) (find t xs) ≡ Some k) ⊎ (find t ys ≡ Some k)) [

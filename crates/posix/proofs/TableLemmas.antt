@@ -21,7 +21,7 @@ pub above_less : (m n : ℕ) (rs : List Process) → m < n → Above n rs → Ab
 above_less m n [] l h = tt
 above_less m n (x ∷ xs) l h = (omega (arith, h.0), above_less m n xs l h.1)
 
--- nobody below has the pid
+-- no process below p has the ID
 pub lookup_above : (p : ℕ) (rs : List Process) → Above p rs → lookup p rs ≡ None
 unfolding lookup
 lookup_above p [] h = refl
@@ -114,7 +114,7 @@ unfolding inserted
 above_inserted n new [] l h = (l, tt)
 above_inserted n new (r ∷ rs) l h = elim (nat_lt new.pid r.pid) as (λ b. Above n (cond b (new ∷ r ∷ rs) (r ∷ inserted new rs))) [ true ↦ (l, h) | false ↦ (h.0, above_inserted n new rs l h.1) ]
 
--- the order stays where a process goes in whose pid nobody has
+-- the order stays when a process is inserted whose ID no process has
 pub rising_inserted : (new : Process) (rs : List Process) → IsRising rs → lookup new.pid rs ≡ None → IsRising (inserted new rs)
 unfolding IsRising inserted lookup
 rising_inserted new [] h e = (tt, tt)
@@ -122,13 +122,13 @@ rising_inserted new (r ∷ rs) h e = grind (arith, nat_tests, h.0, h.1, above_le
 
 -- ---- changes of one record
 
--- the same where both do the same to the record that is there
+-- two changes that do the same to the existing record have the same result
 pub changed_same : (p : ℕ) (f g : Process → Process) (rs : List Process) → IsRising rs → (r : Process) → lookup p rs ≡ Some r → f r ≡ g r → changed p f rs ≡ changed p g rs
 unfolding changed lookup IsRising
 changed_same p f g [] up r e same = refl
 changed_same p f g (x ∷ xs) up r e same = grind (arith, same, λ (i : x.pid ≡ p). changed_above p f xs (subst (λ n. Above n xs) i up.0), λ (i : x.pid ≡ p). changed_above p g xs (subst (λ n. Above n xs) i up.0), changed_same p f g xs up.1 r, eqb-true x.pid p)
 
--- a change that leaves the record that is there does nothing
+-- a change that leaves the existing record unchanged does nothing
 pub changed_id : (p : ℕ) (f : Process → Process) (rs : List Process) → IsRising rs → (r : Process) → lookup p rs ≡ Some r → f r ≡ r → changed p f rs ≡ rs
 unfolding changed lookup IsRising
 changed_id p f [] up r e same = refl
@@ -147,7 +147,7 @@ unfolding lookup
 pid_looked p [] r e = absurd (cc)
 pid_looked p (x ∷ rs) r e = grind (arith, pid_looked p rs r, eqb-true x.pid p)
 
--- where nobody passes a test, nobody who is found does
+-- if no process passes a test, no process that is found passes it
 pub none_found : (t : Process → Bool) (rs : List Process) → list_any t rs ≡ false → (p : ℕ) (r : Process) → lookup p rs ≡ Some r → t r ≡ false
 unfolding lookup
 none_found t [] none p r e = absurd (cc)

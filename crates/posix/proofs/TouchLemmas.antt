@@ -1,4 +1,4 @@
--- Whom a change of the state can let act, who couldn't before.
+-- The processes that a change of the state can make runnable.
 use Rattle.std.proofs.Common.{◌≡◌, ◌≢◌, ℕ, true, false, not, refl, ap, sym, ◌∙◌, subst, List, [], ◌∷◌, ◌++◌, map, filter, Option, Some, None, arith}
 use Rattle.std.specs.Option.{IfSome, IsSome}
 use Rattle.std.proofs.lemmas.Bool.{eqb-true, ne_eqb, not-true, and_parts, or_parts}
@@ -51,7 +51,7 @@ acts_alike s t q old new found alike consoles same acts =
 acts_same : (s t : State) (q : ℕ) (r : Process) → lookup q s.processes ≡ Some r → t.consoles ≡ s.consoles → sees q t.processes ≡ sees q s.processes → can_act t r ≡ true → can_act s r ≡ true
 acts_same s t q r found consoles same acts = acts_alike s t q r r found (record { parent = r.parent; is = refl }) consoles same acts
 
--- a list that covers goes on to cover where it keeps those that are there, and gets those that are touched
+-- a list still covers a state after a change if it keeps its existing processes and gets the touched ones
 pub goes_on : (s t : State) (before after touched : List ℕ) → Covers s before → Touches s t touched
     → ((p : ℕ) → IsSome (process t p) → is_in p touched ≡ true → is_in p after ≡ true)
     → ((p : ℕ) → IsSome (process t p) → is_in p before ≡ true → is_in p after ≡ true) → Covers t after

@@ -9,14 +9,14 @@ use Rattle.posix.proofs.TableLemmas.{pid_looked, rising_changed}
 use Rattle.posix.proofs.WalkLemmas.{all_looked}
 use Rattle.posix.proofs.TouchLemmas.{Unseen, touches_unseen, goes_on}
 
--- where who can act has a place, nobody has to be given one
+-- if each runnable process is in the run queue, no process has to enter it
 pub covers_none : (s : State) → NoWakeIsLost s → Covers s []
 covers_none s placed p r e w =
     let named : r.pid ≡ p = pid_looked p s.processes r e in
     let awake = and_parts (not (is_in r.pid s.order)) _ w in
     let no = sym (not-true _ awake.0) ∙ ap (λ n. is_in n s.order) named ∙ placed p r e awake.1 in absurd (cc)
 
--- where nobody has to be given a place, none is
+-- if no process has to enter the run queue, none does
 give_none : (s : State) → IsRising s.processes → Covers s [] → give_places s ≡ s
 unfolding give_places
 give_none s up covers =

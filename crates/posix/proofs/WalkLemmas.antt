@@ -180,17 +180,17 @@ pid_found q (r ∷ rs) e = elim (r.pid == q) as (λ b. (b || is_in q (pids rs)) 
 abbrev pub numbered : ℕ → List Process → List Process
 numbered p rs = filter (has_pid p) rs
 
--- where nobody is there, nobody has the number
+-- if there is no such process, no process has the ID
 pub numbered_none : (p : ℕ) (rs : List Process) → lookup p rs ≡ None → numbered p rs ≡ []
 unfolding lookup
 numbered_none p [] e = refl
 numbered_none p (x ∷ xs) e = grind (arith, numbered_none p xs)
 
--- in a list above p nobody has the number p
+-- in a list above p, no process has the ID p
 none_numbered : (p : ℕ) (rs : List Process) → Above p rs → numbered p rs ≡ []
 none_numbered p rs a = numbered_none p rs (lookup_above p rs a)
 
--- who is there is the one with its number
+-- an existing process is the one with its ID
 pub numbered_one : (p : ℕ) (rs : List Process) → IsRising rs → (q : Process) → lookup p rs ≡ Some q → numbered p rs ≡ q ∷ []
 unfolding lookup IsRising
 numbered_one p [] up q e = absurd (cc)
@@ -236,7 +236,7 @@ walk_begins t rs next up least i = rest_of_walk t 0 rs next up i ∙ ap (filter 
 pub walk_splits : (t : Process → Bool) (p : ℕ) (rs : List Process) → IsRising rs → filter t (left_of (Some p) rs) ≡ filter t (numbered p rs) ++ filter t (above p rs)
 walk_splits t p rs up = ap (filter t) (left_split p rs up) ∙ filter-append t (numbered p rs) (above p rs)
 
--- at p, which is there, it is left where it passes, and those from the one that comes next on
+-- at an existing process p, what is left is p, if it passes, and what is left from the next process on
 pub walk_at : (t : Process → Bool) (p : ℕ) (rs : List Process) → IsRising rs → (r : Process) → lookup p rs ≡ Some r → (next : Option ℕ) → IsNext t p rs next
     → filter t (left_of (Some p) rs) ≡ filter t (r ∷ []) ++ filter t (left_of next rs)
 walk_at t p rs up r e next i =
@@ -261,7 +261,7 @@ first_passes w (x ∷ xs) up = elim (w x) as (λ b. w x ≡ b → IfSome (first_
       (i.0, rw (ne_eqb x.pid q (λ k. omega (arith, low, k))) i.1, i.2))
 ] refl
 
--- nobody before it passes
+-- no process before it passes
 pub none_passes_before : (w : Process → Bool) (rs : List Process) → IsRising rs → (q : ℕ) (r : Process) → lookup q rs ≡ Some r → w r ≡ true → IfSome (first_pid (filter w rs)) (λ m. q < m) → ⊥
 unfolding lookup IsRising
 none_passes_before w [] up q r e k h = absurd (cc)
@@ -321,7 +321,7 @@ one_here t p rs next up comes begins =
     let h = here (filter t rs) (rising_filter t rs up) p (rw comes at begins) in
     record { what = h.what; found = (in_filter t rs up p h.what h.found).found; left = h.left }
 
--- one less is left behind it
+-- one less is left after it
 pub one_less : (t : Process → Bool) (p : ℕ) (rs : List Process) (next after : Option ℕ) → AtOne t p rs → next ≡ Some p → after ≡ first_pid (above p (filter t rs)) → length (left_of next (filter t rs)) ≡ 1 + length (left_of after (filter t rs))
 one_less t p rs next after at comes e = let long = ap length at.left in rw (comes, e) (omega (arith, long))
 

@@ -1,4 +1,4 @@
--- Attempts of system calls.
+-- Attempts at system calls.
 use Rattle.std.specs.Prelude.{Bool, pos}
 use Rattle.posix.specs.declared.call.Call.{Call}
 use Rattle.posix.specs.declared.call.Call.TheVariants.{Exit, Fork, Waitpid, Waitid, Pause, SchedYield, Getpid, Getppid, Getuid, Geteuid, Getgid, Getegid, Setuid, Seteuid, Setgid, Setegid, Kill, Sigqueue, Sigaction, Sigprocmask, Sigpending, Sigsuspend, Sigreturn, Alarm, Exec, Getpgid, Getsid, Setpgid, Setsid, Setctty, Tcgetpgrp, Tcsetpgrp, Settostop, Read, Write, Subreaper}
@@ -22,9 +22,9 @@ use Rattle.posix.specs.Terminals.{setctty, tcgetpgrp, tcsetpgrp, settostop, read
 use Rattle.posix.specs.Subreapers.{subreaper}
 use Rattle.posix.specs.SignalCalls.{set_credentials, sigaction, sigprocmask, sigpending}
 
--- What each call does, XSH under its name. Whether the host grants memory matters where a call needs some: a fork with a
--- number for the child, and a kill or sigqueue of a real-time signal that would be queued for somebody, and for nobody
--- who is full.
+-- Attempts a call, as XSH defines it under its name. Whether the host grants memory matters only if the call needs
+-- some: a fork with a free process ID, and a kill or sigqueue of a real-time signal that would be queued for a
+-- process, if no such process has a full queue.
 unfoldable pub attempt : Bool → State → Process → Call → Attempted
 attempt granted s me Exit = Done (end_process s me (exited (argument me 1)))
 attempt granted s me Fork = fork_as granted s me (next_pid s)
@@ -63,8 +63,8 @@ attempt granted s me Read = read s me
 attempt granted s me Write = write s me
 attempt granted s me Subreaper = subreaper s me
 
--- The call that a process is blocked in, attempted afresh (own); in Linux a child that changes its group wakes no
--- waiting parent, and a read is judged only as it begins.
+-- Attempts the call that a process is blocked in again (own). In Linux, a child that changes its process group wakes
+-- no waiting parent, and a read is checked only when it begins.
 unfoldable pub attempt_again : State → Process → Blocked → Attempted
 attempt_again s me (blocked.Wait call) = wait_by call s me
 attempt_again s me blocked.Read = read s me

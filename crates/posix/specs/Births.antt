@@ -1,4 +1,4 @@
--- Births, XSH fork.
+-- Creation of processes, XSH fork.
 use Rattle.std.specs.Prelude.{ℕ, ◌+◌, Bool, false, if◌then◌else◌, [], ◌∷◌, Option, Some, None, pos}
 use Rattle.posix.specs.declared.call.Call.TheVariants.{Fork}
 use Rattle.posix.specs.declared.errno.Errno.TheVariants.{EAGAIN}
@@ -8,8 +8,9 @@ use Rattle.posix.specs.Tables.{inserted}
 use Rattle.posix.specs.States.{State}
 use Rattle.posix.specs.Outcomes.{Attempted, finish_with, refused, no_memory, finished}
 
--- The child with the number n is like its parent, but for its numbers; nothing is pending for it, it has
--- no alarm, no exec mark and no news, it is no subreaper, and its call gave 0.
+-- Returns the child with process ID n: a copy of its parent, with its own process ID, birth number and parent. It has
+-- no pending signals, no alarm and no status change, has not run exec, and is not a child
+-- subreaper. Its fork returns 0.
 unfoldable pub child_of : ℕ → Process → ℕ → Process
 child_of birth me n = finished ((0, pos 0) ∷ []) (record me {
   pid = n;
@@ -29,7 +30,7 @@ born s me n = record s {
   births = s.births + 1;
 }
 
--- granted: whether the host has the memory
+-- Attempts fork. Fails with EAGAIN if no process ID is free, or if the host does not grant the memory.
 unfoldable pub fork_as : Bool → State → Process → Option ℕ → Attempted
 fork_as granted s me None = refused s me.pid Fork EAGAIN
 fork_as granted s me (Some n) = if granted then finish_with (born s me n) me.pid Fork (pos n) else no_memory s me.pid Fork

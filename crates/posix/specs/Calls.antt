@@ -1,11 +1,11 @@
--- System calls by their names.
+-- System calls and their names.
 use Rattle.std.specs.Prelude.{ℕ, Bool, true, false, List, [], ◌∷◌, codes, Option, Some, None, find, bytes_eq}
 use Rattle.posix.specs.declared.call.Call.{Call}
 use Rattle.posix.specs.declared.waits.WaitCall.{WaitCall}
 use Rattle.posix.specs.declared.waits.WaitCall.TheVariants as wait
 use Rattle.posix.specs.declared.call.Call.TheVariants.{Exit, Fork, Waitpid, Waitid, Pause, SchedYield, Getpid, Getppid, Getuid, Geteuid, Getgid, Getegid, Setuid, Seteuid, Setgid, Setegid, Kill, Sigqueue, Sigaction, Sigprocmask, Sigpending, Sigsuspend, Sigreturn, Alarm, Exec, Getpgid, Getsid, Setpgid, Setsid, Setctty, Tcgetpgrp, Tcsetpgrp, Settostop, Read, Write, Subreaper}
 
--- how a call is written, in world texts and in traces
+-- Returns the name of a call, in world files and in traces.
 abbrev pub call_text : Call → List ℕ
 call_text Exit = codes "exit"
 call_text Fork = codes "fork"
@@ -44,18 +44,18 @@ call_text Read = codes "read"
 call_text Write = codes "write"
 call_text Subreaper = codes "subreaper"
 
--- a call that waits for a child
+-- Returns a wait as a call.
 abbrev pub call_of_wait : WaitCall → Call
 call_of_wait wait.Waitpid = Waitpid
 call_of_wait wait.Waitid = Waitid
 
--- which of these a call is
+-- Returns the wait that a call is, if any.
 abbrev pub wait_in : Call → Option WaitCall
 wait_in Waitpid = Some wait.Waitpid
 wait_in Waitid = Some wait.Waitid
 wait_in call = None
 
--- all calls, for looking one up
+-- All calls, for lookup by name.
 abbrev pub all_calls : List Call
 all_calls = Exit ∷ Fork ∷ Waitpid ∷ Waitid ∷ Pause ∷ SchedYield ∷ Getpid ∷ Getppid
     ∷ Getuid ∷ Geteuid ∷ Getgid ∷ Getegid ∷ Setuid ∷ Seteuid ∷ Setgid ∷ Setegid
@@ -63,11 +63,11 @@ all_calls = Exit ∷ Fork ∷ Waitpid ∷ Waitid ∷ Pause ∷ SchedYield ∷ Ge
     ∷ Exec ∷ Getpgid ∷ Getsid ∷ Setpgid ∷ Setsid ∷ Setctty ∷ Tcgetpgrp
     ∷ Tcsetpgrp ∷ Settostop ∷ Read ∷ Write ∷ Subreaper ∷ []
 
--- the call that a word names
+-- Returns the call with this name, if any.
 abbrev pub call_named : List ℕ → Option Call
 call_named w = find (λ c. bytes_eq w (call_text c)) all_calls
 
--- calls for which there may be no memory
+-- Returns true if the call may need memory from the host.
 abbrev pub asks_memory : Call → Bool
 asks_memory Fork = true
 asks_memory Kill = true

@@ -1,4 +1,4 @@
--- The names of the specification that other crates cite, passed on from one place. Declares nothing.
+-- Re-exports the names of the specification that other crates cite. Declares nothing of its own.
 pub use Rattle.posix.specs.Alarms.{alarm_in, alarm_signal, due_in, has_alarms, is_due, most_ticks, pass_time, ring_at, ticks_in, ticks_left}
 unfoldable pub use Rattle.posix.specs.Alarms.{alarm, ring_all, rung, with_alarm}
 unfoldable pub use Rattle.posix.specs.Attempts.{attempt, attempt_again}

@@ -29,19 +29,19 @@ use Rattle.posix.specs.Choice.{taken, carried_by, from_kernel}
 use Rattle.posix.specs.Handlers.{handles, is_full, is_interrupted, newest_frame, returned}
 use Rattle.posix.specs.Ends.{end_process}
 
--- the call that it is
+-- Returns the call that a process is blocked in.
 abbrev pub call_of : Blocked → Call
 call_of (blocked.Wait c) = call_of_wait c
 call_of blocked.Read = call.Read
 call_of blocked.Pause = call.Pause
 call_of (blocked.Sigsuspend earlier) = call.Sigsuspend
 
--- what a call that is interrupted shows
+-- Returns the trace entry of a call that a handler interrupts: the call fails with EINTR. A restarted call has none.
 abbrev pub interruption : ℕ → Option Blocked → Action → List Entry
 interruption p None a = []
 interruption p (Some b) a = if is_interrupted (Some b) a then Called p (call_of b) (refusal EINTR) ∷ [] else []
 
--- The handler at an address is entered. Where there is no room for a frame the process ends by SEGV (own).
+-- Enters the handler at an address. If there is no room for a frame, SIGSEGV kills the process (own).
 unfoldable pub handle : State → Process → PendingSignal → ℤ → Outcome
 handle s r signal address =
     let first = interruption r.pid r.blocked (action r.signals signal.sig) in
@@ -49,19 +49,19 @@ handle s r signal address =
     if is_full r.signals then (let o = end_process t r (killed SEGV) in record { state = o.state; entries = first ++ o.entries })
     else record { state = t; entries = first ++ Handled r.pid signal.sig signal.carried.value signal.carried.sender ∷ [] }
 
--- The signal has no effect. A call that the process is blocked in stays (own).
+-- Discards the delivered signal n. A process that is blocked in a call stays in it (own).
 abbrev pub discard : State → ℕ → ℕ → Outcome
 discard s p n = record { state = s; entries = Discarded p n ∷ [] }
 
--- The process is stopped and loses its place, and its parent gets notice. A call that it is blocked in
--- stays (own); in Linux the mask before sigsuspend is back for an instant.
+-- Stops the process, removes it from the run queue, and notifies its parent. A process that is blocked in a call
+-- stays in it (own); in Linux, the mask before sigsuspend is restored for an instant.
 unfoldable pub stop_process : State → Process → ℕ → Outcome
 stop_process s r n = record {
   state = record (lose_place s r.pid) { processes = told_of_change (stopped n) r (changed r.pid (stopped_by n) s.processes) };
   entries = Stopped r.pid n ∷ [];
 }
 
--- TSTP, TTIN and TTOU have no effect where the group of the process is orphaned now, XSH 2.4.3.
+-- SIGTSTP, SIGTTIN and SIGTTOU have no effect if the process group is orphaned at delivery, XSH 2.4.3.
 abbrev pub stop_or_discard : State → Process → ℕ → Outcome
 stop_or_discard s r n = if not (n == STOP) && is_orphaned r.group s.processes then discard s r.pid n else stop_process s r n
 
@@ -70,7 +70,7 @@ act_by_default s r n default.Terminate = end_process s r (killed n)
 act_by_default s r n default.Stop = stop_or_discard s r n
 act_by_default s r n _ = discard s r.pid n
 
--- default actions have no effect on process 1, kill(2)
+-- Default actions have no effect on process 1, kill(2).
 abbrev pub act_on : State → Process → PendingSignal → Handler → Outcome
 act_on s r signal (handler.At address) = handle s r signal address
 act_on s r signal handler.Ignore = discard s r.pid signal.sig
@@ -79,13 +79,12 @@ act_on s r signal handler.Default = if r.pid == 1 then discard s r.pid signal.si
 unfoldable pub take_out : ℕ → Process → Process
 take_out n r = record r { signals = taken n r.signals }
 
--- the signal n of r is taken out, and its action done
+-- Delivers signal n to r: removes it from the pending signals, and takes its action.
 unfoldable pub deliver : State → Process → ℕ → Outcome
 deliver s r n = act_on (change s r.pid (take_out n)) r (record { sig = n; carried = carried_by n r.signals }) (action r.signals n).handler
 
--- A machine fault enters the handler, if there is one and it isn't blocked; else the process ends, also
--- process 1 (own).
--- A blocked or ignored machine fault terminates the process, because the instruction could never continue.
+-- A machine fault enters its handler if there is one and the signal isn't blocked. Otherwise it terminates the
+-- process, even process 1 (own), because the instruction could never continue.
 abbrev pub fault_with : State → Process → ℕ → Handler → Outcome
 fault_with s r n (handler.At address) =
     if has r.signals.mask n then end_process s r (killed n)
@@ -95,7 +94,7 @@ fault_with s r n _ = end_process s r (killed n)
 unfoldable pub fault : State → Process → ℕ → Outcome
 fault s r n = fault_with s r n (action r.signals n).handler
 
--- The newest handler returns; without one that is a fault SEGV, sigreturn(2).
+-- Returns from the newest handler. If there is none, it is a SIGSEGV fault, sigreturn(2).
 abbrev pub return_to : State → Process → Option Frame → Outcome
 return_to s r None = fault s r SEGV
 return_to s r (Some frame) = record { state = change s r.pid (returned frame); entries = Returned r.pid ∷ [] }

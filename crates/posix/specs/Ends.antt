@@ -1,4 +1,4 @@
--- Ends, XSH _exit, Consequences of Process Termination.
+-- Process termination, XSH _exit, Consequences of Process Termination.
 use Rattle.std.specs.Prelude.{ℕ, ◌+◌, ◌==◌, Bool, true, false, not, ◌&&◌, ◌||◌, if◌then◌else◌, List, [], ◌∷◌, filter, Option, Some, None}
 use Rattle.std.specs.Option.{option_map_or}
 use Rattle.posix.specs.declared.entry.Entry.TheVariants.{Ended, Halted}
@@ -18,15 +18,15 @@ use Rattle.posix.specs.Choice.{from_kernel}
 use Rattle.posix.specs.Notices.{child_signal, ignores_children, noticed, signalled_all}
 use Rattle.posix.specs.Groups.{newly_orphaned}
 
--- it has ended, and keeps all else
+-- Makes the process a zombie, and keeps everything else.
 unfoldable pub ended : ℕ → Process → Process
 ended status r = record r { life = Zombie status }
 
 abbrev pub forgotten : Signals → Signals
 forgotten g = record g { standard = nothing_pending; queue = []; frames = [] }
 
--- A zombie: nothing is pending for it, it has no frames, no news and no alarm, and is in no call. The
--- rest stays, and nobody sees it.
+-- Makes the process a zombie: it has no pending signals, no frames, no stop or continue to report and no alarm, and
+-- is in no call. The rest of the record stays.
 unfoldable pub made_zombie : ℕ → Process → Process
 made_zombie status r = record r {
   life = Zombie status;
@@ -36,30 +36,31 @@ made_zombie status r = record r {
   blocked = None;
 }
 
--- The end of process 1: it is a zombie with its status and loses its place, and the machine halts;
--- nothing else changes (own).
+-- Terminates process 1: it becomes a zombie with its wait status and leaves the run queue, and the machine halts.
+-- Nothing else changes (own).
 abbrev pub halt : State → ℕ → State
 halt s status = record (lose_place (change s 1 (ended status)) 1) { halted = true }
 
--- The process is a zombie with its status and loses its place, and its children, zombies included, become
--- those of its heir; which process that is, XSH _exit leaves to the system.
+-- The process becomes a zombie with its wait status and leaves the run queue, and its children, zombies included, are
+-- reparented. XSH _exit leaves the choice of the new parent to the system.
 abbrev pub leave_children_and_die : State → ℕ → ℕ → ℕ → State
 leave_children_and_die s p heir status = record s { processes = adopted p heir (changed p (made_zombie status) s.processes); order = without p s.order }
 
--- ---- notice of an end
+-- ---- SIGCHLD for a termination
 
--- the parent ignores CHLD or has SA_NOCLDWAIT, XSH _exit and sigaction
+-- Returns true if the parent ignores SIGCHLD or has SA_NOCLDWAIT, so that its children leave no
+-- zombies, XSH _exit and sigaction.
 abbrev pub drops_children : Signals → Bool
 drops_children g = ignores_children g || has_flag (action g CHLD) SA_NOCLDWAIT
 
 abbrev pub is_dropping : ℕ → List Process → Bool
 is_dropping parent rs = option_map_or (λ r. drops_children r.signals) (lookup parent rs) false
 
--- the record of a zombie goes without a report
+-- Removes the record of a zombie without a report.
 abbrev pub drop_child : State → ℕ → State
 drop_child s child = record s { processes = removed child s.processes; dropped = s.dropped + 1 }
 
--- The parent gets notice that a child ended, and the child is dropped where the parent drops its children.
+-- Notifies the parent that a child terminated, and removes the child if the parent's children leave no zombies.
 unfoldable pub notice_of_end : State → ℕ → ℕ → ℕ → State
 notice_of_end s parent child status =
     let told = change s parent (noticed (child_signal child status)) in
@@ -69,35 +70,35 @@ abbrev pub status_of : Life → ℕ
 status_of (Zombie status) = status
 status_of _ = 0
 
--- the zombies among the children of p, in rising order
+-- Returns the zombies among the children of p, in ascending order.
 unfoldable pub zombies_of : ℕ → List Process → List Process
 zombies_of p rs = filter (λ r. is_zombie r.life) (children_in p rs)
 
--- the heir gets notice of the end of each, one after another
+-- Notifies the new parent of each zombie, one after another.
 unfoldable pub tell_of_all : State → ℕ → List Process → State
 tell_of_all s heir [] = s
 tell_of_all s heir (r ∷ rs) = tell_of_all (notice_of_end s heir r.pid (status_of r.life)) heir rs
 
--- ---- process groups that it orphans
+-- ---- process groups that a termination orphans
 
--- a signal is generated for each member of a process group, zombies included, in rising order
+-- Generates a signal for each member of a process group, zombies included, in ascending order.
 unfoldable pub signalled_members : PendingSignal → ℕ → List Process → List Process
 signalled_members signal group rs = signalled_all signal (pids (members_in group rs)) rs
 
--- a signal of the kernel for each member; there is no process group 0
+-- Generates a signal from the kernel for each member of a process group; there is no process group 0.
 abbrev pub signalled_group : ℕ → ℕ → List Process → List Process
 signalled_group n group rs = if group == 0 then rs else signalled_members (record { sig = n; carried = from_kernel }) group rs
 
--- HUP to each member of a process group, then CONT to each, XSH _exit
+-- Generates SIGHUP for each member of a process group, then SIGCONT for each, XSH _exit.
 abbrev pub hup_and_cont : ℕ → List Process → List Process
 hup_and_cont group rs = signalled_members (record { sig = CONT; carried = from_kernel }) group (signalled_members (record { sig = HUP; carried = from_kernel }) group rs)
 
--- to those of each of several groups, one after another
+-- Generates SIGHUP and SIGCONT for the members of several process groups, one group after another.
 unfoldable pub hup_and_cont_all : List ℕ → List Process → List Process
 hup_and_cont_all [] rs = rs
 hup_and_cont_all (g ∷ gs) rs = hup_and_cont_all gs (hup_and_cont g rs)
 
--- to those of the groups that have become orphaned and have a stopped member
+-- Generates SIGHUP and SIGCONT for the newly orphaned process groups that have a stopped member.
 abbrev pub hup_and_cont_orphans : List Process → State → State
 hup_and_cont_orphans before s = record s { processes = hup_and_cont_all (newly_orphaned before s.processes) s.processes }
 
@@ -110,16 +111,16 @@ hung_up s session (Some c) = record s {
   consoles = changed_console session released s.consoles;
 }
 
--- The leader of a session other than process 1 ends: each member of the foreground process group of its terminal gets
--- HUP, and the terminal is nobody's any more, XSH _exit.
+-- If a session leader other than process 1 terminates, each member of the foreground process group of its terminal
+-- gets SIGHUP, and the session loses the terminal, XSH _exit.
 unfoldable pub hang_up : State → Process → State
 hang_up s r = if not (r.pid == 1) && r.session == r.pid then hung_up s r.session (console_of r.session s.consoles) else s
 
--- ---- the end of a process
+-- ---- the termination of a process
 
--- In this order: process 1 takes the machine with it. Any other process becomes a zombie; its children
--- go to its heir, which gets notice of those that have ended; the groups that are orphaned by that, and
--- have a stopped member, get HUP and CONT; and its parent gets notice of its end.
+-- Terminates a process; if it is process 1, the machine halts. Otherwise, in this order: the process becomes a zombie
+-- and its children are reparented; the new parent is notified of each zombie among them; the process groups that this
+-- orphans, and that have a stopped member, get SIGHUP and SIGCONT; and the parent is notified of the termination.
 abbrev pub end_with_heir : State → Process → ℕ → ℕ → Outcome
 end_with_heir s r heir status =
     if r.pid == 1 then record { state = halt s status; entries = Ended r.pid status ∷ Halted ∷ [] }
@@ -128,6 +129,6 @@ end_with_heir s r heir status =
       entries = Ended r.pid status ∷ [];
     }
 
--- A session's terminal is hung up first.
+-- Terminates a process. A session leader loses the session's terminal first.
 unfoldable pub end_process : State → Process → ℕ → Outcome
 end_process s r status = let hung = hang_up s r in end_with_heir hung r (heir_in hung.processes r.pid) status

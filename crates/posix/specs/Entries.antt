@@ -1,10 +1,10 @@
--- What one event shows in the trace, and lines of a trace.
+-- Trace entries of one event, and lines of a trace.
 use Rattle.std.specs.Prelude.{ℕ, Bool, false, List, map, count_by, Option, Some, None}
 use Rattle.posix.specs.Statuses.{tells_end}
 use Rattle.posix.specs.declared.entry.Entry.{Entry}
 use Rattle.posix.specs.declared.entry.Entry.TheVariants.{Noted, Called, Moved, Reported, Looked, NoMemory, Marked, Handled, Discarded, Stopped, Returned, Ended, Halted}
 
--- an entry with the number of its event
+-- An entry with the number of its event.
 pub record Line : Type 0 where
   pub event : ℕ
   pub entry : Entry
@@ -12,11 +12,11 @@ pub record Line : Type 0 where
 abbrev pub line : ℕ → Entry → Line
 line k e = record { event = k; entry = e }
 
--- the entries of event k
+-- Returns the entries of event k as lines.
 abbrev pub numbered : ℕ → List Entry → List Line
 numbered k entries = map (line k) entries
 
--- the process of a line; none of `halt`
+-- Returns the process of an entry; None for `halt`.
 abbrev pub process_of : Entry → Option ℕ
 process_of (Noted p z) = Some p
 process_of (Called p call z) = Some p
@@ -32,11 +32,11 @@ process_of (Returned p) = Some p
 process_of (Ended p w) = Some p
 process_of Halted = None
 
--- a wait reports that a process ended, and collects it
+-- Returns true if a wait reports that a process terminated, and so reaps it.
 abbrev pub reports_end : Entry → Bool
 reports_end (Reported pid call child status) = tells_end status
 reports_end _ = false
 
--- how many ends the lines report
+-- Returns the number of terminations that the lines report.
 abbrev pub reported : List Line → ℕ
 reported lines = count_by (λ l. reports_end l.entry) lines

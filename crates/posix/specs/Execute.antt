@@ -1,4 +1,4 @@
--- One instruction, on a processor and its memory (own).
+-- Execution of one instruction on a processor with its memory (own).
 use Rattle.std.specs.Prelude.{◌≡◌, ℕ, ◌-◌, Bool, true, false, not, if◌then◌else◌, ◌==◌, nat_le, nat_lt, List, Option, Some, None, ℤ, pos, negsuc, int_rem, slice_get, slice_set, slice_index_or}
 use Rattle.std.specs.Int.{w64, int_wrapping_add, int_wrapping_sub, int_wrapping_mul, int_wrapping_div, int_bit_and, int_bit_or, int_bit_xor}
 use Rattle.posix.specs.declared.instr.Instr.{Instr}
@@ -12,7 +12,7 @@ use Rattle.posix.specs.declared.instr.Trap.TheVariants as trap
 use Rattle.posix.specs.SignalNumbers.{FPE, SEGV}
 use Rattle.posix.specs.Processes.{Cpu}
 
--- how an instruction came out, and the processor after it
+-- The result of an instruction: its trap, and the processor after it.
 pub record Executed : Type 0 where
   pub trap : Trap
   pub cpu : Cpu
@@ -23,19 +23,19 @@ register c r = slice_index_or c.registers r (pos 0)
 abbrev pub set_register : Cpu → ℕ → ℤ → Cpu
 set_register c r z = record c { registers = slice_set c.registers r z }
 
--- the pc moves on by one, as an i64 that wraps
+-- Advances the pc by one, as an i64 that wraps.
 abbrev pub move_on : Cpu → Cpu
 move_on c = record c { pc = int_wrapping_add w64 c.pc (pos 1) }
 
--- the instruction was run
+-- The instruction was executed.
 abbrev pub done : Cpu → Executed
 done c = record { trap = trap.Next; cpu = c }
 
--- a machine fault leaves the processor as it was
+-- A machine fault leaves the processor unchanged.
 abbrev pub faulted : Cpu → ℕ → Executed
 faulted c signal = record { trap = trap.Fault signal; cpu = c }
 
--- ---- operators and tests
+-- ---- operators and conditions
 
 abbrev pub is_zero : ℤ → Bool
 is_zero (pos n) = n == 0
@@ -45,7 +45,7 @@ abbrev pub is_negative : ℤ → Bool
 is_negative (pos n) = false
 is_negative (negsuc n) = true
 
--- Results wrap, also the quotient of the least number by -1. There is none by 0.
+-- Results wrap, even the quotient of the lowest number by -1. Div and Rem by 0 have no result.
 abbrev pub computed : Operator → ℤ → ℤ → Option ℤ
 computed Add x y = Some (int_wrapping_add w64 x y)
 computed Sub x y = Some (int_wrapping_sub w64 x y)
@@ -61,14 +61,14 @@ passes Zero z = is_zero z
 passes NotZero z = not (is_zero z)
 passes Negative z = is_negative z
 
--- a result for a register, or a fault FPE
+-- Writes a result to a register; without a result, it is a SIGFPE fault.
 abbrev pub put_result : Cpu → ℕ → Option ℤ → Executed
 put_result c r None = faulted c FPE
 put_result c r (Some z) = done (move_on (set_register c r z))
 
 -- ---- memory
 
--- the address that a value names: 0 to 255
+-- Returns the address that a value names: 0 to 255.
 abbrev pub address_of : ℤ → Option ℕ
 address_of (pos n) = if nat_lt n 256 then Some n else None
 address_of (negsuc n) = None
@@ -86,7 +86,7 @@ store_at c z (Some address) = done (move_on (record c { memory = slice_set c.mem
 abbrev pub jump : Cpu → ℕ → Cpu
 jump c address = record c { pc = pos address }
 
--- a call leaves the pc at it
+-- Executes an instruction. A system call leaves the pc at the call.
 abbrev pub execute : Cpu → Instr → Executed
 execute c (Set a z) = done (move_on (set_register c a z))
 execute c (Move a b) = done (move_on (set_register c a (register c b)))
@@ -98,21 +98,21 @@ execute c (JumpIf condition a address) = done (if passes condition (register c a
 execute c (Note a) = record { trap = trap.Note (register c a); cpu = move_on c }
 execute c (Sys call) = record { trap = trap.Call call; cpu = c }
 
--- the instruction at place i of a program has code address 16 + i
+-- Returns the instruction at a code address, if any; the one at index i of a program has code address 16 + i.
 abbrev pub fetched : List Instr → ℤ → Option Instr
 fetched program (pos n) = if nat_le 16 n then slice_get program (n - 16) else None
 fetched program (negsuc n) = None
 
--- outside the program is a fault, which leaves the pc
+-- A pc outside the program is a SIGSEGV fault, which leaves the pc unchanged.
 abbrev pub execute_fetched : Cpu → Option Instr → Executed
 execute_fetched c None = faulted c SEGV
 execute_fetched c (Some instr) = execute c instr
 
--- the instruction at the pc is run
+-- Executes the instruction at the pc.
 unfoldable pub exec_one : List Instr → Cpu → Executed
 exec_one program c = execute_fetched c (fetched program c.pc)
 
--- a call and a fault leave a thing as it was
+-- A system call and a fault leave the value unchanged.
 abbrev pub StaysUnlessRun : {A : Type 0} → Trap → A → A → Type 0
 StaysUnlessRun (trap.Call call) old new = new ≡ old
 StaysUnlessRun (trap.Fault sig) old new = new ≡ old

@@ -1,4 +1,4 @@
--- Generation of signals: what a signal that is sent to a process does to its signals, XSH 2.4.1 and 2.4.3.
+-- Generation of signals: how a signal that is generated for a process changes its pending signals, XSH 2.4.1 and 2.4.3.
 use Rattle.std.specs.Prelude.{ℕ, ◌-◌, Bool, true, false, ◌&&◌, ◌||◌, not, if◌then◌else◌, ◌==◌, List, [], ◌∷◌, ◌++◌, Option, Some, None, is_some, slice_index_or, slice_set, bit_and}
 use Rattle.std.specs.List.{list_any}
 use Rattle.posix.specs.declared.sig.DefaultAction.{DefaultAction}
@@ -28,19 +28,19 @@ abbrev pub is_ignored : Handler → Bool
 is_ignored handler.Ignore = true
 is_ignored _ = false
 
--- the default is to ignore the signal or to continue
+-- Returns true if the default action is to ignore the signal or to continue.
 abbrev pub is_harmless : DefaultAction → Bool
 is_harmless default.Ignore = true
 is_harmless default.Continue = true
 is_harmless _ = false
 
--- the action does nothing with the signal
+-- Returns true if delivering signal s to this handler has no effect.
 abbrev pub does_nothing : Handler → ℕ → Bool
 does_nothing handler.Default s = is_harmless (default_action s)
 does_nothing handler.Ignore s = true
 does_nothing (handler.At address) s = false
 
--- the flags of sigaction(2)
+-- The flags of sigaction(2).
 abbrev pub SA_NOCLDSTOP : ℕ
 SA_NOCLDSTOP = 1
 
@@ -67,40 +67,41 @@ has_flag a flag = bit_and a.flags.0 flag == flag
 abbrev pub has_sig : ℕ → PendingSignal → Bool
 has_sig s m = m.sig == s
 
--- a standard signal is pending or it isn't; a real-time signal is where at least one of its number is queued
+-- Returns true if signal s is pending; a real-time signal is pending if at least one with its number is queued.
 abbrev pub is_pending : Signals → ℕ → Bool
 is_pending g s = if is_realtime s then list_any (has_sig s) g.queue else is_some (slice_index_or g.standard (s - 1) None)
 
--- the pending standard signal s is this, or none is
+-- Sets the pending standard signal s to c, or clears it.
 abbrev pub with_pending : ℕ → Option Carried → Signals → Signals
 with_pending s c g = record g { standard = slice_set g.standard (s - 1) c }
 
--- these are queued
+-- Replaces the queue of real-time signals.
 abbrev pub with_queue : List PendingSignal → Signals → Signals
 with_queue q g = record g { queue = q }
 
--- A real-time signal is queued each time, behind those that came before, XSH 2.4.2. A standard signal that is pending
--- already keeps the value and the sender that it came with first (own).
+-- Makes a signal pending. A real-time signal is queued each time, after earlier ones, XSH 2.4.2. A standard signal
+-- that is already pending keeps its first value and sender (own).
 abbrev pub make_pending : PendingSignal → Signals → Signals
 make_pending signal g =
     if is_realtime signal.sig then with_queue (g.queue ++ signal ∷ []) g
     else if is_pending g signal.sig then g
     else with_pending signal.sig (Some signal.carried) g
 
--- Nothing is generated for a zombie, nor for process 1 where it has no handler for the signal, kill(2), also
--- where that is blocked (own); in Linux it is kept then.
+-- Returns true if no signal s is generated for process p: it is a zombie, or it is process 1 without a handler for s,
+-- kill(2), even if s is blocked (own). In Linux, a blocked signal becomes pending for process 1.
 abbrev pub gets_no_signals : ℕ → Life → Signals → ℕ → Bool
 gets_no_signals p life g s = is_zombie life || (p == 1 && not (is_caught (action g s).handler))
 
--- the signal is kept: it is blocked, also if it is ignored, or its action does something
+-- Returns true if a generated signal s becomes pending: it is blocked, even if it is ignored, or
+-- its action has an effect.
 abbrev pub keeps : Signals → ℕ → Bool
 keeps g s = has g.mask s || not (does_nothing (action g s).handler s)
 
--- no stop signal is pending
+-- Discards all pending stop signals.
 unfoldable pub without_stops : Signals → Signals
 without_stops g = with_pending STOP None (with_pending TSTP None (with_pending TTIN None (with_pending TTOU None g)))
 
--- CONT discards the stop signals that are pending, and a stop signal a CONT that is, whether or not they are
+-- SIGCONT discards pending stop signals, and a stop signal discards a pending SIGCONT, whether or not they are
 -- blocked or ignored, XSH 2.4.1.
 abbrev pub after_discards : ℕ → Signals → Signals
 after_discards s g =
@@ -108,19 +109,19 @@ after_discards s g =
     else if is_stop_signal s then with_pending CONT None g
     else g
 
--- The signals of process p after one is generated for it: discards come first, also where the signal
--- itself isn't kept. Where nothing is generated nothing is discarded (own); in Linux process 1 discards all the same.
+-- Returns the signals of process p after a signal is generated for it. Discards come first, even if the signal itself
+-- does not become pending. If no signal is generated, nothing is discarded (own); in Linux, process 1 still discards.
 unfoldable pub generated : ℕ → Life → PendingSignal → Signals → Signals
 generated p life signal g =
     if gets_no_signals p life g signal.sig then g
     else (let h = after_discards signal.sig g in if keeps g signal.sig then make_pending signal h else h)
 
--- What a signal that is generated does at once: CONT continues a process that is stopped, also where it is
--- blocked or ignored, XSH 2.4.1 and 2.4.3.
+-- Returns the immediate effect of a generated signal: SIGCONT continues a stopped process, even if it is blocked or
+-- ignored, XSH 2.4.1 and 2.4.3.
 unfoldable pub effect_of : ℕ → Life → PendingSignal → Signals → Effect
 effect_of p life signal g =
     if signal.sig == CONT && (is_stopped life && not (gets_no_signals p life g signal.sig)) then effect.Continued else effect.Nothing
 
--- the process with a signal generated for it, but for what that does at once
+-- Returns the process after a signal is generated for it, without the signal's immediate effect.
 unfoldable pub signalled : PendingSignal → Process → Process
 signalled signal r = record r { signals = generated r.pid r.life signal r.signals }

@@ -10,7 +10,7 @@ use Rattle.posix.specs.Tables.{lookup}
 use Rattle.posix.specs.States.{State, change}
 use Rattle.posix.specs.Outcomes.{Attempted, finish_with, refused}
 
--- the process that a register names: 0 is the caller
+-- Returns the process that a register names; 0 is the caller.
 abbrev pub named : Process → ℤ → List Process → Option Process
 named me (pos zero) rs = Some me
 named me (pos (suc n)) rs = lookup (suc n) rs
@@ -30,23 +30,23 @@ getsid s me = tells s me Getsid (λ r. r.session) (named me (argument me 1) s.pr
 
 -- ---- setpgid
 
--- a process group of the session, zombies being members
+-- Returns true if the process group has a member in the session; zombies are members.
 unfoldable pub is_group_of : ℕ → ℕ → List Process → Bool
 is_group_of session group rs = list_any (λ r. r.session == session && r.group == group) rs
 
--- 0 stands for the number of the process itself
+-- Returns the process group that setpgid names; 0 is the ID of the process itself.
 abbrev pub group_meant : Process → ℕ → ℕ
 group_meant r group = if group == 0 then r.pid else group
 
--- A process of the caller's session that doesn't lead one may make a group of its own number, or join one of
--- that session.
+-- A process in the caller's session that doesn't lead it may create a process group with its own ID, or join a
+-- process group of that session.
 abbrev pub can_join : Process → Process → ℕ → List Process → Result ℕ Errno
 can_join me r group rs =
     if not (r.session == me.session) || r.session == r.pid then Err EPERM
     else if group == r.pid || is_group_of me.session group rs then Ok group
     else Err EPERM
 
--- The caller may move itself, and a child of its session that hasn't run exec since its birth.
+-- The caller may move itself, and a child in its session that hasn't run exec since its creation.
 abbrev pub can_move : Process → Process → ℕ → List Process → Result ℕ Errno
 can_move me r group rs =
     if r.pid == me.pid then can_join me r group rs
@@ -55,12 +55,12 @@ can_move me r group rs =
     else if r.ran_exec then Err EACCES
     else can_join me r group rs
 
--- which group a process would move to, or why not
+-- Returns the process group that a process would move to, or the error.
 abbrev pub move_of : Process → Option Process → ℕ → List Process → Result ℕ Errno
 move_of me None group rs = Err ESRCH
 move_of me (Some r) group rs = can_move me r (group_meant r group) rs
 
--- a negative group is judged first (own); in Linux the process's number is put for 0 before that
+-- A negative group is checked first (own); Linux substitutes the process ID for 0 before that.
 abbrev pub move_to : Process → Option Process → ℤ → List Process → Result ℕ Errno
 move_to me target (pos group) rs = move_of me target group rs
 move_to me target (negsuc n) rs = Err EINVAL
@@ -73,17 +73,17 @@ setpgid_with s me target (Err why) = refused s me.pid Setpgid why
 setpgid_with s me None (Ok group) = refused s me.pid Setpgid ESRCH
 setpgid_with s me (Some r) (Ok group) = finish_with (change s r.pid (in_group group)) me.pid Setpgid (pos 0)
 
--- the process is in r1, the group in r2
+-- Attempts setpgid; the process is in r1, the group in r2.
 unfoldable pub setpgid : State → Process → Attempted
 setpgid s me = let target = named me (argument me 1) s.processes in setpgid_with s me target (move_to me target (argument me 2) s.processes)
 
 -- ---- setsid
 
--- the number of a process is that of a group in which another is, zombies included
+-- Returns true if another process, zombies included, is in the process group with the caller's ID.
 abbrev pub is_group_of_others : Process → List Process → Bool
 is_group_of_others me rs = list_any (λ r. r.group == me.pid && not (r.pid == me.pid)) rs
 
--- it leads a session and a process group of its own
+-- Makes the process the leader of a new session and a new process group.
 unfoldable pub in_session : Process → Process
 in_session r = record r { session = r.pid; group = r.pid }
 

@@ -1,4 +1,4 @@
--- Signal handlers: how one is entered, and how it returns, XSH 2.4.3, sigaction(2), sigreturn(2).
+-- Signal handlers: entering one and returning from it, XSH 2.4.3, sigaction(2), sigreturn(2).
 use Rattle.std.specs.Prelude.{ℕ, ◌-◌, Bool, false, ◌||◌, not, if◌then◌else◌, ◌==◌, nat_le, [], ◌∷◌, ◌++◌, length, take, Option, Some, None, ℤ, pos, slice_get, slice_set, Result, Ok, Err}
 use Rattle.posix.specs.declared.errno.Errno.{Errno}
 use Rattle.posix.specs.declared.errno.Errno.TheVariants.{EINTR, EINVAL}
@@ -18,31 +18,31 @@ use Rattle.posix.specs.Outcomes.{refusal}
 use Rattle.posix.specs.Generation.{has_flag, SA_SIGINFO, SA_RESTART, SA_NODEFER, SA_RESETHAND, action, does_nothing}
 use Rattle.posix.specs.Choice.{discarded}
 
--- ---- the call that a process is blocked in as a handler is entered
+-- ---- the call that a process is blocked in when a handler is entered
 
--- a wait and a read are begun again after the handler where the action asks for it
+-- Returns true if the call is restarted after the handler: a wait or a read, if the action has SA_RESTART.
 abbrev pub is_restarted : Blocked → Action → Bool
 is_restarted (blocked.Wait call) a = has_flag a SA_RESTART
 is_restarted blocked.Read a = has_flag a SA_RESTART
 is_restarted _ a = false
 
--- it is in a call that isn't
+-- Returns true if the process is blocked in a call that is not restarted.
 abbrev pub is_interrupted : Option Blocked → Action → Bool
 is_interrupted None a = false
 is_interrupted (Some b) a = not (is_restarted b a)
 
--- a call that is interrupted gives -4, and the pc moves on; one that is begun again leaves the pc at it
+-- An interrupted call fails with EINTR, and the pc moves on. A restarted call leaves the pc at the call.
 abbrev pub leave_call : Option Blocked → Action → Cpu → Cpu
 leave_call b a c = if is_interrupted b a then move_on (set_register c 0 (refusal EINTR)) else c
 
--- the mask to go back to: of sigsuspend the one before it
+-- Returns the mask to restore: for a process blocked in sigsuspend, the mask before that call.
 abbrev pub mask_before : Option Blocked → ℕ → ℕ
 mask_before (Some (blocked.Sigsuspend earlier)) mask = earlier
 mask_before _ mask = mask
 
--- ---- a handler is entered
+-- ---- entering a handler
 
--- at most 16 handlers haven't returned (own)
+-- The maximum number of handlers that haven't returned (own).
 abbrev pub most_frames : ℕ
 most_frames = 16
 
@@ -52,15 +52,16 @@ is_full g = nat_le most_frames (length g.frames)
 abbrev pub frame_of : Cpu → ℕ → Frame
 frame_of c mask = record { pc = c.pc; registers = c.registers; mask = mask }
 
--- the present mask, that of the action, and the signal itself
+-- Returns the mask during the handler: the current mask, the action's mask and, without SA_NODEFER, the signal itself.
 abbrev pub handler_mask : ℕ → ℕ → Action → ℕ
 handler_mask s mask a = maskable (union (union mask a.mask) (if has_flag a SA_NODEFER then 0 else just s))
 
--- with SA_RESETHAND the handler is the default from now on; mask and flags stay, SA_SIGINFO too (own)
+-- Returns the action after its handler is entered. SA_RESETHAND resets the handler to the default; the mask and the
+-- flags stay, even SA_SIGINFO (own).
 abbrev pub after_entry : Action → Action
 after_entry a = if has_flag a SA_RESETHAND then record a { handler = handler.Default } else a
 
--- the signals of a process that enters the handler of s, and goes back to the saved mask
+-- Returns the signals of a process that enters the handler of s; the return from it restores the saved mask.
 unfoldable pub entered : ℕ → Cpu → ℕ → Signals → Signals
 entered s c saved g = record g {
   mask = handler_mask s g.mask (action g s);
@@ -68,7 +69,7 @@ entered s c saved g = record g {
   frames = g.frames ++ frame_of c saved ∷ [];
 }
 
--- r1 is the signal, and with SA_SIGINFO r2 and r3 are the value and the sender
+-- Passes the signal in r1 and, with SA_SIGINFO, the value in r2 and the sender in r3.
 abbrev pub handler_arguments : PendingSignal → Action → Cpu → Cpu
 handler_arguments signal a c =
     let d = set_register c 1 (pos signal.sig) in
@@ -77,7 +78,7 @@ handler_arguments signal a c =
 unfoldable pub at_handler : PendingSignal → Action → ℤ → Cpu → Cpu
 at_handler signal a address c = record (handler_arguments signal a c) { pc = address }
 
--- The process leaves its call, and enters the handler at an address where there is room for a frame.
+-- The process leaves its call and, if there is room for a frame, enters the handler at an address.
 unfoldable pub handles : PendingSignal → ℤ → Process → Process
 handles signal address r =
     let a = action r.signals signal.sig in
@@ -89,7 +90,7 @@ handles signal address r =
       blocked = None;
     }
 
--- ---- a handler returns
+-- ---- returning from a handler
 
 abbrev pub newest_frame : Signals → Option Frame
 newest_frame g = slice_get g.frames (length g.frames - 1)
@@ -97,7 +98,7 @@ newest_frame g = slice_get g.frames (length g.frames - 1)
 abbrev pub restore : Frame → Cpu → Cpu
 restore frame c = record c { pc = frame.pc; registers = frame.registers }
 
--- the mask of the newest frame, which goes
+-- Restores the mask of the newest frame, and removes that frame.
 abbrev pub left : Frame → Signals → Signals
 left frame g = record g { mask = frame.mask; frames = take (length g.frames - 1) g.frames }
 
@@ -106,21 +107,21 @@ returned frame r = record r { signals = left frame r.signals; cpu = restore fram
 
 -- ---- actions and masks, XSH sigaction and sigprocmask
 
--- An action that does nothing with the signal discards it where it is pending, blocked or not, all that are queued of
--- its number.
+-- Sets the action for signal s. If the action has no effect, the pending signals with this number are discarded,
+-- blocked or not, with all queued ones.
 abbrev pub give_action : ℕ → Action → Signals → Signals
 give_action s a g =
     let h = record g { actions = slice_set g.actions (s - 1) (record a { mask = maskable a.mask }) } in
     if does_nothing a.handler s then discarded s h else h
 
--- KILL and STOP can't be caught or ignored
+-- Sets the action for signal s. Fails with EINVAL for SIGKILL and SIGSTOP, which can't be caught or ignored.
 unfoldable pub set_action : ℕ → Action → Signals → Result Signals Errno
 set_action s a g = if s == KILL || s == STOP then Err EINVAL else Ok (give_action s a g)
 
 abbrev pub give_mask : ℕ → Signals → Signals
 give_mask mask g = record g { mask = maskable mask }
 
--- the mask after a set is added to it, taken from it, or put in its place
+-- Adds a set to the mask, removes it from the mask, or replaces the mask with it.
 unfoldable pub set_mask : How → ℕ → Signals → Signals
 set_mask how.Block set g = give_mask (union g.mask set) g
 set_mask how.Unblock set g = give_mask (except g.mask set) g

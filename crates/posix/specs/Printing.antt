@@ -1,4 +1,4 @@
--- A trace as text: the number of the event and the words of the entry, separated by one space, and a line feed.
+-- Traces as text: a line has the event number and the words of the entry, separated by one space, and a line feed.
 use Rattle.std.specs.Prelude.{ℕ, Bool, true, false, ◌/◌, ◌%◌, List, [], ◌∷◌, ◌++◌, length, codes, decimal, flat_map, slice_index_or}
 use Rattle.std.specs.List.{join_with_byte}
 use Rattle.std.specs.Fmt.{signed_decimal}
@@ -9,18 +9,18 @@ use Rattle.posix.specs.declared.waits.WaitCall.TheVariants as wait
 use Rattle.posix.specs.Calls.{call_text}
 use Rattle.posix.specs.Entries.{Line}
 
--- a number below 16 as a digit
+-- Returns the hexadecimal digit of a number below 16.
 abbrev pub digit : ℕ → ℕ
 digit n = slice_index_or (codes "0123456789abcdef") n 0
 
 abbrev pub two_digits : ℕ → List ℕ
 two_digits byte = digit (byte / 16) ∷ digit (byte % 16) ∷ []
 
--- bytes to base 16, each as two digits
+-- Returns bytes in hexadecimal, two digits each.
 unfoldable pub hex : List ℕ → List ℕ
 hex bytes = flat_map two_digits bytes
 
--- whether a mark is set
+-- Returns the text of a mark: 1 if it is set, otherwise 0.
 abbrev pub bit : Bool → List ℕ
 bit false = codes "0"
 bit true = codes "1"
@@ -41,7 +41,7 @@ words_of (Returned pid) = codes "return" ∷ decimal pid ∷ []
 words_of (Ended pid status) = codes "end" ∷ decimal pid ∷ decimal status ∷ []
 words_of Halted = codes "halt" ∷ []
 
--- one line
+-- Returns one line of a trace.
 abbrev pub printed : ℕ → Entry → List ℕ
 printed event entry = join_with_byte 32 (decimal event ∷ words_of entry) ++ 10 ∷ []
 

@@ -13,41 +13,41 @@ use Rattle.posix.specs.declared.process.News.{News}
 use Rattle.posix.specs.declared.process.News.TheVariants as news
 use Rattle.posix.specs.declared.process.Blocked.{Blocked}
 
--- the user machine of a process (own)
+-- The user machine of a process (own).
 pub record Cpu : Type 0 where
   pub pc : ℤ  -- a code address
   pub registers : List ℤ  -- r0 to r7
-  pub memory : List ℤ  -- the words at 0 to 255
+  pub memory : List ℤ  -- the words at addresses 0 to 255
 
--- the ids of a process, credentials(7)
+-- The user and group IDs of a process, credentials(7).
 pub record Credentials : Type 0 where
   pub user : Ids ℕ
   pub group : Ids ℕ
 
--- the signals of a process, XSH 2.4
+-- The signal state of a process, XSH 2.4.
 pub record Signals : Type 0 where
-  pub mask : ℕ  -- the signals that it blocks, XSH sigprocmask
-  pub standard : List (Option Carried)  -- the pending standard signals: signal s at s - 1, XSH 2.4.1
-  pub queue : List PendingSignal  -- the pending real-time signals, the first to come first, XSH 2.4.2
-  pub actions : List Action  -- of signal s at s - 1, XSH 2.4.3
-  pub frames : List Frame  -- of the handlers that haven't returned, the newest last (own)
+  pub mask : ℕ  -- the signal mask: the blocked signals, XSH sigprocmask
+  pub standard : List (Option Carried)  -- the pending standard signals: signal s at index s - 1, XSH 2.4.1
+  pub queue : List PendingSignal  -- the pending real-time signals, in order of generation, XSH 2.4.2
+  pub actions : List Action  -- the action for signal s at index s - 1, XSH 2.4.3
+  pub frames : List Frame  -- one per handler that hasn't returned, newest last (own)
 
--- In the words of XBD 3 and XSH 2.4; what Linux adds is in credentials(7), signal(7) and waitpid(2).
+-- A process, in the terms of XBD 3 and XSH 2.4; what Linux adds is in credentials(7), signal(7) and waitpid(2).
 pub record Process : Type 0 where
   pub pid : ℕ  -- XBD 3 Process ID
-  pub birth : ℕ  -- 1 for process 1, 2 for the next one born, .. (own)
+  pub birth : ℕ  -- 1 for process 1, 2 for the next process created, .. (own)
   pub parent : ℕ  -- XSH getppid; 0 for process 1
   pub group : ℕ  -- XBD 3 Process Group ID
-  pub session : ℕ  -- XBD 3 Session, by its leader's number
+  pub session : ℕ  -- XBD 3 Session, by its leader's process ID
   pub credentials : Credentials
   pub signals : Signals
   pub life : Life
-  pub news : News  -- what no wait has reported, XSH waitpid
-  pub ran_exec : Bool  -- since its birth, XSH setpgid EACCES
+  pub news : News  -- the stop or continue that no wait has consumed, XSH waitpid
+  pub ran_exec : Bool  -- whether it has run exec since its creation, XSH setpgid EACCES
   pub is_subreaper : Bool  -- prctl(2), PR_SET_CHILD_SUBREAPER
-  pub alarm : Option ℕ  -- the tick at which it is due, XSH alarm
-  pub blocked : Option Blocked  -- the call that it waits in
-  pub program : ℕ  -- its place among the programs of the world (own)
+  pub alarm : Option ℕ  -- the tick at which SIGALRM is due, XSH alarm
+  pub blocked : Option Blocked  -- the call that it is blocked in
+  pub program : ℕ  -- the index of its program in the world (own)
   pub cpu : Cpu
 
 abbrev pub is_zombie : Life → Bool
@@ -65,7 +65,7 @@ is_stopped _ = false
 abbrev pub is_living : Process → Bool
 is_living r = not (is_zombie r.life)
 
--- register i as an argument of a call
+-- Returns register i, as an argument of a call.
 abbrev pub argument : Process → ℕ → ℤ
 argument r i = slice_index_or r.cpu.registers i (pos 0)
 
@@ -98,7 +98,7 @@ zero_registers = replicate 8 (pos 0)
 unfoldable pub zero_memory : List ℤ
 zero_memory = replicate 256 (pos 0)
 
--- execution begins at code address 16
+-- Execution begins at code address 16.
 abbrev pub fresh_cpu : Cpu
 fresh_cpu = record { pc = pos 16; registers = zero_registers; memory = zero_memory }
 

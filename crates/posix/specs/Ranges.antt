@@ -1,4 +1,4 @@
--- What numbers of programs, worlds and events are within, as the types of the code have it.
+-- The ranges of the numbers in programs, worlds and events, as the types of the code fix them.
 use Rattle.std.specs.Prelude.{◌≡◌, ℕ, ◌≤◌, ◌<◌, ◌&&◌, Bool, true, Option, Some, None, nat_le, nat_lt, ℤ, pos, negsuc}
 use Rattle.std.specs.List.{list_all}
 use Rattle.posix.specs.declared.event.Event.{Event}
@@ -11,7 +11,7 @@ abbrev pub is_i64 : ℤ → Bool
 is_i64 (pos n) = nat_lt n 9223372036854775808
 is_i64 (negsuc n) = nat_lt n 9223372036854775808
 
--- a number of a process, a group or a user is at most this (pid_t, uid_t as here)
+-- Returns true if n is within the range of process, user and group IDs (pid_t; here also uid_t and gid_t).
 abbrev pub is_id : ℕ → Bool
 is_id n = nat_le n 2147483647
 
@@ -30,7 +30,7 @@ pub record IsWorld (w : World) : Type 0 where
   pub pidmax : w.pidmax ≤ 2147483647
   pub programs : list_all is_program w.programs ≡ true
 
--- a key brings a byte
+-- A key event carries a byte.
 abbrev pub IsEvent : Event → Type 0
 IsEvent (Key console byte) = byte < 256
 IsEvent _ = Unit {0}

@@ -1,4 +1,4 @@
--- What holds of every state that the machine reaches: the type of a machine keeps it.
+-- Invariants of every state that the machine reaches; the type of a machine keeps them.
 use Rattle.std.specs.Prelude.{◌≡◌, ◌≢◌, ◌⊎◌, ℕ, ◌≤◌, true, false, List, [], ◌∷◌, ◌+◌, ◌<◌, Option, Some, IfSome, length, slice_get}
 use Rattle.posix.specs.Processes.{Process, is_zombie}
 use Rattle.posix.specs.Tables.{IsRising, lookup, children_in}
@@ -6,7 +6,7 @@ use Rattle.posix.specs.States.{State, is_in}
 use Rattle.posix.specs.Consoles.{Console}
 use Rattle.posix.specs.Alarms.{most_ticks}
 
--- the numbers of a record are within their range
+-- The IDs of a record are within their range.
 pub record IsBounded (pidmax : ℕ) (r : Process) : Type 0 where
   pub least : 1 ≤ r.pid
   pub pid : r.pid ≤ pidmax
@@ -15,37 +15,38 @@ pub record IsBounded (pidmax : ℕ) (r : Process) : Type 0 where
   pub group_least : 1 ≤ r.group
   pub session_least : 1 ≤ r.session
 
--- process 1 is there, without a parent
+-- Process 1 exists, and has no parent.
 pub record HasFirst (rs : List Process) : Type 0 where
   pub what : Process
   pub found : lookup 1 rs ≡ Some what
   pub parent : what.parent ≡ 0
 
--- who has a place is there, and no zombie
+-- A process in the run queue exists, and is not a zombie.
 pub record IsPlaced (rs : List Process) (p : ℕ) : Type 0 where
   pub what : Process
   pub found : lookup p rs ≡ Some what
   pub living : is_zombie what.life ≡ false
 
--- Who may be the heir of p: process 1, or another process that is there and no zombie.
+-- A possible new parent of p's children: process 1, or another process that exists and is not a zombie.
 abbrev pub CanInherit : List Process → ℕ → ℕ → Type 0
 CanInherit rs p heir = (heir ≡ 1) ⊎ ((heir ≢ p) × IsPlaced rs heir)
 
--- each number once
+-- The list has no duplicates.
 unfoldable pub IsDistinct : List ℕ → Type 0
 IsDistinct [] = Unit {0}
 IsDistinct (p ∷ ps) = (is_in p ps ≡ false) × IsDistinct ps
 
--- a set alarm is due later, and not too late
+-- A set alarm is due after now, at most most_ticks later.
 abbrev pub IsAhead : ℕ → Option ℕ → Type 0
 IsAhead now alarm = IfSome alarm (λ due. (now < due) × (due ≤ now + most_ticks))
 
--- The members of a process group are in one session, and a group with the number of a process is in that process's session.
+-- The members of a process group are in one session. A process group with the ID of a process is in
+-- that process's session.
 pub record AreGrouped (rs : List Process) : Type 0 where
   pub one : (p q : ℕ) (r t : Process) → lookup p rs ≡ Some r → lookup q rs ≡ Some t → r.group ≡ t.group → r.session ≡ t.session
   pub own : (p q : ℕ) (r t : Process) → lookup p rs ≡ Some r → lookup q rs ≡ Some t → t.group ≡ p → t.session ≡ r.session
 
--- There are so many consoles, and a session has one at most.
+-- There are this many consoles, and a session has at most one.
 pub record AreConsoles (many : ℕ) (cs : List Console) : Type 0 where
   pub count : length cs ≡ many
   pub apart : (i j : ℕ) (c d : Console) → slice_get cs i ≡ Some c → slice_get cs j ≡ Some d → c.session ≢ 0 → c.session ≡ d.session → i ≡ j

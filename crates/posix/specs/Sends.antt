@@ -20,7 +20,7 @@ use Rattle.posix.specs.Credentials.{may}
 use Rattle.posix.specs.Generation.{gets_no_signals, keeps}
 use Rattle.posix.specs.Notices.{signalled_all}
 
--- All are the processes but the sender and process 1, kill(2).
+-- Returns true if the target selects r. All are the processes other than the sender and process 1, kill(2).
 abbrev pub is_target : Process → Target → Process → Bool
 is_target me (whom.Process p) r = r.pid == p
 is_target me whom.OwnGroup r = r.group == me.group
@@ -28,14 +28,15 @@ is_target me (whom.Group p) r = r.group == p
 is_target me whom.All r = not (r.pid == me.pid || r.pid == 1)
 is_target me whom.Nobody r = false
 
--- those that are meant, zombies included, in rising order
+-- Returns the selected processes, zombies included, in ascending order.
 unfoldable pub targets : Process → Target → List Process → List Process
 targets me target rs = filter (is_target me target) rs
 
 unfoldable pub permitted : Process → Option ℕ → List Process → List Process
 permitted me s rs = filter (may me s) rs
 
--- where there are such; in Linux -1 gives 0 where none may be signalled
+-- Returns whether any selected process may be signalled; EPERM if none may. In Linux, a kill of -1
+-- returns 0 if none may.
 abbrev pub sending_permitted : List Process → Sending
 sending_permitted [] = found.NobodyPermitted
 sending_permitted (r ∷ rs) = found.Permitted
@@ -44,32 +45,33 @@ abbrev pub sending_found : Process → Option ℕ → List Process → Sending
 sending_found me s [] = found.NobodyFound
 sending_found me s (r ∷ rs) = sending_permitted (permitted me s (r ∷ rs))
 
--- whom a signal finds
--- Targets and permission are those of the state before the first signal. SIGCHLD of a child that SIGCONT continues may
--- reach a later target, or the sender; but no signal changes IDs, groups or sessions.
+-- Returns whether the signal finds a process that may be signalled.
+-- Targets and permission are those of the state before the first signal. SIGCHLD for the parent of a process that
+-- SIGCONT continues may reach a later target, or the sender; but no signal changes IDs, process groups or sessions.
 unfoldable pub sending : Process → Target → Option ℕ → List Process → Sending
 sending me target s rs = sending_found me s (targets me target rs)
 
 -- ---- queues
 
--- at most so many real-time signals are queued for one process (own)
+-- The maximum number of real-time signals queued for one process (own).
 abbrev pub most_queued : ℕ
 most_queued = 32
 
 abbrev pub has_full_queue : Process → Bool
 has_full_queue r = nat_le most_queued (length r.signals.queue)
 
--- a real-time signal would be queued for it
+-- Returns true if n is a real-time signal that would be queued for r.
 abbrev pub is_queuer : ℕ → Process → Bool
 is_queuer n r = is_realtime n && (not (gets_no_signals r.pid r.life r.signals n) && keeps r.signals n)
 
--- those of these for whom the signal would be queued: no standard signal is
+-- Returns those of the processes for which the signal would be queued; a standard signal is never queued.
 unfoldable pub queuers : Option ℕ → List Process → List Process
 queuers None rs = []
 queuers (Some n) rs = filter (is_queuer n) rs
 
--- Where one of them is full the signal is queued for nobody; nor is it without the memory that their queues may need
--- (own); in Linux a kill is then pending once, without its value and sender, and a sigqueue is refused.
+-- The signal is queued for no process if one of the queues is full, or if the host does not grant the memory that the
+-- queues may need (own). In Linux, kill then makes the signal pending once, without its value and sender, and
+-- sigqueue fails.
 abbrev pub queued_for : Bool → List Process → Sending → Sending
 queued_for granted [] other = other
 queued_for granted (q ∷ qs) other =
@@ -77,17 +79,17 @@ queued_for granted (q ∷ qs) other =
     else if granted then other
     else found.NoMemory
 
--- those for whom a signal that is sent would be queued
+-- Returns the permitted targets for which the sent signal would be queued.
 unfoldable pub queuers_among : Process → Target → Option ℕ → List Process → List Process
 queuers_among me target s rs = queuers s (permitted me s (targets me target rs))
 
--- what a send comes to, where memory is granted or not
+-- Returns the result of a send, given whether the host grants memory.
 unfoldable pub sending_granted : Bool → Process → Target → Option ℕ → List Process → Sending
 sending_granted granted me target s rs = queued_for granted (queuers_among me target s rs) (sending me target s rs)
 
 -- ---- what is sent
 
--- a signal of process p comes with a value and its number
+-- Returns the signal n that process p sends with a value; p is its sender.
 abbrev pub sent_by : ℕ → ℤ → ℕ → PendingSignal
 sent_by p value n = record { sig = n; carried = record { value = value; sender = p } }
 
@@ -95,17 +97,17 @@ abbrev pub message : ℕ → ℤ → Option ℕ → Option PendingSignal
 message p value None = None
 message p value (Some n) = Some (sent_by p value n)
 
--- its number; none for signal 0
+-- Returns the signal's number, or None for signal 0.
 abbrev pub number_of : Option PendingSignal → Option ℕ
 number_of None = None
 number_of (Some signal) = Some signal.sig
 
--- The signal is generated for those that may be signalled; signal 0 only checks.
+-- Generates the signal for those of the processes that may be signalled; signal 0 only checks.
 unfoldable pub sent_among : Process → Option PendingSignal → List Process → List Process → List Process
 sent_among me None qs rs = rs
 sent_among me (Some signal) qs rs = signalled_all signal (pids (permitted me (Some signal.sig) qs)) rs
 
--- for those that are meant
+-- Generates the signal for the selected processes that may be signalled.
 unfoldable pub sent : Process → Target → Option PendingSignal → List Process → List Process
 sent me target signal rs = sent_among me signal (targets me target rs) rs
 
@@ -118,26 +120,26 @@ send_with s me call target signal found.QueueFull = refused s me.pid call EAGAIN
 send_with s me call target signal found.NoMemory = no_memory s me.pid call
 send_with s me call target signal found.Permitted = finish_with (record s { processes = sent me target signal s.processes }) me.pid call (pos 0)
 
--- the signal that a register names
+-- Returns the signal that a register names, if any.
 abbrev pub signal_in : ℤ → Option ℕ
 signal_in (pos n) = if is_signal n then Some n else None
 signal_in (negsuc n) = None
 
--- a signal, or signal 0, which is none
+-- Returns the signal that a register names, None for signal 0, or EINVAL.
 abbrev pub signal_or_none : ℤ → Result (Option ℕ) Errno
 signal_or_none (pos zero) = Ok None
 signal_or_none (pos (suc n)) = if is_signal (suc n) then Ok (Some (suc n)) else Err EINVAL
 signal_or_none (negsuc n) = Err EINVAL
 
--- the signal is judged first (own); in Linux the processes are looked for first
+-- Sends a signal for a call. The signal number is checked first (own); in Linux, the processes are looked up first.
 abbrev pub send : Bool → State → Process → Call → Target → ℤ → Result (Option ℕ) Errno → Attempted
 send granted s me call target value (Ok n) = send_with s me call target (message me.pid value n) (sending_granted granted me target n s.processes)
 send granted s me call target value (Err why) = refused s me.pid call why
 
--- the target is in r1, the signal in r2; the value is 0
+-- Attempts kill; the target is in r1, the signal in r2. The value is 0.
 unfoldable pub kill : Bool → State → Process → Attempted
 kill granted s me = send granted s me Kill (target_in (argument me 1)) (pos 0) (signal_or_none (argument me 2))
 
--- the process is in r1, the signal in r2, the value in r3
+-- Attempts sigqueue; the process is in r1, the signal in r2, the value in r3.
 unfoldable pub sigqueue : Bool → State → Process → Attempted
 sigqueue granted s me = send granted s me Sigqueue (process_in (argument me 1)) (argument me 3) (signal_or_none (argument me 2))

@@ -1,5 +1,5 @@
--- Calls by which a process changes its own ids, actions and signal mask: XSH setuid, seteuid, setgid, setegid, sigaction,
--- sigprocmask and sigpending.
+-- Calls on a process's own IDs, actions and signal mask: XSH setuid, seteuid, setgid, setegid, sigaction, sigprocmask
+-- and sigpending.
 use Rattle.std.specs.Prelude.{ℕ, zero, suc, ◌+◌, ◌*◌, ◌==◌, Bool, true, false, if◌then◌else◌, List, [], ◌∷◌, map, Option, Some, None, ℤ, pos, negsuc, bit_and, Result, Ok, Err}
 use Rattle.std.specs.Int.{cast_signed, cast_unsigned, w64}
 use Rattle.std.specs.List.{range_with_len}
@@ -17,12 +17,12 @@ use Rattle.posix.specs.Generation.{action, is_pending, SA_NOCLDSTOP, SA_NOCLDWAI
 use Rattle.posix.specs.Handlers.{set_action, set_mask}
 use Rattle.posix.specs.Sends.{signal_in}
 
--- ---- ids
+-- ---- IDs
 
 unfoldable pub give_credentials : Credentials → Process → Process
 give_credentials c r = record r { credentials = c }
 
--- the ids are set, or the call is refused
+-- Sets the IDs and returns 0, or fails.
 abbrev pub set_credentials : Result Credentials Errno → Reply
 set_credentials (Ok c) = record { value = pos 0; changes = give_credentials c }
 set_credentials (Err why) = refusing why
@@ -32,7 +32,7 @@ set_credentials (Err why) = refusing why
 unfoldable pub give_signals : Signals → Process → Process
 give_signals g r = record r { signals = g }
 
--- a handler as a register: 0 for the default, 1 to ignore, else a code address
+-- Returns a handler as a register holds it: 0 is the default, 1 ignores the signal, any other value is a code address.
 abbrev pub handler_word : Handler → ℤ
 handler_word handler.Default = pos 0
 handler_word handler.Ignore = pos 1
@@ -44,7 +44,7 @@ handler_in (pos (suc zero)) = handler.Ignore
 handler_in (pos (suc (suc n))) = handler.At (pos (n + 2))
 handler_in (negsuc n) = handler.At (negsuc n)
 
--- -1 asks for the action, and sets none (own)
+-- Returns true for -1, with which sigaction sets no action (own).
 abbrev pub is_question : ℤ → Bool
 is_question (pos n) = false
 is_question (negsuc n) = n == 0
@@ -52,19 +52,19 @@ is_question (negsuc n) = n == 0
 abbrev pub all_flags : ℕ
 all_flags = SA_NOCLDSTOP + SA_NOCLDWAIT + SA_SIGINFO + SA_RESTART + SA_NODEFER + SA_RESETHAND
 
--- other flags are EINVAL (own); in Linux they are accepted
+-- Returns true if all flags are known. Unknown flags are EINVAL (own); Linux accepts them.
 abbrev pub are_flags : ℕ → Bool
 are_flags n = bit_and n all_flags == n
 
--- the handler in r2, the mask in r3, the flags in r4
+-- Returns the action that a caller passes: the handler in r2, the mask in r3, the flags in r4.
 abbrev pub action_in : Process → Action
 action_in me = record { handler = handler_in (argument me 2); mask = set_in (argument me 3); flags = record { 0 = cast_unsigned w64 (argument me 4) } }
 
--- an action in r2, r3 and r4
+-- Writes an action to r2, r3 and r4.
 abbrev pub holding : Action → Process → Process
 holding a r = written 4 (cast_signed w64 a.flags.0) (written 3 (word_of a.mask) (written 2 (handler_word a.handler) r))
 
--- the call gives an action after it changed the signals
+-- Sets the signals, and returns an action in r2, r3 and r4.
 abbrev pub gives_action : Action → Signals → Reply
 gives_action a g = record { value = pos 0; changes = λ r. holding a (give_signals g r) }
 
@@ -79,20 +79,20 @@ sigaction_of me (Some n) =
     else if are_flags (cast_unsigned w64 (argument me 4)) then sigaction_with (action me.signals n) (set_action n (action_in me) me.signals)
     else refusing EINVAL
 
--- the signal is in r1
+-- Attempts sigaction; the signal is in r1.
 unfoldable pub sigaction : Process → Reply
 sigaction me = sigaction_of me (signal_in (argument me 1))
 
--- ---- the mask
+-- ---- the signal mask
 
--- what is done with a set, as a register: SIG_BLOCK 0, SIG_UNBLOCK 1, SIG_SETMASK 2
+-- Returns how a mask changes, by a register: 0 is SIG_BLOCK, 1 SIG_UNBLOCK, 2 SIG_SETMASK.
 abbrev pub how_in : ℤ → Option How
 how_in (pos zero) = Some how.Block
 how_in (pos (suc zero)) = Some how.Unblock
 how_in (pos (suc (suc zero))) = Some how.Set
 how_in _ = None
 
--- the set is in r2, and the call gives the old mask there
+-- Changes the mask by the set in r2, and returns the old mask in r2.
 abbrev pub sigprocmask_with : Process → Option How → Reply
 sigprocmask_with me None = refusing EINVAL
 sigprocmask_with me (Some what) = record {
@@ -100,25 +100,25 @@ sigprocmask_with me (Some what) = record {
   changes = λ r. written 2 (word_of me.signals.mask) (give_signals (set_mask what (set_in (argument me 2)) me.signals) r);
 }
 
--- what is done is in r1
+-- Attempts sigprocmask; r1 says how the mask changes.
 unfoldable pub sigprocmask : Process → Reply
 sigprocmask me = sigprocmask_with me (how_in (argument me 1))
 
--- ---- what is pending
+-- ---- pending signals
 
 abbrev pub bit_of : Bool → ℕ
 bit_of false = 0
 bit_of true = 1
 
--- a set as 64 bits, the first one the lowest
+-- Returns a set as 64 bits; the first element is the lowest bit.
 unfoldable pub set_of : List Bool → ℕ
 set_of [] = 0
 set_of (b ∷ bs) = 2 * set_of bs + bit_of b
 
--- the signals that are pending, signal s as bit s - 1
+-- Returns the set of pending signals; signal s is bit s - 1.
 unfoldable pub pending_set : Signals → ℕ
 pending_set g = set_of (map (is_pending g) (range_with_len 1 64))
 
--- in r1; with signal 64 the number is negative
+-- Attempts sigpending; the set is returned in r1, which is negative if signal 64 is pending.
 unfoldable pub sigpending : Process → Reply
 sigpending me = record { value = pos 0; changes = written 1 (word_of (pending_set me.signals)) }

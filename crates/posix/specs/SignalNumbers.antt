@@ -1,4 +1,4 @@
--- Signals by number (signal(7), x86), and what they do by default.
+-- Signal numbers (signal(7), x86), and default actions.
 use Rattle.std.specs.Prelude.{ℕ, Bool, ◌&&◌, ◌||◌, ◌==◌, if◌then◌else◌, nat_le}
 use Rattle.posix.specs.declared.sig.DefaultAction.{DefaultAction}
 use Rattle.posix.specs.declared.sig.DefaultAction.TheVariants as default
@@ -54,16 +54,16 @@ is_standard s = nat_le 1 s && nat_le s 31
 abbrev pub is_realtime : ℕ → Bool
 is_realtime s = nat_le 34 s && nat_le s 64
 
--- 32 and 33 are no signals (own)
+-- Returns true if s is a signal; 32 and 33 are not (own).
 abbrev pub is_signal : ℕ → Bool
 is_signal s = is_standard s || is_realtime s
 
--- STOP, TSTP, TTIN, TTOU
+-- Returns true for SIGSTOP, SIGTSTP, SIGTTIN and SIGTTOU.
 abbrev pub is_stop_signal : ℕ → Bool
 is_stop_signal s = nat_le STOP s && nat_le s TTOU
 
--- signal(7), the table "Standard signals": where it says Core the process ends without one (own); a
--- real-time signal ends the process
+-- Returns the default action of a signal: signal(7), the table "Standard signals". Core terminates the process
+-- without a core dump (own). A real-time signal terminates the process.
 abbrev pub default_action : ℕ → DefaultAction
 default_action s =
     if s == CHLD || s == URG || s == WINCH then default.Ignore

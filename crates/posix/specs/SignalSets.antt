@@ -5,28 +5,29 @@ use Rattle.std.specs.Int.{bit_at, cast_signed, cast_unsigned, w64}
 abbrev pub has : ℕ → ℕ → Bool
 has set s = bit_at set (s - 1) == 1
 
--- the set of one signal
+-- Returns the set of one signal.
 abbrev pub just : ℕ → ℕ
 just s = 2 ^ (s - 1)
 
 abbrev pub union : ℕ → ℕ → ℕ
 union a b = bit_or a b
 
--- the first without the second
+-- Returns the signals of a that are not in b.
 abbrev pub except : ℕ → ℕ → ℕ
 except a b = bit_and a (2 ^ 64 - 1 - b)
 
--- KILL and STOP can't be blocked (XSH sigprocmask), and 32 and 33 are no signals (own)
+-- SIGKILL and SIGSTOP can't be blocked (XSH sigprocmask), and 32 and 33 are not signals (own).
 abbrev pub unblockable : ℕ
 unblockable = 2 ^ 8 + 2 ^ 18 + 2 ^ 31 + 2 ^ 32
 
--- what a mask keeps of a set
+-- Returns the signals of a set that a mask can have.
 abbrev pub maskable : ℕ → ℕ
 maskable set = except set unblockable
 
--- the set that a register holds, and the register that holds a set
+-- Returns the set that a register holds.
 abbrev pub set_in : ℤ → ℕ
 set_in z = cast_unsigned w64 z
 
+-- Returns a set as a register holds it.
 abbrev pub word_of : ℕ → ℤ
 word_of set = cast_signed w64 set

@@ -1,4 +1,4 @@
--- The state of the machine: the records of the processes, and what the system holds beside them.
+-- The state of the machine: the records of the processes, and the rest of the system's state.
 use Rattle.std.specs.Prelude.{ℕ, ◌==◌, Bool, false, not, List, [], ◌∷◌, ◌++◌, filter, slice_get, Option, option_and_then, replicate}
 use Rattle.std.specs.List.{list_any}
 use Rattle.posix.specs.declared.instr.Instr.{Instr}
@@ -7,27 +7,27 @@ use Rattle.posix.specs.Tables.{lookup, changed}
 use Rattle.posix.specs.NextPid.{is_free, next_free}
 use Rattle.posix.specs.Consoles.{Console, unused_console}
 
--- a program, and the ids that it takes on as it is run, XSH exec
+-- A program, and the user and group IDs that exec sets for it, if any, XSH exec.
 pub record Program : Type 0 where
   pub setuid : Option ℕ
   pub setgid : Option ℕ
   pub instructions : List Instr
 
--- what a world text stands for
+-- The contents of a world file.
 pub record World : Type 0 where
   pub pidmax : ℕ
   pub consoles : ℕ
   pub programs : List Program
 
--- the whole of the machine (own)
+-- The whole state of the machine (own).
 pub record State : Type 0 where
   pub world : World  -- never changes
-  pub processes : List Process  -- each number once, rising
+  pub processes : List Process  -- in ascending order of process ID
   pub consoles : List Console
-  pub last_pid : ℕ  -- the number that was given last
+  pub last_pid : ℕ  -- the process ID allocated last
   pub births : ℕ
   pub ticks : ℕ
-  pub order : List ℕ  -- the processes that have a place; the first is current
+  pub order : List ℕ  -- the run queue; its head is the current process
   pub dropped : ℕ
   pub halted : Bool
 
@@ -36,15 +36,15 @@ pub record State : Type 0 where
 abbrev pub process : State → ℕ → Option Process
 process s p = lookup p s.processes
 
--- the state with the record of p changed
+-- Returns the state with the record of p changed by f.
 abbrev pub change : State → ℕ → (Process → Process) → State
 change s p f = record s { processes = changed p f s.processes }
 
--- the number of the next process, or none
+-- Returns the process ID that the next fork gets, or None if no ID is free.
 abbrev pub next_pid : State → Option ℕ
 next_pid s = next_free (is_free s.processes) s.last_pid s.world.pidmax
 
--- ---- places: who may act, and in which order (own)
+-- ---- the run queue (own)
 
 unfoldable pub is_in : ℕ → List ℕ → Bool
 is_in p order = list_any (λ q. q == p) order
@@ -58,7 +58,7 @@ has_place s p = is_in p s.order
 abbrev pub lose_place : State → ℕ → State
 lose_place s p = record s { order = without p s.order }
 
--- the place of p is the last one
+-- Puts p at the end of the run queue.
 abbrev pub go_last : State → ℕ → State
 go_last s p = record s { order = without p s.order ++ p ∷ [] }
 
@@ -68,9 +68,9 @@ current s = slice_get s.order 0
 abbrev pub current_process : State → Option Process
 current_process s = option_and_then (process s) (current s)
 
--- ---- the start
+-- ---- boot
 
--- process 1 runs the first program and has the only place (own)
+-- Returns the state at boot: process 1 runs the first program, and is the only process in the run queue (own).
 abbrev pub boot : World → State
 boot w = record {
   world = w;

@@ -32,7 +32,7 @@ use Rattle.posix.specs.Settle.{settle}
 unfoldable pub set_cpu : Cpu → Process → Process
 set_cpu c r = record r { cpu = c }
 
--- sigsuspend begins with the mask in r1
+-- sigsuspend replaces the signal mask with the set in r1.
 abbrev pub waiting_signals : Blocked → ℤ → Signals → Signals
 waiting_signals (blocked.Sigsuspend earlier) z g = give_mask (set_in z) g
 waiting_signals _ z g = g
@@ -40,31 +40,32 @@ waiting_signals _ z g = g
 unfoldable pub enter : Blocked → Process → Process
 enter b r = record r { blocked = Some b; signals = waiting_signals b (argument r 1) r.signals }
 
--- A call that has to wait: the process is blocked in it, with the pc at the call, and loses its place. One that begins
--- again does so at the next turn: the pc stays at it, and the place is kept.
+-- Begins a call. If the call blocks, the process leaves the run queue, with the pc at the call. A restarted call
+-- begins again when the process next runs: the pc stays at the call, and the process keeps its
+-- position in the run queue.
 abbrev pub begin_call : State → Process → Attempted → Outcome
 begin_call s r (Done outcome) = outcome
 begin_call s r (Block b) = silent (lose_place (change s r.pid (enter b)) r.pid)
 begin_call s r (Again t) = silent t
 
--- what follows an instruction
+-- Returns the outcome of an instruction, by its trap.
 unfoldable pub after_trap : Bool → State → Process → Cpu → Trap → Outcome
 after_trap granted s r c trap.Next = silent (change s r.pid (set_cpu c))
 after_trap granted s r c (trap.Note z) = record { state = change s r.pid (set_cpu c); entries = Noted r.pid z ∷ [] }
 after_trap granted s r c (trap.Call call) = begin_call s r (attempt granted s r call)
 after_trap granted s r c (trap.Fault sig) = fault s r sig
 
--- a signal that is chosen is delivered, or else this happens
+-- Delivers the chosen signal; if there is none, returns the other outcome.
 abbrev pub deliver_or : State → Process → Option ℕ → Outcome → Outcome
 deliver_or s r (Some n) other = deliver s r n
 deliver_or s r None other = other
 
--- it is in no call any more
+-- The process leaves its call.
 unfoldable pub out_of_call : Process → Process
 out_of_call r = record r { blocked = None }
 
--- A call that can be completed goes before any signal but KILL (own); in Linux a wait goes before KILL, too.
--- Where the process still has to wait, a signal is delivered; without one it loses its place.
+-- A call that can complete goes before any signal but SIGKILL (own); in Linux, a wait goes before SIGKILL, too. If
+-- the call still blocks, a signal is delivered; if there is none, the process leaves the run queue.
 abbrev pub go_on : State → Process → Attempted → Outcome
 go_on s r (Done outcome) = outcome
 go_on s r (Again t) = silent (change t r.pid out_of_call)
@@ -77,37 +78,37 @@ instructions (Some program) = program.instructions
 abbrev pub code_of : State → Process → List Instr
 code_of s r = instructions (slice_get s.world.programs r.program)
 
--- Of a process that is blocked the call is attempted afresh; else a signal is delivered, or the
--- instruction at the pc is run.
+-- Attempts the call of a blocked process again. For any other process, delivers a signal or, if there is none, runs
+-- the instruction at the pc.
 unfoldable pub act_in : Bool → State → Process → Option Blocked → Outcome
 act_in granted s r (Some b) = go_on s r (attempt_again s r b)
 act_in granted s r None =
     let done = exec_one (code_of s r) r.cpu in
     deliver_or s r (chosen r.life r.signals) (after_trap granted s r done.cpu done.trap)
 
--- KILL goes before all (own)
+-- SIGKILL goes before everything else (own).
 unfoldable pub act : Bool → State → Process → Outcome
 act granted s r = if is_pending r.signals KILL then end_process s r (killed KILL) else act_in granted s r r.blocked
 
--- without a current process nothing happens
+-- Runs the current process for one step. Without a current process, nothing happens.
 unfoldable pub step : Bool → State → Option Process → Outcome
 step granted s None = silent s
 step granted s (Some r) = act granted s r
 
 -- ---- a tick
 
--- the current process goes to the end of the order
+-- Moves the current process to the end of the run queue.
 abbrev pub rotate : State → Option ℕ → State
 rotate s None = s
 rotate s (Some p) = go_last s p
 
--- alarms ring first (own)
+-- Advances the clock, and preempts the current process. Alarms go off first (own).
 unfoldable pub tick : State → State
 tick s = rotate (pass_time s) (current s)
 
 -- ---- a key
 
--- the members of the foreground process group get the signal of a key
+-- Generates the signal of a key for each member of the foreground process group.
 abbrev pub signalled_from : Option ℕ → ℕ → List Process → List Process
 signalled_from None group rs = rs
 signalled_from (Some n) group rs = signalled_group n group rs
@@ -119,13 +120,13 @@ key_on s console byte (Some c) = record s {
   consoles = with_console console (keyed byte c) s.consoles;
 }
 
--- on a console that isn't there nothing happens
+-- Types a byte at a console. If the console doesn't exist, nothing happens.
 unfoldable pub key : State → ℕ → ℕ → State
 key s console byte = key_on s console byte (console_at console s.consoles)
 
 -- ---- a hangup
 
--- the leader of the session gets HUP
+-- Sends SIGHUP to the session leader, unless the console was already hung up or has no session.
 abbrev pub with_leader_told : Console → List Process → List Process
 with_leader_told c rs = if is_told c then signalled_all (record { sig = HUP; carried = from_kernel }) (c.session ∷ []) rs else rs
 
@@ -136,7 +137,7 @@ hangup_on s console (Some c) = record s {
   consoles = with_console console (disconnected c) s.consoles;
 }
 
--- on a console that isn't there nothing happens
+-- Hangs up a console. If the console doesn't exist, nothing happens.
 unfoldable pub hangup : State → ℕ → State
 hangup s console = hangup_on s console (console_at console s.consoles)
 
@@ -151,12 +152,12 @@ happens granted s (Hangup console) = silent (hangup s console)
 abbrev pub settled : Outcome → Outcome
 settled o = record o { state = settle o.state }
 
--- After a halt no event changes or shows anything.
+-- After a halt, no event changes or prints anything.
 unfoldable pub next : Bool → State → Event → Outcome
 next granted s event = if s.halted then silent s else settled (happens granted s event)
 
--- From old, the event may show these entries and lead to new. All is fixed but for one choice: whether the host grants
--- the memory that a fork needs, or the queuing of a real-time signal.
+-- From old, the event may print these entries and lead to new. Only one choice is open: whether the host grants the
+-- memory that a fork, or the queuing of a real-time signal, needs.
 pub record IsStep (old : State) (event : Event) (entries : List Entry) (new : State) : Type 0 where
   pub granted : Bool
   pub comes : next granted old event ≡ record { state = new; entries = entries }

@@ -1,4 +1,4 @@
--- Waits, XSH waitpid, XSH waitid and waitpid(2).
+-- Waiting for children, XSH waitpid, XSH waitid and waitpid(2).
 use Rattle.std.specs.Prelude.{ℕ, ◌+◌, ◌==◌, ◌&&◌, not, Bool, true, false, if◌then◌else◌, List, [], ◌∷◌, filter, find, Option, Some, None, option_map, ℤ, pos, bit_and, bit_or}
 use Rattle.std.specs.Int.{cast_unsigned, w64}
 use Rattle.posix.specs.declared.errno.Errno.TheVariants.{EINVAL, ECHILD}
@@ -47,14 +47,14 @@ WNOWAIT = 16777216
 abbrev pub waitpid_options : ℕ
 waitpid_options = WNOHANG + WUNTRACED + WCONTINUED
 
--- what waitid can ask for: stops, ends and continues
+-- The status changes that waitid can ask for: stops, terminations and continues.
 abbrev pub sorts : ℕ
 sorts = WSTOPPED + WEXITED + WCONTINUED
 
 abbrev pub waitid_options : ℕ
 waitid_options = WNOHANG + sorts + WNOWAIT
 
--- a register as a set of options: all 64 bits count (own)
+-- Returns a register as a set of options; all 64 bits count (own).
 abbrev pub options_in : ℤ → ℕ
 options_in z = cast_unsigned w64 z
 
@@ -64,23 +64,24 @@ are_known all options = bit_and options all == options
 abbrev pub has_option : ℕ → ℕ → Bool
 has_option options option = bit_and options option == option
 
--- ---- what a wait asks
+-- ---- what a wait asks for
 
--- A waitpid asks for ends whatever its options, as in Linux: WUNTRACED is the WSTOPPED of waitid.
+-- waitpid asks for terminations whatever its options, as in Linux. WUNTRACED is the WSTOPPED of waitid.
 -- waitpid is the waitid that also asks for terminations and reaps, so both calls share one definition. All errors of
 -- waitid but ECHILD are EINVAL, and come first, so no trace shows their order.
 abbrev pub asked_by_waitpid : Target → ℕ → Option Asked
 asked_by_waitpid target options =
     if are_known waitpid_options options then Some (record { target = target; options = record { 0 = bit_or options WEXITED } }) else None
 
--- one of the sorts is asked for
+-- Returns true if the options ask for at least one kind of status change.
 abbrev pub asks_something : ℕ → Bool
 asks_something options = not (bit_and options sorts == 0)
 
 abbrev pub asked_by_waitid : Option Target → ℕ → Option Asked
 asked_by_waitid target options = if are_known waitid_options options && asks_something options then option_map (λ t. record { target = t; options = record { 0 = options } }) target else None
 
--- What a wait asks by its first three arguments, in the options of waitid; nothing where the call is refused with EINVAL.
+-- Returns what a wait asks for by its first three arguments, in the options of waitid; None if the
+-- call fails with EINVAL.
 unfoldable pub asked : WaitCall → ℤ → ℤ → ℤ → Option Asked
 asked wait.Waitpid r1 r2 r3 = asked_by_waitpid (target_in r1) (options_in r2)
 asked wait.Waitid r1 r2 r3 = asked_by_waitid (target_of_kind r1 r2) (options_in r3)
@@ -88,11 +89,11 @@ asked wait.Waitid r1 r2 r3 = asked_by_waitid (target_of_kind r1 r2) (options_in 
 abbrev pub asked_by : WaitCall → Process → Option Asked
 asked_by call me = asked call (argument me 1) (argument me 2) (argument me 3)
 
--- ---- what there is to report
+-- ---- reports
 
--- Whether a caller in this process group names a child. The caller's own group is the one that it has at the attempt
--- (own); in Linux the one that it had at the call. The least number names nobody, which is ECHILD (own); in Linux it
--- is ESRCH.
+-- Returns true if the target selects child r, for a caller in this process group. The caller's own group is the one
+-- that it has at the attempt (own); in Linux, the one that it had at the call. -2,147,483,648 selects no process, and
+-- fails with ECHILD (own); in Linux, with ESRCH.
 abbrev pub is_named : ℕ → Target → Process → Bool
 is_named group (whom.Process p) r = r.pid == p
 is_named group whom.OwnGroup r = r.group == group
@@ -109,7 +110,7 @@ abbrev pub report_life : ℕ → ℕ → Life → News → Report
 report_life options p (Zombie status) change = if has_option options WEXITED then found.End p status else found.Nothing
 report_life options p _ change = report_change options p change
 
--- what a child has to report
+-- Returns what a child has to report to a wait with these options.
 unfoldable pub report_of : ℕ → Process → Report
 report_of options r = report_life options r.pid r.life r.news
 
@@ -125,20 +126,21 @@ abbrev pub report_found : ℕ → Option Process → Report
 report_found options None = found.Nothing
 report_found options (Some r) = report_of options r
 
--- of the named children the least that has something to report (own); in Linux the first born, adopted ones last
+-- Returns the report of the lowest-numbered selected child with a requested status change (own). Linux takes the
+-- oldest child first, and adopted children last.
 abbrev pub report_among : ℕ → List Process → Report
 report_among options [] = found.NoChild
 report_among options (r ∷ rs) = report_found options (find (reports options) (r ∷ rs))
 
--- what a caller of this number and process group finds
+-- Returns the report that a caller with this process ID and process group finds.
 unfoldable pub report : List Process → ℕ → ℕ → Target → ℕ → Report
 report rs caller group target options = report_among options (filter (is_named group target) (children_in caller rs))
 
--- the children of p that have something to report to a wait with these options
+-- Returns the children of p that have something to report to a wait with these options.
 unfoldable pub wanted_in : ℕ → ℕ → List Process → List Process
 wanted_in options p rs = filter (reports options) (children_in p rs)
 
--- what those of these children report that are meant
+-- Returns the report of the selected ones among these children.
 abbrev pub report_of_meant : (Process → Bool) → ℕ → List Process → Report
 report_of_meant means options rs = report_among options (filter means rs)
 
@@ -147,13 +149,13 @@ report_of_meant means options rs = report_among options (filter means rs)
 unfoldable pub news_told : Process → Process
 news_told r = record r { news = news.Nothing }
 
--- What a report gives in registers: of waitpid the child in r0 and its status in r1, of waitid 0 in r0, and these in r1
--- and r2 (own).
+-- Returns the registers of a report: for waitpid, the child in r0 and its wait status in r1; for waitid, 0 in r0, the
+-- child in r1 and its wait status in r2 (own).
 abbrev pub results_of : WaitCall → ℕ → ℕ → List (ℕ × ℤ)
 results_of wait.Waitpid child status = (0, pos child) ∷ (1, pos status) ∷ []
 results_of wait.Waitid child status = (0, pos 0) ∷ (1, pos child) ∷ (2, pos status) ∷ []
 
--- where nothing is found and the call needn't wait: 0, for waitid in r1 and r2, too (own)
+-- Returns the registers of a wait with WNOHANG that has nothing to report: 0 in r0, for waitid in r1 and r2, too (own).
 abbrev pub results_of_nothing : WaitCall → List (ℕ × ℤ)
 results_of_nothing wait.Waitpid = (0, pos 0) ∷ []
 results_of_nothing wait.Waitid = (0, pos 0) ∷ (1, pos 0) ∷ (2, pos 0) ∷ []
@@ -161,30 +163,30 @@ results_of_nothing wait.Waitid = (0, pos 0) ∷ (1, pos 0) ∷ (2, pos 0) ∷ []
 abbrev pub gives_nothing : State → ℕ → WaitCall → Attempted
 gives_nothing s p call = Done (record { state = finish s p (results_of_nothing call); entries = Called p (call_of_wait call) (pos 0) ∷ [] })
 
--- the call of p reports a child with a status
+-- The call of p reports a child with a wait status.
 abbrev pub gives_report : State → ℕ → WaitCall → ℕ → ℕ → Entry → Attempted
 gives_report s p call child status entry = Done (record { state = finish s p (results_of call child status); entries = entry ∷ [] })
 
--- With WNOWAIT the child is looked at, and nothing else changes; else the report is collected, after which this is the
--- state.
+-- With WNOWAIT, the child is only reported, and nothing else changes. Otherwise the report is consumed, and
+-- `collected` is the state after that.
 abbrev pub tell_child : State → State → ℕ → WaitCall → ℕ → ℕ → ℕ → Attempted
 tell_child s collected p call options child status =
     if has_option options WNOWAIT then gives_report s p call child status (Looked p child status)
     else gives_report collected p call child status (Reported p call child status)
 
--- Collected, the record of a child that ended goes; of another one the news become none.
+-- Without WNOWAIT, a report reaps a terminated child, and consumes the stop or continue of any other child.
 abbrev pub wait_with : State → ℕ → WaitCall → ℕ → Report → Attempted
 wait_with s p call options found.NoChild = refused s p (call_of_wait call) ECHILD
 wait_with s p call options found.Nothing = if has_option options WNOHANG then gives_nothing s p call else Block (blocked.Wait call)
 wait_with s p call options (found.End child status) = tell_child s (record s { processes = removed child s.processes }) p call options child status
 wait_with s p call options (found.Change child status) = tell_child s (change s child news_told) p call options child status
 
--- the wait of p, a caller in this process group, by what it asks
+-- Attempts a wait by p, a caller in this process group, for what it asks.
 abbrev pub wait_for : State → ℕ → ℕ → WaitCall → Option Asked → Attempted
 wait_for s p group call None = refused s p (call_of_wait call) EINVAL
 wait_for s p group call (Some a) = wait_with s p call a.options.0 (report s.processes p group a.target a.options.0)
 
--- A wait. The arguments are in r1 to r3: of waitpid the target and the options, of waitid the kind, the number and the
--- options.
+-- Attempts a wait. The arguments are in r1 to r3: for waitpid the target and the options; for waitid the kind, the ID
+-- and the options.
 unfoldable pub wait_by : WaitCall → State → Process → Attempted
 wait_by call s me = wait_for s me.pid me.group call (asked_by call me)

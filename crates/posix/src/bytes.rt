@@ -27,7 +27,7 @@ impl Model for Bytes {
 }
 
 impl Bytes {
-    /// Some bytes, at most 16.
+    /// Copies some bytes, at most 16.
     pub fn new(bytes: &[u8]) -> Bytes
         requires { length bytes.now ≤ 16 }
         ensures { result ≡ bytes.now }
@@ -40,7 +40,7 @@ impl Bytes {
         }
     }
 
-    /// The bytes, in order.
+    /// Returns the bytes, in order.
     pub fn as_slice(&self) -> &[u8]
         ensures value { result.now ≡ self.now }
         ensures few { length result.now ≤ 16 }

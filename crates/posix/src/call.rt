@@ -5,87 +5,87 @@ ghost use Rattle.std.specs.Prelude.{◌≡◌, ◌≤◌, length};
 /// A system call.
 #[derive(Clone, Copy)]
 pub enum Call {
-    /// The process ends with the code in r1 (XSH _exit).
+    /// Terminates the caller with the exit code in r1 (XSH _exit).
     Exit,
-    /// A child like the caller is born (XSH fork).
+    /// Creates a child, a copy of the caller (XSH fork).
     Fork,
-    /// Waits for a child that r1 names, with the options in r2 (XSH waitpid).
+    /// Waits for a child that r1 selects, with the options in r2 (XSH waitpid).
     Waitpid,
-    /// Waits for a child that r1 and r2 name, with the options in r3 (XSH waitid).
+    /// Waits for a child that r1 and r2 select, with the options in r3 (XSH waitid).
     Waitid,
     /// Waits for a signal (XSH pause).
     Pause,
-    /// The caller goes to the end of the order (XSH sched_yield).
+    /// Moves the caller to the end of the run queue (XSH sched_yield).
     SchedYield,
-    /// The caller's number (XSH getpid).
+    /// Returns the caller's process ID (XSH getpid).
     Getpid,
-    /// The number of the caller's parent, 0 for process 1 (XSH getppid).
+    /// Returns the process ID of the caller's parent, 0 for process 1 (XSH getppid).
     Getppid,
-    /// The caller's real user id (XSH getuid).
+    /// Returns the caller's real user ID (XSH getuid).
     Getuid,
-    /// The caller's effective user id (XSH geteuid).
+    /// Returns the caller's effective user ID (XSH geteuid).
     Geteuid,
-    /// The caller's real group id (XSH getgid).
+    /// Returns the caller's real group ID (XSH getgid).
     Getgid,
-    /// The caller's effective group id (XSH getegid).
+    /// Returns the caller's effective group ID (XSH getegid).
     Getegid,
-    /// Sets the user ids to r1, or where the caller isn't privileged the effective one (XSH setuid).
+    /// Sets the user IDs to r1, or only the effective one if the caller isn't privileged (XSH setuid).
     Setuid,
-    /// Sets the effective user id to r1 (XSH seteuid).
+    /// Sets the effective user ID to r1 (XSH seteuid).
     Seteuid,
-    /// Sets the group ids to r1, or where the caller isn't privileged the effective one (XSH setgid).
+    /// Sets the group IDs to r1, or only the effective one if the caller isn't privileged (XSH setgid).
     Setgid,
-    /// Sets the effective group id to r1 (XSH setegid).
+    /// Sets the effective group ID to r1 (XSH setegid).
     Setegid,
-    /// Sends the signal in r2, or with 0 none, to the processes that r1 names (XSH kill).
+    /// Sends the signal in r2, or none if r2 is 0, to the processes that r1 selects (XSH kill).
     Kill,
-    /// Sends the signal in r2, or with 0 none, with the value in r3 to the process in r1 (XSH sigqueue).
+    /// Sends the signal in r2, or none if r2 is 0, with the value in r3 to the process in r1 (XSH sigqueue).
     Sigqueue,
-    /// Sets the action for the signal in r1 to the handler in r2 with the mask in r3 and the flags in r4,
-    /// and gives the old ones (XSH sigaction).
+    /// Sets the action for the signal in r1 to the handler in r2 with the mask in r3 and the flags in r4, and returns
+    /// the old ones (XSH sigaction).
     Sigaction,
-    /// Changes the signal mask as r1 says by the set in r2, and gives the old one (XSH sigprocmask).
+    /// Changes the signal mask by the set in r2, as r1 says, and returns the old mask (XSH sigprocmask).
     Sigprocmask,
-    /// The set of pending signals (XSH sigpending).
+    /// Returns the set of pending signals (XSH sigpending).
     Sigpending,
     /// Waits for a signal with the signal mask in r1 (XSH sigsuspend).
     Sigsuspend,
     /// Returns from the newest handler (sigreturn(2)).
     Sigreturn,
-    /// Sets the caller's alarm to r1 ticks from now, or with 0 clears it, and gives the ticks that were
-    /// left (XSH alarm).
+    /// Sets the caller's alarm to r1 ticks from now, or clears it if r1 is 0, and returns the ticks
+    /// that were left (XSH alarm).
     Alarm,
     /// Runs the program in r1 in place of the caller's own, with r2 and r3 as its arguments (XSH exec).
     Exec,
-    /// The process group of the process that r1 names, 0 being the caller (XSH getpgid).
+    /// Returns the process group of the process that r1 names; 0 is the caller (XSH getpgid).
     Getpgid,
-    /// The session of the process that r1 names, 0 being the caller (XSH getsid).
+    /// Returns the session of the process that r1 names; 0 is the caller (XSH getsid).
     Getsid,
-    /// Moves the process in r1 into the process group in r2, which it may be the first of (XSH setpgid).
+    /// Moves the process in r1 into the process group in r2, or into a new one with its own ID (XSH setpgid).
     Setpgid,
-    /// The caller becomes the leader of a new session and process group (XSH setsid).
+    /// Makes the caller the leader of a new session and a new process group (XSH setsid).
     Setsid,
-    /// The console in r1 becomes the controlling terminal of the session that the caller leads (own; as TIOCSCTTY in
-    /// ioctl_tty(2)).
+    /// Makes the console in r1 the controlling terminal of the session that the caller leads (own;
+    /// as TIOCSCTTY in ioctl_tty(2)).
     Setctty,
-    /// The foreground process group of the caller's terminal (XSH tcgetpgrp).
+    /// Returns the foreground process group of the caller's terminal (XSH tcgetpgrp).
     Tcgetpgrp,
-    /// The process group in r1 becomes the foreground one of the caller's terminal (XSH tcsetpgrp).
+    /// Makes the process group in r1 the foreground one of the caller's terminal (XSH tcsetpgrp).
     Tcsetpgrp,
-    /// Sets TOSTOP of the caller's terminal where r1 isn't 0, else clears it (own; as XSH tcsetattr).
+    /// Sets TOSTOP of the caller's terminal if r1 isn't 0, and otherwise clears it (own; as XSH tcsetattr).
     Settostop,
     /// Reads at most r2 bytes of a line of the caller's terminal into the words from address r1 on (XSH read).
     Read,
-    /// Writes the r2 words from address r1 on to the caller's terminal, as bytes (XSH write).
+    /// Writes r2 words, from address r1 on, to the caller's terminal, as bytes (XSH write).
     Write,
-    /// The caller becomes a child subreaper where r1 isn't 0, else it is none any more (prctl(2)).
+    /// Makes the caller a child subreaper if r1 isn't 0, and otherwise no longer one (prctl(2)).
     Subreaper,
 }
 
 impl Call {
     ghost use Rattle.posix.specs.Calls.{call_named, call_text};
 
-    /// Every call.
+    /// All calls.
     pub const ALL: [Call; 36] = [
         Call::Exit,
         Call::Fork,
@@ -125,7 +125,7 @@ impl Call {
         Call::Subreaper,
     ];
 
-    /// How it is written, in world texts and in traces: at most 16 bytes.
+    /// Returns the name of the call, in world files and in traces: at most 16 bytes.
     pub fn name(self) -> &'static [u8]
         ensures text { result.now ≡ call_text self }
         ensures len { length result.now ≤ 16 }
@@ -170,7 +170,7 @@ impl Call {
         }
     }
 
-    /// The call that a word names.
+    /// Returns the call with this name, if any.
     pub fn named(word: &[u8]) -> Option<Call>
         ensures { result ≡ call_named word.now }
     {

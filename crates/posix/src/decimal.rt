@@ -3,7 +3,7 @@
 ghost use Rattle.std.specs.Prelude.{◌≡◌};
 ghost use Rattle.posix.specs.Decimals.{decimal_value as decimal_value_of};
 
-/// The number that decimal digits stand for, or the greatest u64 where it is greater.
+/// Returns the number that decimal digits denote, or the largest u64 if the number is larger.
 #[tactic(auto, unfolding(crate::specs::Decimals::decimal_value), using(std::proofs::lemmas::List::Sums::fold_more))]
 pub fn decimal_value(digits: &[u8]) -> u64
     ensures { result ≡ decimal_value_of digits.now }

@@ -10,7 +10,7 @@ use crate::sig::Sig;
 use crate::status::Status;
 use crate::waits::WaitCall;
 
-/// What one event shows in the trace, without the event's number (own).
+/// A trace entry of an event, without the event's number (own).
 #[derive(Clone, Copy, Default)]
 pub enum Entry {
     /// A process noted the value of a register.
@@ -18,50 +18,49 @@ pub enum Entry {
         pid: Pid,
         value: i64,
     },
-    /// A call completed with a result, which is the negative of an [`Errno`](crate::Errno) where it was
-    /// refused.
+    /// A call returned a result; if it failed, the negated [`Errno`](crate::Errno).
     Called {
         pid: Pid,
         call: Call,
         result: i64,
     },
-    /// A read or a write of a process moved bytes: at least one.
+    /// A read or a write by a process moved at least one byte.
     Moved {
         pid: Pid,
         call: Call,
         bytes: Bytes,
     },
-    /// A wait of a process reported the status of a child, and collected it.
+    /// A wait by a process reported a child's wait status, and consumed the status change.
     Reported {
         pid: Pid,
         call: WaitCall,
         child: Pid,
         status: Status,
     },
-    /// A waitid of a process reported the status of a child, and left it (WNOWAIT).
+    /// A waitid by a process reported a child's wait status, and left the status change to be reported again (WNOWAIT).
     Looked {
         pid: Pid,
         child: Pid,
         status: Status,
     },
-    /// A call was refused with EAGAIN, since the host had no memory for what it asks.
+    /// A call failed with EAGAIN, because the host had no memory for it.
     NoMemory {
         pid: Pid,
         call: Call,
     },
-    /// A process became a child subreaper, or is none any more.
+    /// A process became a child subreaper, or is no longer one.
     Marked {
         pid: Pid,
         mark: bool,
     },
-    /// A process entered the handler of a signal that came with a value and from a sender.
+    /// A process entered the handler of a signal, with the signal's value and sender.
     Handled {
         pid: Pid,
         sig: Sig,
         value: i64,
         sender: Pid,
     },
-    /// A signal was delivered to a process without effect.
+    /// A signal was delivered to a process, without effect.
     Discarded {
         pid: Pid,
         sig: Sig,
@@ -75,18 +74,18 @@ pub enum Entry {
     Returned {
         pid: Pid,
     },
-    /// A process ended.
+    /// A process terminated.
     Ended {
         pid: Pid,
         status: Status,
     },
-    /// The machine halted, since process 1 ended.
+    /// The machine halted, because process 1 terminated.
     #[default]
     Halted,
 }
 
 impl Entry {
-    /// The process that it is of; none of a halt.
+    /// Returns the process of the entry, or `None` for a halt.
     pub fn process(&self) -> Option<Pid>
         ensures { result ≡ process_of self.now }
     {

@@ -3,7 +3,7 @@
 ghost use Rattle.std.specs.Prelude.{◌≡◌};
 ghost use Rattle.posix.specs.Errnos.{errno_number};
 
-/// Why a system call is refused: the error numbers of this kernel (errno(3), x86).
+/// Why a system call fails: the error numbers of this kernel (errno(3), x86).
 #[derive(Clone, Copy)]
 pub enum Errno {
     EPERM,
@@ -20,7 +20,7 @@ pub enum Errno {
 }
 
 impl Errno {
-    /// Its number; a refused call gives the negative of it.
+    /// Returns the error number. A call that fails returns it negated.
     pub fn number(self) -> u8
         ensures { result ≡ errno_number self }
     {

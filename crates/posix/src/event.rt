@@ -2,21 +2,21 @@
 
 ghost use Rattle.posix.specs.Ranges.{IsEvent};
 
-/// One atomic step of the machine, from outside (own).
+/// An event, which changes the machine from outside, in one atomic step (own).
 #[derive(Clone, Copy, PartialEq, Eq)]
 pub enum Event {
-    /// The current process does one thing.
+    /// The current process runs for one step.
     Step,
-    /// The time goes on by one, and the current process goes to the end of the order.
+    /// The clock advances by one tick, and the current process moves to the end of the run queue.
     Tick,
-    /// A byte comes on a console, which counts from 1.
+    /// A byte is typed at a console; consoles are numbered from 1.
     Key { console: u8, byte: u8 },
-    /// The line of a console, which counts from 1, is lost (XBD 11.1.10 Modem Disconnect).
+    /// A console is hung up (XBD 11.1.10 Modem Disconnect); consoles are numbered from 1.
     Hangup { console: u8 },
 }
 
 impl Event {
-    /// Nothing is done. That a key brings a byte is then known of the event, as its type says.
+    /// Does nothing. Its contract states what the type of an event ensures: a key event carries a byte.
     #[inline]
     pub fn range_holds(self)
         ensures { IsEvent self }

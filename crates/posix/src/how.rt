@@ -3,19 +3,19 @@
 ghost use Rattle.std.specs.Prelude.{◌≡◌};
 ghost use Rattle.posix.specs.SignalCalls.{how_in};
 
-/// What becomes of a signal mask by a set of signals (XSH sigprocmask).
+/// How a set of signals changes a signal mask (XSH sigprocmask).
 #[derive(Clone, Copy)]
 pub enum How {
     /// SIG_BLOCK: the set is added to the mask.
     Block,
-    /// SIG_UNBLOCK: the set is taken from the mask.
+    /// SIG_UNBLOCK: the set is removed from the mask.
     Unblock,
-    /// SIG_SETMASK: the set is the mask.
+    /// SIG_SETMASK: the set replaces the mask.
     Set,
 }
 
 impl How {
-    /// The one that a register stands for: 0 for `Block`, 1 for `Unblock`, 2 for `Set`; else none.
+    /// Returns the change that a register selects: 0 for `Block`, 1 for `Unblock`, 2 for `Set`, otherwise `None`.
     pub fn from_word(word: i64) -> Option<How>
         ensures { result ≡ how_in word }
     {

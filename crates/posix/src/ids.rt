@@ -1,10 +1,10 @@
-//! User and group ids.
+//! User and group IDs.
 
 ghost use Rattle.std.specs.Prelude.{◌≡◌, ◌≤◌, ◌↔◌, IsSome, IfSome};
 
 use std::marker::Model;
 
-/// A user id: 0 to 2,147,483,647. A process with effective user id 0 is privileged.
+/// A user ID: 0 to 2,147,483,647. A process with effective user ID 0 is privileged.
 #[derive(Clone, Copy, PartialEq, Eq)]
 pub struct Uid {
     number: u32,
@@ -26,10 +26,10 @@ impl Uid {
     /// The privileged user.
     pub const ROOT: Uid = Uid { number: 0 };
 
-    /// The greatest number of a `Uid`.
+    /// The largest user ID.
     pub const MAX: u32 = 2_147_483_647;
 
-    /// The user id `number`; none above [`Uid::MAX`].
+    /// Returns the user ID `number`, or `None` above [`Uid::MAX`].
     pub fn new(number: u32) -> Option<Uid>
         ensures some { IsSome result ↔ (number ≤ 2147483647) }
         ensures value { IfSome result (λ u. u ≡ number) }
@@ -41,7 +41,7 @@ impl Uid {
         }
     }
 
-    /// Its number.
+    /// Returns the user ID's number.
     pub fn number(self) -> u32
         ensures value { result ≡ self }
         ensures range { result ≤ 2147483647 }
@@ -50,7 +50,7 @@ impl Uid {
     }
 }
 
-/// A group id: 0 to 2,147,483,647.
+/// A group ID: 0 to 2,147,483,647.
 #[derive(Clone, Copy, PartialEq, Eq)]
 pub struct Gid {
     number: u32,
@@ -72,10 +72,10 @@ impl Gid {
     /// The group of the privileged user.
     pub const ROOT: Gid = Gid { number: 0 };
 
-    /// The greatest number of a `Gid`.
+    /// The largest group ID.
     pub const MAX: u32 = 2_147_483_647;
 
-    /// The group id `number`; none above [`Gid::MAX`].
+    /// Returns the group ID `number`, or `None` above [`Gid::MAX`].
     pub fn new(number: u32) -> Option<Gid>
         ensures some { IsSome result ↔ (number ≤ 2147483647) }
         ensures value { IfSome result (λ g. g ≡ number) }
@@ -87,7 +87,7 @@ impl Gid {
         }
     }
 
-    /// Its number.
+    /// Returns the group ID's number.
     pub fn number(self) -> u32
         ensures value { result ≡ self }
         ensures range { result ≤ 2147483647 }
@@ -96,7 +96,7 @@ impl Gid {
     }
 }
 
-/// The real, effective and saved ids of a process (credentials(7)).
+/// The real, effective and saved IDs of a process (credentials(7)).
 #[derive(Clone, Copy, PartialEq, Eq)]
 pub struct Ids<T> {
     pub real: T,

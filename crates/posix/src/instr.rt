@@ -40,7 +40,7 @@ impl Register {
     /// r4, which holds the fourth argument of a call.
     pub const FOURTH_ARGUMENT: Register = Register { number: 4 };
 
-    /// The register `number`; none from 8 on.
+    /// Returns the register `number`, or `None` from 8 on.
     pub fn new(number: u8) -> Option<Register>
         ensures some { IsSome result ↔ (number < 8) }
         ensures value { IfSome result (λ r. r ≡ number) }
@@ -52,7 +52,7 @@ impl Register {
         }
     }
 
-    /// Its place in an array of the eight registers.
+    /// Returns the register's index in an array of the eight registers.
     pub fn index(self) -> usize
         ensures value { result ≡ self }
         ensures within { result < 8 }
@@ -67,28 +67,27 @@ pub enum Operator {
     Add,
     Sub,
     Mul,
-    /// The quotient, cut towards 0; a fault FPE by 0.
+    /// The quotient, rounded towards 0; a SIGFPE fault if the divisor is 0.
     Div,
-    /// The remainder of that quotient; a fault FPE by 0.
+    /// The remainder of that quotient; a SIGFPE fault if the divisor is 0.
     Rem,
     And,
     Or,
     Xor,
 }
 
-/// A test of one word (own).
+/// A condition on one word (own).
 #[derive(Clone, Copy)]
 pub enum Condition {
-    /// It is 0.
+    /// The word is 0.
     Zero,
-    /// It isn't 0.
+    /// The word isn't 0.
     NotZero,
-    /// It is below 0.
+    /// The word is below 0.
     Negative,
 }
 
-/// One instruction of the user machine (own). The code address of the instruction at place i of a
-/// program, from 0, is 16 + i.
+/// An instruction of the user machine (own). The instruction at index i of a program has code address 16 + i.
 #[derive(Clone, Copy)]
 pub enum Instr {
     /// `set rA, V`: rA := V.
@@ -97,29 +96,29 @@ pub enum Instr {
     Move(Register, Register),
     /// `add rA, rB` and the like: rA := rA operator rB.
     Compute(Operator, Register, Register),
-    /// `ld rA, rB`: rA := the word at the address in rB; a fault SEGV outside 0 to 255.
+    /// `ld rA, rB`: rA := the word at the address in rB; a SIGSEGV fault if the address is not 0 to 255.
     Load(Register, Register),
-    /// `st rA, rB`: the word at the address in rB := rA; a fault SEGV outside 0 to 255.
+    /// `st rA, rB`: the word at the address in rB := rA; a SIGSEGV fault if the address is not 0 to 255.
     Store(Register, Register),
-    /// `jmp L`: goes on at a code address.
+    /// `jmp L`: jumps to a code address.
     Jump(u16),
-    /// `jz rA, L` and the like: goes on at a code address if rA passes the test.
+    /// `jz rA, L` and the like: jumps to a code address if rA meets the condition.
     JumpIf(Condition, Register, u16),
-    /// `note rA`: the trace shows rA.
+    /// `note rA`: prints rA in the trace.
     Note(Register),
-    /// `sys NAME`: the call of that name.
+    /// `sys NAME`: makes the system call of that name.
     Sys(Call),
 }
 
-/// How the run of one instruction came out for the kernel (own).
+/// The result of running one instruction, for the kernel (own).
 #[derive(Clone, Copy)]
 pub enum Trap {
-    /// The instruction was run.
+    /// The instruction was executed.
     Next,
-    /// A system call is asked for; the pc stays at it.
+    /// The instruction is a system call; the pc stays at it.
     Call(Call),
-    /// A value is to be shown in the trace.
+    /// A value is to be printed in the trace.
     Note(i64),
-    /// A machine fault, which has this signal; the pc stays at the instruction.
+    /// A machine fault with this signal; the pc stays at the instruction.
     Fault(Sig),
 }

@@ -1,12 +1,12 @@
 //! Numbers and types of the kernel, and the definitions that every contract cites.
 //!
-//! The definitions stand in `specs/`: signals, status words, the record of a process, the state of
-//! the machine, one instruction, one event, whole runs, and how a trace is printed.
+//! The definitions are in `specs/`: signals, wait statuses, the record of a process, the state of the machine, one
+//! instruction, one event, whole runs, and how a trace is printed.
 //!
-//! `new` of `Pid`, `Uid`, `Gid`, `Register` and `Sig` says which numbers exist. The tables of `Errno`, `Sig`, `Status`
-//! and `Call::{name, named}`, and the bits of options and flags, are exact. `How`, `Target`, `Span` and
-//! `WaitCall::asks` say what a call means by its numbers. `decimal_value` returns the number that digits stand for, or
-//! the largest u64 if it is larger.
+//! `new` of `Pid`, `Uid`, `Gid`, `Register` and `Sig` accepts exactly the valid numbers. The tables of `Errno`,
+//! `Sig`, `Status` and `Call::{name, named}`, and the bits of options and flags, are exact. `How`, `Target`, `Span`
+//! and `WaitCall::asks` say what a call selects by its arguments. `decimal_value` returns the number that digits
+//! denote, or the largest u64 if the number is larger.
 #![tactic(auto)]
 
 pub mod bytes;

@@ -1,4 +1,4 @@
-//! What the record of a process is made of.
+//! The parts of a process's record.
 
 ghost use Rattle.std.specs.Prelude.{◌≡◌};
 ghost use Rattle.posix.specs.Delivery.{call_of};
@@ -11,7 +11,7 @@ use crate::sig_set::SigSet;
 use crate::status::Status;
 use crate::waits::WaitCall;
 
-/// What comes with a signal: a value and its sender, number 0 where the kernel sent it.
+/// The value and the sender of a signal; the sender is 0 if the kernel generated the signal.
 #[derive(Clone, Copy, PartialEq, Eq)]
 pub struct Carried {
     pub value: i64,
@@ -19,33 +19,32 @@ pub struct Carried {
 }
 
 impl Carried {
-    /// What comes with a signal of the kernel.
+    /// The value and the sender of a signal that the kernel generates.
     pub const FROM_KERNEL: Carried = Carried {
         value: 0,
         sender: Pid::NONE,
     };
 }
 
-/// A pending signal with what comes with it.
+/// A pending signal with its value and sender.
 #[derive(Clone, Copy, PartialEq, Eq)]
 pub struct PendingSignal {
     pub sig: Sig,
     pub carried: Carried,
 }
 
-/// What a process does with a signal that is delivered: the default, nothing, or the code at an
-/// address (XSH 2.4.3 Signal Actions).
+/// The disposition of a signal: the default, ignore, or a handler (XSH 2.4.3 Signal Actions).
 #[derive(Clone, Copy, PartialEq, Eq)]
 pub enum Handler {
     /// The signal's default action (signal(7)).
     Default,
-    /// Nothing happens.
+    /// The signal is ignored.
     Ignore,
-    /// The code at this address is entered.
+    /// The handler at this code address is entered.
     At(i64),
 }
 
-/// The action for one signal: its handler, the signals that the handler blocks besides, and flags
+/// The action for one signal: its handler, the signals that are blocked in addition while the handler runs, and flags
 /// (XSH sigaction).
 #[derive(Clone, Copy)]
 pub struct Action {
@@ -54,7 +53,7 @@ pub struct Action {
     pub flags: SaFlags,
 }
 
-/// What a handler gives back as it returns.
+/// The state that is restored when a handler returns.
 #[derive(Clone, Copy)]
 pub struct Frame {
     pub pc: i64,
@@ -62,29 +61,29 @@ pub struct Frame {
     pub mask: SigSet,
 }
 
-/// Whether a process runs, is stopped or has ended. Running and stopped processes are living.
+/// The state of a process: running, stopped or zombie. Running and stopped processes are living.
 #[derive(Clone, Copy, PartialEq, Eq)]
 pub enum Life {
-    /// It runs, or is blocked in a call.
+    /// The process runs, or is blocked in a call.
     Running,
-    /// A signal stopped it.
+    /// A signal stopped the process.
     Stopped,
-    /// It ended with this status, which no wait has reported.
+    /// The process terminated with this wait status, and has not been reaped.
     Zombie(Status),
 }
 
-/// What happened to a process that no wait has reported yet.
+/// The stop or continue of a process that no wait has consumed yet.
 #[derive(Clone, Copy, PartialEq, Eq)]
 pub enum News {
     /// There is none.
     Nothing,
-    /// This signal stopped it.
+    /// This signal stopped the process.
     StoppedBy(Sig),
-    /// It was continued.
+    /// The process was continued.
     Continued,
 }
 
-/// The call that a process is blocked in; for sigsuspend with the signal mask before it.
+/// The call that a process is blocked in; for sigsuspend, with the signal mask to restore.
 #[derive(Clone, Copy, PartialEq, Eq)]
 pub enum Blocked {
     Wait(WaitCall),
@@ -94,7 +93,7 @@ pub enum Blocked {
 }
 
 impl Blocked {
-    /// The call that a process is blocked in.
+    /// Returns the call that the process is blocked in.
     pub fn call(self) -> Call
         ensures { result ≡ call_of self }
     {
@@ -107,39 +106,39 @@ impl Blocked {
     }
 }
 
-/// What a signal that is generated does to its process at once, beside being pending (XSH 2.4.3).
+/// The immediate effect of a generated signal on its process, besides becoming pending (XSH 2.4.3).
 #[derive(Clone, Copy)]
 pub enum Effect {
-    /// Nothing.
+    /// There is none.
     Nothing,
-    /// The process, which was stopped, is continued.
+    /// The stopped process is continued.
     Continued,
 }
 
-/// What becomes of a signal that is sent (XSH kill, XSH sigqueue).
+/// The result of sending a signal (XSH kill, XSH sigqueue).
 #[derive(Clone, Copy, PartialEq, Eq, PartialOrd, Ord)]
 pub enum Sending {
-    /// No process is meant.
+    /// No process is selected.
     NobodyFound,
-    /// Of the processes that are meant none may be signalled.
+    /// None of the selected processes may be signalled.
     NobodyPermitted,
-    /// At least one may be signalled.
+    /// At least one selected process may be signalled.
     Permitted,
-    /// It would be queued for a process whose queue is full.
+    /// The signal would be queued for a process whose queue is full.
     QueueFull,
     /// The host has no memory for the queues.
     NoMemory,
 }
 
-/// What a wait has to report of the children that it names (XSH waitpid, XSH waitid).
+/// What a wait has to report of the children that it selects (XSH waitpid, XSH waitid).
 #[derive(Clone, Copy)]
 pub enum Report {
-    /// No child is named.
+    /// No child is selected.
     NoChild,
-    /// None of the named children has something to report.
+    /// No selected child has a requested status change.
     Nothing,
-    /// A child ended, with this status.
+    /// A child terminated, with this wait status.
     End(Pid, Status),
-    /// A child was stopped or continued, with this status.
+    /// A child stopped or continued, with this wait status.
     Change(Pid, Status),
 }

@@ -4,7 +4,7 @@ ghost use Rattle.std.specs.Prelude.{◌∷◌, [], codes};
 
 use bitflags::{Flag, Flags};
 
-/// The flags of an action for a signal (XSH sigaction; Linux's numbers, sigaction(2)).
+/// The flags of an action for a signal (XSH sigaction; numbered as in Linux, sigaction(2)).
 /// Written by hand, because each derived function is proved, and the library's macro adds 14.
 #[derive(Clone, Copy, Debug, PartialEq, Eq)]
 pub struct SaFlags(u32);

@@ -5,8 +5,8 @@ ghost use Rattle.posix.specs.SignalNumbers.{is_signal, is_realtime as is_realtim
 
 use std::marker::Model;
 
-/// A signal's number: 1 to 31 for the standard signals, 34 to 64 for the real-time signals
-/// (signal(7), x86). The numbers 32 and 33 are no signals (own).
+/// A signal number: 1 to 31 for the standard signals, 34 to 64 for the real-time signals (signal(7), x86). The
+/// numbers 32 and 33 are not signals (own).
 #[derive(Clone, Copy, PartialEq, Eq)]
 pub struct Sig {
     number: u8,
@@ -25,8 +25,7 @@ impl Model for Sig {
     ghost inverse = { λ n. record { number = n } };
 }
 
-/// What a signal does to a process whose action for it is the default (signal(7), "Standard
-/// signals").
+/// The default action of a signal (signal(7), "Standard signals").
 #[derive(Clone, Copy)]
 pub enum DefaultAction {
     Terminate,
@@ -66,7 +65,7 @@ impl Sig {
 
     pub const WINCH: Sig = Sig { number: 28 };
 
-    /// The signal `number`; none where no signal has that number.
+    /// Returns the signal `number`, or `None` if no signal has that number.
     pub fn new(number: u8) -> Option<Sig>
         ensures some { IsSome result ↔ (is_signal number ≡ true) }
         ensures value { IfSome result (λ s. s ≡ number) }
@@ -78,7 +77,7 @@ impl Sig {
         }
     }
 
-    /// Its number.
+    /// Returns the signal's number.
     pub fn number(self) -> u8
         ensures value { result ≡ self }
         ensures range { is_signal result ≡ true }
@@ -86,14 +85,14 @@ impl Sig {
         self.number
     }
 
-    /// Whether it is a real-time signal (signal(7), "Real-time signals").
+    /// Returns true if it is a real-time signal (signal(7), "Real-time signals").
     pub fn is_realtime(self) -> bool
         ensures { result ≡ is_realtime_number self }
     {
         matches!(self.number, 34..=64)
     }
 
-    /// What it does where the action for it is the default.
+    /// Returns the signal's default action.
     pub fn default_action(self) -> DefaultAction
         ensures { result ≡ default_action_of self }
     {

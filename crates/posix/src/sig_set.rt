@@ -7,8 +7,8 @@ ghost use Rattle.posix.specs.SignalSets.{has, just, union as union_of, except as
 use crate::sig::Sig;
 use std::marker::Model;
 
-/// A set of signals, as a signal mask: signal s is bit s - 1. The bits of 32 and 33, which are no
-/// signals, may be set.
+/// A set of signals, such as a signal mask: signal s is bit s - 1. The bits of 32 and 33, which are
+/// not signals, can be set.
 #[derive(Clone, Copy, PartialEq, Eq)]
 pub struct SigSet {
     bits: u64,
@@ -26,28 +26,28 @@ impl Model for SigSet {
     ghost inverse = { λ n. record { bits = n } };
 }
 
-/// The bits of KILL, STOP, 32 and 33.
+/// The bits of SIGKILL, SIGSTOP, 32 and 33.
 const UNBLOCKABLE: u64 = 1 << 8 | 1 << 18 | 1 << 31 | 1 << 32;
 
 impl SigSet {
-    /// No signal.
+    /// The empty set.
     pub const EMPTY: SigSet = SigSet { bits: 0 };
 
-    /// The set with these bits.
+    /// Returns the set with these bits.
     pub fn from_bits(bits: u64) -> SigSet
         ensures { result ≡ bits }
     {
         SigSet { bits }
     }
 
-    /// Its bits.
+    /// Returns the bits of the set.
     pub fn bits(self) -> u64
         ensures { result ≡ self }
     {
         self.bits
     }
 
-    /// The set that a register holds.
+    /// Returns the set that a register holds.
     pub fn from_word(word: i64) -> SigSet
         ensures { result ≡ set_in word }
     {
@@ -56,14 +56,14 @@ impl SigSet {
         }
     }
 
-    /// It as a register holds it.
+    /// Returns the set as a register holds it.
     pub fn word(self) -> i64
         ensures { result ≡ word_of self }
     {
         self.bits.cast_signed()
     }
 
-    /// The set of one signal.
+    /// Returns the set of one signal.
     pub fn just(sig: Sig) -> SigSet
         ensures { result ≡ just sig }
     {
@@ -72,21 +72,21 @@ impl SigSet {
         }
     }
 
-    /// Whether it has no bit.
+    /// Returns true if no bit is set.
     pub fn is_empty(self) -> bool
         ensures { result ≡ (self == 0) }
     {
         self.bits == 0
     }
 
-    /// Whether it holds a signal.
+    /// Returns true if the set contains a signal.
     pub fn contains(self, sig: Sig) -> bool
         ensures { result ≡ has self sig }
     {
         self.bits >> (sig.number() - 1) & 1 == 1
     }
 
-    /// The signals of both sets.
+    /// Returns the signals that are in either set.
     pub fn union(self, other: SigSet) -> SigSet
         ensures { result ≡ union_of self other }
     {
@@ -95,7 +95,7 @@ impl SigSet {
         }
     }
 
-    /// Its signals that aren't in the other set.
+    /// Returns the signals of the set that are not in the other set.
     pub fn except(self, other: SigSet) -> SigSet
         ensures { result ≡ except_of self other }
     {
@@ -104,8 +104,8 @@ impl SigSet {
         }
     }
 
-    /// What a signal mask keeps of it: all but KILL and STOP, which can't be blocked, and 32 and 33
-    /// (XSH sigprocmask).
+    /// Returns the signals of the set that a signal mask can have: not SIGKILL and SIGSTOP, which can't be blocked,
+    /// and not 32 and 33 (XSH sigprocmask).
     pub fn maskable(self) -> SigSet
         ensures { result ≡ maskable_of self }
     {

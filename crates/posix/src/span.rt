@@ -1,28 +1,28 @@
-//! The words of a process that read and write name.
+//! The memory of a process that read and write name.
 
 ghost use Rattle.std.specs.Prelude.{◌≡◌, ◌≤◌, ◌+◌, IfOk};
 ghost use Rattle.posix.specs.Transfers.{span_in};
 
 use crate::errno::Errno;
 
-/// Words of a process, one after another.
+/// A range of consecutive words in a process's memory.
 #[derive(Clone, Copy)]
 pub struct Span {
-    /// The address of the first: 0 to 256.
+    /// The address of the first word: 0 to 256.
     pub address: u16,
-    /// How many they are: 0 to 16. The last has at most the address 255.
+    /// The number of words: 0 to 16. The last word has at most address 255.
     pub count: u8,
 }
 
 impl Span {
-    /// The most bytes that a call moves at once.
+    /// The maximum number of bytes that one call moves.
     pub const MOST: u8 = 16;
 
-    /// The address behind the last word.
+    /// The address after the last word.
     pub const END: u16 = 256;
 
-    /// The words that an address and a count name (XSH read, write): EINVAL for a count outside 0 to 16, and
-    /// then EFAULT for an address outside 0 to 256, or where address and count go past 256.
+    /// Returns the words that an address and a count name (XSH read, write). Fails with EINVAL if the count is not 0
+    /// to 16, and then with EFAULT if the address is not 0 to 256, or if the words go past 256.
     pub fn from_words(address: i64, count: i64) -> Result<Span, Errno>
         ensures value { result ≡ span_in address count }
         ensures range { IfOk result (λ s. (s.count ≤ 16) × (s.address + s.count ≤ 256)) }

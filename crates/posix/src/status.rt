@@ -6,7 +6,7 @@ ghost use Rattle.posix.specs.Statuses.{exited as exited_word, killed as killed_w
 use crate::sig::Sig;
 use std::marker::Model;
 
-/// What a wait reports of a process, as the status word of waitpid(2): 0 to 65,535.
+/// A wait status, as in waitpid(2): 0 to 65,535.
 #[derive(Clone, Copy, PartialEq, Eq)]
 pub struct Status {
     word: u16,
@@ -25,14 +25,14 @@ impl Model for Status {
 }
 
 impl Status {
-    /// The status with a word.
+    /// Returns the wait status with this number.
     pub fn from_word(word: u16) -> Status
         ensures { result ≡ word }
     {
         Status { word }
     }
 
-    /// The process exited. Of the code the low eight bits count (XSH _exit).
+    /// Returns the wait status of an exit; only the low eight bits of the exit code count (XSH _exit).
     pub fn exited(code: i64) -> Status
         ensures { result ≡ exited_word code }
     {
@@ -41,7 +41,7 @@ impl Status {
         }
     }
 
-    /// A signal ended the process.
+    /// Returns the wait status of a process that was killed by a signal.
     pub fn killed(sig: Sig) -> Status
         ensures { result ≡ killed_word sig }
     {
@@ -50,7 +50,7 @@ impl Status {
         }
     }
 
-    /// A signal stopped the process.
+    /// Returns the wait status of a process that was stopped by a signal.
     pub fn stopped(sig: Sig) -> Status
         ensures { result ≡ stopped_word sig }
     {
@@ -59,14 +59,14 @@ impl Status {
         }
     }
 
-    /// The process was continued.
+    /// Returns the wait status of a process that was continued.
     pub fn continued() -> Status
         ensures { result ≡ continued_word }
     {
         Status { word: 0xffff }
     }
 
-    /// Whether it tells of an end, and not of a stop (low byte 127) or a continuation (255): WIFEXITED or
+    /// Returns true if the status reports a termination, not a stop (low byte 127) or a continue (255): WIFEXITED or
     /// WIFSIGNALED of waitpid(2).
     pub fn tells_end(self) -> bool
         ensures { result ≡ word_tells_end self }
@@ -74,7 +74,7 @@ impl Status {
         self.word % 256 < 127
     }
 
-    /// Whether it is that of an exit, or of a death by a signal.
+    /// Returns true if it is the wait status of an exit, or of a termination by a signal.
     pub fn is_end(self) -> bool
         ensures { result ≡ is_end_word self }
     {
@@ -87,21 +87,21 @@ impl Status {
         }
     }
 
-    /// Whether it is that of a stop, by a signal that stops by default.
+    /// Returns true if it is the wait status of a stop, by one of the four stop signals.
     pub fn is_stop(self) -> bool
         ensures { result ≡ is_stopped_word self }
     {
         self.word % 256 == 127 && matches!(self.word / 256, 19..=22)
     }
 
-    /// Whether it is that of a continuation.
+    /// Returns true if it is the wait status of a continue.
     pub fn is_continuation(self) -> bool
         ensures { result ≡ is_continued_word self }
     {
         self == Status::continued()
     }
 
-    /// The status word.
+    /// Returns the wait status as a number.
     pub fn word(self) -> u16
         ensures value { result ≡ self }
         ensures range { result < 2 ^ 16 }

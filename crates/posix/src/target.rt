@@ -1,29 +1,29 @@
-//! Whom kill and waits mean by a number.
+//! The processes that kill and waits select by a number.
 
 ghost use Rattle.std.specs.Prelude.{◌≡◌};
 ghost use Rattle.posix.specs.Targets.{numbered_group, process_in, target_in, target_of_kind};
 
 use crate::pid::Pid;
 
-/// Whom kill or a wait means by a number (XSH kill, XSH waitpid, XSH waitid).
+/// The processes that kill or a wait selects by a number (XSH kill, XSH waitpid, XSH waitid).
 #[derive(Clone, Copy)]
 pub enum Target {
-    /// The process with this number.
+    /// The process with this ID.
     Process(Pid),
     /// The process group of the caller.
     OwnGroup,
-    /// The process group with this number.
+    /// The process group with this ID.
     Group(Pid),
-    /// For kill all processes but the caller and process 1, for a wait all children of the caller.
+    /// For kill, all processes but the caller and process 1; for a wait, all children of the caller.
     All,
-    /// Nobody: no process and no group can have that number.
+    /// No process: no process and no process group can have that ID.
     Nobody,
 }
 
 impl Target {
-    /// The target that a register stands for: above 0 the process with this number, 0 the group of the
-    /// caller, -1 all, below -1 the group whose number is the absolute value; nobody where no [`Pid`] has
-    /// that number.
+    /// Returns the target that a register selects: above 0 the process with this ID, 0 the caller's process group, -1
+    /// all, and below -1 the process group whose ID is the absolute value. The target has no process if no [`Pid`]
+    /// has that number.
     pub fn from_word(word: i64) -> Target
         ensures { result ≡ target_in word }
     {
@@ -42,8 +42,8 @@ impl Target {
         }
     }
 
-    /// The process group that a number means, 0 being the caller's; nothing below 0, and nobody where no group can have
-    /// that number.
+    /// Returns the process group that a register selects; 0 is the caller's. Returns `None` below 0. The target has
+    /// no process if no process group can have that ID.
     fn group_from_word(word: i64) -> Option<Target>
         ensures { result ≡ numbered_group word }
     {
@@ -59,8 +59,9 @@ impl Target {
         }
     }
 
-    /// Whom waitid means by a kind and a number: with 0 any child, with 1 the process with the number, with 2 the process
-    /// group with it, 0 being the caller's; nothing for another kind, a process below 1 and a group below 0 (own).
+    /// Returns the children that waitid selects by a kind and an ID: with kind 0 any child, with 1 the process with
+    /// this ID, with 2 the process group with this ID, where 0 is the caller's. Returns `None` for any other kind,
+    /// for a process ID below 1, and for a process group ID below 0 (own).
     pub fn from_kind(kind: i64, word: i64) -> Option<Target>
         ensures { result ≡ target_of_kind kind word }
     {
@@ -72,8 +73,8 @@ impl Target {
         }
     }
 
-    /// The one process that a register means by its number; nobody where no process can have that number (XSH
-    /// sigqueue).
+    /// Returns the one process that a register selects (XSH sigqueue). The target has no process if
+    /// no process can have that ID.
     pub fn process_from_word(word: i64) -> Target
         ensures { result ≡ process_in word }
     {

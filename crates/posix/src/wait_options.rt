@@ -4,7 +4,7 @@ ghost use Rattle.std.specs.Prelude.{◌∷◌, [], codes};
 
 use bitflags::{Flag, Flags};
 
-/// The options of waitpid (XSH waitpid; Linux's numbers, waitpid(2)).
+/// The options of waitpid (XSH waitpid; numbered as in Linux, waitpid(2)).
 #[derive(Clone, Copy, Debug, PartialEq, Eq)]
 pub struct WaitOptions(u64);
 
@@ -55,12 +55,12 @@ impl Flags for WaitOptions {
     }
 }
 
-/// The options of waitid (XSH waitid; Linux's numbers, waitid(2)).
+/// The options of waitid (XSH waitid; numbered as in Linux, waitid(2)).
 #[derive(Clone, Copy, Debug, PartialEq, Eq)]
 pub struct WaitidOptions(u64);
 
 impl WaitidOptions {
-    /// The bits that say what is asked for: `WSTOPPED`, `WEXITED` and `WCONTINUED`.
+    /// The bits that name status changes: `WSTOPPED`, `WEXITED` and `WCONTINUED`.
     pub const SORTS: WaitidOptions = WaitidOptions(14);
 }
 

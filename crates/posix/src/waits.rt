@@ -1,4 +1,4 @@
-//! Calls that wait for a child, and what they ask.
+//! Calls that wait for a child, and what they ask for.
 
 ghost use Rattle.std.specs.Prelude.{◌≡◌, IfSome, is_some};
 ghost use Rattle.posix.specs.Calls.{call_of_wait, wait_in};
@@ -12,28 +12,28 @@ use bitflags::Flags;
 /// A call that waits for a child.
 #[derive(Clone, Copy, PartialEq, Eq)]
 pub enum WaitCall {
-    /// What it reports is collected (XSH waitpid).
+    /// Consumes what it reports (XSH waitpid).
     Waitpid,
-    /// It asks for what it names, and may leave what it reports (XSH waitid).
+    /// Names the status changes that it asks for, and can leave what it reports (XSH waitid).
     Waitid,
 }
 
-/// What a wait asks: of which children, and for what.
+/// What a wait asks for: which children, and which status changes.
 #[derive(Clone, Copy)]
 pub struct Asked {
     pub target: Target,
-    /// Those of waitid. A waitpid asks for ends, too.
+    /// The options, as those of waitid. A waitpid always asks for terminations, too.
     pub options: WaitidOptions,
 }
 
-/// Whether options of waitid name what is asked for: an end, a stop or a continue.
+/// Returns true if options of waitid ask for terminations, stops or continues.
 fn asks_something(options: WaitidOptions) -> bool
     ensures { result ≡ asks_something options.0 }
 {
     options.intersects(WaitidOptions::SORTS)
 }
 
-/// The options of a waitpid; nothing where a bit is unknown.
+/// Returns the options of a waitpid, or `None` if a bit is unknown.
 fn waitpid_options(bits: u64) -> Option<WaitOptions>
     ensures known { is_some result ≡ are_known waitpid_options bits }
     ensures value { IfSome result (λ options. options.0 ≡ bits) }
@@ -41,7 +41,7 @@ fn waitpid_options(bits: u64) -> Option<WaitOptions>
     WaitOptions::from_bits(bits)
 }
 
-/// The options of a waitid; nothing where a bit is unknown.
+/// Returns the options of a waitid, or `None` if a bit is unknown.
 fn waitid_options(bits: u64) -> Option<WaitidOptions>
     ensures known { is_some result ≡ are_known waitid_options bits }
     ensures value { IfSome result (λ options. options.0 ≡ bits) }
@@ -49,7 +49,7 @@ fn waitid_options(bits: u64) -> Option<WaitidOptions>
     WaitidOptions::from_bits(bits)
 }
 
-/// What a waitpid with these options asks; nothing where a bit is unknown.
+/// Returns what a waitpid with these options asks for, or `None` if a bit is unknown.
 fn waitpid_asks(target: Target, bits: u64) -> Option<Asked>
     ensures { result ≡ asked_by_waitpid target bits }
 {
@@ -60,8 +60,8 @@ fn waitpid_asks(target: Target, bits: u64) -> Option<Asked>
     })
 }
 
-/// What a waitid for these children with these options asks; nothing where a bit is unknown, no bit says what is asked
-/// for, or no children are given.
+/// Returns what a waitid for these children with these options asks for. Returns `None` if a bit is unknown, if no
+/// bit names a status change, or if there is no target.
 fn waitid_asks(target: Option<Target>, bits: u64) -> Option<Asked>
     ensures { result ≡ asked_by_waitid target bits }
 {
@@ -76,7 +76,7 @@ fn waitid_asks(target: Option<Target>, bits: u64) -> Option<Asked>
 }
 
 impl WaitCall {
-    /// The wait that a call is, if it is one.
+    /// Returns the wait that a call is, or `None` if it is no wait.
     pub fn named_by(call: Call) -> Option<WaitCall>
         ensures { result ≡ wait_in call }
     {
@@ -87,7 +87,7 @@ impl WaitCall {
         }
     }
 
-    /// The call that it is.
+    /// Returns the wait as a call.
     pub fn call(self) -> Call
         ensures { result ≡ call_of_wait self }
     {
@@ -97,7 +97,7 @@ impl WaitCall {
         }
     }
 
-    /// What it asks, by its first three arguments; nothing where these are EINVAL.
+    /// Returns what the wait asks for by its first three arguments, or `None` if it fails with EINVAL.
     #[tactic(auto, unfolding(crate::specs::Waits::asked))]
     pub fn asks(self, r1: i64, r2: i64, r3: i64) -> Option<Asked>
         ensures { result ≡ asked self r1 r2 r3 }

@@ -6,7 +6,7 @@ use Rattle.proctable.specs.declared.own_part.OwnPart.{OwnPart}
 use Rattle.proctable.specs.declared.records.Record.{Record}
 use Rattle.proctable.specs.Records.{process_of, with_record, give_record, give_own, own_of}
 
--- a record that was changed as f does where the number is p
+-- a record that was changed by f, if the ID is p
 pub changed_here : (rs : List Process) → IsRising rs → (p : ℕ) (b b' : Record) (f : Process → Process) → lookup p rs ≡ Some (process_of p (parent_of p rs) b)
     → ((q : ℕ) → process_of p q b' ≡ f (process_of p q b)) → with_record rs p b' ≡ changed p f rs
 unfolding give_record
@@ -29,18 +29,18 @@ pub own_record : (rs : List Process) → IsRising rs → (p : ℕ) (b : Record) 
     → with_record rs p (record b { own = o }) ≡ changed p (give_own o) rs
 own_record rs up p b o e = changed_here rs up p b (record b { own = o }) (give_own o) e (λ q. refl)
 
--- What was lent of a process, and given back changed as f does, is the change f of the process.
+-- If the part that was lent is returned changed by f, the process is changed by f.
 pub lent : (rs : List Process) → IsRising rs → (p : ℕ) (me : Process) (o w : OwnPart) (f : Process → Process) → lookup p rs ≡ Some me → o ≡ own_of me
     → give_own w me ≡ f (give_own o me) → changed p (give_own w) rs ≡ changed p f rs
 lent rs up p me o w f e is did = changed_same p (give_own w) f rs up me e (did ∙ ap (λ x. f (give_own x me)) is)
 
--- What was lent and given back as it was changes nothing.
+-- If the part that was lent is returned as it was, nothing changes.
 pub unchanged : (rs : List Process) → IsRising rs → (p : ℕ) (me : Process) (o w : OwnPart) → lookup p rs ≡ Some me → o ≡ own_of me → w ≡ o → changed p (give_own w) rs ≡ rs
 unchanged rs up p me o w e is same = changed_id p (give_own w) rs up me e (ap (λ x. give_own x me) (same ∙ is))
 
--- ---- a birth
+-- ---- a new process
 
--- a child is in the groups of its parent
+-- a child is in the process group and session of its parent
 pub child_groups : (rs : List Process) (p birth : ℕ) (mine b : Record) → lookup p rs ≡ Some (process_of p (parent_of p rs) mine)
     → ((q r n : ℕ) → process_of n q b ≡ child_of birth (process_of q r mine) n)
     → (me : Process) → lookup p rs ≡ Some me → (b.group ≡ me.group) × (b.session ≡ me.session)

@@ -1,4 +1,4 @@
--- The processes that an index and slots are worth.
+-- The processes of an index and slots.
 use Rattle.std.proofs.Common.{◌≡◌, ◌≢◌, ℕ, zero, suc, ◌<◌, true, false, cond, not, refl, ap, sym, ◌∙◌, arith, subst, List, [], ◌∷◌, length, filter, Option, Some, None, option_map, ◌==◌, nat_lt, slice_get, slice_index_or, slice_set}
 use Rattle.std.specs.List.{AllByRecursion}
 use Rattle.std.specs.Prelude.{count_by}
@@ -20,14 +20,14 @@ use Rattle.proctable.specs.Tables.{processes_in, Stands, IsIndexed}
 abbrev pub AllStand : Slab Process → List (Entry ℕ) → Type 0
 AllStand slab es = AllByRecursion (Stands slab) es
 
--- ---- what is read
+-- ---- reading
 
 process_found : (p : ℕ) (es : List (Entry ℕ)) (slab : Slab Process) → AllStand slab es → lookup p (processes_in es slab) ≡ option_and_then (get slab) (option_map (λ (e : Entry ℕ). e.value) (entry_of p es))
 unfolding lookup processes_in
 process_found p [] slab a = refl
 process_found p (e ∷ es) slab a = grind (arith, a.0.at, a.0.named, process_found p es slab a.1)
 
--- who is above a number, as the index says
+-- the next process above an ID, from the index
 next_of : (p : ℕ) (es : List (Entry ℕ)) (slab : Slab Process) → AllStand slab es → next_above p (processes_in es slab) ≡ slice_get (numbers_above p (pids_of es)) 0
 unfolding next_above processes_in
 next_of p [] slab a = refl
@@ -62,7 +62,7 @@ unfolding lookup processes_in
 unindexed [] slab p a h = refl
 unindexed (e ∷ es) slab p a h = grind (arith, a.0.at, a.0.named, h, unindexed es slab p a.1)
 
--- what the calls ask of an index and slots
+-- what the calls require of an index and slots
 pub rising_in : (es : List (Entry ℕ)) (slab : Slab Process) → IsIndexed es slab → IsRising (processes_in es slab)
 rising_in es slab i = rising_processes es slab i.standing i.rising
 
@@ -91,7 +91,7 @@ pub ruleset remove_rules = (rising_in, slot_in)
 
 pub ruleset next_rules = (rising_in, next_in)
 
--- ---- a slot written
+-- ---- a slot is written
 
 here : (slab : Slab Process) (slot : ℕ) (n v : Process) → get slab slot ≡ Some n → get (with_value slab slot v) slot ≡ Some v
 here slab slot n v g = grind (arith, common_steps)
@@ -138,16 +138,16 @@ stand_put (x ∷ es) slab p slot f n keeps a o g named =
     let pid : (at p f s.what).pid ≡ x.pid = grind (arith, keeps s.what, s.named) in
     (record { what = at p f s.what; at = point slab p slot f n x s o.0 g named ∙ ap (option_map (at p f)) s.at; named = pid }, stand_put es slab p slot f n keeps a.1 o.1 g named)
 
--- ---- a slot taken
+-- ---- a slot is filled
 
 abbrev pub Others : Slab Process → Slab Process → ℕ → Type 0
 Others old new slot = (other : ℕ) → other ≢ slot → get new other ≡ get old other
 
--- who stands elsewhere stands still
+-- an entry for another slot keeps its process
 stays : (old new : Slab Process) (slot : ℕ) (x : Entry ℕ) → Others old new slot → get old slot ≡ None → Stands old x → get new x.value ≡ get old x.value
 stays old new slot x others vacant s = others x.value (λ i. let k : get old slot ≡ Some s.what = ap (get old) (sym i) ∙ s.at in let no = sym vacant ∙ k in cc)
 
--- where each who stands stands in other slots too
+-- if each entry keeps its process, each has its process in the new slots, too
 stand_as : (es : List (Entry ℕ)) (old new : Slab Process) → ((x : Entry ℕ) → Stands old x → get new x.value ≡ get old x.value) → AllStand old es → AllStand new es
 stand_as [] old new same a = tt
 stand_as (x ∷ es) old new same a = let s = a.0 in (record { what = s.what; at = same x s ∙ s.at; named = s.named }, stand_as es old new same a.1)
@@ -175,7 +175,7 @@ stand_inserted (x ∷ es) old new e n others vacant g named a =
       | false ↦ (all.0, stand_inserted es old new e n others vacant g named a.1)
     ]
 
--- ---- a slot given back
+-- ---- a slot is vacated
 
 gone : (old new : Slab Process) (p slot : ℕ) (n : Process) (x : Entry ℕ) → Others old new slot → get old slot ≡ Some n → n.pid ≡ p → Stands old x → (x.pid == p) ≡ false → get new x.value ≡ get old x.value
 gone old new p slot n x others g named s t = others x.value (λ i.
@@ -206,20 +206,20 @@ processes_kept es old new e = rw e refl
 pub kept_index : (es xs : List (Entry ℕ)) (old new : Slab Process) → xs ≡ es → new.slots ≡ old.slots → IsIndexed es old → IsIndexed xs new
 kept_index es xs old new e k i = rw e (record { rising = i.rising; standing = stand_as es old new (λ x s. ap (λ xs. slice_index_or xs x.value None) k) i.standing; counted = ap (count_by is_some) k ∙ i.counted })
 
--- ---- as the calls have it
+-- ---- in the form of the calls
 
 pub length_left : (es : List (Entry ℕ)) (p slot : ℕ) → Rises (pids_of es) → option_map (λ (e : Entry ℕ). e.value) (entry_of p es) ≡ Some slot → suc (length (filter (λ (r : Entry ℕ). not (r.pid == p)) es)) ≡ length es
 unfolding Rises
 length_left [] p slot up h = absurd (cc)
 length_left (x ∷ es) p slot up h = grind (arith, h, length_left es p slot up.1, λ (i : x.pid ≡ p). others_all (λ (e : Entry ℕ). e.pid) es p (find_none (λ (e : Entry ℕ). e.pid) es p (not_in_above x.pid p (pids_of es) (omega (arith, i)) up.0)))
 
--- one entry more
+-- one more entry
 pub length_put : (e : Entry ℕ) (es : List (Entry ℕ)) → length (inserted_in_order (λ (e : Entry ℕ). e.pid) e es) ≡ suc (length es)
 unfolding inserted_in_order
 length_put e [] = refl
 length_put e (x ∷ es) = grind (arith, length_put e es)
 
--- the slots are as many after a slot was written
+-- writing to a slot keeps the number of slots in use
 count_set : (xs : List (Option Process)) (i : ℕ) (v n : Process) → slice_index_or xs i None ≡ Some n → count_by is_some (slice_set xs i (Some v)) ≡ count_by is_some xs
 count_set [] i v n e = refl
 count_set (x ∷ xs) zero v n e = let same : x ≡ Some n = e in rw same refl
@@ -243,7 +243,7 @@ written es slab p slot f n keeps i is g =
       processes = processes_put es slab p slot f n i.standing one g named;
     }
 
--- nothing goes where nobody is
+-- if p isn't in the table, nothing is removed
 pub nobody_goes : (p : ℕ) (es : List (Entry ℕ)) (slab : Slab Process) → option_map (λ (e : Entry ℕ). e.value) (entry_of p es) ≡ None → IsIndexed es slab → processes_in (filter (λ (e : Entry ℕ). not (e.pid == p)) es) slab ≡ removed p (processes_in es slab)
 unfolding lookup removed
 nobody_goes p es slab none i =
@@ -255,12 +255,12 @@ index_stays p es slab none i = subst (λ l. IsIndexed l slab) (sym (others_all (
 
 -- ---- a record in its slot
 
--- another record keeps the number
+-- another record keeps the ID
 pub kept_pid : (b : Record) (r : Process) → (give_record b r).pid ≡ r.pid
 unfolding give_record
 kept_pid b r = refl
 
--- a process is its number, its parent and the record that was read
+-- a process consists of its ID, its parent and the record that was read
 pub read_process : (rs : List Process) (p : ℕ) (r : Process) (b : Record) → lookup p rs ≡ Some r → r ≡ process_of r.pid r.parent b → lookup p rs ≡ Some (process_of p (parent_of p rs) b)
 read_process rs p r b e is =
     let parent : parent_of p rs ≡ r.parent = rw e refl in

@@ -15,19 +15,19 @@ record_row = the_row
 abbrev pub own_row : RattleType
 own_row = the_own_row
 
--- what a process may change of itself
+-- the part of a process that it may change itself
 abbrev pub own_of : Process → OwnPart
 own_of r = record { creds = r.credentials; signals = r.signals; ran_exec = r.ran_exec; blocked = r.blocked; program = r.program; cpu = r.cpu }
 
--- the process with this in its place
+-- the process with this own part
 abbrev pub give_own : OwnPart → Process → Process
 give_own o r = record r { credentials = o.creds; signals = o.signals; ran_exec = o.ran_exec; blocked = o.blocked; program = o.program; cpu = o.cpu }
 
--- that of a child, whose call gave 0
+-- the own part of a child of fork, whose call has returned 0
 abbrev pub forked : OwnPart → OwnPart
 forked o = record o { signals = record (o.signals) { standard = nothing_pending; queue = [] }; ran_exec = false; blocked = None; cpu = move_on (set_register o.cpu 0 (pos 0)) }
 
--- the process with this number, this parent and this record; all else is as at boot
+-- the process with this ID, this parent and this record; all other fields are as at boot
 abbrev pub process_of : ℕ → ℕ → Record → Process
 process_of p q b = record first_process {
   pid = p;
@@ -47,7 +47,7 @@ process_of p q b = record first_process {
   cpu = b.own.cpu;
 }
 
--- a real-time signal is generated where there is a pool for it, and room in the queue; else it is lost
+-- a real-time signal is generated if there is a pool for it and room in the queue; otherwise it is lost
 unfoldable pub queued : Bool → PendingSignal → Process → Process
 queued pool signal r = if pool && not (has_full_queue r) then signalled signal r else r
 

@@ -1,4 +1,4 @@
--- What a table in slots is worth.
+-- The model of a table in slots.
 use Rattle.std.specs.Prelude.{◌≡◌, ℕ, List, length, filter_map, Some}
 use Rattle.std.specs.List.{AllByRecursion}
 use Rattle.slab.specs.Slab.{Slab, get, slab_len}
@@ -27,7 +27,7 @@ pub record Stands (slab : Slab Process) (e : Entry ℕ) : Type 0 where
   pub at : get slab e.value ≡ Some what
   pub named : what.pid ≡ e.pid
 
--- the entries rise, and name all slots that have a process
+-- the entries rise, and lead to all slots that have a process
 pub record IsIndexed (es : List (Entry ℕ)) (slab : Slab Process) : Type 0 where
   pub rising : Rises (pids_of es)
   pub standing : AllByRecursion (Stands slab) es

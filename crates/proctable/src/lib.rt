@@ -1,10 +1,10 @@
-//! The table of processes: what it keeps for each of them, what a table has to do, and one with records in slots.
+//! The process table: what it keeps for each process, what every implementation does, and one with records in slots.
 //!
-//! After a `reserve` that succeeds, one `insert` takes no memory. A `reserve_pools` that fails leaves no fewer pools,
-//! and the processes. Each method bounds the slots that it reads (`visits`); none lowers the count. `Record` and
-//! `OwnPart` change one process; `queue` without a pool, or if full, changes nothing. `SlabTable`: the index names the
-//! slot of each process, no other slot has a record, and only `Slots` reads slots, and counts each. No clause: that the
-//! table keeps the memory of each removed process (`Spares`).
+//! After a successful `reserve`, one `insert` allocates nothing. A `reserve_pools` that fails leaves no fewer pools,
+//! and the processes unchanged. Each method bounds the slots that it reads (`visits`), and none lowers the count.
+//! `Record` and `OwnPart` change one process; `queue` changes nothing without a pool or if the queue is full. In a
+//! `SlabTable`, the index has the slot of each process, no other slot has a record, and only `Slots` reads slots, and
+//! counts each read. No clause says that the table keeps the memory of each removed process (`Spares`).
 #![tactic(auto)]
 
 pub mod own_part;

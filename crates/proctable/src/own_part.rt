@@ -1,4 +1,4 @@
-//! What a process may change of itself: nothing that the shape of the machine depends on.
+//! The part of a process that it may change itself: nothing on which the other tables of the machine depend.
 
 ghost use Rattle.std.specs.Prelude.{◌≡◌, IfOk, OnOk, OnErr, Some, None, ◌∷◌, [], true, false};
 ghost use Rattle.posix.specs.declared.process.Frame.{Frame};
@@ -12,26 +12,26 @@ use signal::{Creds, FramesFull, NoFrame, Signals, leave_call, mask_before};
 use std::alloc::{AllocError, Global};
 use umach::Cpu;
 
-/// What may change of a process without leave of the machine: no number that it bears, and neither its
-/// life nor its news.
+/// The part of a process that it may change itself: no process ID, process group or session, and neither its life nor
+/// its status change.
 #[derive(Drop)]
 pub struct OwnPart {
     /// Its registers and its memory.
     pub cpu: Cpu,
-    /// The call that it waits in.
+    /// The call that it is blocked in.
     pub blocked: Option<Blocked>,
     /// Its index among the programs of the world.
     pub program: u8,
-    /// Whether it has run exec since its birth (XSH setpgid).
+    /// Whether it has run exec since its fork (XSH setpgid).
     pub ran_exec: bool,
     /// Its signal mask, pending signals, actions and frames (XSH 2.4).
     pub signals: Signals,
-    /// Its user and group ids (credentials(7)).
+    /// Its user and group IDs (credentials(7)).
     pub creds: Creds,
 }
 
 impl OwnPart {
-    /// That of process 1 at boot. An error where the host has no memory for it.
+    /// Creates the own part of process 1 at boot. Fails if the host has no memory for it.
     pub fn first(alloc: Global) -> Result<OwnPart, AllocError>
         ensures { IfOk result (λ o. o ≡ own_of first_process) }
     {
@@ -46,8 +46,8 @@ impl OwnPart {
         })
     }
 
-    /// That of the child of a fork: nothing is pending for it, and its call gave 0 (XSH fork). It is filled in
-    /// where `spare` is, if there is one; without it an error where the host has no memory for it.
+    /// Returns the own part of the child of a fork, with no pending signals, after its call has returned 0 (XSH fork).
+    /// It reuses the memory of `spare`, if there is one. Otherwise this fails if the host has no memory for it.
     pub fn fork(&self, spare: Option<Spare>) -> Result<OwnPart, AllocError>
         ensures { IfOk result (λ o. o ≡ forked self.now) }
     {
@@ -68,7 +68,7 @@ impl OwnPart {
         })
     }
 
-    /// Whether two processes have the same of it.
+    /// Returns true if two processes have the same own part.
     pub fn is_same(&self, other: &OwnPart) -> bool
         ensures { result ≡ true → self.now ≡ other.now }
     {
@@ -80,7 +80,7 @@ impl OwnPart {
             && self.signals.is_same(&other.signals)
     }
 
-    /// What a process that was taken out leaves behind.
+    /// Returns the memory of a removed process.
     pub fn into_spare(self) -> Spare {
         Spare {
             words: self.cpu.into_memory(),
@@ -88,7 +88,7 @@ impl OwnPart {
         }
     }
 
-    /// The call gives a value, and the process leaves it.
+    /// Returns a value from the call, and moves the process past it.
     #[tactic(auto, unfolding(posix::specs::Outcomes::finished))]
     pub fn finish(&mut self, value: i64)
         ensures { (r : Process) → give_own self.new r ≡ finished ((0, value) ∷ []) (give_own self.old r) }
@@ -98,7 +98,7 @@ impl OwnPart {
         self.blocked = None;
     }
 
-    /// A wait gives the number of a child and its status, and the process leaves it (XSH waitpid, XSH waitid).
+    /// Returns the ID and the status of a child from a wait, and moves the process past it (XSH waitpid, XSH waitid).
     #[tactic(auto, unfolding(posix::specs::Outcomes::finished))]
     pub fn finish_wait(&mut self, call: WaitCall, child: Pid, status: Status)
         ensures { (r : Process) → give_own self.new r ≡ finished (results_of call child status) (give_own self.old r) }
@@ -120,8 +120,8 @@ impl OwnPart {
         self.blocked = None;
     }
 
-    /// A wait that need not wait and finds nothing gives 0, and the process leaves it. A waitid gives 0 in r1 and r2,
-    /// too (own).
+    /// Returns 0 from a wait that doesn't block and has nothing to report, and moves the process past it. After a
+    /// waitid, r1 and r2 are 0, too (own).
     #[tactic(auto, unfolding(posix::specs::Outcomes::finished))]
     pub fn finish_without_child(&mut self, call: WaitCall)
         ensures { (r : Process) → give_own self.new r ≡ finished (results_of_nothing call) (give_own self.old r) }
@@ -135,7 +135,7 @@ impl OwnPart {
         self.blocked = None;
     }
 
-    /// The process waits in a call.
+    /// Blocks the process in a call.
     #[tactic(auto, unfolding(posix::specs::Step::enter))]
     pub fn enter(&mut self, blocked: Blocked)
         ensures { (r : Process) → give_own self.new r ≡ enter blocked (give_own self.old r) }
@@ -147,7 +147,7 @@ impl OwnPart {
         self.blocked = Some(blocked);
     }
 
-    /// The process leaves the call that it waits in, which gives nothing: the pc stays at it.
+    /// Unblocks the process without a result: the pc stays at the call.
     #[tactic(auto, unfolding(posix::specs::Step::out_of_call))]
     pub fn leave(&mut self)
         ensures { (r : Process) → give_own self.new r ≡ out_of_call (give_own self.old r) }
@@ -155,8 +155,8 @@ impl OwnPart {
         self.blocked = None;
     }
 
-    /// The process runs the program with this number, which sets these effective ids, in place of its own (XSH
-    /// exec). Its second and third arguments are the new first and second one. It takes no memory.
+    /// Replaces the program of the process by the one with this number, which sets these effective IDs (XSH exec). The
+    /// second and third arguments become the first and second of the new program. Allocates nothing.
     #[tactic(auto, unfolding(posix::specs::Programs::executed))]
     pub fn exec(&mut self, number: u8, user: Option<Uid>, group: Option<Gid>)
         ensures { (program : Program) (r : Process) → program.setuid ≡ user → program.setgid ≡ group → give_own self.new r ≡ executed number program (give_own self.old r) }
@@ -170,8 +170,8 @@ impl OwnPart {
         self.program = number;
     }
 
-    /// The process leaves the call that it is blocked in, and enters the handler of a signal at an address
-    /// (XSH 2.4.3). At an error there are 16 frames already, and the handler isn't entered.
+    /// Takes the process out of the call that it is blocked in, and enters the handler of a signal at an address (XSH
+    /// 2.4.3). Fails if there are 16 frames already; then the handler isn't entered.
     #[tactic(auto, unfolding(posix::specs::Handlers::handles))]
     pub fn handle(&mut self, signal: PendingSignal, address: i64) -> Result<(), FramesFull>
         ensures room { OnOk result (is_full self.old.signals ≡ false) }
@@ -186,7 +186,7 @@ impl OwnPart {
             .enter_handler(&mut self.cpu, signal, address, saved)
     }
 
-    /// The newest handler returns (sigreturn(2)). At an error there is no frame, and nothing changes.
+    /// Returns from the newest handler (sigreturn(2)). Fails if there is no frame; then nothing changes.
     #[tactic(auto, unfolding(posix::specs::Handlers::returned))]
     pub fn return_from_handler(&mut self) -> Result<(), NoFrame>
         ensures ok { OnOk result ((frame : Frame) × (newest_frame self.old.signals ≡ Some frame) × ((r : Process) → give_own self.new r ≡ returned frame (give_own self.old r))) }

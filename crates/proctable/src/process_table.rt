@@ -1,4 +1,4 @@
-//! What a table of processes has to do.
+//! What every process table does.
 
 ghost use Rattle.std.specs.Prelude.{◌≡◌, ◌+◌, ◌^◌, ◌<◌, ◌≤◌, ℕ, [], List, None, Some, IsSome, IfSome, OnOk, option_map, length};
 ghost use Rattle.std.specs.Borrow.{sem, Lends};
@@ -13,37 +13,36 @@ use posix::Pid;
 use signal::GrantedPools;
 use std::alloc::{AllocError, Global};
 
-/// A table of processes, zombies included, seen as the list of their records in rising order of their
-/// numbers.
+/// A table of processes, zombies included, modelled as the list of their records in rising order of their IDs.
 ///
-/// Methods that take a `&mut`, but `spare`, ensure that this order rises in the table that they are given.
-/// Those that only read leave the processes and the room unchanged. No method makes the number of slots that have been
-/// read less.
-/// Methods that read a slot take `&mut self`, because a table may count its reads. `one_more` is what a count is after
-/// one more read: a count that saturates does not always rise.
+/// Methods that take `&mut self`, except `spare` and `reserve_pools`, ensure that this order rises in the table before
+/// the call. Methods that only read leave the processes and the room unchanged. No method lowers the number of slots
+/// that have been read.
+///
+/// Methods that read a slot take `&mut self`, because a table may count its reads. `one_more` is the count after one
+/// more read: a count that saturates does not always rise.
 pub trait ProcessTable: Drop {
     /// The processes.
     ghost contents: { Self → List Process };
 
-    /// How many more processes can be put in without memory.
+    /// How many more processes fit without allocation.
     ghost room: { Self → ℕ };
 
     /// How many slots have been read, as far as the table counts them.
     ghost visits: { Self → ℕ };
 
-    /// That number after one more slot was read.
+    /// The count after one more slot was read.
     ghost one_more: { ℕ → ℕ };
 
     /// The table with another record for a process, whose slot was read once.
     ghost put: { Self → ℕ → Record → Self };
 
-    /// A table without processes. It takes no memory.
+    /// Creates a table without processes. Allocates nothing.
     fn empty(alloc: Global) -> Self
         ensures contents { contents result ≡ [] }
         ensures visits { visits result ≡ 0 };
 
-    /// Makes room for one more process. At an error the host has no memory for it, and the processes are
-    /// unchanged.
+    /// Makes room for one more process. Fails if the host has no memory for it. The processes are unchanged.
     fn reserve(&mut self) -> Result<(), AllocError>
         ensures ok { OnOk result (0 < room self.new) }
         ensures rising { IsRising (contents self.old) }
@@ -51,9 +50,11 @@ pub trait ProcessTable: Drop {
         ensures contents { contents self.new ≡ contents self.old }
         ensures visits { visits self.new ≡ visits self.old };
 
-    /// Makes so many pools wait for the queues of real-time signals, where fewer do. At an error the host has no memory
-    /// for them, and none is gone. The processes and the room are unchanged.
-    /// Here, although a table has nothing to do with pools, because a test refuses memory here (`RefusingTable`).
+    /// Makes sure that at least `count` pools are ready for the queues of real-time signals. Fails if the host has no
+    /// memory for them; pools that were ready stay so. The processes and the room are unchanged.
+    ///
+    /// A table has nothing to do with pools. This method is here because a test rejects allocations here
+    /// (`RefusingTable`).
     fn reserve_pools(
         &mut self,
         granted_pools: &mut GrantedPools,
@@ -65,7 +66,7 @@ pub trait ProcessTable: Drop {
         ensures contents { contents self.new ≡ contents self.old }
         ensures visits { visits self.new ≡ visits self.old };
 
-    /// Puts in a process that isn't there, where there is room for one. The others are unchanged.
+    /// Adds a process that doesn't exist, within reserved room. Other processes are unchanged.
     fn insert(&mut self, pid: Pid, parent: Pid, fields: Record)
         requires room { 0 < room self.old }
         requires fresh { lookup pid (contents self.old) ≡ None }
@@ -75,7 +76,7 @@ pub trait ProcessTable: Drop {
         ensures visits { visits self.new ≤ visits self.old + 1 }
         ensures no_fewer { visits self.old ≤ visits self.new };
 
-    /// The small fields of a process; none where it isn't there.
+    /// Returns the small fields of a process, if it exists.
     fn get(&mut self, pid: Pid) -> Option<Snapshot>
         ensures value { result ≡ option_map snapshot_of (lookup pid (contents self.old)) }
         ensures rising { IsRising (contents self.old) }
@@ -86,16 +87,16 @@ pub trait ProcessTable: Drop {
         ensures no_fewer { visits self.old ≤ visits self.new }
         ensures counts { IfSome result (λ it. one_more (visits self.old) ≤ visits self.new) };
 
-    /// All of a process that is there but its number and its parent's, for the caller to change. The
-    /// other processes and the room are unchanged.
-    /// The `Record` lent has no process ID and no parent, so no caller can break the order or the links.
+    /// Returns all of an existing process except its ID and its parent's, for the caller to change. Other processes and
+    /// the room are unchanged. No caller can break the order or the links, because a `Record` has no process ID and no
+    /// parent.
     fn update(&mut self, pid: Pid) -> &mut Record
         requires { IsSome (lookup pid (contents self.old)) }
         ensures* lends { sem 𝓛 (Lends Self.row record_row self.entry result (put self.old pid)) }
         ensures rising { IsRising (contents self.old) }
         ensures value { lookup pid (contents self.old) ≡ Some (process_of pid (parent_of pid (contents self.old)) result.now) };
 
-    /// Gives a process that is there another parent. Its small fields. The other processes and the room are unchanged.
+    /// Sets the parent of an existing process and returns its small fields. Other processes and the room are unchanged.
     fn set_parent(&mut self, pid: Pid, parent: Pid) -> Snapshot
         requires { IsSome (lookup pid (contents self.old)) }
         ensures value { IfSome (lookup pid (contents self.old)) (λ it. result ≡ snapshot_of (with_parent parent it)) }
@@ -105,14 +106,14 @@ pub trait ProcessTable: Drop {
         ensures visits { visits self.new ≤ visits self.old + 1 }
         ensures no_fewer { visits self.old ≤ visits self.new };
 
-    /// The memory of a process that was taken out, for one that is born, if the table has kept some. The
-    /// processes and the room are unchanged.
+    /// Returns the memory of a removed process for a new one, if the table has kept any. The processes and the room are
+    /// unchanged.
     fn spare(&mut self) -> Option<Spare>
         ensures contents { contents self.new ≡ contents self.old }
         ensures room { room self.new ≡ room self.old }
         ensures visits { visits self.new ≡ visits self.old };
 
-    /// Takes out a process; nothing changes where it isn't there.
+    /// Removes a process. Nothing changes if it doesn't exist.
     fn remove(&mut self, pid: Pid)
         ensures rising { IsRising (contents self.old) }
         ensures contents { contents self.new ≡ removed pid (contents self.old) }
@@ -120,7 +121,7 @@ pub trait ProcessTable: Drop {
         ensures visits { visits self.new ≤ visits self.old + 1 }
         ensures no_fewer { visits self.old ≤ visits self.new };
 
-    /// The process with the least number above `pid`, which need not be there; none where there is none.
+    /// Returns the process with the lowest ID above `pid`, which need not exist.
     fn next_after(&mut self, pid: Pid) -> Option<Pid>
         ensures value { result ≡ next_above pid (contents self.old) }
         ensures rising { IsRising (contents self.old) }
@@ -129,22 +130,22 @@ pub trait ProcessTable: Drop {
         ensures visits { visits self.new ≤ visits self.old + 1 }
         ensures no_fewer { visits self.old ≤ visits self.new };
 
-    /// How many slots have been read, up to the greatest u128; 0 in a table that doesn't count them.
+    /// Returns how many slots have been read, at most `u128::MAX`; 0 if the table doesn't count them.
     fn visits(&self) -> u128
         ensures { result ≡ visits self.now };
 
-    /// Another record is a change of one process.
+    /// Replacing a record changes one process.
     ghost puts: { (t : Self) (pid : ℕ) (b : Record) → contents (put t pid b) ≡ with_record (contents t) pid b };
 
-    /// Another record takes no room.
+    /// Replacing a record takes no room.
     ghost keeps_room: { (t : Self) (pid : ℕ) (b : Record) → room (put t pid b) ≡ room t };
 
-    /// To change one process takes one slot.
+    /// Replacing a record reads one slot.
     ghost put_reads: { (t : Self) (pid : ℕ) (b : Record) → visits (put t pid b) ≡ one_more (visits t) };
 
-    /// One more is no more than that: a table may stop at the greatest number, or not count at all.
+    /// One more read adds at most 1: a count may stop at its largest value, or never rise.
     ghost at_most_one: { (n : ℕ) → one_more n ≤ n + 1 };
 
-    /// One more is never less.
+    /// One more read never lowers the count.
     ghost no_less: { (n : ℕ) → n ≤ one_more n };
 }

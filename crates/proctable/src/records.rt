@@ -1,4 +1,4 @@
-//! What a table keeps of a process beside its number and its parent's.
+//! The record of a process: all that a table keeps of it except its ID and its parent's.
 
 ghost use Rattle.std.specs.Prelude.{◌≡◌, ◌⊎◌, true, false, is_some, IfOk, ℕ};
 ghost use Rattle.posix.specs.Common.{is_realtime, first_process, child_of, made_zombie, ended, noticed, noticed_of_change, signalled, effect_of, is_queuer, news_told, marked_as, ring_at as ring_at_tick, with_alarm};
@@ -11,29 +11,29 @@ use posix::{Carried, Effect, Life, News, PendingSignal, Pid, Sig, Status};
 use signal::RealtimePool;
 use std::alloc::{AllocError, Global};
 
-/// A process without its number and its parent.
+/// A process without its ID and its parent's.
 #[derive(Drop)]
 pub struct Record {
-    /// What it may change of itself.
+    /// The part that the process may change itself.
     pub own: OwnPart,
-    /// Whether it runs, is stopped or has ended.
+    /// Whether it is running, stopped or a zombie.
     pub life: Life,
-    /// What no wait has reported of it yet (XSH waitpid).
+    /// The status change that no wait has reported yet (XSH waitpid).
     pub news: News,
     /// Its process group (XBD 3 Process Group ID).
     pub group: Pid,
-    /// Its session, by the number of the leader (XBD 3 Session).
+    /// Its session, by the ID of the leader (XBD 3 Session).
     pub session: Pid,
     /// The tick at which its alarm is due (XSH alarm).
     pub alarm: Option<u64>,
     /// Whether it is a child subreaper (prctl(2)).
     pub is_subreaper: bool,
-    /// 1 for process 1, 2 for the next one born, and so on.
+    /// 1 for process 1, 2 for the next process created, and so on.
     pub birth: u64,
 }
 
 impl Record {
-    /// Process 1 at boot. An error where the host has no memory for it.
+    /// Creates the record of process 1 at boot. Fails if the host has no memory for it.
     pub fn first(alloc: Global) -> Result<Record, AllocError>
         ensures { IfOk result (λ b. process_of 1 0 b ≡ first_process) }
     {
@@ -49,9 +49,9 @@ impl Record {
         })
     }
 
-    /// The child of a fork, with this birth number: like the caller, but nothing is pending for it and
-    /// there is no news of it, and its call gave 0 (XSH fork). It is filled in where `spare` is, if there is
-    /// one; without it an error where the host has no memory for it.
+    /// Returns the record of a child with this birth number (XSH fork). The child is a copy of the caller, but has no
+    /// pending signals, no unreported status change and no alarm, and its call has returned 0. It reuses the memory of
+    /// `spare`, if there is one. Otherwise this fails if the host has no memory for it.
     #[inline(always)]
     #[tactic(auto, unfolding(posix::specs::Births::child_of, posix::specs::Outcomes::finished))]
     pub fn fork(&self, birth: u64, spare: Option<Spare>) -> Result<Record, AllocError>
@@ -69,7 +69,7 @@ impl Record {
         })
     }
 
-    /// Whether two processes are the same but for their numbers and their parents'.
+    /// Returns true if two processes are the same except for their IDs and their parents'.
     pub fn is_same(&self, other: &Record) -> bool
         ensures { result ≡ true → (p q : ℕ) → process_of p q self.now ≡ process_of p q other.now }
     {
@@ -83,7 +83,7 @@ impl Record {
             && self.own.is_same(&other.own)
     }
 
-    /// The small fields of the process with this number and this parent.
+    /// Returns the small fields of the process with this ID and this parent.
     pub fn snapshot(&self, pid: Pid, parent: Pid) -> Snapshot
         ensures { result ≡ snapshot_of (process_of pid parent self.now) }
     {
@@ -104,8 +104,8 @@ impl Record {
         }
     }
 
-    /// The process has ended with this status, and nothing is pending for it, and it is in no call (XSH
-    /// _exit).
+    /// Makes the process a zombie with this status (XSH _exit). It has no pending signals then, no alarm and no
+    /// unreported status change, and is in no call.
     #[tactic(auto, unfolding(posix::specs::Ends::made_zombie))]
     pub fn make_zombie(&mut self, status: Status)
         ensures { (p q : ℕ) → process_of p q self.new ≡ made_zombie status (process_of p q self.old) }
@@ -117,7 +117,7 @@ impl Record {
         self.own.blocked = None;
     }
 
-    /// The process has ended with this status, and keeps all else: the end of process 1.
+    /// Makes the process a zombie with this status and keeps everything else. This is how process 1 terminates.
     #[tactic(auto, unfolding(posix::specs::Ends::ended))]
     pub fn end(&mut self, status: Status)
         ensures { (p q : ℕ) → process_of p q self.new ≡ ended status (process_of p q self.old) }
@@ -125,7 +125,7 @@ impl Record {
         self.life = Life::Zombie(status);
     }
 
-    /// A wait has reported what happened to the process.
+    /// Marks the status change of the process as reported by a wait.
     #[tactic(auto, unfolding(posix::specs::Waits::news_told))]
     pub fn clear_news(&mut self)
         ensures { (p q : ℕ) → process_of p q self.new ≡ news_told (process_of p q self.old) }
@@ -133,7 +133,7 @@ impl Record {
         self.news = News::Nothing;
     }
 
-    /// The process becomes a child subreaper, or is none any more, and its call gives 0 (prctl(2)).
+    /// Makes the process a child subreaper, or no longer one, and returns 0 from its call (prctl(2)).
     #[tactic(auto, unfolding(posix::specs::Subreapers::marked_as))]
     pub fn finish_marked(&mut self, mark: bool)
         ensures { (p q : ℕ) → process_of p q self.new ≡ marked_as mark (process_of p q self.old) }
@@ -142,8 +142,8 @@ impl Record {
         self.own.finish(0);
     }
 
-    /// A standard signal is generated for the process, whose number this is (XSH 2.4.1). The effect is what it does
-    /// at once, which isn't done here.
+    /// Generates a standard signal for the process, which has the ID `pid` (XSH 2.4.1). Returns the effect that the
+    /// signal has at once, and doesn't carry it out.
     #[tactic(auto, unfolding(posix::specs::Generation::signalled))]
     pub fn signal(&mut self, pid: Pid, signal: PendingSignal) -> Effect
         requires standard { is_realtime signal.sig ≡ false }
@@ -153,9 +153,9 @@ impl Record {
         self.own.signals.generate(pid, self.life, signal)
     }
 
-    /// A real-time signal is generated for the process, whose number this is: it is queued where it is kept (XSH
-    /// 2.4.2). Without a pool, or where the queue is full, nothing changes. What comes back is the pool where it isn't
-    /// needed, as where the signal isn't kept.
+    /// Generates a real-time signal for the process, which has the ID `pid`, and queues it if it is kept (XSH 2.4.2).
+    /// Without a pool, or if the queue is full, nothing changes. Returns the pool if it isn't needed, for example
+    /// because the signal is discarded.
     #[tactic(auto, unfolding(crate::specs::Records::queued, posix::specs::Generation::signalled))]
     pub fn queue(
         &mut self,
@@ -173,8 +173,8 @@ impl Record {
         self.own.signals.queue(pid, self.life, signal, pool)
     }
 
-    /// The alarm of the process, whose number this is, rings if it is due at this tick, and isn't set any more
-    /// then (XSH alarm).
+    /// Generates SIGALRM for the process, which has the ID `pid`, if its alarm is due at this tick, and clears the
+    /// alarm (XSH alarm).
     #[tactic(auto, unfolding(posix::specs::Alarms::rung, posix::specs::Alarms::with_alarm))]
     pub fn ring_at(&mut self, pid: Pid, now: u64)
         ensures { (q : ℕ) → process_of pid q self.new ≡ ring_at_tick now (process_of pid q self.old) }
@@ -191,7 +191,7 @@ impl Record {
         }
     }
 
-    /// The alarm is set to a tick, or cleared (XSH alarm).
+    /// Sets the alarm to a tick, or clears it (XSH alarm).
     #[tactic(auto, unfolding(posix::specs::Alarms::with_alarm))]
     pub fn set_alarm(&mut self, due: Option<u64>)
         ensures { (p q : ℕ) → process_of p q self.new ≡ with_alarm due (process_of p q self.old) }
@@ -199,8 +199,8 @@ impl Record {
         self.alarm = due;
     }
 
-    /// The process, whose number this is, gets notice of a child by a signal, unless it ignores CHLD (XSH
-    /// _exit).
+    /// Sends the process, which has the ID `pid`, this signal for the termination of a child, unless it ignores SIGCHLD
+    /// (XSH _exit).
     #[tactic(auto, unfolding(posix::specs::Notices::noticed))]
     pub fn notice(&mut self, pid: Pid, signal: PendingSignal)
         requires standard { is_realtime signal.sig ≡ false }
@@ -211,8 +211,8 @@ impl Record {
         }
     }
 
-    /// The process, whose number this is, gets notice that a child was stopped or continued by a signal,
-    /// unless it ignores CHLD or has SA_NOCLDSTOP (XSH sigaction).
+    /// Sends the process, which has the ID `pid`, this signal for a stopped or continued child, unless it ignores
+    /// SIGCHLD or has SA_NOCLDSTOP (XSH sigaction).
     #[tactic(auto, unfolding(posix::specs::Notices::noticed_of_change))]
     pub fn notice_of_change(&mut self, pid: Pid, signal: PendingSignal)
         requires standard { is_realtime signal.sig ≡ false }

@@ -1,4 +1,4 @@
-//! A table of processes in slots, which an index by number names.
+//! A process table with its records in slots, and an index of the slots by process ID.
 
 ghost use Rattle.std.specs.Prelude.{refl};
 ghost use Rattle.std.proofs.Common.{arith};
@@ -17,13 +17,14 @@ use signal::GrantedPools;
 use std::alloc::{AllocError, Global};
 use std::marker::Model;
 
-/// A table whose records stand in the slots of a slab. An index in pages names the slot of each process. The index isn't
-/// counted among the slots that are read: `next_after` reads no slot, each other method that reaches a process reads one.
+/// A process table with its records in the slots of a slab. A paged index has the slot of each process. Lookups in the
+/// index don't count as reads of slots: `next_after` reads no slot, and each other method that reaches a process reads
+/// one.
 #[derive(Drop)]
 pub struct SlabTable {
     index: Pages<usize>,
     slots: Slots,
-    /// What the processes that were taken out have left.
+    /// The memory of removed processes.
     spares: Spares,
 }
 

@@ -1,4 +1,4 @@
-//! What stands in a slot of a table: a process.
+//! The contents of a slot: a process.
 
 ghost use Rattle.std.specs.Prelude.{◌≡◌};
 ghost use Rattle.std.specs.Borrow.{sem, Lends};
@@ -11,7 +11,7 @@ use crate::spare::Spare;
 use posix::Pid;
 use std::marker::Model;
 
-/// A process with its number and its parent's. What a step reads of it stands first, in few lines of a cache.
+/// A process with its ID and its parent's. The fields that a step reads come first, so that they fill few cache lines.
 #[derive(Drop)]
 pub struct Slot {
     fields: Record,
@@ -30,7 +30,7 @@ impl Model for Slot {
 }
 
 impl Slot {
-    /// A process of these parts.
+    /// Creates a process from these parts.
     pub fn new(pid: Pid, parent: Pid, fields: Record) -> Slot
         ensures { result ≡ process_of pid parent fields }
     {
@@ -41,26 +41,26 @@ impl Slot {
         }
     }
 
-    /// The memory of a process that was taken out.
+    /// Returns the memory of a removed process.
     pub fn into_spare(self) -> Spare {
         self.fields.own.into_spare()
     }
 
-    /// Its small fields.
+    /// Returns the small fields of the process.
     pub fn snapshot(&self) -> Snapshot
         ensures { result ≡ snapshot_of self.now }
     {
         self.fields.snapshot(self.pid, self.parent)
     }
 
-    /// It has another parent from now on.
+    /// Sets the parent of the process.
     pub fn set_parent(&mut self, parent: Pid)
         ensures { self.new ≡ with_parent parent self.old }
     {
         self.parent = parent;
     }
 
-    /// All of it but the numbers.
+    /// Returns all of the process except its ID and its parent's.
     #[tactic(auto, unfolding(crate::specs::Records::give_record))]
     pub fn record_mut(&mut self) -> &mut Record
         ensures* lends { sem 𝓛 (Lends slot_row record_row self.entry result (λ b. give_record b self.old)) }

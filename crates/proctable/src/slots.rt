@@ -1,4 +1,4 @@
-//! The slots of a table. Each call that reaches one counts it.
+//! The slots of a process table. Each method that reads or writes a slot counts it.
 
 ghost use Rattle.std.specs.Prelude.{◌≡◌, ◌+◌, ◌-◌, ◌<◌, ◌≤◌, [], None, Some, OnOk, option_map};
 ghost use Rattle.std.specs.Borrow.{sem, Lends};
@@ -13,12 +13,12 @@ use slab::Slab;
 use std::alloc::{AllocError, Global};
 use std::marker::Model;
 
-/// Processes in the slots of a slab, and how many slots were read or written. A slot is reached by the methods alone,
-/// each of which reaches one.
+/// Processes in the slots of a slab, and how many slots were read or written. Only the methods reach slots, and each
+/// reaches at most one.
 #[derive(Drop)]
 pub struct Slots {
     processes: Slab<Slot>,
-    /// Up to the greatest u128, at which it stays.
+    /// At most `u128::MAX`, where it stays.
     visits: u128,
 }
 
@@ -31,7 +31,7 @@ impl Model for Slots {
 }
 
 impl Slots {
-    /// No slots. It takes no memory.
+    /// Creates an empty slab. Allocates nothing.
     pub fn new(alloc: Global) -> Slots
         ensures processes { result.processes.slots ≡ [] }
         ensures visits { result.visits ≡ 0 }
@@ -42,7 +42,7 @@ impl Slots {
         }
     }
 
-    /// Makes room for one more process. At an error the host has no memory for it, and the processes are unchanged.
+    /// Makes room for one more process. Fails if the host has no memory for it. The processes are unchanged.
     pub fn reserve(&mut self) -> Result<(), AllocError>
         ensures ok { OnOk result (HasRoomFor self.new.processes 1) }
         ensures slots { self.new.processes.slots ≡ self.old.processes.slots }
@@ -52,14 +52,14 @@ impl Slots {
         self.processes.reserve(1)
     }
 
-    /// A slot is reached.
+    /// Counts one read or write of a slot.
     fn count(&mut self)
         ensures { self.new ≡ record self.old { visits = one_more self.old.visits } }
     {
         self.visits = self.visits.saturating_add(1);
     }
 
-    /// The small fields of the process in a slot.
+    /// Returns the small fields of the process in a slot.
     #[inline(always)]
     pub fn snapshot(&mut self, slot: usize) -> Snapshot
         requires { ContainsKey self.old.processes slot }
@@ -71,7 +71,7 @@ impl Slots {
         self.processes[slot].snapshot()
     }
 
-    /// The process in a slot, for the caller to change.
+    /// Returns the process in a slot, for the caller to change.
     pub fn process(&mut self, slot: usize) -> &mut Slot
         requires { ContainsKey self.old.processes slot }
         ensures* lends { sem 𝓛 (Lends slots_row slot_row self.entry result (with_process self.old slot)) }
@@ -81,7 +81,7 @@ impl Slots {
         &mut self.processes[slot]
     }
 
-    /// Puts a process into a slot without one, where there is room, and names the slot.
+    /// Adds a process to a vacant slot, within reserved room, and returns the slot.
     pub fn insert(&mut self, process: Slot) -> usize
         requires { HasRoomFor self.old.processes 1 }
         ensures was_vacant { get self.old.processes result ≡ None }
@@ -94,7 +94,7 @@ impl Slots {
         self.processes.insert_reserved(process)
     }
 
-    /// Takes out the process in a slot.
+    /// Removes and returns the process in a slot.
     pub fn remove(&mut self, slot: usize) -> Slot
         requires { ContainsKey self.old.processes slot }
         ensures value { get self.old.processes slot ≡ Some result }
@@ -107,14 +107,14 @@ impl Slots {
         self.processes.remove(slot)
     }
 
-    /// How many processes there are. No slot is read.
+    /// Returns the number of processes. Reads no slot.
     pub fn len(&self) -> usize
         ensures { result ≡ slab_len self.now.processes }
     {
         self.processes.len()
     }
 
-    /// How many slots were read or written, up to the greatest u128. No slot is read.
+    /// Returns how many slots were read or written, at most `u128::MAX`. Reads no slot.
     pub fn visits(&self) -> u128
         ensures { result ≡ self.now.visits }
     {

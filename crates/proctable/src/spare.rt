@@ -1,4 +1,4 @@
-//! What processes leave behind for those that are born.
+//! The memory of removed processes, for new ones.
 
 ghost use Rattle.std.specs.Prelude.{◌≡◌, ◌+◌, ◌-◌, ◌<◌, ◌≤◌, ◌++◌, ◌∷◌, [], OnOk, length, slice_get, take, vec_len, vec_capacity};
 
@@ -6,25 +6,26 @@ use signal::LazyTables;
 use std::alloc::{AllocError, Global};
 use umach::UserMem;
 
-/// The memory of a process that was taken out, where the next one that is born can be filled in.
+/// The memory of a removed process, which the next new process can reuse.
 #[derive(Drop)]
 pub struct Spare {
-    /// The place of its words.
+    /// The memory of its words.
     pub words: UserMem,
-    /// The place of its tables for signals.
+    /// The memory of its tables for signals.
     pub tables: LazyTables,
 }
 
-/// What processes have left that were taken out, until those that are born ask for it.
-/// An arena frees nothing before the machine is dropped, so the table keeps the memory of removed processes, and a
-/// child is filled in there first.
+/// The memory of removed processes, kept for new ones.
+///
+/// An arena frees nothing until the machine is dropped. So the table keeps the memory of removed processes, and a child
+/// reuses it if there is any.
 #[derive(Drop)]
 pub(crate) struct Spares {
     kept: Vec<Spare>,
 }
 
 impl Spares {
-    /// Nothing. It takes no memory.
+    /// Creates an empty stock. Allocates nothing.
     pub fn new(alloc: Global) -> Spares
         ensures { result.kept.items ≡ [] }
     {
@@ -33,7 +34,7 @@ impl Spares {
         }
     }
 
-    /// Makes room for what so many more processes leave. At an error the host has no memory for it.
+    /// Makes room for the memory of `more` more removed processes. Fails if the host has no memory for it.
     pub fn reserve(&mut self, more: usize) -> Result<(), AllocError>
         ensures room { OnOk result (vec_len self.new.kept + more ≤ vec_capacity self.new.kept) }
         ensures same { self.new.kept.items ≡ self.old.kept.items }
@@ -41,7 +42,7 @@ impl Spares {
         self.kept.reserve(more)
     }
 
-    /// Keeps what a process leaves, if there is room for it.
+    /// Keeps the memory of a removed process, if there is room for it.
     pub fn keep(&mut self, left: Spare)
         ensures room { vec_len self.old.kept < vec_capacity self.old.kept → self.new.kept.items ≡ self.old.kept.items ++ left ∷ [] }
         ensures full { vec_capacity self.old.kept ≤ vec_len self.old.kept → self.new.kept.items ≡ self.old.kept.items }
@@ -51,7 +52,7 @@ impl Spares {
         }
     }
 
-    /// Takes out what was kept last, if anything is kept.
+    /// Removes and returns what was kept last, if anything.
     pub fn take(&mut self) -> Option<Spare>
         ensures value { result ≡ slice_get self.old.kept.items (length self.old.kept.items - 1) }
         ensures rest { self.new.kept.items ≡ take (length self.old.kept.items - 1) self.old.kept.items }

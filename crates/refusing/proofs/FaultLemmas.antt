@@ -14,7 +14,7 @@ unfolding Tells
 alone zero consoles name given named why shown out h = (shown, h)
 alone (suc others) consoles name given named why shown out h = inl (shown, h)
 
--- further faults are reported after the first
+-- other faults are reported after the first
 pub behind : (others : ℕ) (consoles : Option ℕ) (name : Text) (given of_given : List ℕ) (why : TextFault) (shown : Shown) (out : List ℕ) (number : ℕ) (left_name : Text)
     (left named told : List ℕ) (next : TextFault) (first rest bytes : List ℕ) → 0 < others → IsToldOf name given of_given why shown first → ShowsLine shown number → left_name ≡ name
     → left ≡ without_line number given → IsNamed left named told → HasFault consoles named next → Tells (others - 1) consoles left_name left named next rest → out ≡ first ++ bytes

@@ -4,7 +4,7 @@ use Rattle.std.proofs.lemmas.List.{nil_from_length}
 use Rattle.text.specs.Words.{behind_word, from_word}
 use Rattle.refusing.specs.Sights.{behind_words}
 
--- behind no words nothing follows
+-- nothing follows any number of words of an empty text
 pub behind_nothing : (count : ℕ) → behind_words count [] ≡ []
 behind_nothing zero = refl
 behind_nothing (suc count) = behind_nothing count

@@ -12,17 +12,17 @@ use Rattle.text.specs.declared.fault.TextFault.{TextFault}
 use Rattle.refusing.specs.Telling.{IsToldOf, ShowsLine}
 use Rattle.refusing.specs.declared.telling.Shown.{Shown}
 
--- A text, with numbers for its names, has this fault: events, for a world of so many consoles, or a world.
+-- A text with numbers for its names has this fault: a world, or events for a world with so many consoles.
 abbrev pub HasFault : Option ℕ → List ℕ → TextFault → Type 0
 HasFault None text why = (why.reason ≢ Memory) × (world_text text ≡ Err why)
 HasFault (Some consoles) text why = (why.reason ≢ Memory) × (event_text consoles text ≡ Err why)
 
--- It has none.
+-- The text has no fault.
 abbrev pub HasNoFault : Option ℕ → List ℕ → Type 0
 HasNoFault None text = (known : World) × (world_text text ≡ Ok known)
 HasNoFault (Some consoles) text = (list : List Event) × (event_text consoles text ≡ Ok list)
 
--- lines, each ended, with an empty one for that of this number, from 1
+-- lines, each with a line feed, of which the one of this number, from 1, is emptied
 abbrev pub lines_without : ℕ → List (List ℕ) → List ℕ
 lines_without number [] = []
 lines_without number (line ∷ more) = (if number == 1 then [] else line) ++ 10 ∷ lines_without (number - 1) more
@@ -31,7 +31,7 @@ abbrev pub without_line : ℕ → List ℕ → List ℕ
 without_line number text = lines_without number (all_lines text)
 
 -- What is printed of a text in a file with this name, whose first fault this is. `given` is the text as the user wrote
--- it, and `named` has numbers for its names. At most so many further faults follow. Each is the first fault of the text
+-- it, and `named` has numbers for its names. At most so many other faults follow. Each is the first fault of the text
 -- in which the line that was shown before is empty.
 unfoldable pub Tells : ℕ → Option ℕ → Text → List ℕ → List ℕ → TextFault → List ℕ → Type 0
 Tells zero consoles name given named why out = (shown : Shown) × IsToldOf name given named why shown out

@@ -1,4 +1,4 @@
--- The parts of docs/ERRORS.md that a refusal leads to.
+-- The sections of docs/ERRORS.md that reports refer to.
 use Rattle.std.specs.Prelude.{ℕ, List, codes}
 use Rattle.refusing.specs.declared.telling.Section.{Section}
 use Rattle.refusing.specs.declared.telling.Section.TheVariants.{Header, Programs, ProgramLines, Events}

@@ -1,4 +1,4 @@
--- Words in a line, and what is seen of it.
+-- Words in a line, and what a report shows of it.
 use Rattle.std.specs.Prelude.{zero, suc, ◌≡◌, ℕ, ◌+◌, ◌-◌, ◌^◌, ◌==◌, ◌&&◌, Bool, List, [], ◌∷◌, bytes_eq, codes, drop, length, min, nat_lt, take, unwrap_or, if◌then◌else◌}
 use Rattle.std.specs.List.{slice_get}
 use Rattle.text.specs.Words.{before_comment, behind_word, from_word, line_words}
@@ -11,7 +11,7 @@ use Rattle.refusing.specs.declared.sight.Words.{Words}
 abbrev pub without_return : List ℕ → List ℕ
 without_return line = if bytes_eq (drop (length line - 1) line) (13 ∷ []) then take (length line - 1) line else line
 
--- what follows so many words
+-- what follows the first `count` words
 abbrev pub behind_words : ℕ → List ℕ → List ℕ
 behind_words zero text = text
 behind_words (suc count) text = behind_words count (behind_word text)

@@ -1,11 +1,11 @@
-//! A world and its events that may have names, and what is told where one of them is refused: which word is refused, why,
-//! and what was probably meant.
+//! Reports of a rejected world or of rejected events, which may have names: the wrong word, why it is rejected, and
+//! what to write.
 //!
-//! `Texts`: two files, and as files the texts with numbers for names (`IsInput`, `named_files`). `told` returns nothing
-//! if both are accepted; otherwise the first fault, its line as a terminal may show it, marks and words, and at most
-//! nine others, each the first if the line shown before is left out (`IsRefused`, `Tells`). What is marked depends only
-//! on both forms of the line, the reason and a place (`view_at`). If a text ends too early, the last line with words is
-//! shown.
+//! `Texts` has two files, and serves them as files with numbers for names (`IsInput`, `named_files`). `told` returns
+//! nothing if both are accepted. Otherwise it returns the first fault, with its line in a form that is safe to show,
+//! marks and a message, and at most nine others. Each of those is the first fault if the line shown before is empty
+//! (`IsRefused`, `Tells`). What is marked depends only on both forms of the line, the reason and a place (`view_at`).
+//! If a text ends too early, the last line with words is shown.
 #![tactic(auto)]
 
 mod marks;

@@ -1,4 +1,4 @@
-//! Text as a terminal may show it, and marks below it.
+//! Text in a form that is safe to show on a terminal, and marks below it.
 
 ghost use Rattle.std.specs.Prelude.{◌≡◌, ◌∷◌, ◌++◌, IfOk, OnOk};
 ghost use Rattle.std.specs.List.{list_all};
@@ -7,14 +7,15 @@ ghost use Rattle.refusing.specs.Marks.{blanks, bytes_behind as bytes_behind_of, 
 use naming::push_byte;
 use std::alloc::AllocError;
 
-/// Whether a byte goes on with a letter of several bytes.
+/// Returns true if a byte is a continuation byte of UTF-8.
 fn continues(byte: u8) -> bool
     ensures { result ≡ continues_of byte }
 {
     matches!(byte, 0x80..=0xBF)
 }
 
-/// How many bytes follow the first byte of a letter, by that byte; 0 where it begins none of several bytes.
+/// Returns how many continuation bytes follow the first byte of a character. Returns 0 if the byte begins no character
+/// of several bytes.
 fn bytes_behind(byte: u8) -> usize
     ensures { result ≡ bytes_behind_of byte }
 {
@@ -26,14 +27,14 @@ fn bytes_behind(byte: u8) -> usize
     }
 }
 
-/// Whether all bytes go on with a letter of several bytes.
+/// Returns true if all bytes are continuation bytes.
 fn all_continue(bytes: &[u8]) -> bool
     ensures { result ≡ list_all continues_of bytes.now }
 {
     bytes.iter().all(|b| continues(*b))
 }
 
-/// Whether so many bytes go on with a letter.
+/// Returns true if at least `count` bytes follow, and the first `count` of them are continuation bytes.
 fn go_on(count: usize, behind: &[u8]) -> bool
     ensures { result ≡ go_on_of count behind.now }
 {
@@ -44,14 +45,15 @@ fn go_on(count: usize, behind: &[u8]) -> bool
     all_continue(front)
 }
 
-/// Whether a letter that begins with this byte and goes on with these controls a terminal.
+/// Returns true if the character of these bytes controls a terminal: one of U+0080 to U+009F.
 fn is_control(byte: u8, behind: &[u8]) -> bool
     ensures { result ≡ is_control_of byte behind.now }
 {
     byte == 0xC2 && behind.iter().take(1).any(|b| *b < 0xA0)
 }
 
-/// How many bytes behind this one belong to its letter of several bytes; 0 where it begins none that may be shown.
+/// Returns how many of the following bytes belong to the character that this byte begins. Returns 0 if it begins no
+/// character of several bytes that is safe to show.
 fn more_of(byte: u8, behind: &[u8]) -> usize
     ensures { result ≡ more_of_letter byte behind.now }
 {
@@ -63,14 +65,15 @@ fn more_of(byte: u8, behind: &[u8]) -> usize
     }
 }
 
-/// Whether a terminal may show a byte by itself: a letter of ASCII, a blank or a tab.
+/// Returns true if a byte is shown as it is: printable ASCII, a space or a tab.
 fn is_shown(byte: u8) -> bool
     ensures { result ≡ is_shown_of byte }
 {
     matches!(byte, b'\t' | b' '..=b'~')
 }
 
-/// Adds the first byte of a letter that has so many more, or a byte by its number, as `\x1B`.
+/// Adds a byte as it is, if it is safe to show or begins a character with `more` other bytes. Otherwise adds its
+/// number, as `\x1B`.
 fn write_piece(out: &mut Vec<u8>, byte: u8, more: usize) -> Result<(), AllocError>
     ensures { OnOk result (out.new.items ≡ out.old.items ++ piece byte more) }
 {
@@ -82,7 +85,7 @@ fn write_piece(out: &mut Vec<u8>, byte: u8, more: usize) -> Result<(), AllocErro
     push_byte(out, byte)
 }
 
-/// Adds a byte, where so many belong to a letter that has begun. How many do then.
+/// Adds a byte. `more` bytes are left of a character that has begun. Returns how many are left after this one.
 fn write_byte(out: &mut Vec<u8>, more: usize, byte: u8, behind: &[u8]) -> Result<usize, AllocError>
     ensures { IfOk result (λ next. out.new.items ++ shown_from next behind.now ≡ out.old.items ++ shown_from more (byte ∷ behind.now)) }
 {
@@ -95,8 +98,8 @@ fn write_byte(out: &mut Vec<u8>, more: usize, byte: u8, behind: &[u8]) -> Result
     Ok(next)
 }
 
-/// Adds a text as a terminal may show it: a byte that is no part of a letter, or would control the terminal, is shown by
-/// its number.
+/// Adds a text in a form that is safe to show. A byte that is not part of a character, or that would control the
+/// terminal, is shown by its number.
 pub fn write_shown(out: &mut Vec<u8>, text: &[u8]) -> Result<(), AllocError>
     ensures { OnOk result (out.new.items ≡ out.old.items ++ shown text.now) }
 {
@@ -109,7 +112,7 @@ pub fn write_shown(out: &mut Vec<u8>, text: &[u8]) -> Result<(), AllocError>
     Ok(())
 }
 
-/// Adds what stands below a byte of a shown text: the mark, or this for a tab.
+/// Adds `mark` below a byte of a shown text, or `tab` if the byte is a tab; nothing if it is a continuation byte.
 fn write_column(out: &mut Vec<u8>, mark: u8, tab: u8, byte: u8) -> Result<(), AllocError>
     ensures { OnOk result (out.new.items ≡ out.old.items ++ column mark tab byte) }
 {
@@ -121,7 +124,7 @@ fn write_column(out: &mut Vec<u8>, mark: u8, tab: u8, byte: u8) -> Result<(), Al
     Ok(())
 }
 
-/// Adds what stands below a shown text.
+/// Adds the marks below a shown text.
 fn write_columns(out: &mut Vec<u8>, mark: u8, tab: u8, shown: &[u8]) -> Result<(), AllocError>
     ensures { OnOk result (out.new.items ≡ out.old.items ++ columns mark tab shown.now) }
 {
@@ -131,14 +134,14 @@ fn write_columns(out: &mut Vec<u8>, mark: u8, tab: u8, shown: &[u8]) -> Result<(
     Ok(())
 }
 
-/// Adds blanks, and tabs, as wide as a shown text.
+/// Adds spaces and tabs, as wide as a shown text.
 pub fn write_blanks(out: &mut Vec<u8>, shown: &[u8]) -> Result<(), AllocError>
     ensures { OnOk result (out.new.items ≡ out.old.items ++ blanks shown.now) }
 {
     write_columns(out, b' ', b'\t', shown)
 }
 
-/// Adds marks below a shown text; one where it is empty.
+/// Adds marks below a shown text; one mark if it is empty.
 pub fn write_marks(out: &mut Vec<u8>, shown: &[u8]) -> Result<(), AllocError>
     ensures { OnOk result (out.new.items ≡ out.old.items ++ marks shown.now) }
 {

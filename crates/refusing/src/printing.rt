@@ -1,4 +1,4 @@
-//! What is told of a refusal, as it is printed.
+//! The printed form of a report.
 
 ghost use Rattle.std.specs.Prelude.{◌≡◌, ◌++◌, IfOk, OnOk};
 ghost use Rattle.refusing.specs.Marks.{shown};
@@ -39,7 +39,7 @@ fn write_sentence(out: &mut Vec<u8>, sentence: &[u8]) -> Result<(), AllocError>
     out.extend_from_slice(b"\n")
 }
 
-/// Adds a line with its number.
+/// Adds a line of the text with its number.
 fn write_line(out: &mut Vec<u8>, number: u64, line: &[u8]) -> Result<(), AllocError>
     ensures { OnOk result (out.new.items ≡ out.old.items ++ text_line number line.now) }
 {
@@ -50,7 +50,7 @@ fn write_line(out: &mut Vec<u8>, number: u64, line: &[u8]) -> Result<(), AllocEr
     out.extend_from_slice(b"\n")
 }
 
-/// A text as a terminal may show it.
+/// Returns a text in a form that is safe to show on a terminal.
 fn shown_text(alloc: Global, text: &[u8]) -> Result<Vec<u8>, AllocError>
     ensures { IfOk result (λ v. v.items ≡ shown text.now) }
 {
@@ -59,7 +59,7 @@ fn shown_text(alloc: Global, text: &[u8]) -> Result<Vec<u8>, AllocError>
     Ok(all)
 }
 
-/// Adds what stands behind the marks.
+/// Adds the message after the marks, if it is not empty.
 fn write_behind_marks(out: &mut Vec<u8>, why: &[u8]) -> Result<(), AllocError>
     ensures { OnOk result (out.new.items ≡ out.old.items ++ behind_marks why.now) }
 {
@@ -70,7 +70,7 @@ fn write_behind_marks(out: &mut Vec<u8>, why: &[u8]) -> Result<(), AllocError>
     write_shown(out, why)
 }
 
-/// Adds the marks below a line, each in the column of what it marks, and why.
+/// Adds the marks below a line, each in the column of what it marks, and the message.
 fn write_mark_line(
     alloc: Global,
     out: &mut Vec<u8>,
@@ -91,7 +91,7 @@ fn write_mark_line(
     out.extend_from_slice(b"\n")
 }
 
-/// Adds what is told of another line, if something is.
+/// Adds the note about another line, if it is not empty.
 fn write_note(out: &mut Vec<u8>, note: &[u8]) -> Result<(), AllocError>
     ensures { OnOk result (out.new.items ≡ out.old.items ++ note_line note.now) }
 {
@@ -101,7 +101,7 @@ fn write_note(out: &mut Vec<u8>, note: &[u8]) -> Result<(), AllocError>
     write_sentence(out, note)
 }
 
-/// Adds the first lines.
+/// Adds the first lines: the name of the file, the shown line and the message.
 fn write_first(
     alloc: Global,
     out: &mut Vec<u8>,
@@ -128,7 +128,7 @@ fn write_first(
     }
 }
 
-/// What is printed of a refusal of the text in a file with this name.
+/// Returns what is printed of a rejected text, in a file with this name.
 pub fn printed(alloc: Global, name: &str, told: &Told<'_>) -> Result<Vec<u8>, AllocError>
     ensures { IfOk result (λ v. v.items ≡ printed_of name.now told.now) }
 {

@@ -1,4 +1,4 @@
-//! A line that is shown, and the words in it that are marked.
+//! The line that a report shows, and the words in it that are marked.
 
 ghost use Rattle.std.specs.Prelude.{◌≡◌, ◌≤◌, length};
 ghost use Rattle.refusing.specs.Sights.{before_missing as before_missing_of, beginning_of, behind_words as behind_words_of, marked_in, missing_in, view_of, without_return as without_return_of, words_at as words_at_of, words_len as words_len_of};
@@ -9,15 +9,16 @@ use text::{next_word, skip_separators, split_comment};
 /// The most bytes that are shown of a line that is too long.
 const MOST_SHOWN: usize = 60;
 
-/// Words of a line: the first of them, from 0, and how many they are, one at least.
+/// Consecutive words of a line, at least one.
 #[derive(Clone, Copy)]
 pub struct Words {
+    /// The place of the first word, from 0.
     pub first: usize,
-    /// How many words are behind the first.
+    /// How many words follow the first.
     pub more: usize,
 }
 
-/// A line, what stands in it before the words that are marked, and these; nothing where a word is missing.
+/// A line, the part of it before the marked words, and these words. `marked` is empty if a word is missing.
 #[derive(Clone, Copy)]
 pub struct Sight<'a> {
     pub line: &'a [u8],
@@ -25,7 +26,7 @@ pub struct Sight<'a> {
     pub marked: &'a [u8],
 }
 
-/// What follows so many words of a text.
+/// Returns what follows the first `count` words of a text; nothing if the text has fewer words.
 fn behind_words(text: &[u8], count: usize) -> &[u8]
     ensures rest { result.now ≡ behind_words_of count text.now }
     ensures within { length result.now ≤ length text.now }
@@ -65,7 +66,7 @@ fn before_missing(line: &[u8]) -> &[u8]
     }
 }
 
-/// A line without a carriage return at its end.
+/// Returns the line without a carriage return at its end.
 pub fn without_return(line: &[u8]) -> &[u8]
     ensures { result.now ≡ without_return_of line.now }
 {

@@ -1,4 +1,4 @@
-//! What is told of a text that is refused.
+//! The report of a rejected text.
 
 ghost use Rattle.std.specs.Prelude.{◌≡◌, ◌⊎◌, IfOk, IfSome, MatchOption, None};
 ghost use Rattle.judging.specs.Lines.{last_with_words as last_with_words_of};
@@ -16,19 +16,19 @@ use std::alloc::{AllocError, Global};
 use text::{Lines, Reason, TextFault};
 use wording::Prose;
 
-/// A text that is refused.
+/// A rejected text.
 #[derive(Clone, Copy)]
 pub struct Refused<'a> {
-    /// As the user wrote it.
+    /// The text as the user wrote it.
     pub given: &'a [u8],
-    /// With numbers for its names.
+    /// The text with numbers for its names.
     pub named: &'a [u8],
-    /// What is wrong with names.
+    /// The messages about its names, each on a line with its number.
     pub told: &'a [u8],
     pub fault: TextFault,
 }
 
-/// A part of docs/ERRORS.md.
+/// A section of docs/ERRORS.md.
 #[derive(Clone, Copy)]
 pub enum Section {
     Header,
@@ -38,7 +38,7 @@ pub enum Section {
 }
 
 impl Section {
-    /// The line that leads to it.
+    /// Returns the line of a report that refers to this section.
     pub fn line(self) -> &'static str
         ensures { result.now ≡ section_line self }
     {
@@ -50,7 +50,7 @@ impl Section {
         }
     }
 
-    /// The part about a line of a world.
+    /// Returns the section about a rejected line of a world.
     fn of_world(world: &World<'_>, refusal: &Refusal<'_>, line: Line<'_>) -> Section {
         let reason = refusal.reason;
         if reason == Reason::NameUnknown {
@@ -72,13 +72,13 @@ impl Section {
     }
 }
 
-/// The first thing that is wrong with the names of a line, if there is one.
+/// Returns the first message about the names of a line, if there is one.
 fn told_of<'a>(alloc: Global, told: &'a [u8], line: u64) -> Result<Option<&'a [u8]>, AllocError> {
     let begin = format!(in alloc; "jobk: line {line}: ")?;
     Ok(Lines(told).find_map(|fault| fault.strip_prefix(begin.as_bytes())))
 }
 
-/// Whether a word of a line may be one that stands for a number.
+/// Returns true if a message about the names of a line can be about the word at this place.
 fn may_be_name(line: Line<'_>, place: usize) -> bool {
     match line.first() {
         b"set" => place == 2,
@@ -87,32 +87,31 @@ fn may_be_name(line: Line<'_>, place: usize) -> bool {
     }
 }
 
-/// What is shown of a text.
+/// What a report shows of a text.
 #[derive(Clone, Copy)]
 pub enum Shown<'a> {
-    /// Nothing.
+    /// No line.
     File,
-    /// The number of its first line.
+    /// Only the number of its first line.
     FirstLine,
     /// A line with its number.
     Line(u64, Sight<'a>),
 }
 
-/// What is told of a refusal.
+/// The report of a rejected text, before it is printed.
 #[derive(Drop)]
 pub struct Told<'a> {
     pub shown: Shown<'a>,
     pub why: Vec<u8>,
     pub note: Vec<u8>,
     pub section: Section,
-    /// True if further faults of the text are reported, too. They are not if this fault may be their cause.
+    /// True if other faults of the text are reported as well. They are not if this fault may be their cause.
     pub has_others: bool,
 }
 
 impl Told<'_> {
     /// Returns the number of the line that is shown, which is then emptied to find the next fault. Returns `None` if no
-    /// line is shown, or if no further fault is reported.
-    /// `None` after a fault that causes others, such as one of the header.
+    /// line is shown, or if this fault may be the cause of others, as in the header.
     pub fn left_out(&self) -> Option<u64>
         ensures { IfSome result (ShowsLine self.now.shown) }
     {
@@ -123,7 +122,7 @@ impl Told<'_> {
     }
 }
 
-/// What is told of a file that is no text.
+/// Returns the report of a file that is not text.
 fn told_of_file<'a>(alloc: Global, what: &str, section: Section) -> Result<Told<'a>, AllocError>
     ensures { IfOk result (λ told. told.shown ≡ Shown.FirstLine) }
 {
@@ -173,7 +172,7 @@ fn line_or_empty(text: &[u8], number: u64) -> &[u8]
     line_at(text, number).unwrap_or(&[])
 }
 
-/// Why a word of a line is refused: what is wrong with its name, or with the word.
+/// Returns the message about a word of a line: about its name, if there is such a message; otherwise about the word.
 fn why_of(
     alloc: Global,
     refused: &Refused<'_>,
@@ -195,7 +194,7 @@ fn why_of(
     why.finish()
 }
 
-/// What is wrong with a text whose first line is refused and shows that it is none.
+/// Returns the message about a file that is not text, if its first line is rejected and shows that.
 fn no_text_of(refused: &Refused<'_>) -> Option<&'static str>
     ensures { IfSome result (λ _. refused.now.fault.line ≡ 1) }
 {
@@ -221,7 +220,7 @@ fn number_of(refused: &Refused<'_>, mistake: u64) -> Option<u64>
     }
 }
 
-/// Returns what is reported of the fault of an event text.
+/// Returns the report of a fault of events.
 #[tactic(auto, using(crate::proofs::TellingLemmas::own_line))]
 pub fn told_of_events<'a>(
     alloc: Global,
@@ -282,7 +281,7 @@ fn mistake_in<'a>(
     })
 }
 
-/// What is told of another line.
+/// Returns the note about another line. It is empty if there is none.
 fn note_of(alloc: Global, note: Option<Note<'_>>) -> Result<Vec<u8>, AllocError> {
     let mut told = Prose::new(alloc);
     match note {
@@ -294,16 +293,16 @@ fn note_of(alloc: Global, note: Option<Note<'_>>) -> Result<Vec<u8>, AllocError>
             },
         ) => {
             told.push_with("line ", line);
-            told.push_word(" is right: it names ", name);
+            told.push_word(" is correct: it uses ", name);
             if let Some(defined) = defined {
-                told.push_with(", and line ", defined);
-                told.push_str(" defines that");
+                told.push_with(", which line ", defined);
+                told.push_str(" defines");
             }
-            told.push_str(", but below a refused line nothing counts as defined");
+            told.push_str(", but definitions are ignored from the rejected line on");
         }
         Some(Note::RefusedToo(line)) => {
             told.push_with("line ", line);
-            told.push_str(" is refused, too");
+            told.push_str(" is rejected as well");
         }
         None => {}
     }
@@ -311,7 +310,7 @@ fn note_of(alloc: Global, note: Option<Note<'_>>) -> Result<Vec<u8>, AllocError>
 }
 
 /// Returns true if the mistake is in a program line, and this line can't be the definition that another line lacks.
-/// Such a definition may be the cause of further faults.
+/// Such a definition may be the cause of other faults.
 fn has_others(fault: TextFault, mistake: &Mistake<'_>, section: Section) -> bool {
     let is_own = fault.reason != Reason::NameUnknown || mistake.line == fault.line;
     let is_between = matches!(
@@ -324,7 +323,7 @@ fn has_others(fault: TextFault, mistake: &Mistake<'_>, section: Section) -> bool
     matches!(section, Section::ProgramLines) && (is_own || is_between)
 }
 
-/// Returns what is reported of the fault of a world.
+/// Returns the report of a fault of a world.
 pub fn told_of_world<'a>(alloc: Global, refused: &Refused<'a>) -> Result<Told<'a>, AllocError>
     ensures { IfOk result (λ told. IsShownOf refused.now.fault refused.now.given.now refused.now.named.now told.shown) }
 {

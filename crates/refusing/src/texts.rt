@@ -1,4 +1,4 @@
-//! A world and its events that may have names, and what is told where one of them is refused.
+//! A world and its events, which may have names, and the report if one of them is rejected.
 
 ghost use Rattle.std.specs.Prelude.{◌≡◌, ◌≢◌, ◌⊎◌, IfErr, IfOk, IfSome, MatchOption};
 ghost use Rattle.text.specs.declared.fault.Reason.TheVariants.{Memory};
@@ -15,10 +15,10 @@ use naming::{Named, name_text};
 use std::alloc::{AllocError, Global};
 use text::{TextFault, next_line, read_events, read_world};
 
-/// So many faults behind the first are told at most.
+/// The largest number of faults that are reported after the first.
 const OTHERS: u8 = 9;
 
-/// A text that a file holds, and the one with numbers for its names.
+/// The text of a file, and the same text with numbers for its names.
 #[derive(Drop)]
 pub struct Input<'a> {
     /// The name of the file.
@@ -28,7 +28,7 @@ pub struct Input<'a> {
 }
 
 impl<'a> Input<'a> {
-    /// Reads a file.
+    /// Reads a file, and makes its text with numbers for names.
     fn read<F: ReadFiles>(
         alloc: Global,
         files: &F,
@@ -43,7 +43,7 @@ impl<'a> Input<'a> {
         Ok(Input { name, given, named })
     }
 
-    /// Reads a file, or another one where the first can't be read.
+    /// Reads a file, or `other` if it can't be read. If neither can be read, the error names the first.
     fn read_either<F: ReadFiles>(
         alloc: Global,
         files: &F,
@@ -65,7 +65,7 @@ impl<'a> Input<'a> {
         }
     }
 
-    /// A copy of the text with numbers for its names.
+    /// Returns a copy of the text with numbers for its names.
     fn copy_named<'n>(&self, alloc: Global) -> Result<Vec<u8>, ReadFault<'n>>
         ensures ok { IfOk result (λ copy. copy.items ≡ self.now.named.text.items) }
         ensures err { IfErr result (λ why. why ≡ ReadFault.Memory) }
@@ -73,8 +73,9 @@ impl<'a> Input<'a> {
         Vec::from_slice(alloc, self.named.text.as_slice()).map_err(|_| ReadFault::Memory)
     }
 
-    /// Returns what is reported of this first fault, and the number of the line to empty for the next one, if one is
-    /// reported. The text is of events for a world of so many consoles, or of a world if that is `None`.
+    /// Returns the report of this fault, the first of the text, and the number of the line to empty before the next
+    /// fault is looked for, if it is. `consoles` is that of the world if the text has events, and `None` if it is a
+    /// world.
     fn told_first(
         &self,
         alloc: Global,
@@ -96,7 +97,7 @@ impl<'a> Input<'a> {
         Ok((printed(alloc, self.name, &told)?, told.left_out()))
     }
 
-    /// The text with an empty line for one of its lines.
+    /// Returns the text with the line of this number emptied.
     fn without(&self, alloc: Global, number: u64) -> Result<Input<'a>, AllocError>
         ensures name { IfOk result (λ i. i.name.now ≡ self.now.name.now) }
         ensures given { IfOk result (λ i. i.given.items ≡ without_line_of number self.now.given.items) }
@@ -111,8 +112,8 @@ impl<'a> Input<'a> {
         })
     }
 
-    /// Returns what is reported of the text, whose first fault this is. At most so many further faults follow, each
-    /// found after the line that was shown before is emptied.
+    /// Returns the report of the text, whose first fault this is. At most `others` more faults follow, each found
+    /// after the line that was shown before is emptied.
     fn told(
         &self,
         alloc: Global,
@@ -139,7 +140,7 @@ impl<'a> Input<'a> {
     }
 }
 
-/// The first fault of a world, or of events for a world of so many consoles, if it has one.
+/// Returns the first fault of a world or, if `consoles` is given, of events for a world with so many consoles.
 fn fault_of(
     alloc: Global,
     consoles: Option<u8>,
@@ -157,7 +158,7 @@ fn fault_of(
     }
 }
 
-/// A text with an empty line for the one with this number, from 1.
+/// Returns a text with the line of this number, from 1, emptied. Each line of the result ends with a line feed.
 fn without_line(alloc: Global, text: &[u8], number: u64) -> Result<Vec<u8>, AllocError>
     ensures { IfOk result (λ v. v.items ≡ without_line_of number text.now) }
 {
@@ -175,14 +176,14 @@ fn without_line(alloc: Global, text: &[u8], number: u64) -> Result<Vec<u8>, Allo
     Ok(all)
 }
 
-/// A fault, but for want of memory.
+/// Returns the fault, or an error if its reason is that memory ran out.
 fn own_fault(fault: TextFault) -> Result<TextFault, AllocError>
     ensures { IfOk result (λ own. (own ≡ fault) × (fault.reason ≢ Memory)) }
 {
     fault.unless_memory(Ok(fault), Err(AllocError))
 }
 
-/// A world and its events. With numbers for their names they are the files `world` and `events`, and no others are there.
+/// A world and its events. With numbers for names, they are the files `world` and `events`, and there are no others.
 #[derive(Drop)]
 pub struct Texts<'a> {
     alloc: Global,
@@ -205,7 +206,7 @@ impl ReadFiles for Texts<'_> {
 }
 
 impl<'a> Texts<'a> {
-    /// Reads a world, which is in the first or else in the second of two files, and then its events.
+    /// Reads a world from the first of two files, or from the second if the first can't be read, and then its events.
     pub fn read<F: ReadFiles>(
         alloc: Global,
         files: &F,
@@ -225,8 +226,8 @@ impl<'a> Texts<'a> {
         })
     }
 
-    /// What is told of the world or of the events: which words are refused, why, and what was probably meant. None where
-    /// neither is refused.
+    /// Returns the report of the world or, if that is accepted, of the events: which words are rejected, why, and what
+    /// to write. Returns `None` if both are accepted.
     pub fn told(&self) -> Result<Option<Vec<u8>>, AllocError>
         ensures { IfOk result (λ told. MatchOption told (AreAccepted (input_of self.now.world) (input_of self.now.events))
             (λ out. IsRefused (input_of self.now.world) (input_of self.now.events) out.items)) }

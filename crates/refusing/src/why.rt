@@ -1,4 +1,4 @@
-//! Why a word is refused, and what it may be.
+//! Messages: why a word is rejected, and what to write.
 
 use crate::why_events::{put_many_consoles, put_no_byte, put_no_console, put_no_event};
 use crate::why_instructions::{
@@ -11,45 +11,46 @@ use crate::why_words::{
 use judging::{Definition, Fault, Line, NameUse, Named, Number, Refusal, World, oddity};
 use wording::Prose;
 
-/// A line that is refused, and what is known around it.
+/// A rejected line, and what is known about it.
 #[derive(Clone, Copy)]
 pub struct Seen<'a, 'w> {
     /// The text, with numbers for its names.
     pub text: &'a [u8],
-    /// The line in it, and as the user wrote it.
+    /// The line of that text.
     pub line: &'a [u8],
+    /// The line as the user wrote it.
     pub given: &'a [u8],
-    /// What the world defines, where the text is one.
+    /// What the world defines, if the text is a world.
     pub world: Option<&'w World<'a>>,
 }
 
 /// Adds that a number is missing.
 fn put_missing(why: &mut Prose, number: Number) {
     let words = match number {
-        Number::KeyConsole(_) => "the console is missing, and a byte: key 1 0A",
-        Number::HangupConsole(_) => "the console is missing: hangup 1",
-        Number::Id => "an id is missing, ",
-        Number::Pidmax | Number::Consoles | Number::Count => "a number is missing, ",
+        Number::KeyConsole(_) => "expected a console and at least one byte: key 1 0A",
+        Number::HangupConsole(_) => "expected a console: hangup 1",
+        Number::Id => "expected an ID from ",
+        Number::Pidmax | Number::Consoles | Number::Count => "expected a number from ",
     };
     put_range(why, words, number);
 }
 
-/// Adds which numbers may stand at the place of this one.
+/// Adds which numbers are allowed in this place.
 fn put_out_of_range(why: &mut Prose, line: Line<'_>, word: &[u8], number: Number) {
     match number {
         Number::KeyConsole(consoles) | Number::HangupConsole(consoles) => {
             put_no_console(why, line, consoles);
         }
-        Number::Id => put_range(why, "an id is ", number),
+        Number::Id => put_range(why, "expected an ID from ", number),
         Number::Pidmax | Number::Consoles => {
             why.push_bytes(line.first());
-            put_range(why, " is ", number);
+            put_range(why, " must be from ", number);
         }
         Number::Count => {
             why.push_bytes(line.first());
-            put_range(why, " has ", number);
+            put_range(why, " count must be from ", number);
             if !word.iter().all(|b| matches!(b, b'0' | b'-')) {
-                why.push_str("; write several lines for more");
+                why.push_str("; repeat the line for more");
             }
         }
     }
@@ -57,48 +58,48 @@ fn put_out_of_range(why: &mut Prose, line: Line<'_>, word: &[u8], number: Number
 
 /// Adds that a name is defined twice.
 fn put_twice(why: &mut Prose, named: Named, line: u64) {
-    why.push_with("line ", line);
+    why.push_with("already defined in line ", line);
     why.push_str(match named {
-        Named::Label => " has this label; choose another",
-        Named::Program => " has a program of this name; choose another",
+        Named::Label => "; choose another label",
+        Named::Program => "; choose another program name",
     });
 }
 
-/// Adds a program, and the line in which it begins.
+/// Adds that a program has no `end`, and the line in which it begins.
 fn put_program(why: &mut Prose, before: &str, program: Definition<'_>) {
     why.push_word(before, program.name);
-    why.push_with(", of line ", program.line);
-    why.push_str(", whose end is missing");
+    why.push_with(" (line ", program.line);
+    why.push_str(") has no end");
 }
 
 /// Adds that a line has too many bytes.
 fn put_long_line(why: &mut Prose, line: &[u8]) {
-    why.push_with("this line has ", line.len() as u64);
-    why.push_str(" bytes; a line has at most 200, its comment too");
+    why.push_with("expected at most 200 bytes, found ", line.len() as u64);
+    why.push_str("; the comment counts");
 }
 
-/// What is told where a value is missing.
+/// Returns the message for a missing value of `set`.
 fn no_value_at_all(given: &[u8]) -> &'static str {
     if given.contains(&b'#') {
-        "a number is missing; from # on the line is a comment"
+        "expected a number, found a comment; # begins a comment"
     } else {
-        "a number is missing"
+        "expected a number, @LABEL or $PROGRAM"
     }
 }
 
-/// Adds that nothing names a name that is defined, where another one is used.
+/// Adds that a defined name is never used, and that another one is.
 fn put_unused(why: &mut Prose, is: Definition<'_>, used: NameUse<'_>) {
-    why.push_word("nothing names ", is.name);
+    why.push_word("nothing uses ", is.name);
     why.push_with("; line ", used.line);
-    why.push_word(" names ", used.name);
+    why.push_word(" uses ", used.name);
 }
 
-/// Adds which programs of others have a label.
+/// Adds where other programs define a label. Returns true if one does.
 fn put_elsewhere(why: &mut Prose, world: &World<'_>, name: &[u8]) -> bool {
     let mut is_there = false;
     for label in world.labels.iter().filter(|label| label.is.name == name) {
-        why.push_with("; that of line ", label.is.line);
-        why.push_str(" is of another program");
+        why.push_with("; the label in line ", label.is.line);
+        why.push_str(" belongs to another program");
         is_there = true;
     }
     is_there
@@ -109,7 +110,7 @@ fn put_programs(why: &mut Prose, world: &World<'_>) {
     let count = world.programs.len();
     for (place, program) in world.programs.iter().enumerate() {
         let before = if place == 0 {
-            "; this world has "
+            "; this world defines "
         } else if place + 1 == count {
             " and "
         } else {
@@ -119,7 +120,7 @@ fn put_programs(why: &mut Prose, world: &World<'_>) {
     }
 }
 
-/// Adds that nothing defines a name, and which one is meant.
+/// Adds that a name is not defined, and which one was probably intended.
 fn put_unknown(
     why: &mut Prose,
     world: &World<'_>,
@@ -134,42 +135,42 @@ fn put_unknown(
             };
             why.push_around("program ", program, " has no label ");
         }
-        Named::Program => why.push_str("no program has the name "),
+        Named::Program => why.push_str("unknown program "),
     }
     why.push_bytes(used.name);
     match (near, used.named) {
         (Some(near), _) => {
             why.push_word("; did you mean ", near.name);
-            why.push_with(", of line ", near.line);
-            why.push_str("?");
+            why.push_with(" (line ", near.line);
+            why.push_str(")?");
         }
         (None, Named::Label) if put_elsewhere(why, world, used.name) => {}
-        (None, Named::Label) => why.push_around("; a line ", used.name, ": is one"),
+        (None, Named::Label) => why.push_around("; define it with the line ", used.name, ":"),
         (None, Named::Program) => put_programs(why, world),
     }
 }
 
-/// What is told of a fault, where it is the same whatever the words are.
+/// Returns the message for a fault, if it does not depend on the words.
 fn words_of(fault: Fault<'_>) -> Option<&'static str> {
     match fault {
-        Fault::EndNotAlone => Some("end stands alone on its line"),
-        Fault::LabelNotAlone => Some("a label stands alone on its line"),
-        Fault::ManyPrograms => Some("a world has at most 32 programs"),
-        Fault::ManyInstructions => Some("a program has at most 1,000 instructions; use a loop"),
-        Fault::ManyEvents => Some("a list has at most 1,000,000,000,000 events"),
+        Fault::EndNotAlone => Some("expected nothing after end"),
+        Fault::LabelNotAlone => Some("expected a new line after the label"),
+        Fault::ManyPrograms => Some("expected at most 32 programs"),
+        Fault::ManyInstructions => Some(
+            "expected at most 1,000 instructions in a program; use a loop",
+        ),
+        Fault::ManyEvents => Some("expected at most 1,000,000,000,000 events"),
         Fault::HeaderEnds => Some(HEADER_ENDS),
         Fault::NoPrograms => Some(NO_PROGRAMS),
         _ => None,
     }
 }
 
-const HEADER_ENDS: &str =
-    "the text ends here; a world begins with pidmax N, consoles N and a program";
+const HEADER_ENDS: &str = "unexpected end of file; expected pidmax N, consoles N and a program";
 
-const NO_PROGRAMS: &str =
-    "behind the header at least one program follows: program NAME, its lines, end";
+const NO_PROGRAMS: &str = "expected a program after the header: program NAME, its lines, end";
 
-/// Adds why a word is refused that is none of those which may stand at its place.
+/// Adds why a word is not one of those allowed in its place.
 fn put_other(why: &mut Prose, seen: &Seen<'_, '_>, refusal: &Refusal<'_>) {
     let line = Line::new(seen.line);
     let word = line.word(refusal.place);
@@ -194,7 +195,7 @@ fn put_other(why: &mut Prose, seen: &Seen<'_, '_>, refusal: &Refusal<'_>) {
     }
 }
 
-/// Adds why a word is refused; nothing where that isn't known.
+/// Adds why a word is rejected; nothing if that isn't known.
 pub fn put_why(why: &mut Prose, seen: &Seen<'_, '_>, refusal: &Refusal<'_>) {
     if let Some(words) = words_of(refusal.fault) {
         return why.push_str(words);
@@ -206,15 +207,27 @@ pub fn put_why(why: &mut Prose, seen: &Seen<'_, '_>, refusal: &Refusal<'_>) {
         Fault::LongLine => put_long_line(why, seen.line),
         Fault::Missing(number) => put_missing(why, number),
         Fault::OutOfRange(number) => put_out_of_range(why, line, word, number),
-        Fault::Within(program) => put_program(why, "this is within program ", program),
+        Fault::Within(program) => put_program(why, "expected end first; program ", program),
         Fault::NoMarkedName(named) => put_no_name(why, behind_mark(word), named),
         Fault::Twice(named, line) => put_twice(why, named, line),
         Fault::NoValue => why.push_str(no_value_at_all(seen.given)),
         Fault::MarkedNumber => put_marked_number(why, word),
         Fault::WideValue => put_wide_value(why, word),
-        Fault::ByteMissing => why.push_around("a byte is missing: key ", line.word(1), " 0A"),
-        Fault::ProgramEnds(program) => put_program(why, "the text ends within program ", program),
-        Fault::LabelWritten(name) => why.push_around("a label is written ", name, ":"),
+        Fault::ByteMissing => why.push_around(
+            "expected at least one byte: key ",
+            line.word(1),
+            " 0A",
+        ),
+        Fault::ProgramEnds(program) => put_program(
+            why,
+            "unexpected end of file; program ",
+            program,
+        ),
+        Fault::LabelWritten(name) => why.push_around(
+            "expected a label definition; write ",
+            name,
+            ":",
+        ),
         Fault::Unused(is, used) => put_unused(why, is, used),
         Fault::Unknown(used, near) => {
             if let Some(world) = seen.world {

@@ -1,4 +1,4 @@
-//! Why a word is no instruction, no operand and no call.
+//! Messages about words that are not instructions, operands or calls.
 
 use crate::why_words::{put_no_digits, put_no_name};
 use judging::{
@@ -10,7 +10,7 @@ use std::alloc::{AllocError, Global};
 use text::is_name;
 use wording::{Prose, meant, named};
 
-/// Whether a word goes on behind a label, as `loop:note`.
+/// Returns true if a word continues after a label, as in `loop:note`.
 fn goes_on(word: &[u8]) -> bool {
     let Some(colon) = word.iter().position(|b| *b == b':') else {
         return false;
@@ -18,31 +18,27 @@ fn goes_on(word: &[u8]) -> bool {
     is_long_name(&word[..colon]) && matches!(&word[colon..], [_, next, ..] if *next != b':')
 }
 
-/// Adds why a word begins no line within a program.
+/// Adds why the first word of a line cannot begin a line within a program.
 pub fn put_no_instruction(why: &mut Prose, line: Line<'_>) {
     let word = line.first();
     let small = lower(word);
     if line.word(1) == b":".as_slice() {
-        why.push_around(
-            "the colon of a label stands right behind its name: ",
-            word,
-            ":",
-        );
+        why.push_around("unexpected space before the colon: ", word, ":");
     } else if let [name @ .., b':'] = word {
         put_no_name(why, name, Named::Label);
     } else if goes_on(word) {
-        why.push_str("a label ends with its colon, and stands alone on its line");
+        why.push_str("expected a new line after the label");
     } else if is_instruction(small.as_slice()) || is_listed("end program", small.as_slice()) {
-        why.push_word("small letters: ", small.as_slice());
+        why.push_word("expected lower case: ", small.as_slice());
     } else if is_call(word) {
-        why.push_word("a call begins with sys: sys ", word);
+        why.push_word("expected sys before a system call: sys ", word);
     } else {
-        why.push_str("no instruction has this name");
+        why.push_str("unknown instruction");
         put_other_instruction(why, line);
     }
 }
 
-/// Adds which instruction, call or label may be meant by the first word of a line.
+/// Adds which instruction or call to use for the first word of a line, or that a label needs a colon.
 fn put_other_instruction(why: &mut Prose, line: Line<'_>) {
     let word = line.first();
     let alloc = why.alloc();
@@ -59,7 +55,7 @@ fn put_other_instruction(why: &mut Prose, line: Line<'_>) {
     }
 }
 
-/// The first word of a line within a program that is nearest to one.
+/// Returns the nearest to the first word of a line, of instructions, `end` and, if the line has more words, `program`.
 fn nearest_first(alloc: Global, line: Line<'_>) -> Result<Option<&'static [u8]>, AllocError> {
     let word = line.first();
     match nearest_instruction(alloc, word) {
@@ -68,87 +64,97 @@ fn nearest_first(alloc: Global, line: Line<'_>) -> Result<Option<&'static [u8]>,
     }
 }
 
-/// Adds why a word is no register.
+/// Adds why a word is not a register.
 pub fn put_no_register(why: &mut Prose, line: Line<'_>, word: &[u8]) {
     let small = lower(word);
     if is_number(word) {
-        why.push_str("a register stands here; set puts a number into one");
+        why.push_str("expected a register, found a number; set loads a number");
         if line.first() == b"mov".as_slice() && line.word(2) == word {
             why.push_around(": set ", line.word(1), ", ");
             why.push_bytes(word);
         }
     } else if is_register(small.as_slice()) {
-        why.push_word("registers have a small r: ", small.as_slice());
+        why.push_word("expected lower case: ", small.as_slice());
     } else {
         why.push_str(match word {
-            [] => "a register is missing, r0 to r7",
-            [b'[' | b'(', .., b']' | b')'] => "a register stands here, without brackets",
+            [] => "expected a register, r0 to r7",
+            [b'[' | b'(', .., b']' | b')'] => "expected a register without brackets",
             [first, ..] if is_name(word) && *first != b'r' => {
-                "a register stands here, r0 to r7, and then the name"
+                "expected a register, r0 to r7, found a name"
             }
-            _ => "the registers are r0 to r7",
+            _ => "expected a register, r0 to r7",
         });
     }
 }
 
-/// Adds why a word is no value of a `set`, in the program that begins in this line of a text.
+/// Adds why a word is not a value of `set`, in the program that begins in line `program` of a text.
 pub fn put_no_value(why: &mut Prose, text: &[u8], line: Line<'_>, program: u64) {
     let word = line.word(2);
     let capitals = upper(word);
     if is_register(word) {
-        why.push_around("mov copies a register: mov ", line.word(1), ", ");
+        why.push_around(
+            "expected a number, found a register; use mov ",
+            line.word(1),
+            ", ",
+        );
         why.push_bytes(word);
     } else if is_name(word) && label_line(text, word, program).is_some() {
-        why.push_word("the address of a label is written @", word);
+        why.push_word(
+            "expected a number, found a label; for its address, write @",
+            word,
+        );
     } else if is_name(word) && program_line(text, word).is_some() {
-        why.push_word("the number of a program is written $", word);
+        why.push_word(
+            "expected a number, found a program; for its number, write $",
+            word,
+        );
     } else if named(capitals.as_slice()).is_some() {
         why.push_around("did you mean ", capitals.as_slice(), "?");
     } else if !put_no_digits(why, word) {
-        why.push_str("a number, @LABEL or $PROGRAM stands here");
+        why.push_str("expected a number, @LABEL or $PROGRAM");
         let name = meant(why.alloc(), capitals.as_slice());
         why.push_meant(name);
     }
 }
 
-/// Adds why a word is no call.
+/// Adds why a word is not the name of a call.
 pub fn put_no_call(why: &mut Prose, word: &[u8]) {
     let small = lower(word);
     if word.is_empty() {
-        why.push_str("the name of a call is missing");
+        why.push_str("expected a system call");
     } else if is_call(small.as_slice()) {
-        why.push_word("small letters: ", small.as_slice());
+        why.push_word("expected lower case: ", small.as_slice());
     } else if let Some(what) = other_call(word) {
-        why.push_word("no call has this name; use ", what.as_bytes());
+        why.push_word("unknown system call; use ", what.as_bytes());
     } else {
-        why.push_str("no call has this name");
+        why.push_str("unknown system call");
         let name = nearest_call(why.alloc(), word);
         why.push_meant(name);
     }
 }
 
-/// The words that begin lines of worlds and of events, but for instructions.
+/// Words, besides instructions, that begin lines of worlds and events.
 const FIRST_WORDS: &str = "step tick key hangup consoles program end";
 
-/// Adds why a word is one too many, at the place behind the last one that its line may have.
+/// Adds why the line must end before the word at this place.
 pub fn put_too_many(why: &mut Prose, line: Line<'_>, place: usize) {
     let word = line.word(place);
     let first = line.first();
     let last = line.word(place.saturating_sub(1));
     if is_instruction(word) || is_listed(FIRST_WORDS, word) {
-        return why.push_around("", word, " begins a line of its own");
+        return why.push_around("expected a new line before ", word, "");
     }
     match operands_of(first) {
         Some(Operands::Call) => {
-            why.push_str("a call has no operands: its arguments stand in registers, r1 first");
+            why.push_str("unexpected operand; arguments are passed in registers, from r1");
         }
         Some(Operands::Registers) => {
-            why.push_around("", first, " has two operands, the first takes the result");
+            why.push_around("unexpected operand; ", first, " takes two registers");
         }
         _ if is_number(word) && is_number(last) => {
-            why.push_word("a comma separates words: ", last);
+            why.push_word("unexpected comma in a number: ", last);
             why.push_bytes(word);
         }
-        _ => why.push_str("this is a word too many"),
+        _ => why.push_str("expected the end of the line"),
     }
 }

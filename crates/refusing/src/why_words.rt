@@ -1,16 +1,16 @@
-//! Why a word is no name, no number, and none of the header's and the programs' lines.
+//! Messages about words that are not names or numbers, and about lines of the header and lines `program`.
 
 use judging::{Line, Named, Number, is_listed, is_long_name, is_number, lower, nearest_in, oddity};
 use text::{are_digits, is_name};
 use wording::Prose;
 
-/// Adds which word of a list is meant by a word, if one is near.
+/// Adds which word of a list was probably intended, if one is near.
 pub fn put_nearest(why: &mut Prose, word: &[u8], list: &'static str) {
     let near = nearest_in(why.alloc(), word, list);
     why.push_meant(near);
 }
 
-/// Adds words, and which numbers may stand at the place of this one, but for the number of a console.
+/// Adds words and, unless the number is that of a console, the range of numbers allowed in this place.
 pub fn put_range(why: &mut Prose, words: &str, number: Number) {
     why.push_str(words);
     if !matches!(number, Number::KeyConsole(_) | Number::HangupConsole(_)) {
@@ -20,7 +20,7 @@ pub fn put_range(why: &mut Prose, words: &str, number: Number) {
     }
 }
 
-/// What a name is of.
+/// Returns the word for a label or a program.
 fn text_of(named: Named) -> &'static str {
     match named {
         Named::Label => "label",
@@ -28,12 +28,12 @@ fn text_of(named: Named) -> &'static str {
     }
 }
 
-/// Whether a word stands between quotes.
+/// Returns true if a word begins and ends with a quotation mark.
 fn is_quoted(word: &[u8]) -> bool {
     matches!(word, [b'"' | b'\'', .., b'"' | b'\''])
 }
 
-/// Whether a word is a name with a colon behind it.
+/// Returns true if a word is a name and a colon.
 fn is_label(word: &[u8]) -> bool {
     match word {
         [name @ .., b':'] => is_name(name),
@@ -41,63 +41,63 @@ fn is_label(word: &[u8]) -> bool {
     }
 }
 
-/// Adds why a word is no name.
+/// Adds why a word is not a name.
 pub fn put_no_name(why: &mut Prose, word: &[u8], named: Named) {
     let small = lower(word);
     if let Some(what) = oddity(word) {
         why.push_str(what);
     } else if is_quoted(word) {
-        why.push_str("a name has no quotes");
+        why.push_str("expected a name without quotes");
     } else if is_label(word) {
-        why.push_str("only a label has a colon, where it stands");
+        why.push_str("unexpected colon; only the definition of a label has one");
     } else if is_name(small.as_slice()) {
-        why.push_word("names have small letters: ", small.as_slice());
+        why.push_word("expected lower case: ", small.as_slice());
     } else if is_long_name(word) {
-        why.push_with(
-            "a name has at most 16 letters; this one has ",
-            word.len() as u64,
-        );
+        why.push_with("expected at most 16 characters, found ", word.len() as u64);
     } else {
         put_no_letter(why, word, named);
     }
 }
 
-/// Adds why a word is no name that is empty, doesn't begin with a small letter, or has other letters.
+/// Adds why a word is not a name, if it is empty, begins with no lower-case letter, or has characters that names lack.
 fn put_no_letter(why: &mut Prose, word: &[u8], named: Named) {
     let behind = match word {
-        [] => " is missing",
-        _ if is_number(word) => " stands here, and no number",
-        [b'@', ..] => " stands here, without @",
-        [b'$', ..] => " stands here, without $",
-        [b'a'..=b'z', ..] => return why.push_str("a name has small letters, digits and _"),
-        _ => return why.push_str("a name begins with a small letter"),
+        [] => "",
+        _ if is_number(word) => ", found a number",
+        [b'@', ..] => " without @",
+        [b'$', ..] => " without $",
+        [b'a'..=b'z', ..] => return why.push_str(
+            "expected only lower-case letters, digits and _ in a name",
+        ),
+        _ => return why.push_str("expected a lower-case letter at the start of a name"),
     };
-    why.push_around("the name of a ", text_of(named).as_bytes(), behind);
+    why.push_around("expected the name of a ", text_of(named).as_bytes(), behind);
 }
 
-/// What stands behind `@` or `$`.
+/// Returns what follows the `@` or `$` of a word.
 pub fn behind_mark(word: &[u8]) -> &[u8] {
     word.get(1..).unwrap_or(&[])
 }
 
-/// Adds that a number has no `@` or `$`.
+/// Adds that a number has no `@` or `$` before it.
 pub fn put_marked_number(why: &mut Prose, word: &[u8]) {
     match word {
-        [b'@', number @ ..] => why.push_word("a number has no @: ", number),
-        [_, number @ ..] => why.push_word("a number has no $: ", number),
+        [b'@', number @ ..] => why.push_word("expected a number without @: ", number),
+        [_, number @ ..] => why.push_word("expected a number without $: ", number),
         [] => {}
     }
 }
 
-/// Adds that a number doesn't fit 64 bits.
+/// Adds that a number doesn't fit in 64 bits with a sign.
 pub fn put_wide_value(why: &mut Prose, word: &[u8]) {
     why.push_str(match word {
-        b"18446744073709551615" => "numbers have a sign; -1 has all 64 bits",
-        _ => "a number is -9223372036854775808 to 9223372036854775807",
+        b"18446744073709551615" => "expected a signed 64-bit number; for all bits set, write -1",
+        _ => "expected a number from -9223372036854775808 to 9223372036854775807",
     });
 }
 
-/// A word without the digits at its front, of which there is one at least; a minus may stand before them.
+/// Returns what follows the digits at the front of a word, which a minus may precede. Returns `None` if the word has no
+/// digits there, or nothing after them.
 fn behind_digits(word: &[u8]) -> Option<&[u8]> {
     let digits = match word {
         [b'-', digits @ ..] => digits,
@@ -107,7 +107,7 @@ fn behind_digits(word: &[u8]) -> Option<&[u8]> {
     if end == 0 { None } else { Some(&digits[end..]) }
 }
 
-/// Whether a word is a number with letters behind it, but not one to base 16.
+/// Returns true if a word is a number with a unit, as in `10ms`. The unit does not begin with `x`, as in `0x10`.
 fn has_unit(word: &[u8]) -> bool {
     match behind_digits(word) {
         Some([first, rest @ ..]) => {
@@ -119,7 +119,7 @@ fn has_unit(word: &[u8]) -> bool {
     }
 }
 
-/// The number of a word to base 16 of at most 11 digits behind `0x`.
+/// Returns the number that a word has in hexadecimal, with at most 11 digits after `0x`.
 fn hexadecimal(word: &[u8]) -> Option<u64> {
     let [b'0', b'x' | b'X', digits @ ..] = word else {
         return None;
@@ -135,19 +135,22 @@ fn hexadecimal(word: &[u8]) -> Option<u64> {
     Some(sum)
 }
 
-/// Adds why a word is no number, whatever its range is. Whether something is told.
+/// Adds why a word is not a number, if that does not depend on the range. Returns true if it has added something.
 pub fn put_no_digits(why: &mut Prose, word: &[u8]) -> bool {
     if has_unit(word) {
-        why.push_str("a number has digits alone, and no unit");
+        why.push_str("expected a number without a unit");
     } else if let Some(number) = hexadecimal(word) {
-        why.push_with("numbers are decimal: ", number);
+        why.push_with("expected a decimal number: ", number);
     } else {
         match word {
             [b'+', digits @ ..] if are_digits(digits) => {
-                why.push_word("no + stands before a number: ", digits);
+                why.push_word("expected a number without +: ", digits);
             }
             [b'\'', byte, b'\''] => {
-                why.push_with("a byte is written as its number: ", u64::from(*byte));
+                why.push_with(
+                    "expected a number instead of a character: ",
+                    u64::from(*byte),
+                );
             }
             _ => return false,
         }
@@ -155,16 +158,16 @@ pub fn put_no_digits(why: &mut Prose, word: &[u8]) -> bool {
     true
 }
 
-/// Adds why a word is no number.
+/// Adds why a word is not a number.
 pub fn put_no_number(why: &mut Prose, word: &[u8], number: Number) {
     if put_no_digits(why, word) {
         return;
     }
     let words = match number {
-        Number::KeyConsole(_) => "the number of a console stands here: key 1 ..",
-        Number::HangupConsole(_) => "the number of a console stands here: hangup 1",
-        Number::Id => "an id is a number, ",
-        Number::Pidmax | Number::Consoles | Number::Count => "a number stands here, ",
+        Number::KeyConsole(_) => "expected a console number: key 1 ..",
+        Number::HangupConsole(_) => "expected a console number: hangup 1",
+        Number::Id => "expected a numeric ID from ",
+        Number::Pidmax | Number::Consoles | Number::Count => "expected a number from ",
     };
     put_range(why, words, number);
     if number == Number::Id && word == b"root".as_slice() {
@@ -172,65 +175,63 @@ pub fn put_no_number(why: &mut Prose, word: &[u8], number: Number) {
     }
 }
 
-/// The words that begin lines of a trace behind their event.
+/// Words that follow the event number in lines of a trace.
 const OF_TRACE: &str = "note call handle discard stop return end halt";
 
-/// Adds what the first line of a world is to be, or the second.
+/// Adds what the first or the second line of a world must be.
 pub fn put_no_header(why: &mut Prose, line: Line<'_>, number: Number) {
     let word = line.first();
     let is_first = number == Number::Pidmax;
     let (name, words) = if is_first {
-        (
-            "pidmax",
-            "a world begins with pidmax N, and then consoles N",
-        )
+        ("pidmax", "expected pidmax N, then consoles N")
     } else {
-        ("consoles", "behind pidmax N stands consoles N")
+        ("consoles", "expected consoles N after pidmax N")
     };
     if word.strip_suffix(b":") == Some(name.as_bytes()) {
-        why.push_around("", name.as_bytes(), " has no colon");
+        why.push_around("unexpected colon after ", name.as_bytes(), "");
     } else if is_first && is_listed("step tick key type hangup", word) {
-        why.push_str("these are events; the world is named first");
+        why.push_str("expected a world, found events; the world is the first argument");
     } else if is_first && are_digits(word) && is_listed(OF_TRACE, line.word(1)) {
-        why.push_str("this is a trace; a world begins with pidmax");
+        why.push_str("expected a world, found a trace; a world begins with pidmax");
     } else if word.eq_ignore_ascii_case(name.as_bytes()) {
-        why.push_word("small letters: ", name.as_bytes());
+        why.push_word("expected lower case: ", name.as_bytes());
     } else {
         why.push_str(words);
         put_nearest(why, word, name);
     }
 }
 
-/// Adds why a word begins no program.
+/// Adds why a word cannot begin a program. The last argument is the program before it, if there is one, and the line of
+/// its `end`.
 pub fn put_no_program(why: &mut Prose, word: &[u8], behind: Option<(&[u8], u64)>) {
     let alloc = why.alloc();
     if word.eq_ignore_ascii_case(b"program") {
-        why.push_str("small letters: program");
+        why.push_str("expected lower case: program");
     } else if why.found(nearest_in(alloc, word, "program")).is_some() {
         why.push_str("did you mean program?");
     } else {
         match behind {
-            None => why.push_str("a program begins with program NAME"),
+            None => why.push_str("expected program NAME to begin a program"),
             Some((_, end)) if word == b"end".as_slice() => {
-                why.push_with("the program has its end in line ", end);
+                why.push_with("unexpected end; the program already ended in line ", end);
             }
             Some((name, _)) => why.push_around(
-                "this is behind the end of program ",
+                "expected program NAME after the end of program ",
                 name,
-                "; program NAME begins another",
+                "",
             ),
         }
     }
 }
 
-/// Adds why a word can't stand behind the name of a program.
+/// Adds why a word cannot follow the name of a program.
 pub fn put_no_option(why: &mut Prose, word: &[u8]) {
     match word {
-        b"setuid" => why.push_str("setuid stands before setgid"),
-        b"{" => why.push_str("a program has no braces: end is its last line"),
+        b"setuid" => why.push_str("expected setuid before setgid"),
+        b"{" => why.push_str("unexpected brace; end is the last line of a program"),
         [b'u' | b'g', b'i', b'd'] => why.push_around("did you mean set", word, "?"),
         _ => {
-            why.push_str("only setuid U and setgid G stand behind the name");
+            why.push_str("only setuid U and setgid G can follow the name");
             put_nearest(why, word, "setuid setgid");
         }
     }

@@ -1,4 +1,4 @@
--- Lines that are added, one after another, while some keys wait.
+-- Lines that are added, one after another, while some keys are not yet written.
 use Rattle.std.proofs.Common.{◌≡◌, ℕ, ◌+◌, ◌-◌, ◌<◌, ◌≤◌, true, List, [], ◌∷◌, ◌++◌, length, length-append, take, drop, get_or, map, ap, sym, ◌∙◌, refl, subst, append_assoc, append-nil, arith}
 use Rattle.std.specs.Prelude.{codes, decimal, replicate, nat_lt, Result, Ok, Err, OnOk}
 use Rattle.std.specs.List.{list_all}
@@ -21,18 +21,18 @@ adds_nothing a = ([], sym (append-nil a), says_nothing)
 pub adds_joined : (a b c : List ℕ) (es fs : List Event) → AddsLines a es b → AddsLines b fs c → AddsLines a (es ++ fs) c
 adds_joined a b c es fs (x, e, p) (y, f, q) = (x ++ y, f ∙ ap (λ (l : List ℕ). l ++ y) e ∙ append_assoc a x y, says_joined x y es fs p q)
 
--- events that come may wait
+-- New events may be left unwritten.
 pub first_waits : (a : List ℕ) (waited es : List Event) → AddsFirst a waited es a (waited ++ es)
 first_waits a waited es = ([], adds_nothing a, refl)
 
 pub first_nothing : (a : List ℕ) (waited : List Event) → AddsFirst a waited [] a waited
 first_nothing a waited = ([], adds_nothing a, sym (append-nil waited))
 
--- what waited may be said
+-- The unwritten events may be written.
 pub first_ended : (a b : List ℕ) (waited : List Event) → AddsLines a waited b → AddsFirst a waited [] b []
 first_ended a b waited p = (waited, p, refl)
 
--- where nothing waits, what comes may be said
+-- If no event is unwritten, the new ones may be written.
 pub first_said : (a b : List ℕ) (es : List Event) → AddsLines a es b → AddsFirst a [] es b []
 first_said a b es p = (es, p, append-nil es)
 
@@ -47,7 +47,7 @@ first_joined a b c u v w es fs (s, p, e) (t, q, f) = (
       ∙ append_assoc u es fs,
 )
 
--- where nothing waits in the end, the lines are a text
+-- If no event is unwritten in the end, the lines are a text.
 pub first_text : (a b : List ℕ) (es : List Event) → length es ≤ most_events → AddsFirst a [] es b [] → AddsText a es b
 first_text a b es few (s, (x, e, p), f) =
     let all : s ≡ es = sym (append-nil s) ∙ f in
@@ -55,7 +55,7 @@ first_text a b es few (s, (x, e, p), f) =
 
 -- ---- of a run
 
--- a line of steps or ticks more
+-- One more line of steps or ticks.
 pub counted_more : (old mid new word : List ℕ) (event : Event) (count left here : ℕ) → IsWordOf event word → left ≤ count → here ≤ left → 1 ≤ here → here ≤ 1000000
     → AddsLines old (replicate (count - left) event) mid → new ≡ mid ++ line (word ∷ decimal here ∷ []) → AddsLines old (replicate (count - (left - here)) event) new
 counted_more old mid new word event count left here is within some least most done more =
@@ -63,16 +63,16 @@ counted_more old mid new word event count left here is within some least most do
     subst (λ (es : List Event). AddsLines old es new) (replicate-append-replicate (count - left) here event ∙ ap (λ n. replicate n event) sum)
     (adds_joined old mid new (replicate (count - left) event) (replicate here event) done (line (word ∷ decimal here ∷ []), more, counted_says word event here is least most))
 
--- no keys
+-- No keys.
 pub no_keys_added : (a : List ℕ) (console : ℕ) (bytes : List ℕ) → length bytes ≡ 0 → AddsLines a (map (Key console) bytes) a
 no_keys_added a console [] h = adds_nothing a
 no_keys_added a console (b ∷ bs) h = absurd (omega arith)
 
--- a line of keys so far
+-- A line of keys so far.
 abbrev pub keys_begun : ℕ → List ℕ → List ℕ
 keys_begun console bytes = codes "    key " ++ (decimal console ++ spaced (map two_digits bytes))
 
--- one key more
+-- One more key.
 pub keys_more : (console : ℕ) (bytes : List ℕ) (i : ℕ) → i < length bytes → keys_begun console (take i bytes) ++ 32 ∷ two_digits (get_or bytes i 0) ≡ keys_begun console (take (i + 1) bytes)
 keys_more console bytes i lt = grind (arith, common_steps)
 
@@ -80,7 +80,7 @@ pub keys_added : (old new : List ℕ) (console : ℕ) (bytes : List ℕ) → con
     → new ≡ old ++ (keys_begun console bytes ++ 10 ∷ []) → AddsLines old (map (Key console) bytes) new
 keys_added old new console bytes small some few fit h = (line (key_words console bytes), h, keys_say console bytes small some few fit)
 
--- what a formatted line is
+-- What a formatted line is.
 pub counted_line : (word : List ℕ) (n : ℕ) → codes "    " ++ (word ++ (codes " " ++ (decimal n ++ codes "\n"))) ≡ line (word ∷ decimal n ∷ [])
 counted_line word n =
     ap (λ (l : List ℕ). 32 ∷ 32 ∷ 32 ∷ 32 ∷ l) (
@@ -88,7 +88,7 @@ counted_line word n =
     ∙ sym (append_assoc word (32 ∷ (decimal n ++ [])) (10 ∷ []))
     )
 
--- ---- of keys that wait
+-- ---- of unwritten keys
 
 pub end_added : (a b : List ℕ) (console console_then : ℕ) (bytes now rest : List ℕ) → now ≡ bytes → rest ≡ [] → AddsLines a (map (Key console) now) b
     → AddsFirst a (map (Key console) bytes) [] b (map (Key console_then) rest)
@@ -107,38 +107,38 @@ key_put a b c u v i console console_then byte bytes bytes_then h k same more =
     subst (λ (l : List Event). AddsFirst a u (replicate (i + 1) (Key console byte)) c l) waits
     (subst (λ (es : List Event). AddsFirst a u es c (wait ++ key)) (replicate-append-replicate i 1 (Key console byte)) done)
 
--- lines behind those of the keys that waited
+-- Lines after those of the unwritten keys.
 pub ended_put : {T E : Type 0} (r : Result T E) (a b c : List ℕ) (u es : List Event) (console : ℕ) (bytes : List ℕ) → AddsFirst a u [] b (map (Key console) bytes) → bytes ≡ []
     → OnOk r (AddsLines b es c) → OnOk r (AddsFirst a u es c (map (Key console) bytes))
 ended_put (Ok x) a b c u es console [] h none k = first_joined a b c u [] [] [] es h (first_said b c es k)
 ended_put (Ok x) a b c u es console (y ∷ ys) h none k = cc
 ended_put (Err e) a b c u es console bytes h none k = k
 
--- one hangup more
+-- One more hangup.
 pub hangups_more : (a b c : List ℕ) (console i : ℕ) → console < 256 → AddsLines a (replicate i (Hangup console)) b → c ≡ b ++ line (codes "hangup" ∷ decimal console ∷ [])
     → AddsLines a (replicate (i + 1) (Hangup console)) c
 hangups_more a b c console i small p more =
     subst (λ (es : List Event). AddsLines a es c) (replicate-append-replicate i 1 (Hangup console))
     (adds_joined a b c (replicate i (Hangup console)) (Hangup console ∷ []) p (line (codes "hangup" ∷ decimal console ∷ []), more, hangup_says console small))
 
--- a run more
+-- One more run.
 pub run_put : (a b c : List ℕ) (u v : List Event) (runs : List CountedEvent) (i : ℕ) (d : CountedEvent) → i < length runs → AddsFirst a [] (expanded (take i runs)) b u
     → AddsFirst b u (replicate (get_or runs i d).count (get_or runs i d).event) c v → AddsFirst a [] (expanded (take (i + 1) runs)) c v
 run_put a b c u v runs i d lt h k =
     subst (λ (es : List Event). AddsFirst a [] es c v) (sym (ap expanded (take_more runs i d lt) ∙ expanded_push (take i runs) (get_or runs i d)))
     (first_joined a b c [] u v (expanded (take i runs)) (replicate (get_or runs i d).count (get_or runs i d).event) h k)
 
--- so many more
+-- `count` more events.
 pub many_put : (a b c : List ℕ) (u v w : List Event) (event : Event) (m n k : ℕ) → m + n ≡ k → AddsFirst a u (replicate m event) b v → AddsFirst b v (replicate n event) c w → AddsFirst a u (replicate k event) c w
 many_put a b c u v w event m n k sum h more =
     subst (λ (es : List Event). AddsFirst a u es c w) (replicate-append-replicate m n event ∙ ap (λ i. replicate i event) sum)
     (first_joined a b c u v w (replicate m event) (replicate n event) h more)
 
--- behind a comment, too
+-- After a comment, too.
 pub remarked_put : (a b c d : List ℕ) (u v w : List Event) (event : Event) (n : ℕ) → AddsFirst a u [] b v → AddsLines b [] c → AddsFirst c v (replicate n event) d w → AddsFirst a u (replicate n event) d w
 remarked_put a b c d u v w event n ended comment h = first_joined a b d u v w [] (replicate n event) ended (first_joined b c d v v w [] (replicate n event) ([], comment, sym (append-nil v)) h)
 
--- where a run ends: where the next one begins, within the list
+-- The place where a run ends, and the next one begins, is within the list.
 pub run_ends : (runs : List CountedEvent) (i start : ℕ) (r : CountedEvent) (events : List Event) → i < length runs → r ≡ get_or runs i r → expanded runs ≡ events → start ≡ length (expanded (take i runs))
     → (start + r.count ≡ length (expanded (take (i + 1) runs))) × (start + r.count ≤ length events)
 run_ends runs i start r events lt is same at =

@@ -22,21 +22,21 @@ place_of_spot loose p kind l = div-mul-add p (suc loose) kind (omega arith)
 pub kind_of_spot : (loose p kind : ℕ) → kind ≤ loose → kind_of loose (spot loose p kind) ≡ kind
 kind_of_spot loose p kind l = mod-mul-add p (suc loose) kind (omega arith)
 
--- a spot by its place and its kind
+-- A spot by its place and its kind.
 pub spot_is : (loose q : ℕ) → spot loose (place_of loose q) (kind_of loose q) ≡ q
 spot_is loose q = div-add-mod' q (suc loose)
 
 pub kind_within : (loose q : ℕ) → kind_of loose q ≤ loose
 kind_within loose q = let l = mod_below q (suc loose) (omega arith) in omega arith
 
--- the spots of the next place come after all kinds of this one
+-- The spots of the next place come after all kinds of this one.
 pub spot_next : (loose p : ℕ) → spot loose (p + 1) 0 ≡ spot loose p 0 + suc loose
 spot_next loose p = omega (arith, add-mul p 1 (suc loose), one-mul (suc loose))
 
 spot_up : (loose p q : ℕ) → p ≤ q → spot loose p 0 ≤ spot loose q 0
 spot_up loose p q l = omega (arith, mul-le p (suc loose) q (suc loose) l (omega arith))
 
--- ---- rising places, by recursion
+-- ---- places that don't decrease, by recursion
 
 pub rises_lower : (loose low lower high : ℕ) (ps : Spots) → lower ≤ low → RisesFrom loose low high ps → RisesFrom loose lower high ps
 rises_lower loose low lower high [] l r = tt
@@ -68,7 +68,7 @@ rises_up loose low high (q ∷ ps) r zero (suc j) d l m = above_low loose (place
 rises_up loose low high (q ∷ ps) r (suc i) zero d l m = absurd (omega (arith, l))
 rises_up loose low high (q ∷ ps) r (suc i) (suc j) d l m = rises_up loose (place_of loose q) high ps r.2 i j d (omega (arith, l)) (omega (arith, m))
 
--- a spot of a place comes before those that rise from there
+-- A spot of a place comes before those that rise from there.
 rises_at : (loose low p high kind : ℕ) (ps : Spots) → kind ≤ loose → low ≤ p → p < high → RisesFrom loose p high ps → RisesFrom loose low high (spot loose p kind ∷ ps)
 rises_at loose low p high kind ps k l m r = subst (λ q. (low ≤ q) × (q < high) × RisesFrom loose q high ps) (sym (place_of_spot loose p kind k)) (l, m, r)
 
@@ -77,7 +77,7 @@ rises_at loose low p high kind ps k l m r = subst (λ q. (low ≤ q) × (q < hig
 pub All-remove : (P : ℕ → Type 0) (xs : List ℕ) (i : ℕ) → All P xs → All P (remove xs i)
 All-remove P xs i h = All-append P (take i xs) (drop (suc i) xs) (All-take P i xs h) (All-drop P (suc i) xs h)
 
--- kinds of loose events, rising
+-- Kinds of loose events, rising.
 pub record AreKinds (loose : ℕ) (kinds : List ℕ) : Type 0 where
   pub least : All (λ k. 1 ≤ k) kinds
   pub most : All (λ k. k ≤ loose) kinds
@@ -99,7 +99,7 @@ all_kinds (suc loose) =
       rise = all_pairs_push (λ j k. j < k) (kinds_of loose) (suc loose) a.rise (λ k d l. let m = a.most k d l in omega arith);
     }
 
--- ---- what holds of all schedules
+-- ---- properties of all schedules
 
 pub each_kind_all : (P : Spots → Type 0) (f : ℕ → List ℕ → List Spots) (kinds : List ℕ) (n : ℕ) → ((i : ℕ) → i < n → All P (f (get_or kinds i 0) (remove kinds i)))
     → All P (each_kind f n kinds)
@@ -113,7 +113,7 @@ from_each_all P f low high h p zero l e = All-nil P
 from_each_all P f low high h p (suc more) l e =
     All-append P (f p (suc more)) (from_each f (p + 1) more) (h p (suc more) l (omega (arith, e)) e) (from_each_all P f low high h (p + 1) more (omega arith) (omega (arith, e)))
 
--- those with a tick in front at this place, with a loose event of this kind, with any loose event, with either
+-- Those with a tick in front at this place, with a loose event of this kind, with any loose event, with either.
 abbrev pub ticks_at : ℕ → ℕ → List ℕ → ℕ → ℕ → List Spots
 ticks_at loose n kinds q more = with_spot (spot loose q 0) (of_spots loose n kinds q more)
 
@@ -126,7 +126,7 @@ events_at loose n kinds q more = each_kind (at_kind loose n q more) (length kind
 abbrev pub at_place : ℕ → ℕ → List ℕ → ℕ → ℕ → List Spots
 at_place loose n kinds q more = ticks_at loose n kinds q more ++ events_at loose n kinds q more
 
--- a spot in front, with a tick there or with one of the kinds
+-- A spot in front, with a tick there or with one of the kinds.
 pub next_all : (P : Spots → Type 0) (loose n : ℕ) (kinds : List ℕ) (p places high : ℕ)
     → ((q more : ℕ) → p ≤ q → q < high → q + more ≡ high → All (λ ps. P (spot loose q 0 ∷ ps)) (of_spots loose n kinds q more))
     → ((q more i : ℕ) → p ≤ q → q < high → q + more ≡ high → i < length kinds → All (λ ps. P (spot loose q (get_or kinds i 0) ∷ ps)) (of_spots loose n (remove kinds i) q more))
@@ -139,29 +139,29 @@ next_all P loose n kinds p places high tick event e =
     (λ i d. All-map P (λ ps. spot loose q (get_or kinds i 0) ∷ ps) (of_spots loose n (remove kinds i) q more) (event q more i l m s d))))
     p places (omega arith) e
 
--- ---- which schedules there are
+-- ---- all schedules
 
--- of each kind of loose event a schedule has as many as the list
+-- A schedule has each kind of loose event as often as the list.
 abbrev pub Counts : ℕ → List ℕ → Spots → Type 0
 Counts loose kinds ps = (kind : ℕ) → 1 ≤ kind → kind ≤ loose → count_by (λ q. kind_of loose q == kind) ps ≡ count_by (λ k. k == kind) kinds
 
 count_cons : (p : ℕ → Bool) (x : ℕ) (xs : List ℕ) (b : Bool) → p x ≡ b → count_by p (x ∷ xs) ≡ cond b 1 0 + count_by p xs
 count_cons p x xs b e = sum_by-cons (λ y. cond (p y) 1 0) x xs ∙ ap (λ c. cond c 1 0 + count_by p xs) e
 
--- a tick is of no such kind
+-- A tick is of none of these kinds.
 tick_uncounted : (loose q kind : ℕ) (ps : Spots) → kind_of loose q ≡ 0 → 1 ≤ kind → count_by (λ s. kind_of loose s == kind) (q ∷ ps) ≡ count_by (λ s. kind_of loose s == kind) ps
 tick_uncounted loose q kind ps z l =
     let other : kind_of loose q ≡ kind → ⊥ = λ e. omega (arith, z, e, l) in
     omega (arith, count_cons (λ s. kind_of loose s == kind) q ps false (ne_eqb (kind_of loose q) kind other))
 
--- a loose event is counted on both sides, and no longer once it is removed
+-- A loose event is counted on both sides, until it is removed.
 event_counted : (loose q kind i : ℕ) (kinds : List ℕ) (ps : Spots) → i < length kinds → kind_of loose q ≡ get_or kinds i 0
     → count_by (λ s. kind_of loose s == kind) (q ∷ ps) + count_by (λ k. k == kind) (remove kinds i) ≡ count_by (λ s. kind_of loose s == kind) ps + count_by (λ k. k == kind) kinds
 event_counted loose q kind i kinds ps l e =
     let here = count_cons (λ s. kind_of loose s == kind) q ps (get_or kinds i 0 == kind) (ap (λ k. k == kind) e) in
     omega (arith, here, sum_by-remove (λ k. cond (k == kind) 1 0) kinds i 0 l)
 
--- a kind that is counted stands somewhere
+-- A kind that is counted is in the list.
 found : (kind : ℕ) (kinds : List ℕ) → 0 < count_by (λ k. k == kind) kinds → (i : ℕ) × (i < length kinds) × (get_or kinds i 0 ≡ kind)
 found kind [] l = absurd (omega (arith, l))
 found kind (k ∷ kinds) l =
@@ -171,14 +171,14 @@ found kind (k ∷ kinds) l =
     let later = found kind kinds (omega (arith, l, c)) in (suc later.0, omega (arith, later.1), later.2))
     (eqb_tells k kind)
 
--- where nothing is counted no kind is left
+-- If nothing is counted, no kind is left.
 none_left : (loose : ℕ) (kinds : List ℕ) → AreKinds loose kinds → Counts loose kinds [] → kinds ≡ []
 none_left loose [] a c = refl
 none_left loose (k ∷ kinds) a c =
     let none = c k (a.least 0 0 (omega arith)) (a.most 0 0 (omega arith)) in
     absurd (omega (arith, none, count_cons (λ j. j == k) k kinds true (eq-eqb k k refl)))
 
--- a schedule of n spots, from low on and below high, with one of each of these kinds
+-- A schedule of n spots, from low and below high, with one of each of these kinds.
 pub record IsLevel (loose n : ℕ) (kinds : List ℕ) (low high : ℕ) (ps : Spots) : Type 0 where
   pub many : length ps ≡ n
   pub rise : RisesFrom loose low high ps
@@ -238,7 +238,7 @@ from_each_has f x q high b h p (suc more) l e =
     Contains-append_left (f p (suc more)) (from_each f (p + 1) more) x (subst (λ r. Contains (f r (suc more)) x) same (h (suc more) (omega (arith, e, same)))))
     (cases_lt p q)
 
--- a spot before what may follow it at its place
+-- A spot before what may follow it at its place.
 tick_has : (loose n : ℕ) (kinds : List ℕ) (low high more q : ℕ) (ps : Spots) → AreKinds loose kinds
     → ((left : List ℕ) → AreKinds loose left → IsLevel loose n left (place_of loose q) high ps → Contains (of_spots loose n left (place_of loose q) more) ps)
     → IsLevel loose (suc n) kinds low high (q ∷ ps) → kind_of loose q ≤ 0 → Contains (ticks_at loose n kinds (place_of loose q) more) (q ∷ ps)
@@ -282,7 +282,7 @@ level_has loose (suc n) kinds p places high a e (q ∷ ps) i =
     (λ more s. place_has loose n kinds p high more q ps a (λ left b is. level_has loose n left (place_of loose q) more high b s ps is) i)
     p places i.rise.0 e
 
--- with fewer spots than kinds there is none
+-- There is no schedule with fewer spots than kinds.
 each_kind_none : (f : ℕ → List ℕ → List Spots) (kinds : List ℕ) (n : ℕ) → ((i : ℕ) → i < n → f (get_or kinds i 0) (remove kinds i) ≡ []) → each_kind f n kinds ≡ []
 each_kind_none f kinds zero h = refl
 each_kind_none f kinds (suc n) h = rw (each_kind_none f kinds n (λ i l. h i (omega arith)), h n (omega arith)) refl
@@ -302,9 +302,9 @@ too_few loose (suc n) kinds p places l =
     ) refl)
     p places
 
--- ---- which ones a family has
+-- ---- the schedules of a family
 
--- of at most n spots
+-- Of at most n spots.
 pub record IsAtMost (loose n : ℕ) (kinds : List ℕ) (low high : ℕ) (ps : Spots) : Type 0 where
   pub few : length ps ≤ n
   pub rise : RisesFrom loose low high ps
@@ -339,7 +339,7 @@ at_most_has loose (suc n) kinds p places high a e ps i =
 abbrev one_if : Bool → ℕ
 one_if b = cond b 1 0
 
--- each kind is counted once
+-- Each kind is counted once.
 none_above : (loose kind : ℕ) → loose < kind → count_by (λ k. k == kind) (kinds_of loose) ≡ 0
 none_above zero kind l = refl
 none_above (suc loose) kind l =
@@ -373,7 +373,7 @@ members upto ticks loose ps = (
   },
 )
 
--- ---- in which order
+-- ---- the order
 
 all_pairs_append : (R : Spots → Spots → Type 0) (xs ys : List Spots) → AllPairs R xs → AllPairs R ys → All (λ x. All (R x) ys) xs → AllPairs R (xs ++ ys)
 all_pairs_append R [] ys h g cross = g
@@ -393,7 +393,7 @@ all_pairs_with p xs h i j d l m =
     let high : get_or (map (λ ps. p ∷ ps) xs) j d ≡ p ∷ get_or xs j d = get_or-map (λ ps. p ∷ ps) xs j d d within in
     rw (low, high) (before_with p (get_or xs i d) (get_or xs j d) (h i j d l within))
 
--- a spot from low on and below high, and n behind it
+-- A spot from low and below high, and n after it.
 abbrev StartsWithin : ℕ → ℕ → ℕ → Spots → Type 0
 StartsWithin n low high [] = ⊥
 StartsWithin n low high (q ∷ ps) = (length ps ≡ n) × (low ≤ q) × (q < high)

@@ -12,23 +12,23 @@ use Rattle.text.specs.Reading.{words_within}
 use Rattle.text.proofs.LineLemmas.{closed_some, all_from, all_from-end, all_from-more}
 use Rattle.text.proofs.WordLemmas.{words_from-more}
 
--- each word behind a blank
+-- Each word after a space.
 abbrev pub spaced : List (List ℕ) → List ℕ
 spaced ws = flat_map (λ w. 32 ∷ w) ws
 
--- a line of words behind four blanks
+-- A line of words after four spaces.
 abbrev pub line : List (List ℕ) → List ℕ
 line ws = codes "   " ++ spaced ws ++ 10 ∷ []
 
--- digits and letters, and some bytes between them
+-- Digits and letters, and some bytes between them.
 abbrev pub is_plain : ℕ → Bool
 is_plain b = nat_le 48 b && nat_le b 122
 
--- a word of such bytes
+-- A word of such bytes.
 abbrev pub is_plain_word : List ℕ → Bool
 is_plain_word w = nat_lt 0 (length w) && list_all is_plain w
 
--- such a byte, or a blank
+-- Such a byte, or a space.
 abbrev is_blank_or_plain : ℕ → Bool
 is_blank_or_plain b = (b == 32) || is_plain b
 

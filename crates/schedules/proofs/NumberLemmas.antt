@@ -20,7 +20,7 @@ use Rattle.schedules.proofs.LineLemmas.{is_plain, is_plain_word}
 pub decimal_plain : (n : ℕ) → n < 2 ^ 64 → is_plain_word (decimal n) ≡ true
 decimal_plain n h = rw (lt-ltb 0 (length (decimal n)) (decimal_nonempty n h), digits_all is_plain (λ b low high. grind (arith, nat_tests)) (decimal n) (decimal_is_IsNumeral n h).0.1) refl
 
--- digits have no sign
+-- Digits have no sign.
 unsigned : (ds : List ℕ) → 0 < length ds → AllDigits 10 ds → number ds ≡ Some (pos (value_of ds))
 unsigned [] some d = absurd (omega arith)
 unsigned (c ∷ cs) some d =

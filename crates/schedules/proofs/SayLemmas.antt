@@ -1,4 +1,4 @@
--- What lines say, one after another.
+-- What lines are read as, one after another.
 use Rattle.std.proofs.Common.{◌≡◌, ℕ, ◌+◌, ◌-◌, ◌*◌, ◌<◌, ◌≤◌, ◌==◌, true, false, List, [], ◌∷◌, ◌++◌, length, map, refl, ap, sym, ◌∙◌, append_assoc, append-nil, arith, length-append, Ok}
 use Rattle.std.specs.Prelude.{◌&&◌, nat_le, nat_lt, codes, decimal, replicate}
 use Rattle.std.specs.List.{list_all, list_any}
@@ -34,7 +34,7 @@ says_joined t u es fs p q consoles lines before rest fine room =
           ∙ ap (λ (ds : List Event). read_lines consoles (read_well two.0 ds) (all_lines rest)) (append_assoc before es fs),
     )
 
--- whole lines are a text
+-- Whole lines are a text.
 pub stands : (text : List ℕ) (events : List Event) → Says text events → length events ≤ most_events → StandsFor text events
 unfolding event_text
 stands text events says few consoles fine =
@@ -59,7 +59,7 @@ line_says ws events plain short said consoles lines before rest fine room =
 
 -- ---- of a comment
 
--- a comment behind four blanks
+-- A comment after four spaces.
 abbrev pub comment_line : List ℕ → List ℕ
 comment_line comment = codes "    # " ++ (comment ++ 10 ∷ [])
 
@@ -120,7 +120,7 @@ hangup_says console small =
 
 -- ---- of keys
 
--- the words of a line of keys
+-- The words of a line of keys.
 abbrev pub key_words : ℕ → List ℕ → List (List ℕ)
 key_words console bytes = codes "key" ∷ decimal console ∷ map two_digits bytes
 

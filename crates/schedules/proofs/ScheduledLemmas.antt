@@ -8,18 +8,18 @@ use Rattle.schedules.specs.Families.{RisesFrom, Spots, place_of}
 use Rattle.schedules.specs.Schedules.{put_at, scheduled, from_front}
 use Rattle.schedules.proofs.FamilyLemmas.{rises, rises_lower}
 
--- ---- one event that is put in
+-- ---- one inserted event
 
 length_put : (p : ℕ) (x : Event) (xs : List Event) → length (take p xs ++ x ∷ drop p xs) ≡ length xs + 1
 length_put p x xs =
     let cut = ap length (take-append-drop p xs) in
     omega (arith, cut, length-append (take p xs) (drop p xs), length-append (take p xs) (x ∷ drop p xs))
 
--- behind the first events
+-- After the first events.
 put_behind : (p : ℕ) (x : Event) (before xs : List Event) → length before ≡ p → take p (before ++ xs) ++ x ∷ drop p (before ++ xs) ≡ before ++ x ∷ xs
 put_behind p x before xs reach = ap₂ (λ ys zs. ys ++ x ∷ zs) (take_at before xs p reach) (drop_at before xs p reach)
 
--- one event for each spot
+-- One event for each spot.
 pub length_scheduled : (loose events : List Event) (ps : Spots) → length (scheduled loose events ps) ≡ length events + length ps
 unfolding scheduled
 length_scheduled loose events [] = omega arith
@@ -57,7 +57,7 @@ front loose events ps up within =
 
 -- ---- event by event, and run by run
 
--- an event before all that is put in
+-- An event before all insertions.
 pub event_next : (loose : List Event) (p high : ℕ) (x : Event) (events : List Event) (ps : Spots) → RisesFrom (length loose) (p + 1) high ps
     → from_front loose p (x ∷ events) ps ≡ x ∷ from_front loose (p + 1) events ps
 unfolding from_front
@@ -67,7 +67,7 @@ event_next loose p high x events (q ∷ ps) r =
     let later : place_of (length loose) q - p ≡ suc (place_of (length loose) q - (p + 1)) = omega (arith, r.0) in
     ap (λ n. take n (x ∷ events) ++ put_at loose q ∷ from_front loose place (drop n (x ∷ events)) ps) later
 
--- so many of one event
+-- A run of one event.
 pub run_next : (loose : List Event) (p n high : ℕ) (x : Event) (events : List Event) (ps : Spots) → RisesFrom (length loose) (p + n) high ps
     → from_front loose p (replicate n x ++ events) ps ≡ replicate n x ++ from_front loose (p + n) events ps
 run_next loose p zero high x events ps r = let same : p ≡ p + 0 = omega arith in ap (λ i. from_front loose i events ps) same
@@ -77,7 +77,7 @@ run_next loose p (suc n) high x events ps r =
     ∙ ap (λ es. x ∷ es) (run_next loose (p + 1) n high x events ps (subst (λ low. RisesFrom (length loose) low high ps) (sym same) r))
     ∙ ap (λ i. x ∷ replicate n x ++ from_front loose i events ps) same
 
--- what is put in among so many of one event, and those before it
+-- An insertion within a run of one event, and the events before it.
 pub put_among : (loose : List Event) (p n : ℕ) (x : Event) (events : List Event) (q : ℕ) (ps : Spots) → place_of (length loose) q - p ≤ n
     → from_front loose p (replicate n x ++ events) (q ∷ ps)
     ≡ replicate (place_of (length loose) q - p) x ++ put_at loose q ∷ from_front loose (place_of (length loose) q) (replicate (n - (place_of (length loose) q - p)) x ++ events) ps

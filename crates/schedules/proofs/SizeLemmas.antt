@@ -7,25 +7,25 @@ use Rattle.std.proofs.lemmas.List.{length-append, length-map}
 use Rattle.std.proofs.lemmas.List.Edits.{length-remove}
 use Rattle.schedules.specs.Families.{Spots, spot, with_spot, each_kind, from_each, of_spots, of_at_most, kinds_of, family, choose, ways}
 
--- ---- how many there are depends on how many kinds there are, and how many places
+-- ---- the number depends only on the number of kinds, and the number of places
 
--- what f says of one kind less, for each kind that may go
+-- The results of f for one kind less, for each kind that can be removed.
 abbrev with_one : (ℕ → ℕ) → ℕ → ℕ
 with_one f zero = 0
 with_one f (suc r) = suc r * f r
 
--- the sum of what f says at each place on, by how many places there are from it
+-- The sum of the results of f at each place, by the number of places from there.
 abbrev at_each : (ℕ → ℕ) → ℕ → ℕ
 at_each f zero = 0
 at_each f (suc more) = f (suc more) + at_each f more
 
--- of n spots, with one of each of r kinds
+-- Of n spots, with one of each of r kinds.
 abbrev level : ℕ → ℕ → ℕ → ℕ
 level zero zero places = 1
 level zero (suc r) places = 0
 level (suc n) r places = at_each (λ more. level n r more + with_one (λ s. level n s more) r) places
 
--- of at most n spots
+-- Of at most n spots.
 abbrev most : ℕ → ℕ → ℕ → ℕ
 most zero r places = level zero r places
 most (suc n) r places = most n r places + level (suc n) r places
@@ -81,7 +81,7 @@ none_at_each : (f : ℕ → ℕ) → ((more : ℕ) → f more ≡ 0) → (places
 none_at_each f h zero = refl
 none_at_each f h (suc more) = omega (arith, h (suc more), none_at_each f h more)
 
--- fewer spots than kinds
+-- Fewer spots than kinds.
 no_level : (n r : ℕ) → n < r → (places : ℕ) → level n r places ≡ 0
 no_level n zero l places = absurd (omega (arith, l))
 no_level zero (suc r) l places = refl
@@ -94,7 +94,7 @@ too_few : (n r : ℕ) → n < r → (places : ℕ) → most n r places ≡ 0
 too_few zero r l places = no_level zero r l places
 too_few (suc n) r l places = omega (arith, too_few n r (omega (arith, l)) places, no_level (suc n) r l places)
 
--- without spots all places are alike
+-- Without spots, all places are alike.
 no_spots : (r places others : ℕ) → level zero r places ≡ level zero r others
 no_spots zero places others = refl
 no_spots (suc r) places others = refl
@@ -103,7 +103,7 @@ with_one_sum : (f g : ℕ → ℕ) (r : ℕ) → with_one (λ s. f s + g s) r �
 with_one_sum f g zero = refl
 with_one_sum f g (suc r) = omega arith
 
--- with one place more: a tick there first, or something else there first, or nothing there
+-- With one more place: a tick there first, or a loose event there first, or nothing there.
 one_place_more : (n r places : ℕ) → most (suc n) r (suc places) ≡ most n r (suc places) + with_one (λ s. most n s (suc places)) r + most (suc n) r places
 one_place_more zero r places = omega (arith, no_spots r (suc places) places)
 one_place_more (suc n) r places =
@@ -132,24 +132,24 @@ choose_none : (n : ℕ) → choose n 0 ≡ 1
 unfolding choose
 choose_none n = refl
 
--- more than there are can't be chosen
+-- More things than there are can't be chosen.
 too_many : (n k : ℕ) → n < k → choose n k ≡ 0
 unfolding choose
 too_many n zero l = absurd (omega (arith, l))
 too_many zero (suc k) l = refl
 too_many (suc n) (suc k) l = rw (too_many n k (omega (arith, l)), too_many n (suc k) (omega (arith, l))) refl
 
--- there is one way to choose all
+-- There is one way to choose all things.
 all_chosen : (k : ℕ) → choose k k ≡ 1
 unfolding choose
 all_chosen zero = refl
 all_chosen (suc k) = omega (arith, pascal k k, all_chosen k, too_many k (suc k) (omega arith))
 
--- how many there are, with so many places
+-- The number with this many places.
 abbrev IsProduct : ℕ → Type 0
 IsProduct places = (n ticks r : ℕ) → n ≡ ticks + r → most n r places ≡ ways places r * choose (places + r + ticks) ticks
 
--- without places there is the schedule without spots alone
+-- Without places, there is only the schedule without spots.
 no_place : (n r : ℕ) → most n r 0 ≡ level 0 r 0
 no_place zero r = refl
 no_place (suc n) r = omega (arith, no_place n r)
@@ -229,13 +229,13 @@ one_choice_more of chosen =
 pub no_choice : (of : ℕ) → 1 ≡ choose (of + 0) 0
 no_choice of = sym (choose_none (of + 0))
 
--- a choice more, and a thing more, leave as many ways at least
+-- One more choice and one more thing leave at least as many ways.
 more_ways : (of k : ℕ) → choose (of + k) k ≤ choose (of + suc k) (suc k)
 more_ways of k =
     let things : choose (of + suc k) (suc k) ≡ choose (suc (of + k)) (suc k) = ap (λ n. choose n (suc k)) (omega arith) in
     omega (arith, things, pascal (of + k) k)
 
--- what doesn't fall from any number to the next rises
+-- What doesn't decrease from any number to the next doesn't decrease.
 rises : (f : ℕ → ℕ) → ((k : ℕ) → f k ≤ f (suc k)) → (k more : ℕ) → k ≤ more → f k ≤ f more
 rises f step k zero l = let same : k ≡ 0 = omega (arith, l) in let e = ap f same in omega (arith, e)
 rises f step k (suc more) l =
@@ -252,7 +252,7 @@ one_at_least of chosen = omega (arith, grows of 0 chosen (omega arith), choose_n
 
 -- ---- what the code computes
 
--- how many ways there are with a choice more: a quotient without a rest
+-- The number of ways with one more choice: the division is exact.
 pub next_is : (of chosen size : ℕ) → size ≡ choose (of + chosen) chosen → size * (of + (chosen + 1)) / (chosen + 1) ≡ choose (of + (chosen + 1)) (chosen + 1)
 next_is of chosen size is =
     let step : size * (of + (chosen + 1)) ≡ (of + chosen + 1) * size = omega arith in
@@ -268,7 +268,7 @@ no_ways (suc loose) l = sym (shifted 0 loose) ∙ omega arith
 pub ways_grow : (n k more : ℕ) → 1 ≤ n → k ≤ more → ways n k ≤ ways n more
 ways_grow n k more some l = rises (ways n) (λ m. let larger : ways n m * 1 ≤ ways n m * (n + m) = mul-le-mul_left (ways n m) (omega (arith, some)) in omega (arith, larger)) k more l
 
--- without places there is no loose event
+-- Without places there is no loose event.
 some_ways : (upto loose : ℕ) → (upto ≡ 0 → loose ≡ 0) → 1 ≤ ways upto loose
 some_ways upto zero placed = omega arith
 some_ways zero (suc loose) placed = let none = placed refl in absurd (omega (arith, none))
@@ -278,7 +278,7 @@ pub none_fits : (upto ticks loose : ℕ) → upto ≡ 0 → 0 < loose → 0 ≡ 
 none_fits upto ticks loose none some =
     sym (size upto ticks loose ∙ ap (λ n. n * choose (upto + loose + ticks) ticks) (ap (λ n. ways n loose) none ∙ no_ways loose some) ∙ omega arith)
 
--- the sizes that are made one loose event after another
+-- The sizes after one loose event after another.
 pub no_loose : (upto loose ticks made : ℕ) → made ≡ choose (upto + loose + ticks) ticks → made ≡ ways upto 0 * choose (upto + loose + ticks) ticks
 no_loose upto loose ticks made is = omega (arith, is)
 
@@ -295,7 +295,7 @@ pub all_loose : (upto ticks loose before made : ℕ) → before ≡ loose → ma
 all_loose upto ticks loose before made all is =
     is ∙ ap (λ n. ways upto n * choose (upto + loose + ticks) ticks) all ∙ sym (size upto ticks loose)
 
--- where a factor or a product of the first factors is too large, so is the size
+-- If a factor, or a product of the first factors, is too large, so is the size.
 pub choices_are_over : (upto ticks loose limit : ℕ) → (upto ≡ 0 → loose ≡ 0) → (choose (upto + loose + ticks) ticks ≤ limit → ⊥) → length (family upto ticks loose) ≤ limit → ⊥
 choices_are_over upto ticks loose limit placed large within =
     let c : ℕ = choose (upto + loose + ticks) ticks in

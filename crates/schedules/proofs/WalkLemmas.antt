@@ -1,4 +1,4 @@
--- The family is gone through by going from each schedule to the next.
+-- Going from each schedule to the next visits the whole family.
 use Rattle.std.proofs.Common.{◌≡◌, ℕ, zero, suc, ◌+◌, ◌<◌, ◌≤◌, Bool, true, false, refl, ap, sym, ◌∙◌, arith, List, [], ◌∷◌, ◌++◌, length, map, replicate, Option, Some, None, Result, Ok, Err, IfOk, OnErr, append_assoc, get_or}
 use Rattle.std.proofs.lemmas.List.{get_or_at, length-append, append-nil}
 use Rattle.schedules.specs.Families.{Spots, spot, with_spot, from_each, of_spots, of_at_most, family, IsSchedule}
@@ -7,16 +7,16 @@ use Rattle.schedules.specs.Walks.{IsAmong, Goes, put_before, all_at, next_of_tic
 
 -- ---- the schedules without loose events
 
--- p before each of those that f has from p on
+-- p before each of those that f has from p on.
 abbrev before_each : (ℕ → ℕ → List Spots) → ℕ → ℕ → List Spots
 before_each f p places = map (λ ps. p ∷ ps) (f p places)
 
--- the schedules of k ticks at so many places from p on
+-- The schedules of k ticks at this many places from p on.
 abbrev pub of_ticks : ℕ → ℕ → ℕ → List Spots
 of_ticks zero p places = [] ∷ []
 of_ticks (suc k) p places = from_each (before_each (of_ticks k)) p places
 
--- those of at most k ticks
+-- Those of at most k ticks.
 pub by_ticks : ℕ → ℕ → List Spots
 by_ticks upto zero = of_ticks zero 0 upto
 by_ticks upto (suc k) = by_ticks upto k ++ of_ticks (suc k) 0 upto
@@ -25,7 +25,7 @@ same_each : (f g : ℕ → ℕ → List Spots) → ((q more : ℕ) → f q more 
 same_each f g h p zero = refl
 same_each f g h p (suc more) = rw (h p (suc more), same_each f g h (p + 1) more) refl
 
--- a spot is a place then
+-- A spot is a place then.
 only_places : (n q more : ℕ) (xs : List Spots) → of_spots 0 n [] q more ≡ xs → with_spot (spot 0 q 0) (of_spots 0 n [] q more) ++ [] ≡ map (λ ps. q ∷ ps) xs
 only_places n q more xs e =
     let place : spot 0 q 0 ≡ q = omega arith in
@@ -51,7 +51,7 @@ abbrev pub Leads : (Spots → Option Spots) → Option Spots → List Spots → 
 Leads f a [] b = a ≡ b
 Leads f a (x ∷ xs) b = (a ≡ Some x) × Leads f (f x) xs b
 
--- all have k ticks
+-- All have k ticks.
 abbrev pub HaveTicks : ℕ → List Spots → Type 0
 HaveTicks k [] = Unit {0}
 HaveTicks k (x ∷ xs) = (length x ≡ k) × HaveTicks k xs
@@ -79,7 +79,7 @@ pub ticks_level : (k p places : ℕ) → HaveTicks k (of_ticks k p places)
 ticks_level zero p places = (refl, tt)
 ticks_level (suc k) p places = ticks_each k (of_ticks k) (ticks_level k) p places
 
--- with a place before each
+-- With a place before each.
 leads_before : (upto k p : ℕ) (a : Option Spots) (xs : List Spots) → HaveTicks k xs → Leads (next_of_ticks upto) a xs None
     → Leads (next_of_ticks upto) (put_before p (all_at upto (suc k) (p + 1)) a) (map (λ ps. p ∷ ps) xs) (all_at upto (suc k) (p + 1))
 leads_before upto k p a [] h l = rw l refl
@@ -90,7 +90,7 @@ leads_before upto k p a (x ∷ xs) h l = (
       (leads_before upto k p (next_of_ticks upto x) xs h.1 l.1),
 )
 
--- the first schedule of k ticks from p on
+-- The first schedule of k ticks from p on.
 abbrev starts : ℕ → ℕ → ℕ → Option Spots
 starts upto zero p = Some []
 starts upto (suc k) p = all_at upto (suc k) p
@@ -122,7 +122,7 @@ leads_level : (upto k p places : ℕ) → p + places ≡ upto → Leads (next_of
 leads_level upto zero p places e = (refl, refl)
 leads_level upto (suc k) p places e = leads_each upto k (leads_level upto k) p places e
 
--- within the family
+-- Within the family.
 leads_more : (upto ticks k : ℕ) (a : Option Spots) (xs : List Spots) → HaveTicks k xs → Leads (next_of_ticks upto) a xs None
     → Leads (next_schedule upto ticks) (or_one_more upto ticks k a) xs (or_one_more upto ticks k None)
 leads_more upto ticks k a [] h l = rw l refl
@@ -156,7 +156,7 @@ leads_family upto ticks (suc k) l =
 over : (upto ticks : ℕ) → or_one_more upto ticks ticks None ≡ None
 over upto ticks = grind arith
 
--- ---- what a walk is told
+-- ---- the results of a walk
 
 leads_behind : (f : Spots → Option Spots) (a : Option Spots) (done : List Spots) (s : Spots) (late : List Spots) (b : Option Spots)
     → Leads f a (done ++ s ∷ late) b → Leads f (f s) late b
@@ -188,11 +188,11 @@ ends upto ticks done s (y ∷ rest) e n =
     let l = behind upto ticks done s (y ∷ rest) e in
     let none : Some y ≡ None = sym l.0 ∙ n in grind (arith, none)
 
--- one of all is done with, and the next is there
+-- One schedule is done, and the next one follows.
 pub walked_on : (all done late : List Spots) (s new : Spots) → all ≡ done ++ s ∷ late → Comes true new late → (rest : List Spots) × (all ≡ (done ++ s ∷ []) ++ new ∷ rest)
 walked_on all done late s new e c = (c.0, e ∙ ap (λ xs. done ++ s ∷ xs) c.1 ∙ sym (append_assoc done (s ∷ []) (new ∷ c.0)))
 
--- the first schedule has no ticks
+-- The first schedule has no ticks.
 ticks_begin : (upto k : ℕ) → (rest : List Spots) × (by_ticks upto k ≡ [] ∷ rest)
 unfolding by_ticks
 ticks_begin upto zero = ([], refl)
@@ -210,14 +210,14 @@ next_among upto ticks s new a n =
     let whole = walked_on (family upto ticks 0) a.done a.late s new a.whole c in
     record { done = a.done ++ s ∷ []; late = whole.0; whole = whole.1 }
 
--- by how the way went; without memory all stays
+-- By the result of the step. If memory runs out, all stays unchanged.
 pub gone : {E : Type 0} (upto ticks : ℕ) (result : Result Bool E) (old new : Spots) → IfOk result (λ is_more. Goes is_more upto ticks old new)
     → (done late : List Spots) → family upto ticks 0 ≡ done ++ old ∷ late → IfOk result (λ is_more. Comes is_more new late)
 gone upto ticks (Ok true) old new g done late e = comes upto ticks done old late new e g.0
 gone upto ticks (Ok false) old new g done late e = ends upto ticks done old late e g.0
 gone upto ticks (Err error) old new g done late e = tt
 
--- a schedule and those before and behind it are a family's
+-- A schedule, with those before and after it, is in the family.
 pub gone_among : {E : Type 0} (upto ticks : ℕ) (result : Result Bool E) (old new : Spots) → IfOk result (λ is_more. Goes is_more upto ticks old new)
     → OnErr result (new ≡ old) → IsAmong (family upto ticks 0) old → IsAmong (family upto ticks 0) new
 gone_among upto ticks (Ok true) old new g same a = next_among upto ticks old new a g.0
@@ -230,7 +230,7 @@ gone_within upto ticks (Ok true) old new g same l = g.1
 gone_within upto ticks (Ok false) old new g same l = rw g.1 l
 gone_within upto ticks (Err error) old new g same l = rw same l
 
--- ---- where a walk goes it finds schedules
+-- ---- each step of a walk finds a schedule
 
 pub schedule_of_walk : (upto ticks : ℕ) (s : Spots) → IsAmong (family upto ticks 0) s → IsSchedule upto ticks 0 s
 schedule_of_walk upto ticks s a =

@@ -1,43 +1,44 @@
--- Families of schedules: what is put into a list of events, and where, and which such schedules there are.
+-- Families of schedules: what is inserted into a list of events, and where, and which schedules there are.
 use Rattle.std.specs.Prelude.{ℕ, zero, suc, ◌+◌, ◌*◌, ◌/◌, ◌%◌, ◌==◌, ◌<◌, ◌≤◌, ◌≡◌, ◌⊎◌, List, [], ◌∷◌, ◌++◌, length, map, All, count_by, remove, slice_index_or}
 use Rattle.std.specs.List.Sorted.{IsNonDecreasing}
 
 -- ---- spots
 
--- What can be put in: ticks, and loose events, each of which stands once, anywhere. A tick is of kind 0, the first loose event of kind 1, and so
--- on. Before each event of the list there is a spot for each kind, and the spots are counted through. Without loose events a spot is the place of
--- the event, counted from 0.
+-- Ticks can be inserted, and each loose event is inserted once, anywhere. A tick is of kind 0, the first loose event of
+-- kind 1, and so on. Before each event of the list there is a spot for each kind, and the spots are numbered in this
+-- order. Without loose events, a spot is the place of the event, counted from 0.
 abbrev pub spot : ℕ → ℕ → ℕ → ℕ
 spot loose place kind = place * suc loose + kind
 
--- the place of the event that a spot is before
+-- The place of the event that a spot is before.
 abbrev pub place_of : ℕ → ℕ → ℕ
 place_of loose q = q / suc loose
 
 abbrev pub kind_of : ℕ → ℕ → ℕ
 kind_of loose q = q % suc loose
 
--- A schedule is the list of its spots, in the order of what is put in: several can be before one event, one after another.
+-- A schedule is the list of its spots, in the order of the insertions. Several can be before the same event.
 abbrev pub Spots : Type 0
 Spots = List ℕ
 
--- ---- the schedules that there are
+-- ---- all schedules of a family
 
--- each with this spot in front
+-- Each with this spot in front.
 abbrev pub with_spot : ℕ → List Spots → List Spots
 with_spot q schedules = map (λ ps. q ∷ ps) schedules
 
--- what f gives for each of the first so many kinds, and for the kinds that are left without it
+-- The results of f for each of the first kinds, and the kinds that are left without it.
 abbrev pub each_kind : (ℕ → List ℕ → List Spots) → ℕ → List ℕ → List Spots
 each_kind f zero kinds = []
 each_kind f (suc i) kinds = each_kind f i kinds ++ f (slice_index_or kinds i 0) (remove kinds i)
 
--- what f gives from p on, and then from the place after p on, as long as there are places
+-- The results of f from place p on, then from the next place on, and so on, while there are places.
 abbrev pub from_each : (ℕ → ℕ → List Spots) → ℕ → ℕ → List Spots
 from_each f p zero = []
 from_each f p (suc more) = f p (suc more) ++ from_each f (p + 1) more
 
--- the schedules of n spots at so many places from p on, with one of each of these kinds, and ticks else; the earliest spots first
+-- The schedules of n spots at `places` places from p on, with one spot of each of these kinds, and ticks otherwise; the
+-- earliest spots first.
 abbrev pub of_spots : ℕ → ℕ → List ℕ → ℕ → ℕ → List Spots
 of_spots loose zero [] p places = [] ∷ []
 of_spots loose zero (kind ∷ kinds) p places = []
@@ -45,55 +46,56 @@ of_spots loose (suc n) kinds p places =
     from_each (λ q more. with_spot (spot loose q 0) (of_spots loose n kinds q more)
     ++ each_kind (λ kind left. with_spot (spot loose q kind) (of_spots loose n left q more)) (length kinds) kinds) p places
 
--- those of at most n spots, the fewest spots first
+-- The schedules of at most n spots, the fewest spots first.
 unfoldable pub of_at_most : ℕ → ℕ → List ℕ → ℕ → ℕ → List Spots
 of_at_most loose zero kinds p places = of_spots loose zero kinds p places
 of_at_most loose (suc n) kinds p places = of_at_most loose n kinds p places ++ of_spots loose (suc n) kinds p places
 
--- the kinds of so many loose events
+-- The kinds of this many loose events.
 abbrev pub kinds_of : ℕ → List ℕ
 kinds_of zero = []
 kinds_of (suc loose) = kinds_of loose ++ suc loose ∷ []
 
--- The schedules of at most so many ticks, and of so many loose events, all before the first upto events: fewest ticks first, then the earliest
--- spots.
+-- The schedules of at most `ticks` ticks, and of `loose` loose events, all before the first `upto` events: the fewest
+-- ticks first, then the earliest spots.
 abbrev pub family : ℕ → ℕ → ℕ → List Spots
 family upto ticks loose = of_at_most loose (ticks + loose) (kinds_of loose) 0 upto
 
--- ---- what a family is, said of one schedule, of two, and of all
+-- ---- properties of one schedule, and of two
 
--- A schedule of the family: the places of its spots rise, not strictly, all are below upto, each loose event stands once, and there are at most
--- so many ticks.
+-- A schedule of the family: the places of its spots don't decrease, all are below `upto`, each loose event is inserted
+-- once, and there are at most `ticks` ticks.
 pub record IsSchedule (upto ticks loose : ℕ) (ps : Spots) : Type 0 where
   pub rising : IsNonDecreasing (map (place_of loose) ps)
   pub below : All (λ q. place_of loose q < upto) ps
   pub few : length ps ≤ ticks + loose
   pub each : (kind : ℕ) → 1 ≤ kind → kind ≤ loose → count_by (λ q. kind_of loose q == kind) ps ≡ 1
 
--- The places of the spots rise from low on, not strictly, and stay below high.
+-- The places of the spots begin at low or above, don't decrease, and are below high.
 abbrev pub RisesFrom : ℕ → ℕ → ℕ → Spots → Type 0
 RisesFrom loose low high [] = Unit {0}
 RisesFrom loose low high (q ∷ ps) = (low ≤ place_of loose q) × (place_of loose q < high) × RisesFrom loose (place_of loose q) high ps
 
--- where two schedules of as many spots first differ, the one has the earlier spot
+-- Where two schedules of equally many spots first differ, the first one has the earlier spot.
 abbrev pub IsEarlier : Spots → Spots → Type 0
 IsEarlier (p ∷ ps) (q ∷ qs) = (p < q) ⊎ ((p ≡ q) × IsEarlier ps qs)
 IsEarlier [] qs = ⊥
 IsEarlier (p ∷ ps) [] = ⊥
 
--- Schedules of fewer spots come before; of as many spots, the earlier one does.
+-- A schedule with fewer spots comes before one with more; of equally many spots, the earlier one does.
 abbrev pub IsBefore : Spots → Spots → Type 0
 IsBefore ps qs = (length ps < length qs) ⊎ ((length ps ≡ length qs) × IsEarlier ps qs)
 
 -- ---- how many there are
 
--- how many ways there are to choose k of n things, by Pascal's rule
+-- The number of ways to choose k of n things, by Pascal's rule.
 unfoldable pub choose : ℕ → ℕ → ℕ
 choose n zero = 1
 choose zero (suc k) = 0
 choose (suc n) (suc k) = choose n k + choose n (suc k)
 
--- how many ways there are to put so many loose events before n events, one after another: n of the first, n + 1 of the second, and so on
+-- The number of ways to insert `loose` loose events before n events, one after another: n for the first, n + 1 for the
+-- second, and so on.
 abbrev pub ways : ℕ → ℕ → ℕ
 ways n zero = 1
 ways n (suc loose) = ways n loose * (n + loose)

@@ -1,4 +1,4 @@
-//! Lists of events as the texts that stand for them, with comments.
+//! Writes lists of events as texts, with comments.
 
 ghost use Rattle.std.specs.Prelude.{◌≡◌, ◌+◌, ◌<◌, ◌≤◌, [], ◌∷◌, ◌++◌, length, map, replicate, OnOk};
 ghost use Rattle.std.specs.String.{string_bytes};
@@ -21,29 +21,29 @@ const MOST_COUNTED: u64 = 1_000_000;
 /// The most bytes of a line `key C B ..`: so it stays short.
 const MOST_KEYS: usize = 16;
 
-/// So many keys as they are typed take at most so many bytes.
+/// The most bytes that the keys of a line take as they are typed.
 const MOST_TYPED: usize = 4 * MOST_KEYS;
 
-/// A comment with more bytes has no room in a line.
+/// The most bytes of a comment that fits in a line.
 const MOST_COMMENT: usize = 194;
 
 /// A comment on an event of a list.
 #[derive(Drop)]
 pub struct Remark {
-    /// The place of the event, from 0 on.
+    /// The place of the event, counted from 0.
     pub place: u64,
-    /// At most 194 bytes, without a line feed; any other is left out.
+    /// At most 194 bytes, without a line feed; any other text is omitted.
     pub text: String,
 }
 
-/// Keys of one console that wait for the line of keys to end.
+/// Keys of one console that are not yet written.
 #[derive(Drop)]
 struct Keys {
     console: u8,
     bytes: ArrayVec<u8, MOST_KEYS>,
 }
 
-/// Writes so many steps or ticks.
+/// Writes `count` steps or ticks.
 fn write_counted(text: &mut String, word: &str, count: u64) -> Result<(), AllocError>
     ensures { (event : AnEvent) → IsWordOf event word.now → OnOk result (AddsLines (string_bytes text.old) (replicate count event) (string_bytes text.new)) }
 {
@@ -56,7 +56,7 @@ fn write_counted(text: &mut String, word: &str, count: u64) -> Result<(), AllocE
     Ok(())
 }
 
-/// Writes so many hangups.
+/// Writes `count` hangups.
 fn write_hangups(text: &mut String, console: u8, count: u64) -> Result<(), AllocError>
     ensures { OnOk result (AddsLines (string_bytes text.old) (replicate count (Hangup console)) (string_bytes text.new)) }
 {
@@ -66,14 +66,14 @@ fn write_hangups(text: &mut String, console: u8, count: u64) -> Result<(), Alloc
     Ok(())
 }
 
-/// Writes a byte as a word of two digits.
+/// Writes a byte as a space and two hexadecimal digits.
 fn write_byte(text: &mut String, byte: u8) -> Result<(), AllocError>
     ensures { OnOk result (string_bytes text.new ≡ string_bytes text.old ++ 32 ∷ two_digits byte) }
 {
     write!(text, " {byte:02X}")
 }
 
-/// Adds a key as it is typed: a control character as ^C, and a byte from 80 on as M- and the key that gives it with Meta.
+/// Adds a key as it is typed: a control character as ^C, and a byte from 80 hex as M- and the key to press with Meta.
 fn push_typed(typed: &mut ArrayString<MOST_TYPED>, byte: u8) {
     let meta = if byte < 0x80 { "" } else { "M-" };
     let key = byte & 0x7f;
@@ -109,7 +109,7 @@ fn write_key_line(text: &mut String, console: u8, bytes: &[u8]) -> Result<(), Al
     Ok(())
 }
 
-/// Writes keys, if there are some, in a line behind a comment that shows them as they are typed.
+/// Writes a line of keys, after a comment that shows them as they are typed. Writes nothing if there are no keys.
 fn write_keys(text: &mut String, console: u8, bytes: &[u8]) -> Result<(), AllocError>
     requires { length bytes.now ≤ 16 }
     ensures { OnOk result (AddsLines (string_bytes text.old) (map (Key console) bytes.now) (string_bytes text.new)) }
@@ -122,7 +122,7 @@ fn write_keys(text: &mut String, console: u8, bytes: &[u8]) -> Result<(), AllocE
     Ok(())
 }
 
-/// Ends the line of the keys that wait, if there are some.
+/// Writes the keys that are not yet written, if there are any.
 fn end_keys(text: &mut String, keys: &mut Keys) -> Result<(), AllocError>
     ensures adds { OnOk result (AddsFirst (string_bytes text.old) (map (Key keys.old.console) keys.old.bytes.items) [] (string_bytes text.new) (map (Key keys.new.console) keys.new.bytes.items)) }
     ensures none { OnOk result (keys.new.bytes.items ≡ []) }
@@ -133,7 +133,7 @@ fn end_keys(text: &mut String, keys: &mut Keys) -> Result<(), AllocError>
     Ok(())
 }
 
-/// Ends the line of the keys that wait where it is full, or of another console.
+/// Makes room for a key of this console. Writes the keys so far if the line is full, or if they are of another console.
 fn make_room(text: &mut String, keys: &mut Keys, console: u8) -> Result<(), AllocError>
     ensures adds { OnOk result (AddsFirst (string_bytes text.old) (map (Key keys.old.console) keys.old.bytes.items) [] (string_bytes text.new) (map (Key keys.new.console) keys.new.bytes.items)) }
     ensures console { OnOk result (keys.new.console ≡ console) }
@@ -147,7 +147,7 @@ fn make_room(text: &mut String, keys: &mut Keys, console: u8) -> Result<(), Allo
     Ok(())
 }
 
-/// Adds a key so many times.
+/// Adds a key `count` times.
 fn put_keys(
     text: &mut String,
     keys: &mut Keys,
@@ -164,7 +164,7 @@ fn put_keys(
     Ok(())
 }
 
-/// Adds an event so many times.
+/// Adds an event `count` times.
 fn put_many(text: &mut String, keys: &mut Keys, event: Event, count: u64) -> Result<(), AllocError>
     ensures { OnOk result (AddsFirst (string_bytes text.old) (map (Key keys.old.console) keys.old.bytes.items) (replicate count event) (string_bytes text.new) (map (Key keys.new.console) keys.new.bytes.items)) }
 {
@@ -185,7 +185,7 @@ fn put_many(text: &mut String, keys: &mut Keys, event: Event, count: u64) -> Res
     }
 }
 
-/// Writes a comment in a line of its own; nothing, where a line has no room for it.
+/// Writes a comment in its own line. Writes nothing if the comment is too long or has a line feed.
 fn write_comment(text: &mut String, comment: &str) -> Result<(), AllocError>
     ensures { OnOk result (AddsLines (string_bytes text.old) [] (string_bytes text.new)) }
 {
@@ -196,7 +196,7 @@ fn write_comment(text: &mut String, comment: &str) -> Result<(), AllocError>
     Ok(())
 }
 
-/// Adds an event so many times, and once more behind a comment.
+/// Adds an event `count` times, and once more after a comment.
 fn put_remarked(
     text: &mut String,
     keys: &mut Keys,
@@ -213,7 +213,7 @@ fn put_remarked(
     Ok(())
 }
 
-/// Adds a run of one event, the first of which has the place `start`, with the remarks on its events.
+/// Adds a run of one event, the first of which has place `start`, with the remarks on its events.
 fn put_run(
     text: &mut String,
     keys: &mut Keys,
@@ -238,11 +238,12 @@ fn put_run(
     Ok(())
 }
 
-/// Writes a list of events as a text that stands for them, each line behind four blanks. Before a line of keys it has a
-/// comment with the keys as they are typed, as ^C. Before an event that has a remark it has a comment, and the event in a
-/// line of its own; the places of the remarks rise strictly, and a remark out
-/// of this order is left out. Without memory a part of the text may have been added.
-/// Scheduling notes and typed keys are comments, so one text serves with and without `--names`.
+/// Writes a list of events as a text from which they are read again. Each line is indented by four spaces.
+///
+/// A comment before each line of keys shows them as they are typed, such as ^C. An event with a remark has its own
+/// line, after the remark as a comment. The places of the remarks must rise strictly; a remark out of order is omitted.
+/// Keys and remarks are only in comments, so the text can be read with and without `--names`. If memory runs out, a
+/// part of the text may have been added.
 pub fn write_events(
     text: &mut String,
     events: &EventList,

@@ -1,9 +1,9 @@
-//! Spots of as many ticks, one list after another.
+//! Goes through the lists of equally many places.
 
 ghost use Rattle.std.specs.Prelude.{◌≡◌, ◌+◌, ◌<◌, suc, length, drop, slice_index, IfSome, None};
 ghost use Rattle.schedules.specs.Walks.{Advances, next_of_ticks};
 
-/// Which of the places is the last that can go to the one after it, which has to be below `upto`.
+/// Returns the index of the last place that can be raised by one and stay below `upto`, if there is one.
 fn last_to_go(places: &[u64], upto: u64) -> Option<usize>
     ensures none { result ≡ None → next_of_ticks upto places.now ≡ None }
     ensures some { IfSome result (λ i. (i < length places.now) × (slice_index places.now i + 1 < upto) × (next_of_ticks upto (drop (suc i) places.now) ≡ None)) }
@@ -18,9 +18,10 @@ fn last_to_go(places: &[u64], upto: u64) -> Option<usize>
     None
 }
 
-/// Goes to the next list of as many places, all below `upto`; at `false` there is none, and nothing changed.
+/// Goes to the next list of equally many places, all below `upto`. Returns false if there is none; then nothing
+/// changes.
 ///
-/// The last place that can goes to the one after it, and those behind it go along.
+/// Raises the last place that can be raised by one, and sets those after it to the same place.
 pub(crate) fn advance(places: &mut [u64], upto: u64) -> bool
     ensures { Advances result upto places.old places.new }
 {

@@ -1,4 +1,4 @@
-//! The schedules of a family without loose events, one after another.
+//! Goes through the schedules of a family without loose events.
 
 ghost use Rattle.std.specs.Prelude.{◌≡◌, ◌≤◌, List, [], ◌∷◌, ◌++◌, length, true, false, IfOk, OnErr};
 ghost use Rattle.schedules.specs.Families.{Spots, family, IsSchedule};
@@ -28,7 +28,7 @@ impl Model for Schedule {
     ghost invariant = { λ s. (length s.places.items ≤ s.ticks) × IsAmong (family s.upto s.ticks 0) s.places.items };
 }
 
-/// Goes to the next schedule with places below `upto`, of at most `ticks` ticks; at `false` there is none.
+/// Goes to the next schedule with at most `ticks` ticks, at places below `upto`. Returns false if there is none.
 fn go_on(places: &mut Vec<u64>, upto: u64, ticks: usize) -> Result<bool, AllocError>
     requires within { length places.old.items ≤ ticks }
     ensures ok { IfOk result (λ is_more. Goes is_more upto ticks places.old.items places.new.items) }
@@ -46,7 +46,7 @@ fn go_on(places: &mut Vec<u64>, upto: u64, ticks: usize) -> Result<bool, AllocEr
 }
 
 impl Schedule {
-    /// The first schedule of a family, without ticks.
+    /// Returns the first schedule of a family, which has no ticks.
     pub fn first(alloc: Global, upto: u64, ticks: usize) -> Schedule
         ensures places { result.places ≡ [] }
         ensures upto { result.upto ≡ upto }
@@ -60,7 +60,7 @@ impl Schedule {
         }
     }
 
-    /// The places of the ticks, rising.
+    /// Returns the places of the ticks, which don't decrease.
     pub fn places(&self) -> &[u64]
         ensures value { result.now ≡ self.now.places }
         ensures are_of_family { IsSchedule self.now.upto self.now.ticks 0 result.now }
@@ -68,8 +68,8 @@ impl Schedule {
         self.places.as_slice()
     }
 
-    /// Goes to the schedule that comes next in the family; at `false` there is none, and this one stays, as at the error
-    /// that there is no memory for it.
+    /// Goes to the next schedule of the family. Returns false if there is none. In that case, and if memory runs out,
+    /// the schedule stays unchanged.
     pub fn next(&mut self) -> Result<bool, AllocError>
         ensures upto { self.new.upto ≡ self.old.upto }
         ensures ticks { self.new.ticks ≡ self.old.ticks }

@@ -1,4 +1,4 @@
-//! How many schedules there are.
+//! The sizes of families.
 
 ghost use Rattle.std.specs.Prelude.{◌≡◌, ◌+◌, ◌*◌, ◌<◌, ◌≤◌, ◌^◌, length};
 ghost use Rattle.std.specs.Option.{SomeIff};
@@ -6,8 +6,8 @@ ghost use Rattle.schedules.specs.Families.{choose, family, ways};
 
 use crate::{MOST_LOOSE, MOST_TICKS};
 
-/// How many ways there are to choose one more of one more than these things, where there are so many to choose `chosen`
-/// of `of + chosen`; `None` where it is above `limit`.
+/// Returns the number of ways to choose `chosen + 1` of `of + chosen + 1` things, if `size` is the number of ways to
+/// choose `chosen` of `of + chosen`. Returns `None` if the number is above `limit`.
 fn with_one_more(size: u64, of: u64, chosen: usize, limit: u64) -> Option<u64>
     requires few { chosen < MOST_TICKS }
     requires of { of ≤ 2 ^ 63 + MOST_LOOSE }
@@ -16,7 +16,7 @@ fn with_one_more(size: u64, of: u64, chosen: usize, limit: u64) -> Option<u64>
 {
     let more = chosen as u128 + 1;
     let things = u128::from(of) + more;
-    // There is no rest.
+    // The division is exact.
     let next = u128::from(size) * things / more;
     if next > u128::from(limit) {
         return None;
@@ -24,7 +24,7 @@ fn with_one_more(size: u64, of: u64, chosen: usize, limit: u64) -> Option<u64>
     Some(next as u64)
 }
 
-/// How many ways there are to choose `chosen` of `of + chosen` things; `None` where it is above `limit`.
+/// Returns the number of ways to choose `chosen` of `of + chosen` things, or `None` if it is above `limit`.
 fn ways_to_choose(of: u64, chosen: usize, limit: u64) -> Option<u64>
     requires few { chosen ≤ MOST_TICKS }
     requires of { of ≤ 2 ^ 63 + MOST_LOOSE }
@@ -40,8 +40,8 @@ fn ways_to_choose(of: u64, chosen: usize, limit: u64) -> Option<u64>
     Some(size)
 }
 
-/// How many schedules there are of at most `ticks` ticks and of `loose` loose events, all before the first `upto`
-/// events: their exact number, or `None` where it is above `limit`.
+/// Returns the number of schedules with at most `ticks` ticks and with `loose` loose events, all before the first
+/// `upto` events, or `None` if it is above `limit`.
 pub fn family_size(upto: u64, ticks: usize, loose: usize, limit: u64) -> Option<u64>
     requires ticks { ticks ≤ MOST_TICKS }
     requires loose { loose ≤ MOST_LOOSE }

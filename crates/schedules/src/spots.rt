@@ -1,4 +1,4 @@
-//! Spots: before which event of a list something is put in, and what.
+//! Spots: a spot says what is inserted, and before which event of a list.
 
 ghost use Rattle.std.specs.Prelude.{◌≡◌, ◌==◌, ◌<◌, ◌≤◌, ◌^◌, length};
 ghost use Rattle.schedules.specs.Families.{kind_of, place_of as place_of_spot, spot as spot_of};
@@ -7,7 +7,7 @@ ghost use Rattle.schedules.specs.Schedules.{event_of as event_of_kind, put_at as
 use crate::MOST_LOOSE;
 use posix::Event;
 
-/// The spot of a kind before the event with this place, where there are so many loose events.
+/// Returns the spot for a kind of insertion before the event with this place, with this many loose events.
 pub fn spot(loose: usize, place: u64, kind: u8) -> u64
     requires few { loose ≤ MOST_LOOSE }
     requires place { place < 2 ^ 40 }
@@ -16,7 +16,7 @@ pub fn spot(loose: usize, place: u64, kind: u8) -> u64
     place * (loose as u64 + 1) + u64::from(kind)
 }
 
-/// The place of the event that a spot is before, where there are so many loose events.
+/// Returns the place of the event that a spot is before, with this many loose events.
 pub fn place_of(loose: usize, spot: u64) -> u64
     requires { loose ≤ MOST_LOOSE }
     ensures { result ≡ place_of_spot loose spot }
@@ -24,7 +24,7 @@ pub fn place_of(loose: usize, spot: u64) -> u64
     spot / (loose as u64 + 1)
 }
 
-/// Whether a tick is put in at a spot, and no loose event.
+/// Returns true if a tick is inserted at a spot, rather than a loose event.
 pub fn is_tick(loose: usize, spot: u64) -> bool
     requires { loose ≤ MOST_LOOSE }
     ensures { result ≡ (kind_of loose spot == 0) }
@@ -32,7 +32,7 @@ pub fn is_tick(loose: usize, spot: u64) -> bool
     spot % (loose as u64 + 1) == 0
 }
 
-/// What is put in, of a kind: a tick for 0, and else one of the loose events, from 1.
+/// Returns the event of a kind: a tick for 0, and for kinds from 1 a loose event.
 pub fn event_of(loose: &[Event], kind: usize) -> Event
     ensures { result ≡ event_of_kind loose.now kind }
 {
@@ -45,7 +45,7 @@ pub fn event_of(loose: &[Event], kind: usize) -> Event
     }
 }
 
-/// What is put in at a spot.
+/// Returns the event that is inserted at a spot.
 pub fn put_at(loose: &[Event], spot: u64) -> Event
     requires { length loose.now ≤ MOST_LOOSE }
     ensures { result ≡ put_at_spot loose.now spot }

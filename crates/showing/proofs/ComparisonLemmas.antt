@@ -1,4 +1,4 @@
--- What was put beside a text.
+-- Proofs about what is put while it is compared with a text.
 use Rattle.std.proofs.Common.{◌≡◌, ◌≢◌, ℕ, ◌+◌, ◌-◌, ◌<◌, ◌≤◌, List, [], ◌∷◌, ◌++◌, Option, Some, None, length, get_or, take, drop, ap, sym, subst, refl, ◌∙◌, append_assoc, append-nil, arith, true}
 use Rattle.std.specs.Prelude.{Result, Ok, Err}
 use Rattle.std.proofs.lemmas.Grind.{common_steps}
@@ -34,7 +34,7 @@ took_same text bytes same n None none h fits is =
 take_next : (xs : List ℕ) (n b : ℕ) → n < length xs → b ≡ get_or xs n b → take (n + 1) xs ≡ take n xs ++ b ∷ []
 take_next xs n b h is = grind (arith, common_steps)
 
--- and another byte behind them
+-- another byte after them
 pub took_other : (text bytes : List ℕ) (same n b : ℕ) (other : Option ℕ) → other ≡ None → same ≤ length text → n ≤ length (take (length text - same) (drop same text))
     → take n (take (length text - same) (drop same text)) ≡ take n bytes → n < length bytes → b ≡ get_or bytes n b → held text (same + n) (Some b) ≡ held text same other ++ take (n + 1) bytes
 took_other text bytes same n b (Some c) none h fits is within next = absurd (cc)
@@ -57,7 +57,7 @@ same_front (a ∷ more) (b ∷ bs) x y h e =
     let r = same_front more bs x y (omega (arith, h)) tails in
     let is = r.0 in (cc, r.1)
 
--- What was taken beside a text, and that it is the text of before.
+-- The compared text is the one of before, and what was taken is known.
 taken_is : (old new : Option (List ℕ)) (before text : List ℕ) (same : ℕ) (other : Option ℕ) (bytes : List ℕ) → old ≡ Some (held before 0 None) → new ≡ Some (held text same other)
     → Appends old new bytes → (text ≡ before) × (taken_beside text same other ≡ bytes)
 taken_is old new before text same other bytes is_old is_new appends =
@@ -70,11 +70,11 @@ taken_is old new before text same other bytes is_old is_new appends =
 begun : (text trace : List ℕ) (same : ℕ) (other : Option ℕ) → text ≡ trace → same ≡ 0 → other ≡ None → Some (held text same other) ≡ Some (held trace 0 None)
 begun text trace same other is none nothing = rw (is, none, nothing) refl
 
--- what is seen of it as a sink
+-- the sink's view of it
 abbrev pub seen : ComparingSink → Seen
 seen b = record { taken = Some (held b.text.now b.same b.other); failures = b.failures; last_failed = b.last_failed }
 
--- A text that is the trace, beside what such a run prints.
+-- The comparison with a run holds of the trace, because it holds of an equal text.
 of_run_with : (contents : Contents) (names : Text × Text) (world : World) (events : List Event) (read : AreRead contents names world events) (text trace : List ℕ) (number : Option ℕ)
     (given : List Event) (lines : List Line) (last : State) → RunsTexts read.world_bytes read.event_bytes given lines last → text ≡ trace → Compares text (print lines) number
     → OfRun contents names (λ printed. Compares trace printed number)
@@ -89,7 +89,7 @@ of_run_with contents names world events read text trace number given lines last 
   of_trace = subst (λ t. Compares t (print lines) number) same compares;
 }
 
--- A trace beside the printed one, all of which was put.
+-- The comparison of a trace with the printed trace of a run, if all of the printed trace was put.
 beside_all : (contents : Contents) (names : Text × Text) (world : World) (events : List Event) (read : AreRead contents names world events) (first beside : ComparingSink) (summary : Summary)
     (trace : List ℕ) (number : Option ℕ) → first.text.now ≡ trace → first.same ≡ 0 → first.other ≡ None → Traces read.world_bytes read.event_bytes (seen first) (seen beside) summary
     → Compares beside.text.now (taken_beside beside.text.now beside.same beside.other) number → OfRun contents names (λ printed. Compares trace printed number)
@@ -97,7 +97,7 @@ beside_all contents names world events read first beside summary trace number is
     let same = taken_is _ _ trace beside.text.now beside.same beside.other (print h.lines) (begun _ _ _ _ is none nothing) refl h.taken.taken in
     of_run_with contents names world events read beside.text.now trace number h.events h.lines h.last h.run same.0 (subst (λ x. Compares beside.text.now x number) same.1 whole)
 
--- Or a beginning of it was.
+-- The same comparison, if only a beginning of the printed trace was put.
 beside_some : (contents : Contents) (names : Text × Text) (world : World) (events : List Event) (read : AreRead contents names world events) (first beside : ComparingSink)
     (trace : List ℕ) (number : Option ℕ) → first.text.now ≡ trace → first.same ≡ 0 → first.other ≡ None → CutsShort read.world_bytes read.event_bytes (seen first) (seen beside)
     → (beside.last_failed ≡ true → (rest : List ℕ) → Compares beside.text.now (taken_beside beside.text.now beside.same beside.other ++ rest) number)
@@ -108,7 +108,7 @@ beside_some contents names world events read first beside trace number is none n
     of_run_with contents names world events read beside.text.now trace number h.events h.lines h.last h.run same.0
     (subst (λ x. Compares beside.text.now x number) (ap (λ x. x ++ broken.rest) same.1 ∙ sym broken.split) (more broken.last broken.rest))
 
--- A run that began did one of both.
+-- The comparison for every run that began: it put all of its trace, or a beginning.
 pub of_run : {S : Type 0} (contents : Contents) (names : Text × Text) (world : World) (events : List Event) (read : AreRead contents names world events) (so sn : S) (first beside : ComparingSink)
     (done : Result Summary RunError) (trace : List ℕ) (number : Option ℕ) → first.text.now ≡ trace → first.same ≡ 0 → first.other ≡ None → done ≢ Err error.Memory
     → Headline read.world_bytes read.event_bytes so sn (seen first) (seen beside) done

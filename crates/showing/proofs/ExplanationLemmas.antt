@@ -105,7 +105,7 @@ told_all before now next trace rest waiting h one t =
       },
     )
 
--- or a put of these bytes fails
+-- a put of these bytes fails
 pub told_in_part : (before now next : Seen) (trace rest waiting : List ℕ) → HasTold before trace rest now waiting → is_one_line rest ≡ true
     → BreaksOff now next (waiting ++ rest) → OfExplained trace (BreaksOff before next)
 told_in_part before now next trace rest waiting h one b =

@@ -1,4 +1,4 @@
--- Kernels that were given events, and those that were looked at.
+-- Kernels that ran events, and kernels that were only read.
 use Rattle.std.proofs.Common.{◌≡◌, ℕ, ◌+◌, ◌-◌, ◌<◌, ◌≤◌, List, [], ◌++◌, length, take, drop, refl, ap, sym, subst, ◌∙◌, arith, get_or, append_assoc, length-append, max, min}
 use Rattle.std.specs.Prelude.{replicate}
 use Rattle.std.proofs.lemmas.List.{length-replicate, length-take-le, take-append-le, take-replicate}
@@ -15,7 +15,7 @@ use Rattle.showing.specs.Pasts.{IsReached, IsSame, AreGiven}
 pub same_then : {a b c : KernelView} → IsSame a b → IsSame b c → IsSame a c
 same_then p q = record { state = q.state ∙ p.state; events = q.events ∙ p.events }
 
--- ---- one event, given again and again
+-- ---- one event, run again and again
 
 -- not at all
 pub given_same : (x : Event) (a b : KernelView) → IsSame a b → AreGiven x a b
@@ -24,7 +24,7 @@ given_same x a b same =
     let none : b.events - a.events ≡ 0 = omega (arith, looked) in
     record { lines = []; more = omega (arith, looked); runs = subst (λ (n : ℕ). RunsFrom (a.events + 1) a.state (replicate n x) [] b.state) (sym none) (refl, same.state) }
 
--- once, between two looks
+-- once, between two readings
 pub given_one : (x : Event) (a b c d : KernelView) (es : List Entry) → IsSame a b → IsStep b.state x es c.state → c.events ≡ b.events + 1 → IsSame c d → AreGiven x a d
 given_one x a b c d es before step one after =
     let looked = before.events in
@@ -54,7 +54,7 @@ given_then x a b c p q =
 
 -- ---- the first events of a list
 
--- as many as end in the midst of equal ones
+-- a number of events that ends within a run of equal events
 taken_in : (before after : List Event) (x : Event) (n j : ℕ) → length before ≤ j → j ≤ length before + n → take j ((before ++ replicate n x) ++ after) ≡ before ++ replicate (j - length before) x
 taken_in before after x n j from to =
     let m = j - length before in
@@ -74,9 +74,9 @@ taken_more before after x n j k from rising to =
     ∙ sym (append_assoc before (replicate (j - length before) x) (replicate (k - j) x))
     ∙ ap (λ (l : List Event). l ++ replicate (k - j) x) (sym (taken_in before after x n j from (omega (arith, rising, to))))
 
--- ---- kernels that were reached
+-- ---- kernels that have run the first events
 
--- events of the run at i were given, up to the last one that is wanted
+-- more events of the run at index i were run, up to the last requested event
 pub reached_more : (w : World) (all : List Event) (rs : List CountedEvent) (i : ℕ) (r : CountedEvent) (a b : KernelView) (old last end stop : ℕ) → i < length rs → r ≡ get_or rs i r → expanded rs ≡ all
     → end ≡ length (expanded (take i rs)) → a.events ≡ max old (min last end) → stop ≡ min (end + r.count) last → a.events < stop → b.events ≤ stop → AreGiven r.event a b → IsReached w all a → IsReached w all b
 reached_more w all rs i r a b old last end stop lt is same at now until before_it to g reached =

@@ -1,4 +1,4 @@
--- What a status means.
+-- Proofs of what the exit statuses mean.
 use Rattle.std.proofs.Common.{◌≡◌, Some, None, List, ℕ, inl, inr, Err}
 use Rattle.inputs.proofs.MeaningLemmas.{means_cut_short}
 use Rattle.inputs.specs.Failures.{status_of}

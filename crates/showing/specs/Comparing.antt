@@ -1,4 +1,4 @@
--- What a status means, of a trace beside what a world writes.
+-- What the statuses mean if a trace is compared with a run of a world.
 use Rattle.std.specs.Prelude.{◌≡◌, ◌⊎◌, ℕ, List, Option, None, Some, IfSome}
 use Rattle.inputs.specs.Failures.{MeansOf}
 use Rattle.inputs.specs.Reads.{AreRefused, Contents, Text}
@@ -32,11 +32,11 @@ IsCompared contents names number = (trace : List ℕ) × IsTraceBeside contents 
 abbrev pub OfSame : Contents → Named → (List ℕ → Type 0) → Type 0
 OfSame contents names P = (trace : List ℕ) × IsTraceBeside contents names trace None × OfExplained trace P
 
--- One of the two texts is refused, where that is the reason.
+-- If the status of the fault is 1, the world or the events are rejected.
 abbrev pub IsUnread : Contents → Named → InputFault → Type 0
 IsUnread contents names why = status_of why ≡ 1 → AreRefused contents (names.world, names.events)
 
--- A text is refused, or the trace is another one.
+-- The world or the events are rejected, or the trace is not that of a run.
 abbrev pub IsOther : Contents → Named → Type 0
 IsOther contents names = AreRefused contents (names.world, names.events) ⊎ ((number : ℕ) × IsCompared contents names (Some number))
 

@@ -1,10 +1,10 @@
--- The statuses of `show`.
+-- The exit statuses of `show`.
 use Rattle.std.specs.Prelude.{ℕ}
 use Rattle.inputs.specs.Statuses.{status_of as status_of_input}
 use Rattle.showing.specs.declared.serving.Failure.{Failure}
 use Rattle.showing.specs.declared.serving.Failure.TheVariants.{Usage, At, AtAbove, Process, Step, Input, Unread, Memory, Write}
 
--- 1 for a refused text, 2 for other words, 3 for a device or memory
+-- 1 if an input is rejected, 2 for a usage error, 3 if a device fails or memory runs out
 abbrev pub status_of : Failure → ℕ
 status_of (Input why) = status_of_input why
 status_of Usage = 2

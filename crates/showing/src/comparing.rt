@@ -1,4 +1,4 @@
-//! What `explain TRACE WORLD EVENTS` does. It compares a trace with the one that the world writes. If they are the
+//! The command `explain TRACE WORLD EVENTS`. It compares a trace with the trace of a run of the world. If they are the
 //! same, it explains what each event did, and reports probable mistakes in the world.
 
 ghost use Rattle.std.specs.Prelude.{◌≡◌, ◌≤◌, IfOk, MatchResult, length};
@@ -13,12 +13,11 @@ use crate::lines::explain_text;
 use crate::run_explainer::RunExplainer;
 use inputs::{FileFailure, InputFault, Inputs, ReadFiles, read_inputs, tell};
 use std::alloc::Global;
-use telling::View;
 use trace::{Sink, put_all};
 use warning::put_warnings;
 use wording::{Listing, Prose};
 
-/// The files of a trace, of a world, and of its events, by their names.
+/// The names of the files with the trace, the world and its events.
 #[derive(Clone, Copy)]
 pub struct Named<'a> {
     pub trace: &'a str,
@@ -26,17 +25,16 @@ pub struct Named<'a> {
     pub events: &'a str,
 }
 
-/// The contents of the three files, and how the trace compares with the run.
+/// The contents of the three files, and the result of the comparison.
 #[derive(Drop)]
 struct Compared {
     trace: Vec<u8>,
     inputs: Inputs,
-    /// The number of the first line in which the trace differs from the one that the world writes over the events, if
-    /// they differ.
+    /// The number of the first line in which the trace differs from the trace of a run, or `None` if they are the same.
     other: Option<u64>,
 }
 
-/// Reads the three files, and compares the trace with the one that the world writes over the events.
+/// Reads the three files, and compares the trace with the trace of a run of the world over the events.
 fn compare<'a, F: ReadFiles>(
     alloc: Global,
     files: &F,
@@ -57,7 +55,7 @@ fn compare<'a, F: ReadFiles>(
     }
 }
 
-/// Puts a trace, and after the first line of each event what that event did in a run of the world.
+/// Puts a trace. After the first line of each event it puts what the event did in a run of the world.
 fn explain_run<'a, O: Sink>(
     alloc: Global,
     inputs: &Inputs,
@@ -68,21 +66,14 @@ fn explain_run<'a, O: Sink>(
     ensures { Explains (O.seen out.old) (O.seen out.new) trace.now result }
 {
     let listing = Listing::new(alloc, inputs.world_text.as_slice())?;
-    let view = View {
-        alloc,
-        listing: &listing,
-        events: inputs.events.len(),
-        traced: true,
-        only: &[],
-    };
-    let mut run = RunExplainer::new(view, &inputs.world, &inputs.events)?;
+    let mut run = RunExplainer::new(alloc, &listing, &inputs.world, &inputs.events)?;
     let done = explain_text(alloc, &mut run, trace, out);
     drop(run);
     done
 }
 
 /// Puts the trace as [`explain_run`] does, and then reports probable mistakes in the world. Puts nothing if there is no
-/// memory for the report.
+/// memory for the report, because the report is made first.
 fn serve_same<'a, O: Sink, E: Sink>(
     alloc: Global,
     inputs: &Inputs,
@@ -106,7 +97,7 @@ fn serve_same<'a, O: Sink, E: Sink>(
     Ok(())
 }
 
-/// Reports a failure to read the inputs, and returns its exit status.
+/// Reports a failure to read the inputs, and returns the exit status for it.
 fn ended<E: Sink>(why: InputFault<'_>, err: &mut E) -> u8
     ensures { result ≡ status_of why.entry }
 {
@@ -114,9 +105,11 @@ fn ended<E: Sink>(why: InputFault<'_>, err: &mut E) -> u8
     why.status()
 }
 
-/// Compares a trace with what a world writes over its events. If they are the same, puts the trace with what each event
-/// did, and reports probable mistakes in the world to `err`. Returns the exit status: 0; 1 if they differ, or a text is
-/// rejected; 3 if a device fails, or there is no memory. A failing `err` changes no status.
+/// Compares a trace with the trace of a run of a world over its events. If they are the same, puts the trace with what
+/// each event did, and reports probable mistakes in the world to `err`.
+///
+/// Returns the exit status: 0 on success, 1 if the traces differ or an input is rejected, 3 if a file cannot be read,
+/// `out` fails or memory runs out. A failure of `err` does not change the status.
 pub fn serve_beside<'a, F: ReadFiles, O: Sink, E: Sink>(
     alloc: Global,
     named: Named<'a>,
@@ -133,7 +126,9 @@ pub fn serve_beside<'a, F: ReadFiles, O: Sink, E: Sink>(
     };
     if let Some(number) = read.other {
         tell(
-            format_args!("jobk: line {number}: not what the world writes"),
+            format_args!(
+                "jobk: line {number}: differs from the trace of this world and these events"
+            ),
             err,
         );
         return 1;

@@ -1,11 +1,11 @@
-//! A sink that holds what is put beside a text.
+//! A sink that compares what is put with a text.
 
 ghost use Rattle.std.specs.Prelude.{◌≡◌, ◌≢◌, ◌≤◌, ◌<◌, ◌++◌, ℕ, List, true, length, slice_get, take, None, Some};
 ghost use Rattle.showing.specs.Comparisons.{Compares, held, line_at as line_of_place, taken_beside};
 
 use trace::{Sink, SinkFault};
 
-/// How many bytes two slices have in common at their beginnings.
+/// Returns the length of the common beginning of two slices.
 fn count_same(one: &[u8], other: &[u8]) -> usize
     ensures of_one { result ≤ length one.now }
     ensures of_other { result ≤ length other.now }
@@ -19,7 +19,7 @@ fn count_same(one: &[u8], other: &[u8]) -> usize
     count
 }
 
-/// The number of the line at a place of a text: the first line is 1.
+/// Returns the number of the line that contains a position of a text. The first line is 1.
 fn line_at(text: &[u8], place: usize) -> u64
     requires { place ≤ length text.now }
     ensures { result ≡ line_of_place text.now place }
@@ -33,14 +33,14 @@ fn line_at(text: &[u8], place: usize) -> u64
     number
 }
 
-/// A sink that holds what is put beside a text. It takes bytes as long as they are those of the text, and the first that
-/// isn't; no put succeeds behind that.
+/// A sink that compares what is put with a text, without keeping it. It takes bytes while they equal those of the text,
+/// and the first byte that differs or goes beyond its end. After that byte, each put of at least one byte fails.
 #[derive(Drop)]
 pub struct ComparingSink<'t> {
     text: &'t [u8],
-    /// How many bytes of the text were put.
+    /// The number of bytes of the text that were put.
     same: usize,
-    /// The byte that was put in place of the next one.
+    /// The first byte that differs from the text or goes beyond its end, if one was put.
     other: Option<u8>,
     failures: u64,
     last_failed: bool,
@@ -50,7 +50,7 @@ pub struct ComparingSink<'t> {
 }
 
 impl<'t> ComparingSink<'t> {
-    /// Nothing is put yet.
+    /// Returns a sink into which nothing has been put.
     pub fn new(text: &'t [u8]) -> Self
         ensures text { result.text.now ≡ text.now }
         ensures same { result.same ≡ 0 }
@@ -65,7 +65,8 @@ impl<'t> ComparingSink<'t> {
         }
     }
 
-    /// The number of the first line in which the text isn't what was put; none where it is.
+    /// Returns the number of the first line in which the text differs from what was put, or `None` if they are the
+    /// same.
     pub fn difference(&self) -> Option<u64>
         ensures whole { Compares self.now.text.now (taken_beside self.now.text.now self.now.same self.now.other) result }
         ensures cut_short { self.now.last_failed ≡ true → (rest : List ℕ) → Compares self.now.text.now (taken_beside self.now.text.now self.now.same self.now.other ++ rest) result }
@@ -78,7 +79,7 @@ impl<'t> ComparingSink<'t> {
 }
 
 impl Sink for ComparingSink<'_> {
-    // What it took stands behind the text and its length, so that whoever puts into it knows that the text stays.
+    // `seen` includes the text and its length, so that a caller's proof knows that puts don't change the text.
     ghost seen = { λ b. record { taken = Some (held b.text.now b.same b.other); failures = b.failures; last_failed = b.last_failed } };
 
     fn put(&mut self, bytes: &[u8]) -> Result<usize, SinkFault> {

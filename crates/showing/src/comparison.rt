@@ -1,4 +1,4 @@
-//! A trace beside the one that a world writes over its events.
+//! The comparison of a trace with the trace of a run of a world over its events.
 
 ghost use Rattle.std.specs.Prelude.{◌≡◌, ◌≢◌, ◌≤◌, Err, IfOk, false, length};
 ghost use Rattle.inputs.specs.Reads.{AreRead, Contents, Text};
@@ -11,15 +11,15 @@ use kernel::{RunError, Summary, run_read};
 use proctable::SlabTable;
 use std::alloc::{AllocError, Global};
 
-/// Whether a run didn't begin for want of memory.
+/// Returns true if a run did not begin because memory ran out.
 fn lacks_memory(done: &Result<Summary, RunError>) -> bool
     ensures { result ≡ false → done.now ≢ Err RunError.Memory }
 {
     matches!(done, Err(RunError::Memory))
 }
 
-/// The number of the first line in which a trace isn't the one that a world writes over its events; none where it is. An
-/// error where there is no memory for the world.
+/// Returns the number of the first line in which a trace differs from the trace of a run of a world over its events, or
+/// `None` if they are the same. Fails if there is no memory for the world.
 pub fn first_difference(
     alloc: Global,
     trace: &[u8],

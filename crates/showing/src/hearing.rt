@@ -1,4 +1,4 @@
-//! Tells each event of a run as it comes.
+//! An observer that describes each event of a run.
 
 ghost use Rattle.showing.specs.Pasts.{IsSame};
 
@@ -9,17 +9,17 @@ use posix::{Entry, Event, Pid};
 use std::alloc::{AllocError, Global};
 use telling::{Actor, Reading, Sent, Teller};
 
-/// Whoever tells the events.
+/// An observer that describes events.
 #[derive(Drop)]
 pub struct Telling<'l, 't> {
     pub teller: Teller<'l, 't>,
-    /// Whom the console tells of the event that is given: the foreground process group of a key, or the leader of a
-    /// hangup; number 0 for nobody.
+    /// The target of the console's signals at the current event: the foreground process group for a key, the session
+    /// leader for a hangup. It is 0 if there is no target.
     told: Pid,
 }
 
 impl<'l, 't> Telling<'l, 't> {
-    /// No event is given yet.
+    /// Returns an observer that has seen no event.
     pub fn new(teller: Teller<'l, 't>) -> Self {
         Telling {
             teller,
@@ -28,7 +28,8 @@ impl<'l, 't> Telling<'l, 't> {
     }
 }
 
-/// Reads these processes, after an event that sent this, or before one.
+/// Reads the state of these processes, and notes which of them no longer exist. `sent` is the signal that the last
+/// event sent, or `None` before an event.
 fn read(
     kernel: &mut Kernel,
     pids: &[Pid],
@@ -46,7 +47,7 @@ fn read(
     Ok(())
 }
 
-/// Has whoever tells know all processes, before an event.
+/// Reads all processes before an event. Their changes are found by comparison with these rows.
 fn learn(teller: &mut Teller<'_, '_>, kernel: &mut Kernel) -> Result<(), AllocError>
     ensures { IsSame kernel.old kernel.new }
 {
@@ -58,7 +59,7 @@ fn learn(teller: &mut Teller<'_, '_>, kernel: &mut Kernel) -> Result<(), AllocEr
     Ok(())
 }
 
-/// What the current process is about to do; none where no process can act.
+/// Returns what the current process is about to do, or `None` if no process is runnable.
 fn actor_of(kernel: &mut Kernel) -> Option<Actor>
     ensures { IsSame kernel.old kernel.new }
 {
@@ -70,8 +71,8 @@ fn actor_of(kernel: &mut Kernel) -> Option<Actor>
     Some(Actor::new(it, kernel.look(pid)))
 }
 
-/// Whom a console tells of an event that is given next: the foreground process group of a key, or the leader of a
-/// hangup; number 0 for nobody.
+/// Returns the target of the console's signals at the next event: the foreground process group for a key, the session
+/// leader for a hangup. Returns 0 for any other event, and if the console has hung up.
 fn told_of(kernel: &Kernel, event: Event) -> Pid {
     let number = match event {
         Event::Key { console, .. } | Event::Hangup { console } => console,

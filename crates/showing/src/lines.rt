@@ -1,4 +1,4 @@
-//! Puts a trace with explanations after its lines.
+//! Puts a trace, with an explanation after each line that has one.
 
 ghost use Rattle.std.specs.Prelude.{◌≡◌, ℕ, ◌++◌, List, [], true, IfErr, OnErr, OnOk};
 ghost use Rattle.trace.specs.Sinks.{BreaksOff, Gathers};
@@ -10,14 +10,14 @@ use std::alloc::{AllocError, Global};
 use trace::{Sink, SinkFault, next_line, put_all};
 use wording::Prose;
 
-/// Explains the lines of a trace. It gets each line once, in the order of the trace.
+/// An explainer of the lines of a trace. It gets each line once, in the order of the trace.
 pub trait Explain {
-    /// Writes the explanation of a line. `words` is empty before the call, and stays empty if there is none.
+    /// Writes the explanation of a line. `words` is empty before the call, and stays empty if there is no explanation.
     fn explain(&mut self, line: &[u8], words: &mut Prose) -> Result<(), AllocError>;
 }
 
-/// The least number of bytes that are put at once, except at the end. A put may be a system call, which costs more than
-/// a line.
+/// The lowest number of bytes that are put at once, except at the end. A put may be a system call, which costs more
+/// than formatting a line.
 pub const PIECE: usize = 8192;
 
 /// Appends an explanation to the buffer, after three spaces. Appends nothing if there are no words.
@@ -68,7 +68,7 @@ fn tell_line<'a, O: Sink>(
     Ok(())
 }
 
-/// Returns the words, or none if a line feed is in them, because an explanation must not add a line to the trace.
+/// Returns the words, or no words if they contain a line feed: an explanation must not add a line to the trace.
 fn one_line(words: &[u8]) -> &[u8]
     ensures { is_one_line result.now ≡ true }
 {
@@ -98,7 +98,7 @@ fn explain_line<'a, X: Explain, O: Sink>(
 /// Puts a trace. The explanation of a line follows the line after three spaces. A line without an explanation is put
 /// unchanged. What follows the last line feed is also put unchanged, because it may be the beginning of a longer line.
 ///
-/// At an error the output took a beginning of such a text.
+/// On failure, only a beginning of such a text was put.
 pub fn explain_text<'a, X: Explain, O: Sink>(
     alloc: Global,
     explainer: &mut X,

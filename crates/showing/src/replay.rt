@@ -1,4 +1,5 @@
-//! A run, event by event, up to one of its events, and since when each process does what it does.
+//! A run up to one of its events, event by event. It also records since when each process is blocked, stopped or a
+//! zombie.
 
 ghost use Rattle.std.specs.Prelude.{◌≡◌, ◌+◌, ◌<◌, ◌≤◌, List, IfOk, OnErr, OnOk, length, max, min};
 ghost use Rattle.posix.specs.declared.event.Event.{Event as EventValue};
@@ -14,14 +15,14 @@ use telling::Since;
 use text::EventList;
 use umach::World;
 
-/// A kernel after some events, and what they told of each number.
+/// A kernel after some events, with the times of the last changes of each process.
 #[derive(Drop)]
 pub struct Replay {
     pub kernel: Kernel,
     pub since: Since,
 }
 
-/// Whether a process waits in a call.
+/// Returns true if a process is blocked in a call.
 fn is_blocked(kernel: &mut Kernel, pid: Pid) -> bool
     ensures { IsSame kernel.old kernel.new }
 {
@@ -32,7 +33,7 @@ fn is_blocked(kernel: &mut Kernel, pid: Pid) -> bool
 }
 
 impl Replay {
-    /// A world at its start; an error where there is no memory for it.
+    /// Returns a world before its first event. Fails if there is no memory for it.
     fn boot(alloc: Global, world: &World) -> Result<Replay, AllocError>
         ensures reached { (events : List EventValue) → IfOk result (λ replay. IsReached world.now events replay.kernel) }
         ensures events { IfOk result (λ replay. replay.kernel.events ≡ 0) }
@@ -43,18 +44,18 @@ impl Replay {
         })
     }
 
-    /// The world is at its start again. At an error there is no memory for it, and the run stays as it is.
+    /// Goes back to the start of the world. Fails if there is no memory for it; the run is unchanged then.
     pub fn restart(&mut self, alloc: Global, world: &World) -> Result<(), AllocError>
         ensures reached { (events : List EventValue) → OnOk result (IsReached world.now events self.new.kernel) }
         ensures events { OnOk result (self.new.kernel.events ≡ 0) }
         ensures same { OnErr result (self.new ≡ self.old) }
     {
-        // A kernel that is dropped by its name is dropped by one function, whose proof serves all.
+        // `drop` is called by name, so that one proof about it covers all drops of a kernel.
         drop(mem::replace(self, Replay::boot(alloc, world)?));
         Ok(())
     }
 
-    /// The process that acts next, unless it waits in a call already.
+    /// Returns the process that runs next, or `None` if there is none or it is already blocked in a call.
     fn acting(&mut self) -> Option<Pid>
         ensures { IsSame self.old.kernel self.new.kernel }
     {
@@ -64,7 +65,8 @@ impl Replay {
         }
     }
 
-    /// Notes what the last event told by its entries, and that the process that acted waits from then on, if it does.
+    /// Records the stops and terminations in the entries of the last event. Also records that the process that acted is
+    /// blocked since this event, if it is blocked.
     fn note(&mut self, entries: &[Entry], acting: Option<Pid>) -> Result<(), AllocError>
         ensures { IsSame self.old.kernel self.new.kernel }
     {
@@ -77,13 +79,13 @@ impl Replay {
     }
 }
 
-/// Hears of each event of a run, before and after it. It looks at the run, and changes nothing of it.
+/// An observer of a run, called before and after each event. It does not change the run.
 pub trait Observer {
-    /// The event is given next.
+    /// Called before an event.
     fn before(&mut self, replay: &mut Replay, event: Event) -> Result<(), AllocError>
         ensures { IsSame replay.old.kernel replay.new.kernel };
 
-    /// The event was given, and showed these entries.
+    /// Called after an event, with its entries in the trace.
     fn after(
         &mut self,
         replay: &mut Replay,
@@ -93,7 +95,7 @@ pub trait Observer {
         ensures { IsSame replay.old.kernel replay.new.kernel };
 }
 
-/// Hears of nothing.
+/// An observer that does nothing.
 #[derive(Drop)]
 pub struct Silent;
 
@@ -112,8 +114,7 @@ impl Observer for Silent {
     }
 }
 
-/// Gives an event. An error where there is no memory for what a process of the world asks, or to note what the event
-/// tells, or whoever hears of it has none.
+/// Runs an event. Fails if there is no memory for a call of a process, to record the changes, or for the observer.
 fn give<H: Observer>(replay: &mut Replay, event: Event, observer: &mut H) -> Result<(), AllocError>
     requires few { replay.old.kernel.events < most_events }
     ensures given { AreGiven event replay.old.kernel replay.new.kernel }
@@ -131,7 +132,7 @@ fn give<H: Observer>(replay: &mut Replay, event: Event, observer: &mut H) -> Res
     observer.after(replay, event, entries.as_slice())
 }
 
-/// Gives one event, as long as fewer than `last` were given.
+/// Runs the event again and again, until the number of events is `last`.
 fn give_many<H: Observer>(
     replay: &mut Replay,
     event: Event,
@@ -150,10 +151,11 @@ fn give_many<H: Observer>(
     Ok(())
 }
 
-/// Gives the events behind those that were given, up to the one with number `last`, or to the last one. So the state
-/// is that of a run of the first events, where it was that of a run before. An error where there is no memory.
-/// A loop of its own, because `show` looks at the machine before and after each event: `drive` takes many steps at
-/// once, and gives its observer only what they showed.
+/// Runs the next events, up to the event with number `last`, or to the last event. If the state was that of a run of
+/// the first events, so is the new state. Fails if memory runs out.
+///
+/// It is a separate loop, because `show` reads the machine before and after each event. `drive` takes many steps at
+/// once, and passes only their entries to its observer.
 pub fn run_to<H: Observer>(
     replay: &mut Replay,
     events: &EventList,
@@ -175,7 +177,7 @@ pub fn run_to<H: Observer>(
     Ok(())
 }
 
-/// A world after the event with number `last`, or after the last one. An error where there is no memory.
+/// Returns a world after the event with number `last`, or after the last event. Fails if memory runs out.
 pub fn past_at(
     alloc: Global,
     world: &World,

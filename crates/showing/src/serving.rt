@@ -1,4 +1,4 @@
-//! What `show` does: its texts and its statuses.
+//! The command `show`: its messages and exit statuses.
 
 ghost use Rattle.std.specs.Prelude.{◌≡◌, ◌≤◌, IfOk, MatchResult, None, Some, length, option_map};
 ghost use Rattle.inputs.specs.Numbers.{number_asked};
@@ -23,18 +23,18 @@ use text::EventList;
 use thiserror::Error;
 use wording::{Listing, Prose, process_in};
 
-/// Why the program doesn't end with status 0.
+/// An error, for which the program exits with a status other than 0.
 #[derive(Clone, Copy, Debug, Error)]
 pub enum Failure<'a> {
     #[error("usage: jobk show WORLD EVENTS [--at E] [--calls | --trace] [--process P].. [--step]")]
     Usage,
-    #[error("jobk: --at takes the number of an event, or 0")]
+    #[error("jobk: --at: expected an event number, or 0 for the start")]
     At,
-    #[error("jobk: --at {0} is above the number of events, which is {1}")]
+    #[error("jobk: --at {0}: expected at most {1}, the number of events")]
     AtAbove(u64, u64),
-    #[error("jobk: --process takes the number of a process")]
+    #[error("jobk: --process: expected a process number")]
     Process,
-    #[error("jobk: --step takes its commands from a terminal, and goes with none of --at, --calls and --trace")]
+    #[error("jobk: --step needs a terminal, and cannot be combined with --at, --calls or --trace")]
     Step,
     #[error("jobk: {0}")]
     Input(#[from] InputFault<'a>),
@@ -68,7 +68,7 @@ impl From<NoRequest> for Failure<'_> {
 }
 
 impl Failure<'_> {
-    /// The status of the program.
+    /// Returns the exit status of the program.
     fn status(self) -> u8
         ensures least { 1 ≤ result }
         ensures most { result ≤ 3 }
@@ -86,7 +86,7 @@ impl Failure<'_> {
     }
 }
 
-/// After which event the state is shown: the last one, if not named.
+/// Returns the number of the event after which the state is shown: the value of `--at`, or the last event.
 fn at_of<'a>(word: Option<&str>, events: u64) -> Result<u64, Failure<'a>>
     ensures within { IfOk result (λ at. at ≤ events) }
     ensures asked { MatchResult result
@@ -100,7 +100,7 @@ fn at_of<'a>(word: Option<&str>, events: u64) -> Result<u64, Failure<'a>>
     }
 }
 
-/// The processes that words name.
+/// Returns the processes with the numbers in these words.
 fn processes_of<'a>(alloc: Global, words: &[&str]) -> Result<Vec<Pid>, Failure<'a>> {
     let mut pids = Vec::new(alloc);
     for word in words {
@@ -112,7 +112,7 @@ fn processes_of<'a>(alloc: Global, words: &[&str]) -> Result<Vec<Pid>, Failure<'
     Ok(pids)
 }
 
-/// Gives the events up to the one with number `last`, and puts a line for each.
+/// Runs the events up to the event with number `last`, and puts their lines.
 fn put_events<'a, O: Sink>(
     replay: &mut Replay,
     telling: &mut Telling<'_, '_>,
@@ -130,7 +130,7 @@ fn put_events<'a, O: Sink>(
     Ok(())
 }
 
-/// Puts the state as it is now.
+/// Puts the current state.
 fn put_now<'a, O: Sink>(
     view: View<'_, '_>,
     replay: &mut Replay,
@@ -141,7 +141,7 @@ fn put_now<'a, O: Sink>(
     put_text(&mut text, out)
 }
 
-/// Lets a person go through a run.
+/// Lets a person step through a run.
 fn serve_steps<'a, 't, O: Sink, A: Ask>(
     view: View<'_, 't>,
     replay: &mut Replay,
@@ -157,7 +157,7 @@ fn serve_steps<'a, 't, O: Sink, A: Ask>(
     done
 }
 
-/// Puts a line for each event up to the one with number `last`.
+/// Puts the lines of the events up to the event with number `last`.
 fn serve_calls<'a, 't, O: Sink>(
     view: View<'_, 't>,
     replay: &mut Replay,
@@ -173,8 +173,8 @@ fn serve_calls<'a, 't, O: Sink>(
     done
 }
 
-/// Does what is asked for of a world and its events: lets a person go through the run, or puts a line for each event up to
-/// the one that is named, or puts the state.
+/// Serves a request for a world and its events: lets a person step through the run, puts the lines of the events, or
+/// puts the state.
 fn serve_inputs<'a, 't, O: Sink, A: Ask>(
     alloc: Global,
     request: &Request<'a>,
@@ -194,7 +194,7 @@ fn serve_inputs<'a, 't, O: Sink, A: Ask>(
         traced: request.trace,
         only,
     };
-    // Where events are told, they are from the first one on.
+    // The lines of events begin with the first event.
     let is_told = request.step || request.tells();
     let from = if is_told { 0 } else { last };
     let mut replay = past_at(alloc, &inputs.world, &inputs.events, from)?;
@@ -209,7 +209,7 @@ fn serve_inputs<'a, 't, O: Sink, A: Ask>(
     done
 }
 
-/// Does what the words ask for.
+/// Parses the arguments, reads the inputs, and serves the request.
 fn serve_words<'a, F: ReadFiles, O: Sink, A: Ask>(
     alloc: Global,
     words: &'a [&'a str],
@@ -226,7 +226,7 @@ fn serve_words<'a, F: ReadFiles, O: Sink, A: Ask>(
     serve_inputs(alloc, &request, only.as_slice(), &inputs, out, ask)
 }
 
-/// Tells a failure, as far as the error output takes it. It takes no memory.
+/// Puts the message of a failure. Allocates no memory. A failure of `err` is ignored.
 fn tell_failure<E: Sink>(failure: Failure<'_>, err: &mut E) {
     match failure {
         Failure::Input(why) => why.tell(err),
@@ -234,9 +234,10 @@ fn tell_failure<E: Sink>(failure: Failure<'_>, err: &mut E) {
     }
 }
 
-/// Does what the words of the command line ask for, without the program's name, and gives the status of the program: 0
-/// when it is done, 1 for a refused text, 2 for other words, and 3 for a device or memory. A failing `err` changes no
-/// status.
+/// Runs `show` with these arguments, without the program's name.
+///
+/// Returns the exit status: 0 on success, 1 if an input is rejected, 2 for a usage error, 3 if a file cannot be read,
+/// `out` or the terminal fails, or memory runs out. A failure of `err` does not change the status.
 pub fn serve<'a, F: ReadFiles, O: Sink, E: Sink, A: Ask>(
     alloc: Global,
     words: &'a [&'a str],

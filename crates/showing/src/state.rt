@@ -1,4 +1,4 @@
-//! The state of a world at an event, in words.
+//! The state of a world after an event, in words.
 
 ghost use Rattle.showing.specs.Pasts.{IsSame};
 
@@ -10,10 +10,10 @@ use std::alloc::{AllocError, Global};
 use telling::{Around, Terminal, Times, View, put_console, put_counted, put_process, put_turns};
 use wording::Prose;
 
-/// More numbers than processes can have.
+/// A limit above the number of processes, for loops over all processes.
 const MOST_NUMBERS: u32 = 4_194_305;
 
-/// The processes in the order of their turns.
+/// Returns the run queue: the runnable processes, in the order in which they will act.
 pub fn turns(alloc: Global, kernel: &Kernel) -> Result<Vec<Pid>, AllocError> {
     let mut turns = Vec::new(alloc);
     let mut next = kernel.current();
@@ -27,7 +27,7 @@ pub fn turns(alloc: Global, kernel: &Kernel) -> Result<Vec<Pid>, AllocError> {
     Ok(turns)
 }
 
-/// The processes in the order of their numbers.
+/// Returns the processes, in the order of their numbers.
 pub fn processes(alloc: Global, kernel: &mut Kernel) -> Result<Vec<Pid>, AllocError>
     ensures { IsSame kernel.old kernel.new }
 {
@@ -43,7 +43,7 @@ pub fn processes(alloc: Global, kernel: &mut Kernel) -> Result<Vec<Pid>, AllocEr
     Ok(pids)
 }
 
-/// The number of the console that is the terminal of a session.
+/// Returns the number of the console that is the controlling terminal of a session, from 1, or `None` if it has none.
 fn console_of(kernel: &Kernel, session: Pid) -> Option<usize> {
     for index in 0..usize::from(kernel.consoles()) {
         if kernel.console(index)?.session() == session {
@@ -53,17 +53,17 @@ fn console_of(kernel: &Kernel, session: Pid) -> Option<usize> {
     None
 }
 
-/// Processes that are asked for together.
+/// A set of processes, such as a process group.
 #[derive(Clone, Copy)]
 enum Members {
     /// The members of a process group.
     OfGroup(Pid),
-    /// The members of the session that this process leads, but for the leader.
+    /// The members of the session that this process leads, except the leader.
     LedBy(Pid),
 }
 
 impl Members {
-    /// Whether a process is one of them.
+    /// Returns true if a process is one of them.
     fn has(self, it: &Snapshot) -> bool {
         match self {
             Members::OfGroup(group) => it.group == group,
@@ -72,7 +72,7 @@ impl Members {
     }
 }
 
-/// Whether one of the members hasn't ended.
+/// Returns true if any of the members is not a zombie.
 fn has_living(kernel: &mut Kernel, members: Members) -> bool
     ensures { IsSame kernel.old kernel.new }
 {
@@ -92,7 +92,7 @@ fn has_living(kernel: &mut Kernel, members: Members) -> bool
     false
 }
 
-/// The terminal of a process. The leader of its session lives.
+/// Returns the controlling terminal of a process, or `None` if it has none.
 fn terminal_of(kernel: &mut Kernel, it: &Snapshot) -> Option<Terminal>
     ensures { IsSame kernel.old kernel.new }
 {
@@ -103,7 +103,7 @@ fn terminal_of(kernel: &mut Kernel, it: &Snapshot) -> Option<Terminal>
     })
 }
 
-/// Writes a process, if it is there.
+/// Writes the lines of a process. Writes nothing if it does not exist.
 fn put_if_there(
     view: View<'_, '_>,
     text: &mut Prose,
@@ -126,7 +126,7 @@ fn put_if_there(
     put_process(view, text, it, around, kernel.look(pid));
 }
 
-/// Writes the processes that are shown.
+/// Writes the lines of the processes that are shown.
 fn put_processes(
     view: View<'_, '_>,
     text: &mut Prose,
@@ -144,19 +144,19 @@ fn put_processes(
     Ok(())
 }
 
-/// Writes which processes that were asked for aren't there.
+/// Writes a line for each requested process that does not exist.
 fn put_missing(view: View<'_, '_>, text: &mut Prose, replay: &mut Replay)
     ensures { IsSame replay.old.kernel replay.new.kernel }
 {
     for pid in view.only {
         if replay.kernel.snapshot(*pid).is_none() {
             text.push_number(pid.number());
-            text.push_str(": there is no such process\n");
+            text.push_str(": no such process\n");
         }
     }
 }
 
-/// Writes the consoles.
+/// Writes a line for each console.
 fn put_consoles(text: &mut Prose, kernel: &mut Kernel)
     ensures { IsSame kernel.old kernel.new }
 {
@@ -172,7 +172,7 @@ fn put_consoles(text: &mut Prose, kernel: &mut Kernel)
     }
 }
 
-/// Writes at which event the state is, and who acts next.
+/// Writes the number of the last event, and which process runs next.
 pub fn put_head(text: &mut Prose, kernel: &Kernel, events: u64) {
     match kernel.events() {
         0 => {
@@ -189,13 +189,13 @@ pub fn put_head(text: &mut Prose, kernel: &Kernel, events: u64) {
         _ if kernel.is_halted() => text.push_str("the machine has halted\n"),
         Some(pid) => {
             text.push_with("process ", pid.number());
-            text.push_str(" acts next\n");
+            text.push_str(" runs next\n");
         }
-        None => text.push_str("no process can act\n"),
+        None => text.push_str("no process is runnable\n"),
     }
 }
 
-/// Writes the state: who acts next, each process, the order of turns, and the consoles.
+/// Writes the state: which process runs next, each process, the run queue, and the consoles.
 pub fn put_state(
     view: View<'_, '_>,
     text: &mut Prose,

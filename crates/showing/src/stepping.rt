@@ -1,4 +1,4 @@
-//! A run that a person goes through, event by event.
+//! A run through which a person steps, event by event (`show --step`).
 
 ghost use Rattle.std.specs.Prelude.{◌≤◌, length};
 ghost use Rattle.text.specs.EventTexts.{most_events};
@@ -15,41 +15,41 @@ use telling::{Teller, View};
 use text::{EventList, World};
 use wording::{Prose, process_in};
 
-/// Asks a person for commands.
+/// A terminal at which a person types commands.
 pub trait Ask {
-    /// Whether there is a person to be asked.
+    /// Returns true if standard input is a terminal.
     fn is_terminal(&self) -> bool;
 
-    /// Adds the next line; whether there was one. An error where the device failed, the line is no text in UTF-8, or there
-    /// was no memory for it.
+    /// Appends the next line to `line`. Returns true if there was a line. Fails if the device fails, the line is not
+    /// UTF-8, or there is no memory for it.
     fn ask(&mut self, line: &mut String) -> Result<bool, ReadFault<'static>>;
 }
 
-/// What a person asks for.
+/// A command that a person can type.
 #[derive(Clone, Copy)]
 enum Command {
-    /// So many events more.
+    /// Runs this many events.
     Next(u64),
-    /// So many events less.
+    /// Goes back this many events.
     Back(u64),
-    /// To the state after this event.
+    /// Goes to the state after this event.
     Go(u64),
-    /// On until this process acts; until an event shows a line of the trace, where there is none.
+    /// Runs until this process acts or, if it is `None`, until an event has a trace line.
     Until(Option<Pid>),
-    /// The state.
+    /// Prints the state.
     State,
-    /// The word for a process has no number of one.
+    /// A command `p` with a number that no process can have.
     NoProcess,
     Quit,
     Help,
 }
 
 const HELP: &str =
-    "n [N]  the next event, or the next N; so does an empty line\nb [N]  back by one event, or by N\ng E    to the state after event E\np P    on until process P acts\nl      on until an event shows a line of the trace\ns      the state\nq      the end\n";
+    "n [N]  run N events (default: 1); an empty line runs one event\nb [N]  go back N events (default: 1)\ng E    go to the state after event E\np P    run until process P acts\nl      run until an event has a trace line\ns      print the state\nq      quit\n";
 
-const NO_PROCESS: &str = "p takes the number of a process\n";
+const NO_PROCESS: &str = "p: expected a process number\n";
 
-/// What a word alone asks for; no word is as `n`.
+/// Returns the command of a word without a number.
 fn command_alone(word: &str) -> Command {
     match word {
         "n" => Command::Next(1),
@@ -61,7 +61,7 @@ fn command_alone(word: &str) -> Command {
     }
 }
 
-/// What a word with a number asks for.
+/// Returns the command of a word with a number.
 fn command_with(word: &str, number: u64) -> Command {
     match word {
         "n" => Command::Next(number),
@@ -75,7 +75,7 @@ fn command_with(word: &str, number: u64) -> Command {
     }
 }
 
-/// What a line asks for.
+/// Returns the command of a line. An empty line is `n`.
 fn command_of(line: &str) -> Command {
     let mut words = line.split_whitespace();
     let word = words.next().unwrap_or("n");
@@ -87,7 +87,7 @@ fn command_of(line: &str) -> Command {
     }
 }
 
-/// What a person asks for next: the end, where there is no line.
+/// Returns the next command. The end of the input is `q`.
 fn next_command<A: Ask>(alloc: Global, ask: &mut A) -> Result<Command, ReadFault<'static>> {
     let mut line = String::new(alloc);
     if ask.ask(&mut line)? {
@@ -97,14 +97,14 @@ fn next_command<A: Ask>(alloc: Global, ask: &mut A) -> Result<Command, ReadFault
     }
 }
 
-/// Puts a text, and takes it away.
+/// Puts a text, and clears it.
 pub fn put_text<'a, O: Sink>(text: &mut Prose, out: &mut O) -> Result<(), Failure<'a>> {
     put_all(out, text.as_bytes()?)?;
     text.clear();
     Ok(())
 }
 
-/// A run that is gone through.
+/// A run through which a person steps.
 #[derive(Drop)]
 pub struct Steps<'l, 't> {
     view: View<'l, 't>,
@@ -115,7 +115,7 @@ pub struct Steps<'l, 't> {
 }
 
 impl<'l, 't> Steps<'l, 't> {
-    /// A run of which no event is told yet.
+    /// Returns a run before its first event.
     pub fn new(view: View<'l, 't>, world: &'t World, events: &'t EventList) -> Steps<'l, 't>
         requires { length events.now ≤ most_events }
     {
@@ -127,12 +127,12 @@ impl<'l, 't> Steps<'l, 't> {
         }
     }
 
-    /// Goes on to the state after an event, or after the last one, and tells the events.
+    /// Runs up to an event, or to the last event, and writes the lines of the events.
     fn go_on(&mut self, replay: &mut Replay, event: u64) -> Result<(), AllocError> {
         run_to(replay, self.events, event, &mut self.telling)
     }
 
-    /// Goes to the state after an event: back by running again.
+    /// Goes to the state after an event. Goes back by running the world again.
     fn go(&mut self, replay: &mut Replay, event: u64) -> Result<(), AllocError> {
         if event < replay.kernel.events() {
             replay.restart(self.view.alloc, self.world)?;
@@ -140,7 +140,8 @@ impl<'l, 't> Steps<'l, 't> {
         run_to(replay, self.events, event, &mut Silent)
     }
 
-    /// Goes on until an event is of interest, and tells that one.
+    /// Runs until this process has acted or, for `None`, until an event has a trace line. Keeps only the last event's
+    /// line.
     fn go_until(&mut self, replay: &mut Replay, pid: Option<Pid>) -> Result<(), AllocError> {
         for _ in replay.kernel.events()..self.events.len() {
             self.telling.teller.text.clear();
@@ -157,7 +158,7 @@ impl<'l, 't> Steps<'l, 't> {
         Ok(())
     }
 
-    /// Does what is asked for.
+    /// Executes a command.
     fn follow(&mut self, replay: &mut Replay, command: Command) -> Result<(), AllocError> {
         let now = replay.kernel.events();
         match command {
@@ -172,7 +173,7 @@ impl<'l, 't> Steps<'l, 't> {
         }
     }
 
-    /// Puts what was told, where the run is, and a prompt.
+    /// Puts the text written so far, the first line of the state, and a prompt.
     fn put_prompt<'a, O: Sink>(&mut self, replay: &Replay, out: &mut O) -> Result<(), Failure<'a>> {
         let text = &mut self.telling.teller.text;
         put_head(text, &replay.kernel, self.view.events);
@@ -180,7 +181,7 @@ impl<'l, 't> Steps<'l, 't> {
         put_text(text, out)
     }
 
-    /// Goes through the run as it is asked for.
+    /// Reads and executes commands until `q` or the end of the input.
     pub fn follow_all<'a, A: Ask, O: Sink>(
         &mut self,
         replay: &mut Replay,

@@ -1,17 +1,17 @@
-//! The words of the command line.
+//! The arguments of `show`.
 
 use clap::ArgAction;
 use inputs::{NoRequest, command, named_files, words_behind};
 use std::alloc::Global;
 
-/// What the words ask for.
+/// The request that the arguments make.
 #[derive(Drop)]
 pub struct Request<'a> {
     pub world: &'a str,
     pub events: &'a str,
-    /// What stands behind `--at`, as a word.
+    /// The argument of `--at`, if it is used.
     pub at: Option<&'a str>,
-    /// What stands behind each `--process`.
+    /// The argument of each `--process`.
     pub processes: Vec<&'a str>,
     pub calls: bool,
     pub trace: bool,
@@ -19,13 +19,13 @@ pub struct Request<'a> {
 }
 
 impl Request<'_> {
-    /// Whether it is told what each event did.
+    /// Returns true if lines of events are printed instead of the state.
     pub fn tells(&self) -> bool {
         self.calls || self.trace
     }
 }
 
-/// The program's options, each with what its use does.
+/// The options, each with the action of its use.
 const OPTIONS: [(&str, ArgAction); 5] = [
     ("at", ArgAction::Set),
     ("process", ArgAction::Append),
@@ -34,7 +34,7 @@ const OPTIONS: [(&str, ArgAction); 5] = [
     ("step", ArgAction::SetTrue),
 ];
 
-/// What the words ask for; the program's name isn't one of them.
+/// Parses the arguments, without the program's name. Fails for a usage error, or if there is no memory.
 pub fn requested<'a>(alloc: Global, words: &'a [&'a str]) -> Result<Request<'a>, NoRequest> {
     let matches = command(alloc, "show", &OPTIONS)?.try_get_matches_from(words)?;
     let (world, events) = named_files(&matches)?;

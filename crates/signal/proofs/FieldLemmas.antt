@@ -14,7 +14,7 @@ use Rattle.signal.specs.declared.action_fields.Disposition.{Disposition}
 use Rattle.signal.specs.declared.action_fields.Disposition.TheVariants as disposition
 use Rattle.signal.specs.ActionFields.{AreFields, action_from, action_at, actions_of, blank_actions, handler_from, disposition_on_exec}
 
--- ---- a list made of its places
+-- ---- a list computed by index
 
 module _ {X : Type 0} where
   pub same_read : (n i : ℕ) (x : X) → get_or (replicate n x) i x ≡ x
@@ -26,20 +26,20 @@ module _ {X : Type 0} where
   pub made_at : (f : ℕ → X) (n i : ℕ) (d : X) → i < n → get_or (map f (range_with_len 0 n)) i d ≡ f i
   made_at f n i d l = get_or-map-range_with_len f 0 n i i d l (omega arith)
 
-  -- one place changes
+  -- one item changes
   pub set_made : (f g : ℕ → X) (n i : ℕ) (d : X) → ((j : ℕ) → j < n → j ≢ i → f j ≡ g j) → set (map f (range_with_len 0 n)) i (g i) ≡ map g (range_with_len 0 n)
   set_made f g n i d others = fill_by_all g (set (map f (range_with_len 0 n)) i (g i)) n d (length-set _ i (g i) ∙ length-map-range_with_len f 0 n) (λ k low. elim (cases_eq k i) [
     | inl e ↦ ap (λ j. get_or (set (map f (range_with_len 0 n)) i (g i)) j d) e ∙ get_or-set_same _ i (g i) d (omega (arith, low, e, length-map-range_with_len f 0 n)) ∙ ap g (sym e)
     | inr ne ↦ get_or-set_other _ i k (g i) d ne ∙ made_at f n k d low ∙ others k low ne
   ])
 
-  -- the same is made of each place
+  -- the same item is computed at each index
   pub made_same : (f g : ℕ → X) (n : ℕ) (d : X) → ((k : ℕ) → k < n → f k ≡ g k) → map f (range_with_len 0 n) ≡ map g (range_with_len 0 n)
   made_same f g n d same = fill_by_all g (map f (range_with_len 0 n)) n d (length-map-range_with_len f 0 n) (λ k l. made_at f n k d l ∙ same k l)
 
 -- ---- actions
 
--- all are the same, row by row
+-- all actions are the same, row by row
 pub actions_same : (a b : Actions) → ((k : ℕ) → k < 64 → action_at a k ≡ action_at b k) → actions_of a ≡ actions_of b
 unfolding actions_of
 actions_same a b same = made_same (action_at a) (action_at b) 64 initial_action same
@@ -55,7 +55,7 @@ action_there a i l = made_at (action_at a) 64 i initial_action l
 same_fields : (h k : Handler) (m n : ℕ) (f g : SaFlags) → h ≡ k → m ≡ n → f ≡ g → action_from h m f ≡ action_from k n g
 same_fields h k m n f g e e2 e3 = cc
 
--- what the fields at a place come to
+-- the action that the fields at an index make
 pub action_read : (a : Actions) (i : ℕ) (d : Disposition) (t : ℤ) (m : ℕ) (f : SaFlags) (h : Handler) → AreFields a → i < 64 → h ≡ handler_from (get_or a.dispositions i d) (get_or a.addresses i t)
     → action_from h (get_or a.masks i m) (get_or a.flags i f) ≡ get_or (actions_of a) i initial_action
 action_read a i d t m f h are l e =
@@ -87,7 +87,7 @@ handler_dropped disposition.Default t = refl
 handler_dropped disposition.Ignore t = refl
 handler_dropped disposition.Catch t = refl
 
--- what another program leaves of all of them
+-- all actions after exec
 pub actions_left : (a : Actions) → AreFields a
     → actions_of (record a { dispositions = map disposition_on_exec a.dispositions; masks = replicate 64 0; flags = replicate 64 no_flags }) ≡ map action_on_exec (actions_of a)
 unfolding actions_of

@@ -1,4 +1,4 @@
--- The queue of real-time signals, and the bits that say which of them are queued.
+-- The queue of real-time signals, and the bits that say which numbers are queued.
 use Rattle.std.proofs.Common.{◌≡◌, ◌≢◌, ℕ, zero, suc, ◌-◌, ◌^◌, ◌<◌, ◌≤◌, Bool, true, false, not, ◌&&◌, ◌==◌, nat_le, nat_lt, List, [], ◌∷◌, ◌++◌, length, refl, sym, ap, ◌∙◌, subst, arith, bit_and, filter, get_or, Option, Some, None, is_some, inl, inr}
 use Rattle.std.specs.Prelude.{if◌then◌else◌}
 use Rattle.std.specs.Int.{bit_at}
@@ -24,12 +24,12 @@ at_most_64 s is = leb-true s 64 (and_parts _ _ is).1
 
 -- ---- the first signal with a number
 
--- one stands somewhere where there is one
+-- a signal that passes has a position exactly if there is one
 pub is_some_position : (t : PendingSignal → Bool) (q : List PendingSignal) → is_some (position t q) ≡ list_any t q
 is_some_position t [] = refl
 is_some_position t (m ∷ q) = grind (arith, is_some_position t q)
 
--- it stands where none before it has the number
+-- the first signal with a number is at the index before which none has it
 first_at : (s i : ℕ) (q : List PendingSignal) (d : PendingSignal) → i < length q → has_sig s (get_or q i d) ≡ true → ((k : ℕ) → k < i → has_sig s (get_or q k d) ≡ false)
     → (first_carried s q ≡ Some (get_or q i d).carried) × (without_first s q ≡ remove q i)
 unfolding first_carried without_first
@@ -40,7 +40,7 @@ first_at s (suc i) (m ∷ q) d l e before =
     let later = first_at s i q d (omega (arith, l)) e (λ k low. before (suc k) (omega (arith, low))) in
     (grind (arith, here, later.0), grind (arith, here, later.1))
 
--- without one nothing is taken
+-- without one, nothing is taken
 none_at : (s : ℕ) (q : List PendingSignal) (d : PendingSignal) → ((k : ℕ) → k < length q → has_sig s (get_or q k d) ≡ false) → (first_carried s q ≡ None) × (without_first s q ≡ q)
 unfolding first_carried without_first
 none_at s [] d none = (refl, refl)
@@ -49,7 +49,7 @@ none_at s (m ∷ q) d none =
     let later = none_at s q d (λ k low. none (suc k) (omega (arith, low))) in
     (grind (arith, here, later.0), grind (arith, here, later.1))
 
--- what is taken where a search finds its place, and where it finds none
+-- what is taken if a search finds an index, and if it finds none
 pub taken_at : (s i : ℕ) (q : List PendingSignal) (d : PendingSignal) → position (has_sig s) q ≡ Some i → (first_carried s q ≡ Some (get_or q i d).carried) × (without_first s q ≡ remove q i)
 taken_at s i q d e =
     let first = position-Some (has_sig s) q i d e in
@@ -66,7 +66,7 @@ taken_nowhere s q e = none_at s q d (λ k l. fails_before_first (has_sig s) q k 
 
 -- ---- which numbers are queued
 
--- once a signal is queued its number is, and the others are where they were
+-- after a signal is queued, its number is queued, and other numbers are queued as before
 pub queued_own : (m : PendingSignal) (q : List PendingSignal) → list_any (has_sig m.sig) (q ++ m ∷ []) ≡ true
 queued_own m q = list_any-append (has_sig m.sig) q (m ∷ []) ∙ or_right _ _ (or_left _ _ (eq-eqb m.sig m.sig refl))
 
@@ -77,7 +77,7 @@ queued_others m q n ne = list_any-append (has_sig n) q (m ∷ []) ∙ grind (ari
 no_other : (s n : ℕ) (m : PendingSignal) → n ≢ s → has_sig s m ≡ true → has_sig n m ≡ false
 no_other s n m ne e = ne_eqb m.sig n (λ is. ne (sym is ∙ eqb-true m.sig s e))
 
--- once the first with a number is taken the others are queued as before; the number itself only where it was
+-- after the first signal with a number is taken, other numbers are queued as before, and this number only if it was
 pub taken_others : (s n : ℕ) (q : List PendingSignal) → n ≢ s → list_any (has_sig n) (without_first s q) ≡ list_any (has_sig n) q
 unfolding without_first
 taken_others s n [] ne = refl
@@ -91,7 +91,7 @@ taken_own s (m ∷ q) e = grind (arith, e, taken_own s q)
 abbrev pub has_other : ℕ → PendingSignal → Bool
 has_other s m = not (has_sig s m)
 
--- once all with a number are discarded the others are queued as before, and none of that number is
+-- after all signals with a number are discarded, other numbers are queued as before, and this number isn't
 pub discarded_others : (s n : ℕ) (q : List PendingSignal) → n ≢ s → list_any (has_sig n) (filter (has_other s) q) ≡ list_any (has_sig n) q
 discarded_others s n [] ne = refl
 discarded_others s n (m ∷ q) ne = grind (arith, no_other s n m ne, discarded_others s n q ne)
@@ -100,7 +100,7 @@ pub discarded_own : (s : ℕ) (q : List PendingSignal) → list_any (has_sig s) 
 discarded_own s [] = refl
 discarded_own s (m ∷ q) = grind (arith, discarded_own s q)
 
--- ---- what is generated
+-- ---- generation
 
 -- a real-time signal discards nothing
 no_discards : (s : ℕ) (g : Signals) → 33 < s → after_discards s g ≡ g
@@ -108,7 +108,7 @@ no_discards s g above =
     ap (λ b. if b then without_stops g else if is_stop_signal s then with_pending CONT None g else g) (ne_eqb s CONT (λ e. omega (arith, above, e)))
     ∙ ap (λ b. if b then with_pending CONT None g else g) (and_right (nat_le STOP s) (nat_le s TTOU) (lt-leb s TTOU (omega (arith, above))))
 
--- one that is kept is queued
+-- a real-time signal that is kept is queued
 pub generated_queued : (p : ℕ) (life : Life) (signal : PendingSignal) (g : Signals) → is_realtime signal.sig ≡ true → (not (gets_no_signals p life g signal.sig) && keeps g signal.sig) ≡ true
     → generated p life signal g ≡ with_queue (g.queue ++ signal ∷ []) g
 unfolding generated
@@ -120,13 +120,13 @@ generated_queued p life signal g is kept =
     ∙ ap (make_pending signal) (no_discards s g (above_33 s is))
     ∙ ap (λ b. if b then with_queue (g.queue ++ signal ∷ []) g else if is_pending g s then g else with_pending s (Some signal.carried) g) is
 
--- ---- the bits that say so
+-- ---- the bits of queued numbers
 
 -- a standard signal changes none of them
 pub marks_stay : (p p' s : ℕ) (q : List PendingSignal) → MarksQueued p q → s ≤ 31 → ((j : ℕ) → j ≢ s - 1 → bit_at p' j ≡ bit_at p j) → MarksQueued p' q
 marks_stay p p' s q marks low same n past = ap (λ b. b == 1) (same (n - 1) (λ e. omega (arith, past, low, e))) ∙ marks n past
 
--- a real-time signal changes its own alone
+-- a real-time signal changes only its own bit
 pub marks_change : (p p' s : ℕ) (q q' : List PendingSignal) → MarksQueued p q → is_realtime s ≡ true → has p' s ≡ list_any (has_sig s) q'
     → ((j : ℕ) → j ≢ s - 1 → bit_at p' j ≡ bit_at p j) → ((n : ℕ) → n ≢ s → list_any (has_sig n) q' ≡ list_any (has_sig n) q) → MarksQueued p' q'
 marks_change p p' s q q' marks is own bits others n past = elim (cases_eq n s) [
@@ -134,7 +134,7 @@ marks_change p p' s q q' marks is own bits others n past = elim (cases_eq n s) [
   | inr ne ↦ ap (λ b. b == 1) (bits (n - 1) (λ e. ne (omega (arith, past, above_33 s is, e)))) ∙ marks n past ∙ ap (λ b. is_realtime n && b) (sym (others n ne))
 ]
 
--- the last one with its number is taken
+-- the last signal with its number is taken
 pub marks_last_taken : (p s : ℕ) (q : List PendingSignal) → MarksQueued p q → p < 2 ^ 64 → is_realtime s ≡ true → list_any (has_sig s) (without_first s q) ≡ false
     → MarksQueued (bit_and p (2 ^ 64 - 1 - 2 ^ (s - 1))) (without_first s q)
 marks_last_taken p s q marks small is last =
@@ -142,14 +142,14 @@ marks_last_taken p s q marks small is last =
     marks_change p (bit_and p (2 ^ 64 - 1 - 2 ^ (s - 1))) s q (without_first s q) marks is (ap (λ b. b == 1) (less_same p (s - 1) within) ∙ sym last)
     (λ j ne. less_other p (s - 1) j small within ne) (λ n ne. taken_others s n q ne)
 
--- one of several is
+-- one of several is taken
 pub marks_taken : (p s : ℕ) (q : List PendingSignal) → MarksQueued p q → is_realtime s ≡ true → list_any (has_sig s) (without_first s q) ≡ true → MarksQueued p (without_first s q)
 marks_taken p s q marks is more =
     let own : has p s ≡ list_any (has_sig s) (without_first s q) =
     marks s (omega (arith, above_33 s is)) ∙ ap (λ b. b && list_any (has_sig s) q) is ∙ taken_own s q more ∙ sym more in
     marks_change p p s q (without_first s q) marks is own (λ j ne. refl) (λ n ne. taken_others s n q ne)
 
--- what is left of the signals of a process
+-- the signals of a process after one is taken
 pub taken_queued : (mask p p' s : ℕ) (t : TablesView) → is_realtime s ≡ true → ((j : ℕ) → j < 31 → bit_at p' j ≡ bit_at p j)
     → signals_of mask p' (record t { queue = without_first s t.queue }) ≡ taken s (signals_of mask p t)
 unfolding taken

@@ -1,4 +1,4 @@
--- The set of the signals that are pending, bit by bit.
+-- The set of pending signals, bit by bit.
 use Rattle.std.proofs.Common.{◌≡◌, ◌≢◌, ℕ, zero, suc, ◌+◌, ◌-◌, ◌*◌, ◌/◌, ◌^◌, ◌<◌, ◌≤◌, min, max, Bool, true, false, not, ◌&&◌, ◌==◌, List, [], ◌∷◌, ◌++◌, length, map, refl, sym, ap, ◌∙◌, arith, get_or, set, Option, Some, None, is_some, find, bit_and, bit_or, inl, inr}
 use Rattle.std.specs.Prelude.{replicate, if◌then◌else◌, unwrap_or}
 use Rattle.std.specs.Int.{bit_at, trailing_zeros, w64}
@@ -18,7 +18,7 @@ use Rattle.signal.proofs.FieldLemmas.{made_at, made_same, set_made}
 bit_below : (b : Bool) → bit_of b < 2
 bit_below b = grind arith
 
--- bit i is the i-th of a set's bits
+-- bit i is the i-th bit of a set
 bit_of_set : (bs : List Bool) (i : ℕ) → bit_at (set_of bs) i ≡ bit_of (get_or bs i false)
 unfolding set_of
 bit_of_set [] i = bit_at-zero i
@@ -36,18 +36,18 @@ bit_kept n l = grind (arith, nat_tests)
 one_back : (j : ℕ) → j + 1 - 1 ≡ j
 one_back j = omega arith
 
--- a set is that of the signals that it has
+-- a set is that of the signals that it contains
 pub set_is : (f : ℕ → Bool) (p : ℕ) → p < 2 ^ 64 → ((s : ℕ) → f s ≡ has p s) → set_of (map f (range_with_len 1 64)) ≡ p
 set_is f p small same = same_from_bits (set_of (map f (range_with_len 1 64))) p (λ j. bit_of_set (map f (range_with_len 1 64)) j ∙ elim (cases_lt j 64) [
   | inl l ↦ ap bit_of (get_or-map-range_with_len f 1 64 j (j + 1) false l (omega arith) ∙ same (j + 1) ∙ ap (λ i. bit_at p i == 1) (one_back j)) ∙ bit_kept (bit_at p j) (bit_at-lt p j)
   | inr past ↦ ap bit_of (get_or_past (map f (range_with_len 1 64)) j false (omega (arith, past, length-map-range_with_len f 1 64))) ∙ sym (bit_at_above p 64 j small past)
 ])
 
--- of 64 bits those that aren't in another set
+-- the bits of 64 that aren't in a set
 not_in : (b j : ℕ) → b < 2 ^ 64 → j < 64 → bit_at (2 ^ 64 - 1 - b) j ≡ 1 - bit_at b j
 not_in b j h l = bit_at_not w64 b j h l
 
--- ---- what is pending by the set of its signals
+-- ---- pending signals from the set
 
 pub length_standard : (p : ℕ) (cs : List Carried) → length (standard_of p cs) ≡ 31
 unfolding standard_of
@@ -60,12 +60,12 @@ pending_there p cs i l = made_at (pending_at p cs) 31 i None l
 pending_by : (n m : ℕ) (c d : Carried) → n ≡ m → c ≡ d → (if n == 1 then Some c else None) ≡ (if m == 1 then Some d else None)
 pending_by n m c d e f = cc
 
--- all of them came with the same, row by row
+-- if each row carries the same, all pending standard signals do
 pub standard_same : (p : ℕ) (cs ds : List Carried) → ((k : ℕ) → k < 31 → pending_at p cs k ≡ pending_at p ds k) → standard_of p cs ≡ standard_of p ds
 unfolding standard_of
 standard_same p cs ds same = made_same (pending_at p cs) (pending_at p ds) 31 None same
 
--- without a signal nothing is
+-- without signals in the set, none is pending
 pub none_pending : (cs : List Carried) → standard_of 0 cs ≡ nothing_pending
 unfolding standard_of nothing_pending
 none_pending cs = sym (fill_by_all (pending_at 0 cs) (replicate 31 None) 31 None (length-replicate {A = Option Carried} 31 None) (λ k l.
@@ -95,14 +95,14 @@ less_other p i j small l ne = bit_at_and p (2 ^ 64 - 1 - 2 ^ i) j ∙ elim (case
   | inr past ↦ let none = bit_at_above p 64 j small past in omega (arith, none)
 ]
 
--- ---- the signals of a process by the set
+-- ---- the signals of a process with the set
 
 -- only the bits of standard signals count
 pub same_standard : (p q : ℕ) (cs : List Carried) → ((i : ℕ) → i < 31 → bit_at p i ≡ bit_at q i) → standard_of p cs ≡ standard_of q cs
 unfolding standard_of
 same_standard p q cs same = fill_by_all (pending_at q cs) (standard_of p cs) 31 None (length_standard p cs) (λ k l. pending_there p cs k l ∙ pending_by _ _ _ _ (same k l) refl)
 
--- one signal more, with what it came with
+-- one more signal, with what it carries
 pub one_more : (p : ℕ) (cs : List Carried) (i : ℕ) (c : Carried) → i < 31 → length cs ≡ 31 → standard_of (bit_or p (2 ^ i)) (set cs i c) ≡ set (standard_of p cs) i (Some c)
 unfolding standard_of
 one_more p cs i c l n =
@@ -120,7 +120,7 @@ one_less p cs i small l =
     sym (ap (set (standard_of p cs) i) (sym is) ∙ set_made (pending_at p cs) (pending_at q cs) 31 i None (λ j low ne.
     pending_by _ _ _ _ (sym (less_other p i j small l ne)) refl))
 
--- what a pending signal came with stands at its place
+-- what a pending signal carries is in its row
 carried_there : (p : ℕ) (cs : List Carried) (i : ℕ) → is_some (get_or (standard_of p cs) i None) ≡ true → get_or cs i from_kernel ≡ unwrap_or (get_or (standard_of p cs) i None) from_kernel
 carried_there p cs i e = elim (cases_lt i 31) [
   | inl l ↦ by_bit (bit_at p i == 1) (sym (ap is_some (pending_there p cs i l)) ∙ e) ∙ sym (ap (λ o. unwrap_or o from_kernel) (pending_there p cs i l))
@@ -131,7 +131,7 @@ carried_there p cs i e = elim (cases_lt i 31) [
     by_bit true e = refl
     by_bit false e = absurd (cc)
 
--- ---- what the set says of one signal
+-- ---- what the set says about one signal
 
 no_realtime : (s : ℕ) → s ≤ 31 → is_realtime s ≡ false
 no_realtime s l = grind (arith, nat_tests, l)
@@ -151,7 +151,7 @@ is_pending_by mask p t marks s = elim (cases_lt 31 s) [
     by_bit : (b : Bool) (c : Carried) → is_some (if b then Some c else None) ≡ b
     by_bit b c = grind arith
 
--- what a standard signal that is pending came with
+-- what a pending standard signal carries
 pub carried_standard : (mask p : ℕ) (t : TablesView) (s : ℕ) → is_realtime s ≡ false → is_pending (signals_of mask p t) s ≡ true → get_or t.carried (s - 1) from_kernel ≡ carried_by s (signals_of mask p t)
 carried_standard mask p t s standard pending =
     let o = get_or (standard_of p t.carried) (s - 1) None in
@@ -159,23 +159,23 @@ carried_standard mask p t s standard pending =
     carried_there p t.carried (s - 1) (sym there ∙ pending)
     ∙ sym (ap (λ b. unwrap_or (if b then first_carried s t.queue else o) from_kernel) standard)
 
--- ---- the least signal that is ready
+-- ---- the lowest ready signal
 
 two_bits : (m n : ℕ) → m < 2 → n < 2 → (min m (1 - n) == 1) ≡ ((m == 1) && not (n == 1))
 two_bits m n l k = grind (arith, nat_tests)
 
--- signal s is in the set of those that are ready
+-- signal s is in the set of ready signals
 pub is_ready_by : (mask p : ℕ) (t : TablesView) → MarksQueued p t.queue → mask < 2 ^ 64 → (s : ℕ) → s < 65 → is_ready (signals_of mask p t) s ≡ has (except p mask) s
 is_ready_by mask p t marks small s l =
     ap (λ b. b && not (has mask s)) (is_pending_by mask p t marks s)
     ∙ sym (two_bits (bit_at p (s - 1)) (bit_at mask (s - 1)) (bit_at-lt p (s - 1)) (bit_at-lt mask (s - 1)))
     ∙ ap (λ n. n == 1) (sym (bit_at_and p (2 ^ 64 - 1 - mask) (s - 1) ∙ ap (min (bit_at p (s - 1))) (not_in mask (s - 1) small (omega (arith, l)))))
 
--- above 31 none is but the real-time signals
+-- above 31, only real-time signals are ready
 pub is_unready : (mask p : ℕ) (t : TablesView) → MarksQueued p t.queue → (s : ℕ) → 31 < s → is_realtime s ≡ false → is_ready (signals_of mask p t) s ≡ false
 is_unready mask p t marks s past e = ap (λ b. b && not (has mask s)) (is_pending_by mask p t marks s ∙ marks s past ∙ ap (λ b. b && list_any (has_sig s) t.queue) e)
 
--- a search through the signals may look at 32 and 33, too, where they don't pass
+-- a search through the signals may include 32 and 33 if they don't pass
 find_signal : (f : ℕ → Bool) → f 32 ≡ false → f 33 ≡ false → find f all_signals ≡ find f (range_with_len 1 64)
 find_signal f e e2 = gap (range_with_len 1 31)
   where
@@ -183,16 +183,16 @@ find_signal f e e2 = gap (range_with_len 1 31)
     gap [] = rw (e, e2) refl
     gap (x ∷ xs) = ap (λ o. if f x then Some x else o) (gap xs)
 
--- the number of a signal but for 32 and 33
+-- a number of a signal, except 32 and 33
 is_number : (s : ℕ) → 1 ≤ s → s ≤ 64 → s ≢ 32 → s ≢ 33 → is_signal s ≡ true
 is_number s lo hi ne ne2 = grind (arith, nat_tests, lo, hi, ne, ne2)
 
--- where the set of those that are ready is empty there is none
+-- if the set of ready signals is empty, no signal is ready
 pub none_ready : (f : ℕ → Bool) (r : ℕ) → ((s : ℕ) → s < 65 → f s ≡ has r s) → f 32 ≡ false → f 33 ≡ false → r ≡ 0 → find f all_signals ≡ None
 none_ready f r same e e2 none = find_signal f e e2 ∙ find_range_none f 1 64 (λ k lo hi.
     same k hi ∙ ap (λ n. bit_at n (k - 1) == 1) none ∙ ap (λ b. b == 1) (bit_at-zero (k - 1)))
 
--- the lowest bit of the set that is ready is the least signal
+-- the lowest bit of the set of ready signals is the lowest signal
 pub least_is : (f : ℕ → Bool) (r : ℕ) → ((s : ℕ) → s < 65 → f s ≡ has r s) → f 32 ≡ false → f 33 ≡ false → 0 < r → r < 2 ^ 64
     → (is_signal (trailing_zeros w64 r + 1) ≡ true) × (find f all_signals ≡ Some (trailing_zeros w64 r + 1))
 least_is f r same e e2 some small =

@@ -10,7 +10,7 @@ use Rattle.signal.specs.declared.action_fields.Actions.{Actions}
 use Rattle.signal.specs.declared.action_fields.Disposition.{Disposition}
 use Rattle.signal.specs.declared.action_fields.Disposition.TheVariants as disposition
 
--- the address counts where the signal is caught
+-- the address is used only if the signal is caught
 abbrev pub handler_from : Disposition → ℤ → Handler
 handler_from disposition.Default address = handler.Default
 handler_from disposition.Ignore address = handler.Ignore
@@ -31,7 +31,7 @@ action_at a i =
     let handler = handler_from (slice_index_or a.dispositions i disposition.Default) (slice_index_or a.addresses i (pos 0)) in
     action_from handler (slice_index_or a.masks i 0) (slice_index_or a.flags i no_flags)
 
--- what they are worth
+-- the model of the fields
 unfoldable pub actions_of : Actions → List Action
 actions_of a = map (action_at a) (range_with_len 0 64)
 
@@ -39,10 +39,10 @@ actions_of a = map (action_at a) (range_with_len 0 64)
 abbrev pub AreFields : Actions → Type 0
 AreFields a = (length a.dispositions ≡ 64) × (length a.addresses ≡ 64) × (length a.masks ≡ 64) × (length a.flags ≡ 64)
 
--- those of process 1 at boot
+-- the fields of process 1 at boot
 unfoldable pub blank_actions : Actions
 blank_actions = record { dispositions = replicate 64 disposition.Default; addresses = replicate 64 (pos 0); masks = replicate 64 0; flags = replicate 64 no_flags }
 
--- those that are kept, or the default ones
+-- the fields that are kept, or the default ones
 abbrev pub actions_or_blank : List Actions → Actions
 actions_or_blank kept = slice_index_or kept 0 blank_actions

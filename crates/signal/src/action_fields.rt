@@ -1,4 +1,4 @@
-//! The actions of a process for signals, by field.
+//! The actions of a process for signals, field by field.
 
 ghost use Rattle.std.specs.Prelude.{◌≡◌, ◌-◌, ◌<◌, ◌≤◌, true, length, map, slice_index_or, slice_set, vec_capacity};
 ghost use Rattle.posix.specs.Common.{initial_action, action_on_exec};
@@ -8,29 +8,29 @@ use arena::Arena;
 use bitflags::Flags;
 use posix::{Action, Handler, SaFlags, Sig, SigSet};
 
-/// What a process does with a signal, without the address of a handler (signal(7), Signal dispositions).
+/// The disposition of a signal, without the address of a handler (signal(7), Signal dispositions).
 #[derive(Clone, Copy)]
 enum Disposition {
     /// The signal's default action.
     Default,
-    /// Nothing happens.
+    /// The signal is ignored.
     Ignore,
     /// A handler is entered.
     Catch,
 }
 
-/// The actions for the 64 signals. Of each field that for signal s stands at s - 1, so none is padded.
+/// The actions for the 64 signals. Each field of signal s is at index s - 1 of its own array, so there is no padding.
 #[derive(Clone, Copy)]
 pub struct Actions {
     dispositions: [Disposition; 64],
-    /// Where the handlers of the signals that are caught begin.
+    /// The addresses of the handlers of caught signals.
     addresses: [i64; 64],
     masks: [SigSet; 64],
     flags: [SaFlags; 64],
 }
 
 impl Actions {
-    /// The action for a signal.
+    /// Returns the action for a signal.
     pub fn action(&self, sig: Sig) -> Action
         requires { AreFields self.now }
         ensures { result ≡ slice_index_or (actions_of self.now) (sig - 1) initial_action }
@@ -43,8 +43,8 @@ impl Actions {
         }
     }
 
-    /// Whether the action in a row, the first at 0, is the same as another's there: the address counts where the
-    /// signal is caught.
+    /// Returns true if the action in a row, the first at 0, is the same in both. Addresses are compared only for caught
+    /// signals.
     fn is_same_at(&self, other: &Actions, row: usize) -> bool
         requires row { row < 64 }
         requires mine { AreFields self.now }
@@ -56,7 +56,7 @@ impl Actions {
         mine == others && self.masks[row] == other.masks[row] && self.flags[row] == other.flags[row]
     }
 
-    /// Whether all actions are the same as another's.
+    /// Returns true if all actions are the same in both.
     fn is_same(&self, other: &Actions) -> bool
         requires mine { AreFields self.now }
         requires other { AreFields other.now }
@@ -70,7 +70,7 @@ impl Actions {
         true
     }
 
-    /// Whether all actions are the default ones.
+    /// Returns true if all actions are the default ones.
     #[tactic(auto, unfolding(crate::specs::ActionFields::blank_actions))]
     fn are_default(&self) -> bool
         requires { AreFields self.now }
@@ -98,7 +98,8 @@ impl Actions {
         self.flags[row] = action.flags;
     }
 
-    /// What another program leaves of them: caught signals go to the default, masks and flags go (XSH exec).
+    /// Resets the actions for a new program: caught signals get the default, and masks and flags are cleared (XSH
+    /// exec).
     pub fn on_exec(&mut self)
         requires { AreFields self.old }
         ensures actions { actions_of self.new ≡ map action_on_exec (actions_of self.old) }
@@ -112,7 +113,7 @@ impl Actions {
     }
 }
 
-/// Actions are kept from now on: those that were, or the default ones.
+/// Makes sure that there is an item for actions: the old one, or one with the default actions.
 #[tactic(auto, unfolding(crate::specs::ActionFields::blank_actions))]
 pub fn keep_actions(kept: &mut Vec<Actions, Arena>)
     requires { 1 ≤ vec_capacity kept.old }
@@ -130,7 +131,7 @@ pub fn keep_actions(kept: &mut Vec<Actions, Arena>)
     }
 }
 
-/// Whether kept actions are the same; without one they are the default ones.
+/// Returns true if both have the same actions. Without an item, they are the default ones.
 pub fn are_same_actions(mine: &[Actions], others: &[Actions]) -> bool
     requires mine { AreFields (actions_or_blank mine.now) }
     requires others { AreFields (actions_or_blank others.now) }
@@ -145,7 +146,7 @@ pub fn are_same_actions(mine: &[Actions], others: &[Actions]) -> bool
     mine[0].is_same(&others[0])
 }
 
-/// Where a signal stands in a table.
+/// Returns the index of a signal in a table.
 pub fn row_of(sig: Sig) -> usize
     ensures value { result ≡ sig - 1 }
     ensures within { result < 64 }
@@ -153,7 +154,7 @@ pub fn row_of(sig: Sig) -> usize
     usize::from(sig.number() - 1)
 }
 
-/// The handler of an action.
+/// Returns the handler of an action from its parts.
 fn handler(disposition: Disposition, address: i64) -> Handler
     ensures { result ≡ handler_from disposition address }
 {
@@ -164,7 +165,7 @@ fn handler(disposition: Disposition, address: i64) -> Handler
     }
 }
 
-/// A handler by its parts.
+/// Returns the parts of a handler.
 fn parts(handler: Handler) -> (Disposition, i64)
     ensures { handler_from result.0 result.1 ≡ handler }
 {
@@ -175,7 +176,7 @@ fn parts(handler: Handler) -> (Disposition, i64)
     }
 }
 
-/// What another program leaves of what is done with a signal: it is no longer caught (XSH exec).
+/// Returns the disposition of a signal after exec: it is no longer caught (XSH exec).
 fn on_exec(disposition: Disposition) -> Disposition
     ensures { result ≡ disposition_on_exec disposition }
 {
@@ -185,7 +186,7 @@ fn on_exec(disposition: Disposition) -> Disposition
     }
 }
 
-/// What another program leaves of what is done with each signal.
+/// Resets the disposition of each signal for a new program.
 fn reset_all(dispositions: &mut [Disposition])
     ensures { dispositions.new ≡ map disposition_on_exec dispositions.old }
 {

@@ -1,4 +1,4 @@
-//! The ids of one process.
+//! The user and group IDs of one process.
 
 ghost use Rattle.std.specs.Prelude.{◌≡◌, true, OnOk, OnErr, IfErr, Ok, Err};
 ghost use Rattle.posix.specs.Common.{root as root_credentials, is_privileged as is_privileged_by, id_in, may_signal as may_signal_by, setuid as setuid_of, seteuid as seteuid_of, setgid as setgid_of, setegid as setegid_of, on_exec as on_exec_of};
@@ -6,8 +6,8 @@ ghost use Rattle.posix.specs.Common.{root as root_credentials, is_privileged as 
 use posix::{Errno, Gid, Ids, Sig, Uid};
 use std::marker::Model;
 
-/// The real, effective and saved user and group ids of a process (credentials(7)). A process with
-/// effective user id 0 is privileged.
+/// The real, effective and saved user and group IDs of a process (credentials(7)). A process with effective user ID 0
+/// is privileged.
 #[derive(Clone, Copy, PartialEq, Eq)]
 pub struct Creds {
     user: Ids<Uid>,
@@ -25,7 +25,7 @@ impl Model for Creds {
 }
 
 impl Creds {
-    /// The ids of process 1 at boot: all are 0.
+    /// Returns the IDs of process 1 at boot: all are 0.
     pub fn root() -> Creds
         ensures { result ≡ root_credentials }
     {
@@ -43,30 +43,30 @@ impl Creds {
         }
     }
 
-    /// The user ids.
+    /// Returns the user IDs.
     pub fn user(&self) -> Ids<Uid>
         ensures { result ≡ self.now.user }
     {
         self.user
     }
 
-    /// The group ids.
+    /// Returns the group IDs.
     pub fn group(&self) -> Ids<Gid>
         ensures { result ≡ self.now.group }
     {
         self.group
     }
 
-    /// Whether the effective user id is 0.
+    /// Returns true if the effective user ID is 0.
     pub fn is_privileged(&self) -> bool
         ensures { result ≡ is_privileged_by self.now }
     {
         self.user.effective == Uid::ROOT
     }
 
-    /// Whether a process with these ids may send a signal to one with the target's: the real or effective
-    /// user id is the target's real or saved one, or the sender is privileged, or the signal is CONT and
-    /// both are in one session. `None` stands for signal 0, which only checks (XSH kill).
+    /// Returns true if a process with these IDs may send a signal to one with the target's. Its real or effective user
+    /// ID must equal the target's real or saved one, or it must be privileged, or the signal must be SIGCONT within one
+    /// session. `None` is signal 0, which only checks (XSH kill).
     pub fn may_signal(&self, target: &Creds, sig: Option<Sig>, same_session: bool) -> bool
         ensures { result ≡ may_signal_by self.now target.now sig same_session }
     {
@@ -79,9 +79,9 @@ impl Creds {
             || (sig == Some(Sig::CONT) && same_session)
     }
 
-    /// Sets the user ids: all three where the process is privileged, else the effective one, which has to
-    /// become the real or the saved one. At an error, EINVAL outside 0 to 2,147,483,647 and EPERM without
-    /// permission, nothing changes (XSH setuid).
+    /// Sets the user IDs: all three if the process is privileged, otherwise the effective one, to the real or the saved
+    /// one. Fails with EINVAL outside 0 to 2,147,483,647, and with EPERM without permission; then nothing changes (XSH
+    /// setuid).
     #[tactic(auto, unfolding(posix::specs::Credentials::setuid))]
     pub fn setuid(&mut self, id: i64) -> Result<(), Errno>
         ensures ok { OnOk result (setuid_of self.old id ≡ Ok self.new) }
@@ -106,9 +106,8 @@ impl Creds {
         Ok(())
     }
 
-    /// Sets the effective user id: to any where the process is privileged, else to the real or the saved
-    /// one. At an error, EINVAL outside 0 to 2,147,483,647 and EPERM without permission, nothing changes
-    /// (XSH seteuid).
+    /// Sets the effective user ID: to any if the process is privileged, otherwise to the real or the saved one. Fails
+    /// with EINVAL outside 0 to 2,147,483,647, and with EPERM without permission; then nothing changes (XSH seteuid).
     #[tactic(auto, unfolding(posix::specs::Credentials::seteuid))]
     pub fn seteuid(&mut self, id: i64) -> Result<(), Errno>
         ensures ok { OnOk result (seteuid_of self.old id ≡ Ok self.new) }
@@ -125,7 +124,7 @@ impl Creds {
         Ok(())
     }
 
-    /// Sets the group ids, as [`Creds::setuid`] does the user ids, by the same privilege (XSH setgid).
+    /// Sets the group IDs as [`Creds::setuid`] sets the user IDs, with the same privilege (XSH setgid).
     #[tactic(auto, unfolding(posix::specs::Credentials::setgid))]
     pub fn setgid(&mut self, id: i64) -> Result<(), Errno>
         ensures ok { OnOk result (setgid_of self.old id ≡ Ok self.new) }
@@ -150,8 +149,7 @@ impl Creds {
         Ok(())
     }
 
-    /// Sets the effective group id, as [`Creds::seteuid`] does the user id, by the same privilege (XSH
-    /// setegid).
+    /// Sets the effective group ID as [`Creds::seteuid`] sets the user ID, with the same privilege (XSH setegid).
     #[tactic(auto, unfolding(posix::specs::Credentials::setegid))]
     pub fn setegid(&mut self, id: i64) -> Result<(), Errno>
         ensures ok { OnOk result (setegid_of self.old id ≡ Ok self.new) }
@@ -168,8 +166,7 @@ impl Creds {
         Ok(())
     }
 
-    /// A program is run that takes on these ids: they become the effective ones, and then the effective
-    /// ones are saved (XSH exec).
+    /// Sets the IDs for a new program, which may set the effective IDs. Then the effective IDs are saved (XSH exec).
     pub fn on_exec(&mut self, user: Option<Uid>, group: Option<Gid>)
         ensures { self.new ≡ on_exec_of user group self.old }
     {
@@ -180,14 +177,14 @@ impl Creds {
     }
 }
 
-/// The user id that a register holds.
+/// Returns the user ID in a register, if it is in range.
 fn uid_in(id: i64) -> Option<Uid>
     ensures { result ≡ id_in id }
 {
     Uid::new(u32::try_from(id).ok()?)
 }
 
-/// The group id that a register holds.
+/// Returns the group ID in a register, if it is in range.
 fn gid_in(id: i64) -> Option<Gid>
     ensures { result ≡ id_in id }
 {

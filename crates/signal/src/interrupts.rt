@@ -1,4 +1,4 @@
-//! The call that a process is blocked in as a handler is entered.
+//! The call that a process is blocked in when a handler is entered.
 
 ghost use Rattle.std.specs.Prelude.{◌≡◌, Some};
 ghost use Rattle.posix.specs.Common.{is_interrupted as is_interrupted_by, is_restarted as is_restarted_by, leave_call as leave_call_of, mask_before as mask_before_of};
@@ -7,7 +7,7 @@ use bitflags::Flags;
 use posix::{Action, Blocked, Errno, Register, SaFlags, SigSet};
 use umach::Cpu;
 
-/// Whether a call is begun again after a handler with this action: a wait and a read with SA_RESTART
+/// Returns true if a call is restarted after a handler with this action: a wait or a read with SA_RESTART
 /// (sigaction(2)).
 fn is_restarted(blocked: Blocked, action: &Action) -> bool
     ensures { result ≡ is_restarted_by blocked action.now }
@@ -18,8 +18,8 @@ fn is_restarted(blocked: Blocked, action: &Action) -> bool
     }
 }
 
-/// Whether a handler with this action interrupts the call that its process is blocked in, if any: then
-/// the call gives -4.
+/// Returns true if a handler with this action interrupts the call that its process is blocked in, if any. The call then
+/// fails with EINTR.
 pub fn is_interrupted(blocked: Option<Blocked>, action: &Action) -> bool
     ensures { result ≡ is_interrupted_by blocked action.now }
 {
@@ -29,8 +29,8 @@ pub fn is_interrupted(blocked: Option<Blocked>, action: &Action) -> bool
     }
 }
 
-/// A process leaves the call that it is blocked in, if any, as a handler with this action is entered: one
-/// that is interrupted gives -4 and the pc moves on; one that is begun again leaves the pc at it.
+/// Takes a process out of the call that it is blocked in, if any, when a handler with this action is entered. A call
+/// that is interrupted fails with EINTR, and the pc moves past it. A call that is restarted leaves the pc at it.
 pub fn leave_call(blocked: Option<Blocked>, action: &Action, cpu: &mut Cpu)
     ensures { cpu.new ≡ leave_call_of blocked action.now cpu.old }
 {
@@ -40,7 +40,7 @@ pub fn leave_call(blocked: Option<Blocked>, action: &Action, cpu: &mut Cpu)
     }
 }
 
-/// The signal mask that a handler goes back to: of a sigsuspend the one before it, else the present one
+/// Returns the signal mask that a handler restores: for sigsuspend the mask before the call, otherwise the current mask
 /// (XSH sigsuspend).
 pub fn mask_before(blocked: Option<Blocked>, mask: SigSet) -> SigSet
     ensures { result ≡ mask_before_of blocked mask }
@@ -51,7 +51,7 @@ pub fn mask_before(blocked: Option<Blocked>, mask: SigSet) -> SigSet
     }
 }
 
-/// The signal mask that a handler goes back to which interrupts this call.
+/// Returns the signal mask that is restored by a handler that interrupts this call.
 fn mask_before_call(blocked: Blocked, mask: SigSet) -> SigSet
     ensures { result ≡ mask_before_of (Some blocked) mask }
 {

@@ -1,11 +1,11 @@
-//! Of one process its user and group ids, and who may signal whom; and its signals: the signal mask, pending signals,
-//! actions, and the frames of handlers that haven't returned.
+//! The user and group IDs of a process, and its permission to send signals; and its signals: the signal mask, pending
+//! signals, actions, and the frames of handlers that haven't returned.
 //!
 //! `Creds::{setuid, seteuid, setgid, setegid, on_exec}` set exactly the defined IDs; those that fail change nothing.
-//! `may_signal` and `Signals` are as defined; `queue` requires room and a pool. `LazyTables` are as at boot until
-//! written to. `RealtimePool` is a queue of at most 32; the pending set has bits 34 to 64 exactly for its numbers.
-//! After `GrantedPools::reserve` so many pools wait, or there were fewer (`lack`); none is lost. No clause: that a send
-//! takes no memory while pools wait.
+//! `may_signal` and `Signals` do exactly what their definitions say; `queue` requires room and a pool. `LazyTables` are
+//! as at boot until written to. `RealtimePool` is a queue of at most 32 signals; the pending set has bits 34 to 64
+//! exactly for their numbers. After `GrantedPools::reserve`, that many pools are ready, or it failed and fewer were
+//! ready before (`lack`); none is lost. No clause says that sending a signal allocates nothing while pools are ready.
 #![tactic(auto)]
 
 mod action_fields;

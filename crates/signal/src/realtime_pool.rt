@@ -1,4 +1,4 @@
-//! Room for the real-time signals that are queued for processes.
+//! Memory for the queued real-time signals of processes.
 
 ghost use Rattle.std.specs.Prelude.{ℕ, ◌≡◌, ◌+◌, ◌-◌, ◌<◌, ◌≤◌, ◌++◌, ◌∷◌, [], not, IsSome, Some, None, IfOk, OnOk, OnErr, filter, length};
 ghost use Rattle.std.specs.List.{position};
@@ -8,9 +8,10 @@ use posix::{Carried, PendingSignal, Sig};
 use std::alloc::{AllocError, Global};
 use std::marker::Model;
 
-/// The real-time signals that are queued for one process, the first to come first (XSH 2.4.2).
-/// A vector of one process, not a list in a shared slab: to remove one moves at most 31, and no contract has to mention
-/// the signals of others. Its memory comes with the first queued signal, so a fork needs none.
+/// The queued real-time signals of one process, first in first out (XSH 2.4.2).
+///
+/// This is a vector per process, not a list in a shared slab: a removal moves at most 31 signals, and no contract has
+/// to mention the signals of other processes. Its memory comes with the first queued signal, so a fork needs none.
 #[derive(Drop)]
 pub struct RealtimePool {
     /// With room for 32.
@@ -29,7 +30,7 @@ impl Model for RealtimePool {
 }
 
 impl RealtimePool {
-    /// One in which nothing is queued. An error where the host has no memory for it.
+    /// Creates an empty queue. Fails if the host has no memory for it.
     pub fn new(alloc: Global) -> Result<RealtimePool, AllocError>
         ensures { IfOk result (λ p. p ≡ []) }
     {
@@ -38,21 +39,21 @@ impl RealtimePool {
         })
     }
 
-    /// What is queued.
+    /// Returns the queued signals.
     pub fn as_slice(&self) -> &[PendingSignal]
         ensures { result.now ≡ self.now }
     {
         self.signals.as_slice()
     }
 
-    /// Where the first of the signals with this number stands.
+    /// Returns the place of the first signal with this number.
     pub fn place(&self, sig: Sig) -> Option<usize>
         ensures { result ≡ position (has_sig sig) self.now }
     {
         self.signals.iter().position(|signal| signal.sig == sig)
     }
 
-    /// A signal is queued behind the others.
+    /// Queues a signal after the others.
     pub fn push(&mut self, signal: PendingSignal)
         requires { length self.old < most_queued }
         ensures { self.new ≡ self.old ++ signal ∷ [] }
@@ -60,7 +61,7 @@ impl RealtimePool {
         self.signals.push_reserved(signal);
     }
 
-    /// Takes out the first of the signals with this number, if there is one.
+    /// Removes the first signal with this number, if there is one, and returns what it carries.
     pub fn take(&mut self, sig: Sig) -> Option<Carried>
         ensures value { result ≡ first_carried sig self.old }
         ensures rest { self.new ≡ without_first sig self.old }
@@ -71,14 +72,14 @@ impl RealtimePool {
         }
     }
 
-    /// No signal with this number is queued any more.
+    /// Removes all signals with this number.
     pub fn discard(&mut self, sig: Sig)
         ensures { self.new ≡ filter (λ m. not (has_sig sig m)) self.old }
     {
         self.signals.retain(move |signal| signal.sig != sig);
     }
 
-    /// Nothing is queued any more.
+    /// Removes all signals.
     pub fn clear(&mut self)
         ensures { self.new ≡ [] }
     {
@@ -86,13 +87,13 @@ impl RealtimePool {
     }
 }
 
-/// Pools that wait for signals: the memory that sends have been granted.
+/// Pools that are ready for signals: the memory that sends have been granted.
 #[derive(Drop)]
 pub struct GrantedPools {
     pools: Vec<RealtimePool>,
 }
 
-/// Its value is how many there are, and for how many it has room.
+/// The model is how many pools there are, and for how many there is room.
 impl Model for GrantedPools {
     ghost use Rattle.std.specs.Prelude.{length, vec_capacity};
     ghost use Rattle.signal.specs.GrantedPools.{GrantedPoolsView};
@@ -103,7 +104,7 @@ impl Model for GrantedPools {
 }
 
 impl GrantedPools {
-    /// No pool. It takes no memory.
+    /// Creates a stock without pools. Allocates nothing.
     pub fn new(alloc: Global) -> GrantedPools
         ensures { result.pools ≡ 0 }
     {
@@ -112,15 +113,15 @@ impl GrantedPools {
         }
     }
 
-    /// No pool, from the same host. It takes no memory.
+    /// Creates a stock without pools, with the same allocator. Allocates nothing.
     pub fn without_pools(&self) -> GrantedPools
         ensures { result.pools ≡ 0 }
     {
         GrantedPools::new(*self.pools.allocator())
     }
 
-    /// Makes so many pools wait, where fewer do. At an error the host has no memory for them, and none is gone;
-    /// where so many wait already it takes none.
+    /// Makes sure that at least `count` pools are ready. Fails if the host has no memory for them; pools that were
+    /// ready stay so. Allocates nothing if `count` pools are ready already.
     pub fn reserve(&mut self, count: usize) -> Result<(), AllocError>
         ensures enough { OnOk result (count ≤ self.new.pools) }
         ensures lack { OnErr result (self.old.pools < count) }
@@ -139,23 +140,25 @@ impl GrantedPools {
     }
 }
 
-/// Where pools for signals come from, and where those go that aren't needed.
-/// Two types, so that one walk serves both kinds of signals: a standard signal (`NoPools`) makes and drops no stock.
+/// A stock of pools for queued signals.
+///
+/// It has two implementations, so that one walk serves both kinds of signals: for a standard signal, `NoPools` creates
+/// and drops no stock.
 pub trait Pools: Drop {
-    /// How many there are.
+    /// How many pools there are.
     ghost pools: { Self → ℕ };
 
-    /// For how many there is room.
+    /// For how many pools there is room.
     ghost room: { Self → ℕ };
 
-    /// Takes out a pool in which nothing is queued, if there is one.
+    /// Removes and returns an empty pool, if there is one.
     fn take(&mut self) -> Option<RealtimePool>
         ensures pool { 0 < pools self.old → result ≡ Some [] }
         ensures none { pools self.old ≡ 0 → result ≡ None }
         ensures rest { pools self.new ≡ pools self.old - 1 }
         ensures room { 0 < pools self.old → pools self.new < room self.new };
 
-    /// Keeps a pool, if one is given and there is room for it; else it is dropped. It takes no memory.
+    /// Keeps a pool, if one is given and there is room for it; otherwise drops it. Allocates nothing.
     fn put(&mut self, pool: Option<RealtimePool>)
         ensures kept { IsSome pool → pools self.old < room self.old → pools self.new ≡ pools self.old + 1 }
         ensures more { pools self.old ≤ pools self.new };
@@ -187,7 +190,7 @@ impl Pools for GrantedPools {
     }
 }
 
-/// No pools: for a standard signal, which isn't queued.
+/// A stock that is always empty: for a standard signal, which isn't queued.
 #[derive(Drop)]
 pub struct NoPools;
 

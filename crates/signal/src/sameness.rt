@@ -1,11 +1,11 @@
-//! Whether what is queued for two processes, or their frames, are the same.
+//! Comparisons of the queues and frames of two processes.
 
 ghost use Rattle.std.specs.Prelude.{◌≡◌, true};
 
 use posix::{Frame, PendingSignal};
 use umach::memory::are_equal;
 
-/// Whether two queues hold the same signals in the same order.
+/// Returns true if two queues have the same signals in the same order.
 pub fn are_same_queues(mine: &[PendingSignal], others: &[PendingSignal]) -> bool
     ensures { result ≡ true → mine.now ≡ others.now }
 {
@@ -20,14 +20,14 @@ pub fn are_same_queues(mine: &[PendingSignal], others: &[PendingSignal]) -> bool
     true
 }
 
-/// Whether two frames give back the same.
+/// Returns true if two frames restore the same state.
 fn are_same_frames(mine: &Frame, other: &Frame) -> bool
     ensures { result ≡ true → mine.now ≡ other.now }
 {
     mine.pc == other.pc && are_equal(&mine.registers, &other.registers) && mine.mask == other.mask
 }
 
-/// Whether frames are the same in the same order.
+/// Returns true if both lists have the same frames in the same order.
 pub fn are_all_same_frames(mine: &[Frame], others: &[Frame]) -> bool
     ensures { result ≡ true → mine.now ≡ others.now }
 {

@@ -19,11 +19,11 @@ use umach::Cpu;
 /// The signals of one process (XSH 2.4).
 #[derive(Drop)]
 pub struct Signals {
-    /// The signals that it blocks.
+    /// The blocked signals.
     mask: SigSet,
-    /// Which signals are pending.
+    /// The pending signals.
     pending: SigSet,
-    /// The actions, what the pending signals came with, those that are queued, and the frames of handlers.
+    /// The actions, what the pending signals carry, the queued signals, and the frames of handlers.
     tables: LazyTables,
 }
 
@@ -40,7 +40,7 @@ impl Model for Signals {
 }
 
 impl Signals {
-    /// Those of process 1 at boot: none is blocked or pending, the actions are the defaults. An error where
+    /// Creates the signals of process 1 at boot: none is blocked or pending, and the actions are the defaults. Fails if
     /// the host has no memory for them.
     pub fn initial(alloc: Global, frames: Arena) -> Result<Signals, AllocError>
         ensures { IfOk result (λ s. s ≡ initial_signals) }
@@ -52,8 +52,8 @@ impl Signals {
         })
     }
 
-    /// Those of a child that is born now: the same, but nothing is pending (XSH fork). The tables are in the
-    /// place of `spare`, if there is one; without it an error where the host has no memory for them.
+    /// Returns the signals of a new child: a copy, but with none pending (XSH fork). The tables reuse the memory of
+    /// `spare`, if there is one. Otherwise this fails if the host has no memory for them.
     pub fn fork(&self, spare: Option<LazyTables>) -> Result<Signals, AllocError>
         ensures { IfOk result (λ s. s ≡ record self.now { standard = nothing_pending; queue = [] }) }
     {
@@ -64,7 +64,7 @@ impl Signals {
         })
     }
 
-    /// Whether two processes have the same signal mask, pending signals, actions and frames.
+    /// Returns true if two processes have the same signal mask, pending signals, actions and frames.
     pub fn is_same(&self, other: &Signals) -> bool
         ensures { result ≡ true → self.now ≡ other.now }
     {
@@ -74,12 +74,12 @@ impl Signals {
             && self.tables.is_same_but_carried(&other.tables)
     }
 
-    /// The tables of signals that are needed no more.
+    /// Returns the tables of signals that are no longer needed.
     pub fn into_tables(self) -> LazyTables {
         self.tables
     }
 
-    /// Those of a process that has ended: nothing is pending, and there is no frame; the rest stays.
+    /// Discards pending signals and frames, because the process has terminated. The rest is unchanged.
     pub fn forget(&mut self)
         ensures { self.new ≡ forgotten self.old }
     {
@@ -87,60 +87,60 @@ impl Signals {
         self.tables.forget();
     }
 
-    // ---- what there is
+    // ---- queries
 
-    /// The signal mask: the signals that are blocked.
+    /// Returns the signal mask: the signals that are blocked.
     pub fn mask(&self) -> SigSet
         ensures { result ≡ self.now.mask }
     {
         self.mask
     }
 
-    /// The set of pending signals (XSH sigpending).
+    /// Returns the set of pending signals (XSH sigpending).
     pub fn pending(&self) -> SigSet
         ensures { result ≡ pending_set self.now }
     {
         self.pending
     }
 
-    /// The real-time signal that stands at a place of the queue, the first at 0 (XSH 2.4.2).
+    /// Returns the real-time signal at a place of the queue, the first at 0 (XSH 2.4.2).
     pub fn queued(&self, place: usize) -> Option<PendingSignal>
         ensures { result ≡ slice_get self.now.queue place }
     {
         self.tables.queue().get(place).copied()
     }
 
-    /// How many handlers have been entered and haven't returned.
+    /// Returns how many handlers have been entered and haven't returned.
     pub fn handlers(&self) -> usize
         ensures { result ≡ length self.now.frames }
     {
         self.tables.frames()
     }
 
-    /// The action for a signal.
+    /// Returns the action for a signal.
     pub fn action(&self, sig: Sig) -> Action
         ensures { result ≡ action_of self.now sig }
     {
         self.tables.action(sig)
     }
 
-    /// Whether the process ignores CHLD, and so gets no notice of its children.
+    /// Returns true if the process ignores SIGCHLD, and so is sent none for its children.
     pub fn ignores_children(&self) -> bool
         ensures { result ≡ ignores_children_of self.now }
     {
         matches!(self.action(Sig::CHLD).handler, Handler::Ignore)
     }
 
-    /// Whether the children of the process are dropped as they end: it ignores CHLD or has SA_NOCLDWAIT
-    /// (XSH _exit).
+    /// Returns true if children of the process don't become zombies when they terminate: it ignores SIGCHLD or has
+    /// SA_NOCLDWAIT (XSH _exit).
     pub fn drops_children(&self) -> bool
         ensures { result ≡ drops_children_of self.now }
     {
         self.ignores_children() || self.action(Sig::CHLD).flags.contains(SaFlags::SA_NOCLDWAIT)
     }
 
-    /// Whether the process gets no notice of stops and continuations of its children: it ignores CHLD or
-    /// has SA_NOCLDSTOP (XSH sigaction).
+    /// Returns true if the process is sent no SIGCHLD when a child stops or continues: it ignores SIGCHLD or has
+    /// SA_NOCLDSTOP (XSH sigaction).
     pub fn ignores_stops(&self) -> bool
         ensures { result ≡ ignores_stops_of self.now }
     {
@@ -149,14 +149,14 @@ impl Signals {
 
     // ---- pending signals
 
-    /// Whether a signal is pending.
+    /// Returns true if a signal is pending.
     fn is_pending(&self, sig: Sig) -> bool
         ensures { result ≡ is_pending_of self.now sig }
     {
         self.pending.contains(sig)
     }
 
-    /// What a standard signal came with, or value 0 and sender 0 where it isn't pending.
+    /// Returns what a standard signal carries, or value 0 and sender 0 if it isn't pending.
     fn carried(&self, sig: Sig) -> Carried
         requires { is_realtime sig ≡ false }
         ensures { result ≡ carried_by sig self.now }
@@ -168,7 +168,7 @@ impl Signals {
         }
     }
 
-    /// A standard signal becomes pending, with this.
+    /// Makes a standard signal pending, with what it carries.
     fn insert(&mut self, sig: Sig, carried: Carried)
         requires { is_realtime sig ≡ false }
         ensures { self.new ≡ with_pending sig (Some carried) self.old }
@@ -177,7 +177,7 @@ impl Signals {
         self.pending = self.pending.union(SigSet::just(sig));
     }
 
-    /// A standard signal is no longer pending.
+    /// Makes a standard signal no longer pending.
     fn remove(&mut self, sig: Sig)
         requires { is_realtime sig ≡ false }
         ensures { self.new ≡ with_pending sig None self.old }
@@ -185,7 +185,7 @@ impl Signals {
         self.pending = self.pending.except(SigSet::just(sig));
     }
 
-    /// No signal with this number is pending any more.
+    /// Discards all pending signals with this number.
     #[tactic(auto, unfolding(posix::specs::Choice::discarded))]
     fn discard(&mut self, sig: Sig)
         ensures { self.new ≡ discarded sig self.old }
@@ -198,8 +198,8 @@ impl Signals {
         }
     }
 
-    /// The first real-time signal with this number is no longer queued. This is what it came with, or value 0 and
-    /// sender 0 where there was none.
+    /// Removes the first queued real-time signal with this number. Returns what it carries, or value 0 and sender 0 if
+    /// there is none.
     #[tactic(auto, unfolding(posix::specs::Choice::taken))]
     fn take_queued(&mut self, sig: Sig) -> Carried
         requires { is_realtime sig ≡ true }
@@ -215,7 +215,7 @@ impl Signals {
 
     // ---- generation and choice
 
-    /// Whether nothing is generated: for a zombie, and for process 1 where it has no handler (kill(2)).
+    /// Returns true if no signal is generated: for a zombie, and for process 1 if it has no handler (kill(2)).
     fn gets_no_signals(&self, pid: Pid, life: Life, sig: Sig) -> bool
         ensures { result ≡ gets_no_signals_of pid life self.now sig }
     {
@@ -223,7 +223,7 @@ impl Signals {
             || (pid == Pid::INIT && !is_caught(self.action(sig).handler))
     }
 
-    /// Whether a signal is kept: it is blocked, or its action does something.
+    /// Returns true if a signal is kept: it is blocked, or its action does something.
     #[inline(always)]
     fn keeps(&self, sig: Sig) -> bool
         ensures { result ≡ keeps_of self.now sig }
@@ -231,7 +231,7 @@ impl Signals {
         self.mask.contains(sig) || !does_nothing(self.action(sig).handler, sig)
     }
 
-    /// No stop signal is pending any more.
+    /// Discards all pending stop signals.
     #[tactic(auto, unfolding(posix::specs::Generation::without_stops))]
     fn discard_stops(&mut self)
         ensures { self.new ≡ without_stops self.old }
@@ -242,8 +242,8 @@ impl Signals {
         self.remove(Sig::STOP);
     }
 
-    /// What is pending goes that a signal discards: by CONT the stop signals, and by a stop signal CONT,
-    /// whether or not they are blocked or ignored (XSH 2.4.1).
+    /// Discards the pending signals that a new signal cancels: SIGCONT cancels stop signals, and a stop signal cancels
+    /// SIGCONT, whether or not they are blocked or ignored (XSH 2.4.1).
     fn discard_for(&mut self, sig: Sig)
         ensures { self.new ≡ after_discards sig self.old }
     {
@@ -254,13 +254,14 @@ impl Signals {
         }
     }
 
-    /// A standard signal is generated for the process, which has this number and life. For a zombie, and for process
-    /// 1 where it has no handler for the signal, nothing is. Else what it discards goes first: CONT discards
-    /// the stop signals that are pending, and a stop signal a CONT, whether or not they are blocked or
-    /// ignored. The signal itself isn't kept where it isn't blocked and its action does nothing; else it is
-    /// pending, and one that was pending already keeps what it came with first (XSH 2.4.1). The effect is
-    /// what the signal does at once: CONT continues a stopped process, whether or not it is blocked or
-    /// ignored (XSH 2.4.3).
+    /// Generates a standard signal for the process, which has this ID and life, and returns what the signal does at
+    /// once.
+    ///
+    /// For a zombie, and for process 1 if it has no handler for the signal, nothing is generated. Otherwise SIGCONT
+    /// discards pending stop signals, and a stop signal a pending SIGCONT, whether or not they are blocked or ignored.
+    /// The signal itself is discarded if it isn't blocked and its action does nothing; otherwise it becomes pending. A
+    /// signal that was pending already keeps what it carries (XSH 2.4.1). SIGCONT continues a stopped process at once,
+    /// whether or not it is blocked or ignored (XSH 2.4.3).
     #[tactic(auto, unfolding(posix::specs::Generation::generated, posix::specs::Generation::effect_of))]
     pub fn generate(&mut self, pid: Pid, life: Life, signal: PendingSignal) -> Effect
         requires standard { is_realtime signal.sig ≡ false }
@@ -284,27 +285,27 @@ impl Signals {
         }
     }
 
-    /// Whether a signal that is generated for the process, which has this number and life, would be queued: a
-    /// real-time signal that is kept.
+    /// Returns true if a signal generated for the process, which has this ID and life, would be queued: a real-time
+    /// signal that is kept.
     pub fn queues(&self, pid: Pid, life: Life, sig: Sig) -> bool
         ensures { result ≡ (is_realtime sig && (not (gets_no_signals_of pid life self.now sig) && keeps_of self.now sig)) }
     {
         sig.is_realtime() && !self.gets_no_signals(pid, life, sig) && self.keeps(sig)
     }
 
-    /// Whether no more real-time signals can be queued.
+    /// Returns true if no more real-time signals can be queued.
     pub fn is_queue_full(&self) -> bool
         ensures { result ≡ nat_le most_queued (length self.now.queue) }
     {
         self.tables.queue().len() >= 32
     }
 
-    /// A real-time signal is generated for the process, which has this number and life. It is queued behind those
-    /// that came before, unless nothing is generated for the process, or the signal isn't kept (XSH 2.4.2). Where it
-    /// is queued there must be room for it, and a pool for the queue that has none. What comes back is the pool
-    /// where it isn't needed.
-    /// The pending set says which numbers are queued (`MarksQueued`), so a process without signals costs a step one
-    /// test.
+    /// Generates a real-time signal for the process, which has this ID and life. Queues it after earlier ones, unless
+    /// nothing is generated for the process or the signal isn't kept (XSH 2.4.2). A signal that is queued needs room,
+    /// and a pool if there is no queue yet. Returns the pool if it isn't needed.
+    ///
+    /// The pending set has the numbers that are queued (`MarksQueued`), so a step of a process without signals costs
+    /// one test.
     #[tactic(auto, unfolding(posix::specs::Generation::generated))]
     pub fn queue(
         &mut self,
@@ -325,7 +326,7 @@ impl Signals {
         self.tables.push_queued(signal, pool)
     }
 
-    /// The least pending signal that isn't blocked.
+    /// Returns the lowest pending signal that isn't blocked.
     #[tactic(auto, unfolding(posix::specs::Choice::least_ready))]
     fn least_ready(&self) -> Option<Sig>
         ensures { result ≡ least_ready_of self.now }
@@ -337,8 +338,8 @@ impl Signals {
         Sig::new(ready.trailing_zeros() as u8 + 1)
     }
 
-    /// The signal that is delivered next: KILL before all, and then the least one that is pending and
-    /// isn't blocked (own); of a process that doesn't run KILL alone.
+    /// Returns the signal that is delivered next: SIGKILL first, and then the lowest pending signal that isn't blocked
+    /// (own). For a process that isn't running, it can only be SIGKILL.
     #[tactic(auto, unfolding(posix::specs::Choice::chosen))]
     pub fn choose(&self, life: Life) -> Option<Sig>
         ensures { result ≡ chosen life self.now }
@@ -352,8 +353,8 @@ impl Signals {
         }
     }
 
-    /// A pending signal goes; of real-time signals with one number the first. This is what it came with, or value 0
-    /// and sender 0 where none is pending.
+    /// Removes a pending signal; of real-time signals with one number, the first. Returns what it carries, or value 0
+    /// and sender 0 if none is pending.
     #[tactic(auto, unfolding(posix::specs::Choice::taken))]
     pub fn take(&mut self, sig: Sig) -> Carried
         ensures value { result ≡ carried_by sig self.old }
@@ -369,8 +370,8 @@ impl Signals {
 
     // ---- handlers
 
-    /// What a handler with this action blocks: what is blocked, what the action names, and without
-    /// SA_NODEFER the signal itself.
+    /// Returns the mask of a handler with this action: the blocked signals, those of the action's mask, and, without
+    /// SA_NODEFER, the signal itself.
     fn handler_mask(&self, sig: Sig, action: &Action) -> SigSet
         ensures { result ≡ handler_mask_of sig self.now.mask action.now }
     {
@@ -382,11 +383,12 @@ impl Signals {
         self.mask.union(action.mask).union(itself).maskable()
     }
 
-    /// The handler of a signal at an address is entered; it returns to where the processor is, with the
-    /// `saved` mask. A frame is made; the mask grows by that of the action and the signal; with
-    /// SA_RESETHAND the handler becomes the default. r1 is the signal, and with SA_SIGINFO r2 is the value
-    /// that it came with and r3 the sender (XSH 2.4.3). At an error there are 16 frames already, and
-    /// nothing changes.
+    /// Enters the handler of a signal at an address. The handler returns to where the processor is, with the `saved`
+    /// mask.
+    ///
+    /// Adds a frame. The mask grows by that of the action and, without SA_NODEFER, by the signal. With SA_RESETHAND,
+    /// the handler becomes the default. r1 is the signal, and with SA_SIGINFO r2 is the value that it carries and r3
+    /// the sender (XSH 2.4.3). Fails if there are 16 frames already; then nothing changes.
     #[tactic(auto, unfolding(posix::specs::Handlers::entered, posix::specs::Handlers::at_handler))]
     pub fn enter_handler(
         &mut self,
@@ -411,8 +413,8 @@ impl Signals {
         Ok(())
     }
 
-    /// The newest handler returns: pc, registers and mask become those of its frame, which goes
-    /// (sigreturn(2)). At an error there is no frame, and nothing changes.
+    /// Returns from the newest handler: restores the pc, registers and mask from its frame, and removes the frame
+    /// (sigreturn(2)). Fails if there is no frame; then nothing changes.
     pub fn leave_handler(&mut self, cpu: &mut Cpu) -> Result<(), NoFrame>
         ensures some { OnOk result (IsSome (newest_frame self.old)) }
         ensures signals { OnOk result (IfSome (newest_frame self.old) (λ frame. self.new ≡ left frame self.old)) }
@@ -429,8 +431,8 @@ impl Signals {
         Ok(())
     }
 
-    /// What another program leaves of them: caught signals go to the default, masks and flags of actions go,
-    /// and so do the frames. The signal mask and the pending signals stay (XSH exec).
+    /// Resets the signals for a new program: caught signals get the default action, and masks and flags of actions and
+    /// all frames are cleared. The signal mask and the pending signals are unchanged (XSH exec).
     pub fn on_exec(&mut self)
         ensures { self.new ≡ signals_on_exec self.old }
     {
@@ -439,9 +441,9 @@ impl Signals {
 
     // ---- actions and masks
 
-    /// Sets the action for a signal; its mask can't hold KILL and STOP. Where the action does nothing with
-    /// the signal, all that are pending go, blocked or not. At the error EINVAL, for KILL and STOP, nothing
-    /// changes (XSH sigaction).
+    /// Sets the action for a signal; its mask never contains SIGKILL and SIGSTOP. If the action does nothing with the
+    /// signal, all pending signals of this number are discarded, blocked or not. Fails with EINVAL for SIGKILL and
+    /// SIGSTOP; then nothing changes (XSH sigaction).
     #[tactic(auto, unfolding(posix::specs::Handlers::set_action))]
     pub fn set_action(&mut self, sig: Sig, action: Action) -> Result<(), Errno>
         ensures ok { OnOk result (set_action_of sig action self.old ≡ Ok self.new) }
@@ -459,7 +461,7 @@ impl Signals {
         Ok(())
     }
 
-    /// The set is added to the signal mask, taken from it, or put in its place; KILL and STOP stay
+    /// Adds the set to the signal mask, removes it from the mask, or replaces the mask by it. SIGKILL and SIGSTOP stay
     /// unblocked (XSH sigprocmask).
     #[tactic(auto, unfolding(posix::specs::Handlers::set_mask))]
     pub fn set_mask(&mut self, how: How, set: SigSet)
@@ -473,7 +475,7 @@ impl Signals {
         self.replace_mask(mask);
     }
 
-    /// The set is the signal mask from now on; KILL and STOP stay unblocked (XSH sigsuspend).
+    /// Replaces the signal mask by the set. SIGKILL and SIGSTOP stay unblocked (XSH sigsuspend).
     pub fn replace_mask(&mut self, set: SigSet)
         ensures { self.new ≡ give_mask set self.old }
     {
@@ -481,8 +483,8 @@ impl Signals {
     }
 }
 
-/// The action for a signal once its handler is entered: with SA_RESETHAND the handler is the default; mask
-/// and flags stay.
+/// Returns the action for a signal after its handler is entered: with SA_RESETHAND, the handler is the default; mask
+/// and flags are unchanged.
 fn after_entry(action: Action) -> Action
     ensures { result ≡ after_entry_of action }
 {
@@ -496,7 +498,8 @@ fn after_entry(action: Action) -> Action
     }
 }
 
-/// r1 is the signal, and with SA_SIGINFO r2 is the value that it came with and r3 the sender.
+/// Sets the arguments of a handler: r1 to the signal, and with SA_SIGINFO r2 to the value that it carries and r3 to the
+/// sender.
 fn give_arguments(cpu: &mut Cpu, signal: PendingSignal, action: &Action)
     ensures { cpu.new ≡ handler_arguments signal action.now cpu.old }
 {

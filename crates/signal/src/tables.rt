@@ -1,4 +1,4 @@
-//! The tables of a process for signals.
+//! The signal tables of a process.
 
 ghost use Rattle.std.specs.Prelude.{◌≡◌, ◌-◌, ◌<◌, ◌≤◌, ◌++◌, ◌∷◌, [], false, true, not, None, IsSome, IfOk, OnOk, OnErr, filter, length, map, take, nat_le, slice_get, slice_index_or, slice_set, vec_capacity};
 ghost use Rattle.std.specs.List.{list_any};
@@ -14,19 +14,19 @@ use posix::{Action, Carried, Frame, Handler, PendingSignal, SaFlags, Sig, SigSet
 use std::alloc::{AllocError, Global};
 use std::marker::Model;
 
-/// The actions of a process for signals, what its pending standard signals came with (XSH 2.4.1), the queue of
-/// its pending real-time signals (XSH 2.4.2), and the frames of its handlers that haven't returned.
+/// The actions of a process for signals, what its pending standard signals carry (XSH 2.4.1), the queue of its pending
+/// real-time signals (XSH 2.4.2), and the frames of its handlers that haven't returned.
 ///
-/// Its memory is taken at once, and written to as it is needed: until the first change all is as at boot, and only frames
-/// that are in use are kept. Actions and what came with signals have arenas of their own, so that a page which is written
-/// to holds those of several processes. The memory of the queue comes with the first real-time signal.
+/// The memory is allocated at once, but written only when needed: until the first change everything is as at boot, and
+/// only frames in use are kept. Actions and carried values have arenas of their own, so that a written page holds those
+/// of several processes. The memory of the queue comes with the first real-time signal.
 #[derive(Drop)]
 pub struct LazyTables {
-    /// At most one item, with room for it: without it they are the default ones.
+    /// At most one item, with room for it. Without an item, the actions are the defaults.
     actions: Vec<Actions, Arena>,
-    /// At most one item, with room for it: what the standard signal s came with, at s - 1, where it is pending.
+    /// At most one item, with room for it: what each pending standard signal s carries, at s - 1.
     carried: Vec<[Carried; 31], Arena>,
-    /// Without it nothing is queued.
+    /// Nothing is queued without a pool.
     queue: Option<RealtimePool>,
     /// The newest last, with room for 16.
     frames: Vec<Frame, Arena>,
@@ -44,16 +44,16 @@ impl Model for LazyTables {
     ghost invariant = { λ t. (1 ≤ vec_capacity t.actions) × (1 ≤ vec_capacity t.carried) × (16 ≤ vec_capacity t.frames) × AreFields (actions_or_blank t.actions.items) × (length (carried_or_blank t.carried.items) ≡ 31) × (length t.frames.items ≤ 16) };
 }
 
-/// There are 16 frames already.
+/// The error that there are 16 frames already.
 #[derive(Clone, Copy)]
 pub struct FramesFull;
 
-/// There is no frame.
+/// The error that there is no frame.
 #[derive(Clone, Copy)]
 pub struct NoFrame;
 
 impl LazyTables {
-    /// As at boot, with room of these arenas. An error where the host has no memory for them.
+    /// Creates tables as at boot, with memory from these arenas. Fails if the host has no memory for them.
     #[tactic(auto, unfolding(posix::specs::Processes::default_actions, crate::specs::ActionFields::actions_of, crate::specs::ActionFields::blank_actions, crate::specs::SignalTables::nothing_carried))]
     fn with_room_of(actions: Arena, carried: Arena, frames: Arena) -> Result<LazyTables, AllocError>
         ensures { IfOk result (λ t. t ≡ initial_tables) }
@@ -66,7 +66,7 @@ impl LazyTables {
         })
     }
 
-    /// As at boot, with room of an arena for frames, and of new ones for the others. An error where the host has no
+    /// Creates tables as at boot, with frames in the given arena and the others in new arenas. Fails if the host has no
     /// memory for them.
     pub fn new(alloc: Global, frames: Arena) -> Result<LazyTables, AllocError>
         ensures { IfOk result (λ t. t ≡ initial_tables) }
@@ -74,8 +74,8 @@ impl LazyTables {
         LazyTables::with_room_of(new_arena(alloc)?, new_arena(alloc)?, frames)
     }
 
-    /// Those of a child that is born now: the same, but nothing came with anything, and nothing is queued. They are
-    /// in the place of `spare`, if there is one; without it an error where the host has no memory for them.
+    /// Returns the tables of a new child: a copy, but with no carried values and nothing queued. They reuse the memory
+    /// of `spare`, if there is one. Otherwise this fails if the host has no memory for them.
     pub fn fork(&self, spare: Option<LazyTables>) -> Result<LazyTables, AllocError>
         ensures { IfOk result (λ t. t ≡ record self.now { carried = nothing_carried; queue = [] }) }
     {
@@ -106,7 +106,7 @@ impl LazyTables {
 
     // ---- actions
 
-    /// The action for a signal.
+    /// Returns the action for a signal.
     pub fn action(&self, sig: Sig) -> Action
         ensures { result ≡ slice_index_or self.now.actions (sig - 1) initial_action }
     {
@@ -125,7 +125,7 @@ impl LazyTables {
         self.actions[0].set(sig, action);
     }
 
-    /// What another program leaves of the actions; the frames are dropped (XSH exec).
+    /// Resets the actions for a new program, and drops the frames (XSH exec).
     pub fn on_exec(&mut self)
         ensures { self.new ≡ record self.old { actions = map action_on_exec self.old.actions; frames = [] } }
     {
@@ -135,9 +135,9 @@ impl LazyTables {
         }
     }
 
-    // ---- what pending signals came with
+    // ---- what pending signals carry
 
-    /// What a standard signal came with, where it is pending; for another signal as from the kernel.
+    /// Returns what a pending standard signal carries; for any other signal, as from the kernel.
     pub fn carried(&self, sig: Sig) -> Carried
         ensures { result ≡ slice_index_or self.now.carried (sig - 1) from_kernel }
     {
@@ -151,20 +151,20 @@ impl LazyTables {
         }
     }
 
-    /// Whether a standard signal came with the same as in other tables, or isn't in a set of pending signals.
+    /// Returns true if a standard signal carries the same in both tables, or isn't in a set of pending signals.
     fn has_same_carried_at(&self, other: &LazyTables, pending: SigSet, sig: Sig) -> bool
         ensures { result ≡ true → pending_at pending self.now.carried (sig - 1) ≡ pending_at pending other.now.carried (sig - 1) }
     {
         !pending.contains(sig) || self.carried(sig) == other.carried(sig)
     }
 
-    /// Whether the standard signals in a set of pending signals came with the same as in other tables.
+    /// Returns true if the standard signals in a set of pending signals carry the same in both tables.
     pub fn has_same_carried(&self, other: &LazyTables, pending: SigSet) -> bool
         ensures { result ≡ true → standard_of pending self.now.carried ≡ standard_of pending other.now.carried }
     {
         for row in 0..31 {
             let Some(sig) = Sig::new(row + 1) else {
-                return false; // all of them are signals
+                return false; // every number from 1 to 31 is a signal
             };
             if !self.has_same_carried_at(other, pending, sig) {
                 return false;
@@ -173,7 +173,7 @@ impl LazyTables {
         true
     }
 
-    /// Sets what a standard signal comes with.
+    /// Sets what a standard signal carries.
     pub fn set_carried(&mut self, sig: Sig, carried: Carried)
         requires { sig ≤ 31 }
         ensures { self.new ≡ record self.old { carried = slice_set self.old.carried (sig - 1) carried } }
@@ -184,7 +184,7 @@ impl LazyTables {
 
     // ---- the queue
 
-    /// The queue.
+    /// Returns the queue.
     pub fn queue(&self) -> &[PendingSignal]
         ensures { result.now ≡ self.now.queue }
     {
@@ -194,7 +194,7 @@ impl LazyTables {
         }
     }
 
-    /// Whether a real-time signal is queued.
+    /// Returns true if a real-time signal is queued.
     #[tactic(auto, using(crate::proofs::QueueLemmas::is_some_position))]
     pub fn is_queued(&self, sig: Sig) -> bool
         ensures { result ≡ list_any (has_sig sig) self.now.queue }
@@ -205,8 +205,8 @@ impl LazyTables {
         }
     }
 
-    /// A real-time signal is queued behind the others, where there are less than 32: in the pool that there is, else
-    /// in this one. What comes back is this one where it isn't needed.
+    /// Queues a real-time signal after the others, which are fewer than 32: in the existing pool if there is one,
+    /// otherwise in `pool`. Returns `pool` if it isn't needed.
     pub fn push_queued(
         &mut self,
         signal: PendingSignal,
@@ -228,7 +228,8 @@ impl LazyTables {
         None
     }
 
-    /// Takes the first real-time signal with this number out of the queue, if there is one.
+    /// Removes the first real-time signal with this number from the queue, if there is one, and returns what it
+    /// carries.
     #[tactic(auto, unfolding(posix::specs::Choice::first_carried, posix::specs::Choice::without_first))]
     pub fn take_queued(&mut self, sig: Sig) -> Option<Carried>
         ensures value { result ≡ first_carried sig self.old.queue }
@@ -240,7 +241,7 @@ impl LazyTables {
         }
     }
 
-    /// No real-time signal with this number is queued any more.
+    /// Removes all real-time signals with this number from the queue.
     pub fn discard_queued(&mut self, sig: Sig)
         ensures { self.new ≡ record self.old { queue = filter (λ m. not (has_sig sig m)) self.old.queue } }
     {
@@ -251,14 +252,14 @@ impl LazyTables {
 
     // ---- frames
 
-    /// How many frames there are: at most 16.
+    /// Returns the number of frames: at most 16.
     pub fn frames(&self) -> usize
         ensures { result ≡ length self.now.frames }
     {
         self.frames.len()
     }
 
-    /// Adds a frame. At an error there are 16 already, and nothing changes.
+    /// Adds a frame. Fails if there are 16 already; then nothing changes.
     pub fn push_frame(&mut self, frame: Frame) -> Result<(), FramesFull>
         ensures room { OnOk result (nat_le most_frames (length self.old.frames) ≡ false) }
         ensures frames { OnOk result (self.new ≡ record self.old { frames = self.old.frames ++ frame ∷ [] }) }
@@ -272,7 +273,7 @@ impl LazyTables {
         Ok(())
     }
 
-    /// Takes the newest frame, if there is one.
+    /// Removes and returns the newest frame, if there is one.
     pub fn pop_frame(&mut self) -> Option<Frame>
         ensures value { result ≡ slice_get self.old.frames (length self.old.frames - 1) }
         ensures rest { self.new ≡ record self.old { frames = take (length self.old.frames - 1) self.old.frames } }
@@ -280,9 +281,9 @@ impl LazyTables {
         self.frames.pop()
     }
 
-    // ---- all of them
+    // ---- all tables
 
-    /// Whether the actions, the queue and the frames are the same as in other tables.
+    /// Returns true if actions, queue and frames are the same in both tables.
     pub fn is_same_but_carried(&self, other: &LazyTables) -> bool
         ensures actions { result ≡ true → self.now.actions ≡ other.now.actions }
         ensures queue { result ≡ true → self.now.queue ≡ other.now.queue }
@@ -293,7 +294,7 @@ impl LazyTables {
             && are_all_same_frames(&self.frames, &other.frames)
     }
 
-    /// Drops all frames, and all that is queued.
+    /// Drops all frames and all queued signals.
     pub fn forget(&mut self)
         ensures { self.new ≡ record self.old { queue = []; frames = [] } }
     {
@@ -302,7 +303,7 @@ impl LazyTables {
     }
 }
 
-/// Nothing is queued any more.
+/// Empties a queue.
 fn empty(queue: &mut Option<RealtimePool>)
     ensures { queue_in queue.new ≡ [] }
 {
@@ -311,7 +312,7 @@ fn empty(queue: &mut Option<RealtimePool>)
     }
 }
 
-/// The default action for a signal.
+/// Returns the default action for a signal.
 fn default_action() -> Action
     ensures { result ≡ initial_action }
 {
@@ -322,7 +323,7 @@ fn default_action() -> Action
     }
 }
 
-/// What signals came with is kept from now on: what was, or nothing.
+/// Makes sure that there is an item for what signals carry: the old one, or one that carries nothing.
 #[tactic(auto, unfolding(crate::specs::SignalTables::nothing_carried))]
 fn keep_carried(carried: &mut Vec<[Carried; 31], Arena>)
     requires { 1 ≤ vec_capacity carried.old }

@@ -1,29 +1,29 @@
-//! Consoles, and the order of turns, in words.
+//! Descriptions of consoles and of the run queue.
 
 use posix::Pid;
 use tty::Console;
 use wording::{Prose, plural, put_quoted};
 
-/// Writes the order of turns, where a process can act.
+/// Writes the run queue, unless it is empty.
 pub fn put_turns(text: &mut Prose, turns: &[Pid]) {
     if turns.is_empty() {
         return;
     }
-    text.push_str("order of turns:");
+    text.push_str("run queue:");
     for pid in turns {
         text.push_with(" ", pid.number());
     }
     text.push_str("\n");
 }
 
-/// Writes a piece, and how many there are of what a word names.
+/// Writes a piece, a count, and a noun in the singular or plural.
 pub fn put_counted(text: &mut Prose, piece: &str, count: u64, word: &str) {
     text.push_with(piece, count);
     text.push_word(" ", word.as_bytes());
     text.push_str(plural(count));
 }
 
-/// Writes whose terminal a console is.
+/// Writes the session and the foreground process group of a console.
 fn put_owner(text: &mut Prose, session: Pid, foreground: Pid, is_living: bool) {
     if session == Pid::NONE {
         return text.push_str("no session");
@@ -34,11 +34,12 @@ fn put_owner(text: &mut Prose, session: Pid, foreground: Pid, is_living: bool) {
     }
     text.push_with(", foreground ", foreground.number());
     if !is_living {
-        text.push_str(" (nobody living in it)");
+        text.push_str(" (only zombies)");
     }
 }
 
-/// Writes a console, by its number. `is_living`: whether a process of its foreground group hasn't ended.
+/// Writes the line of the console with this number. `is_living` is true if any process in its foreground process group
+/// is not a zombie.
 pub fn put_console(text: &mut Prose, number: usize, console: &Console, is_living: bool) {
     text.push_with("console ", number);
     text.push_str(": ");

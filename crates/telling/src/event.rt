@@ -1,4 +1,4 @@
-//! A line for each event: who acted, what came of it, and whom else it concerned.
+//! The lines of events: which process acted, what it did, and what the event changed in other processes.
 
 use crate::process::{end_cell, put_carried, put_name};
 use crate::reading::{Concern, Reading, Rows, row_of};
@@ -14,20 +14,21 @@ use wording::{
     put_report, put_result, put_signal, put_status, signal_in,
 };
 
-/// What the current process was about to do.
+/// A process that acts, and what it is about to do.
 #[derive(Clone, Copy)]
 pub struct Actor {
     snapshot: Snapshot,
     with: Arguments,
-    /// Whom it sends which signal, if it calls kill or sigqueue; whom it moves, if it calls setpgid.
+    /// Its first two arguments: the target and the signal of `kill` or `sigqueue`. The target of `setpgid` is the first
+    /// argument, too.
     target: i64,
     sig: Option<Sig>,
-    /// The place of its instruction in its program.
+    /// The index of its instruction in its program, if it is at an instruction.
     place: Option<usize>,
 }
 
 impl Actor {
-    /// A process that is there, and acts next.
+    /// Returns what the current process is about to do.
     pub fn new(snapshot: Snapshot, own: &OwnPart) -> Actor {
         Actor {
             snapshot,
@@ -39,24 +40,25 @@ impl Actor {
     }
 }
 
-/// Tells each event as it comes.
+/// A writer of the lines of events. It compares the processes before and after each event.
 #[derive(Drop)]
 pub struct Teller<'l, 't> {
     pub view: View<'l, 't>,
     programs: &'t [umach::Program],
     /// The processes before the event.
     pub rows: Rows,
-    /// Who acts in the event.
+    /// The process that acts in the event, if one does.
     pub actor: Option<Actor>,
-    /// Whether the last event showed a line of the trace.
+    /// True if the last event has a trace line.
     pub showed: bool,
     /// The line of the event.
     line: Prose,
-    /// The lines that are shown.
+    /// The lines written so far.
     pub text: Prose,
 }
 
-/// Whom else the call of an actor changes, which shows these entries: who is born, moved, or collected.
+/// Returns the other process that a call changes: the child of `fork`, the process that `setpgid` moves, or the child
+/// whose status change a wait consumes. `entries` are those of the event.
 fn other_of(actor: &Actor, entries: &[Entry]) -> Option<Pid> {
     let word = match *entries.first()? {
         Entry::Called {
@@ -75,7 +77,7 @@ fn other_of(actor: &Actor, entries: &[Entry]) -> Option<Pid> {
     process_in(word.into())
 }
 
-/// Writes a key by its byte, and as it is typed.
+/// Writes a key event: the console, the byte and, in parentheses, the key.
 fn put_key(text: &mut Prose, console: u8, byte: u8) {
     let _ = write!(text, "key {console} {byte:02X}");
     let (mark, typed) = match byte {
@@ -89,28 +91,28 @@ fn put_key(text: &mut Prose, console: u8, byte: u8) {
     text.push_str(")");
 }
 
-/// Writes what a process did with a signal.
+/// Writes a verb and a signal.
 fn put_did(text: &mut Prose, did: &str, sig: Sig) {
     text.push_str(did);
     put_signal(text, sig);
 }
 
-/// Writes what became of a signal of a process.
+/// Writes a verb, a signal, and the process that it concerns.
 fn put_signal_of(text: &mut Prose, did: &str, sig: Sig, how: &str, pid: Pid) {
     put_did(text, did, sig);
     text.push_with(how, pid.number());
 }
 
-/// Writes to whom the event gave a process: an heir that isn't process 1 is a subreaper.
+/// Writes that a process is reparented to `heir`. A new parent other than process 1 is a child subreaper.
 fn put_given(text: &mut Prose, pid: Pid, heir: Pid) {
-    text.push_with("; gives ", pid.number());
+    text.push_with("; reparents ", pid.number());
     text.push_with(" to ", heir.number());
     if heir != Pid::INIT {
         text.push_str(", its subreaper");
     }
 }
 
-/// Writes that the event continued a process, or woke it. Whether it did.
+/// Writes that the event continued or woke a process. Returns true if it did.
 fn put_new_life(text: &mut Prose, old: &Row, new: &Row) -> bool {
     let words = match (old.snapshot.life, new.snapshot.life) {
         (Life::Stopped, Life::Running) => "; continues ",
@@ -121,7 +123,7 @@ fn put_new_life(text: &mut Prose, old: &Row, new: &Row) -> bool {
     true
 }
 
-/// Writes what an entry says, but for a call that it tells of.
+/// Writes an entry. For the result of a call, the call itself is already written.
 fn put_entry(text: &mut Prose, entry: &Entry) {
     match *entry {
         Entry::Noted { value, .. } => text.push_with(": ", value),
@@ -149,7 +151,7 @@ fn put_entry(text: &mut Prose, entry: &Entry) {
         Entry::Stopped { sig, .. } => put_did(text, "stopped by ", sig),
         Entry::Returned { .. } => text.push_str("the handler has returned"),
         Entry::Ended { status, .. } => {
-            text.push_str("ends, ");
+            text.push_str("terminates, ");
             put_status(text, status);
         }
         Entry::Halted => text.push_str("the machine halts"),
@@ -163,7 +165,8 @@ fn put_trace_line(text: &mut Prose, number: u64, entry: &Entry) {
     }
 }
 
-/// Whether an entry tells of the instruction or the call of its process, and goes on from there.
+/// Returns true if an entry is the result of an instruction or a call, so that its text follows that of the
+/// instruction.
 fn is_of_instruction(entry: &Entry) -> bool {
     matches!(
         entry,
@@ -178,7 +181,7 @@ fn is_of_instruction(entry: &Entry) -> bool {
 }
 
 impl<'l, 't> Teller<'l, 't> {
-    /// Tells nothing yet.
+    /// Returns a teller that has written nothing.
     pub fn new(view: View<'l, 't>, programs: &'t [umach::Program]) -> Teller<'l, 't> {
         Teller {
             view,
@@ -191,12 +194,12 @@ impl<'l, 't> Teller<'l, 't> {
         }
     }
 
-    /// Who acted in the last event.
+    /// Returns the process that acted in the last event, if one did.
     pub fn acted(&self) -> Option<Pid> {
         self.actor.as_ref().map(|actor| actor.snapshot.pid)
     }
 
-    /// The call that an actor attempts, if its instruction is one.
+    /// Returns the call that an actor attempts, if its instruction is a call or it is blocked in one.
     fn call_of_actor(&self, actor: &Actor) -> Option<Call> {
         if let Some(blocked) = actor.snapshot.blocked {
             return Some(blocked.call());
@@ -208,13 +211,13 @@ impl<'l, 't> Teller<'l, 't> {
         }
     }
 
-    /// The program of an actor, as its world writes it.
+    /// Returns the source of the program of an actor.
     fn source_of(&self, actor: &Actor) -> Option<&'l Source<'t>> {
         let listing = self.view.listing;
         listing.program(usize::from(actor.snapshot.program))
     }
 
-    /// The instruction of an actor, as its world writes it.
+    /// Returns the instruction of an actor, as the world file has it.
     fn written_of(&self, actor: &Actor) -> Option<Written<'t>> {
         self.source_of(actor)?.at(actor.place?)
     }
@@ -230,7 +233,8 @@ impl<'l, 't> Teller<'l, 't> {
         self.line.push_str(text);
     }
 
-    /// Writes who acts, and at which line, where no line of the trace stands before that.
+    /// Writes which process acts, and at which line of the world. Writes nothing after a trace line, which names the
+    /// process.
     fn put_actor(&mut self, actor: &Actor) {
         if self.view.traced {
             return;
@@ -244,13 +248,13 @@ impl<'l, 't> Teller<'l, 't> {
         end_cell(&mut self.line, start, 10);
     }
 
-    /// Writes what became of a call that shows nothing: the process waits in it, or it begins again.
+    /// Writes the outcome of a call without a trace line: it blocks the process, or it begins again.
     fn put_silence(&mut self, new: &[Row], actor: &Actor) {
         if self.call_of_actor(actor).is_some() {
             let waits = self.waits(new);
             self.line.push_str(match (waits, actor.snapshot.blocked) {
-                (true, None) => " waits",
-                (true, Some(_)) => " still waits",
+                (true, None) => " blocks",
+                (true, Some(_)) => " still blocks",
                 (false, _) => " begins again",
             });
         }
@@ -284,11 +288,12 @@ impl<'l, 't> Teller<'l, 't> {
             (Event::Key { console, byte }, _) => put_key(&mut self.line, console, byte),
             (Event::Hangup { console }, _) => self.line.push_with("hangup ", console),
             (Event::Step, Some(actor)) => self.put_act(new, &actor, entries),
-            (Event::Step, None) => self.line.push_str("nobody acts"),
+            (Event::Step, None) => self.line.push_str("no current process"),
         }
     }
 
-    /// Writes which pending signals of a process went without being taken. Whether there are such.
+    /// Writes which pending signals of a process were discarded by the event. Signals that the process itself took are
+    /// left out. Returns true if it wrote any.
     fn put_discarded(&mut self, old: &Row, new: &Row, entries: &[Entry]) -> bool {
         let pid = new.snapshot.pid;
         let mut is_told = false;
@@ -302,7 +307,7 @@ impl<'l, 't> Teller<'l, 't> {
         is_told
     }
 
-    /// Writes which signals a process was sent, `sent` among them. Whether there are such.
+    /// Writes which signals a process was sent, including `sent`. Returns true if it wrote any.
     fn put_sent(&mut self, old: &Row, new: &Row, hears: bool, sent: Option<Sig>) -> bool {
         let mut is_told = false;
         for sig in (1..65u8).filter_map(Sig::new) {
@@ -315,7 +320,7 @@ impl<'l, 't> Teller<'l, 't> {
         is_told
     }
 
-    /// Writes what the event made of the signals of a process. Whether it made something of them.
+    /// Writes how the event changed the signals of a process. Returns true if it wrote anything.
     fn put_signals(
         &mut self,
         old: &Row,
@@ -336,12 +341,12 @@ impl<'l, 't> Teller<'l, 't> {
         is_discarded || is_sent
     }
 
-    /// Whether the parent of a process was this one.
+    /// Returns true if `parent` was the parent of a process before the event.
     fn is_child(&self, pid: Pid, parent: Pid) -> bool {
         matches!(self.rows.of(pid), Some(row) if row.snapshot.parent == parent)
     }
 
-    /// Whether a process gets a notice of a child, by the entries and the rows of the event.
+    /// Returns true if a process is sent SIGCHLD, because the event terminates, stops or continues a child.
     fn hears(&self, hearer: &Row, entries: &[Entry], all: &[Row]) -> bool {
         let parent = hearer.snapshot.pid;
         let has_changed = entries.iter().any(|entry| match *entry {
@@ -352,7 +357,7 @@ impl<'l, 't> Teller<'l, 't> {
         has_changed || (hearer.hears_changes && self.has_continued(parent, all))
     }
 
-    /// Whether the event continued a child of a process.
+    /// Returns true if the event continued a child of a process.
     fn has_continued(&self, parent: Pid, all: &[Row]) -> bool {
         all.iter().any(|row| {
             let new = &row.snapshot;
@@ -362,7 +367,7 @@ impl<'l, 't> Teller<'l, 't> {
         })
     }
 
-    /// Writes what the event made of one process. Whether it made something of it.
+    /// Writes how the event changed a process. Returns true if the event changed or created it.
     fn put_effect(
         &mut self,
         new: &Row,
@@ -382,7 +387,8 @@ impl<'l, 't> Teller<'l, 't> {
         has_signals || is_given || is_new
     }
 
-    /// Writes which records went without a report. Whether one went of a process that is shown.
+    /// Writes which processes were removed without a report. Returns true if a process that is shown was removed, with
+    /// or without a report.
     fn put_gone(&mut self, gone: &[Pid], entries: &[Entry]) -> bool {
         let mut is_shown = false;
         for pid in gone {
@@ -397,9 +403,9 @@ impl<'l, 't> Teller<'l, 't> {
         is_shown
     }
 
-    /// What an event sends, by the call of its actor, if that doesn't wait then; by a key, to the foreground process group
-    /// `told`; by a hangup, to the leader `told`; or by the alarms that ring, as so many ticks have passed. The entries are
-    /// those of the event. Number 0 for nobody.
+    /// Returns the signal that an event sends, and its targets. A step sends what the call of its actor sends. A key
+    /// sends to the foreground process group `told`, a hangup to the session leader `told`; 0 is none. A tick sends
+    /// SIGALRM to the processes whose alarms ring when `ticks` ticks have passed. `entries` are those of the event.
     pub fn sent(&self, event: Event, entries: &[Entry], told: Pid, ticks: u64) -> Option<Sent> {
         let (sig, whom) = match event {
             Event::Tick => (Sig::ALRM, Whom::Ringing(ticks)),
@@ -413,7 +419,8 @@ impl<'l, 't> Teller<'l, 't> {
         Some(Sent { sig, whom })
     }
 
-    /// What the call of an actor sends: one on a terminal that shows nothing sends its group a signal, or waits.
+    /// Returns the signal that the call of an actor sends. A terminal call without a trace line signals the caller's
+    /// process group, or blocks.
     fn sent_by(&self, actor: &Actor, entries: &[Entry]) -> Option<Sent> {
         let (sig, whom) = match self.call_of_actor(actor)? {
             Call::Kill if has_sent(entries) => {
@@ -433,7 +440,7 @@ impl<'l, 't> Teller<'l, 't> {
         Some(Sent { sig, whom })
     }
 
-    /// Whom a step of an actor may have changed, by what it showed and what it sent.
+    /// Returns the processes that a step of an actor may have changed, by its entries and the signal that it sent.
     fn concern_of(&self, actor: &Actor, entries: &[Entry], sent: Option<Sent>) -> Concern {
         let snapshot = &actor.snapshot;
         let (mut hears, mut ended) = (Pid::NONE, Pid::NONE);
@@ -457,8 +464,8 @@ impl<'l, 't> Teller<'l, 't> {
         }
     }
 
-    /// Those that have to be read anew after an event that showed these entries and sent this, in the order of their
-    /// numbers.
+    /// Returns the processes that must be read again after an event with these entries and this signal, in the order of
+    /// their numbers.
     pub fn concerned(
         &self,
         entries: &[Entry],
@@ -477,7 +484,7 @@ impl<'l, 't> Teller<'l, 't> {
         self.rows.concerned(self.view.alloc, &concern, new)
     }
 
-    /// Whether the actor waits in a call now.
+    /// Returns true if the actor is now blocked in a call.
     fn waits(&self, new: &[Row]) -> bool {
         let Some(pid) = self.acted() else {
             return false;
@@ -485,7 +492,7 @@ impl<'l, 't> Teller<'l, 't> {
         matches!(row_of(new, pid), Some(row) if row.snapshot.blocked.is_some())
     }
 
-    /// Begins the line of an event: with its number, where no line of the trace stands before it.
+    /// Begins the line of an event. Writes the number of the event, except after a trace line, which has it.
     fn begin_line(&mut self, number: u64) {
         self.line.clear();
         if !self.view.traced {
@@ -493,7 +500,7 @@ impl<'l, 't> Teller<'l, 't> {
         }
     }
 
-    /// Writes at which line the actor acted.
+    /// Writes the line of the world at which the actor acted.
     fn put_place(&mut self) {
         let Some(actor) = self.actor else {
             return;
@@ -503,7 +510,7 @@ impl<'l, 't> Teller<'l, 't> {
         }
     }
 
-    /// Adds the lines of the trace that an event shows, and behind the first one what the event did.
+    /// Adds the trace lines of an event, with its description after the first one.
     fn put_traced(&mut self, number: u64, entries: &[Entry]) -> Result<(), AllocError> {
         let Some((first, others)) = entries.split_first() else {
             return Ok(());
@@ -527,7 +534,8 @@ impl<'l, 't> Teller<'l, 't> {
         Ok(())
     }
 
-    /// Tells an event that was given: by its number, what it showed, what was read anew after it, and what it sent.
+    /// Adds the line of an event, if it is shown. The line is made from the number of the event, its entries, the
+    /// processes read after it, and the signal that it sent.
     pub fn tell(
         &mut self,
         number: u64,
@@ -552,7 +560,8 @@ impl<'l, 't> Teller<'l, 't> {
         Ok(())
     }
 
-    /// Writes what the event made of the processes that were read anew. Whether it made something of one that is shown.
+    /// Writes how the event changed the processes that were read again. Returns true if the event changed one that is
+    /// shown.
     fn put_effects(&mut self, new: &[Row], entries: &[Entry], sent: Option<&Sent>) -> bool {
         let sent = if self.waits(new) { None } else { sent };
         let mut is_shown = false;

@@ -1,7 +1,7 @@
-//! What is told of a process, of a console and of an event, in words. It sees what it is given, and no machine.
+//! Descriptions of processes, consoles and events, in words.
 //!
-//! It sees what it is given, and no machine, so that nothing it prints can change one. Tested, together with `showing`:
-//! all words, of which event, and since when a process waits or is stopped.
+//! The crate gets the data to describe, and no machine, so it cannot change one. Tested, together with `showing`: all
+//! words, to which event they belong, and since when a process is blocked or stopped.
 #![tactic(auto)]
 
 mod console;

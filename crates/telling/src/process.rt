@@ -1,4 +1,4 @@
-//! A process as it is at an event, in words.
+//! The description of a process after an event.
 
 use crate::console::put_counted;
 use crate::sending::MOST_QUEUED;
@@ -14,7 +14,7 @@ use wording::{
     put_set_or_none, put_signal, put_status,
 };
 
-/// A process that is there, as it is now.
+/// An existing process, in its current state.
 #[derive(Drop)]
 struct Shown<'l, 't> {
     snapshot: Snapshot,
@@ -22,8 +22,7 @@ struct Shown<'l, 't> {
     source: Option<&'l Source<'t>>,
 }
 
-/// Ends a cell of a row, which begins behind so many bytes of the text: writes blanks up to the width of its column, at
-/// least two.
+/// Ends a cell that begins at index `start` of the text. Writes blanks up to the width of its column, but at least two.
 pub fn end_cell(text: &mut Prose, start: usize, width: usize) {
     text.push_str("  ");
     text.pad_to(start.saturating_add(width), b' ');
@@ -50,7 +49,7 @@ fn put_set_cell(text: &mut Prose, name: &str, set: SigSet, width: usize) {
     end_cell(text, start, width);
 }
 
-/// Writes the call that a process waits in; `pause` alone has no arguments.
+/// Writes the call in which a process is blocked. Only `pause` is written without arguments.
 fn put_wait(
     text: &mut Prose,
     shown: &Shown<'_, '_>,
@@ -70,7 +69,8 @@ fn put_wait(
     }
 }
 
-/// Writes that a process is stopped, since when, and whether a wait has reported it.
+/// Writes that a process is stopped: by which signal, since which event, whether the stop is unreported, and in which
+/// call.
 fn put_stop(text: &mut Prose, shown: &Shown<'_, '_>, own: &OwnPart, listing: &Listing<'_>) {
     text.push_str("stopped");
     if let Some(sig) = Sig::new(shown.times.stopped_by) {
@@ -87,7 +87,7 @@ fn put_stop(text: &mut Prose, shown: &Shown<'_, '_>, own: &OwnPart, listing: &Li
     }
 }
 
-/// Writes what a process does.
+/// Writes what a process does, and where it is in its program.
 fn put_doing(text: &mut Prose, shown: &Shown<'_, '_>, own: &OwnPart, listing: &Listing<'_>) {
     match (shown.snapshot.life, shown.snapshot.blocked) {
         (Life::Zombie(status), _) => {
@@ -97,7 +97,7 @@ fn put_doing(text: &mut Prose, shown: &Shown<'_, '_>, own: &OwnPart, listing: &L
         }
         (Life::Stopped, _) => put_stop(text, shown, own, listing),
         (Life::Running, Some(blocked)) => {
-            text.push_str("waits in ");
+            text.push_str("blocked in ");
             put_wait(text, shown, own, blocked, listing);
             text.push_with(" since ", shown.times.wait);
         }
@@ -110,7 +110,7 @@ fn put_doing(text: &mut Prose, shown: &Shown<'_, '_>, own: &OwnPart, listing: &L
     }
 }
 
-/// Writes the row of a process. A zombie has neither a mask nor pending signals.
+/// Writes the first line of a process. A zombie has neither a mask nor pending signals.
 fn put_row(text: &mut Prose, shown: &Shown<'_, '_>, own: &OwnPart, listing: &Listing<'_>) {
     let snapshot = &shown.snapshot;
     let is_zombie = matches!(snapshot.life, Life::Zombie(_));
@@ -135,7 +135,7 @@ fn put_row(text: &mut Prose, shown: &Shown<'_, '_>, own: &OwnPart, listing: &Lis
     text.push_str("\n");
 }
 
-/// Writes a signal that is caught: where its handler stands, and the mask and the flags, where there are any.
+/// Writes a signal that is caught: its handler, and its mask and flags, if there are any.
 fn put_caught(
     text: &mut Prose,
     source: Option<&Source<'_>>,
@@ -158,7 +158,7 @@ fn put_caught(
     text.push_str("\n");
 }
 
-/// Writes the signals that a process catches, and those that it ignores by their actions.
+/// Writes the signals that a process catches, and those whose action is SIG_IGN.
 fn put_actions(text: &mut Prose, source: Option<&Source<'_>>, own: &OwnPart) {
     let mut ignored = SigSet::EMPTY;
     for sig in (1..65u8).filter_map(Sig::new) {
@@ -176,13 +176,13 @@ fn put_actions(text: &mut Prose, source: Option<&Source<'_>>, own: &OwnPart) {
     }
 }
 
-/// Writes what a queued signal carries: its value, and its sender.
+/// Writes the value and the sender of a signal.
 pub fn put_carried(text: &mut Prose, value: i64, sender: Pid) {
     text.push_with(", value ", value);
     text.push_with(", from ", sender.number());
 }
 
-/// Writes the queue of real-time signals: each with its value and its sender.
+/// Writes the queued real-time signals, each with its value and sender.
 fn put_queue(text: &mut Prose, own: &OwnPart) {
     for place in 0..MOST_QUEUED {
         let Some(signal) = own.signals.queued(place) else {
@@ -196,7 +196,7 @@ fn put_queue(text: &mut Prose, own: &OwnPart) {
     }
 }
 
-/// Writes the ids of a process, unless all are 0.
+/// Writes the user and group IDs of a process, unless all are 0.
 fn put_ids(text: &mut Prose, creds: Creds) {
     if creds == Creds::root() {
         return;
@@ -222,7 +222,7 @@ fn put_registers(text: &mut Prose, own: &OwnPart) {
     text.push_str("\n");
 }
 
-/// Writes the words of its memory that aren't 0, each behind its address.
+/// Writes the words of its memory that are not 0, each after its address.
 fn put_memory(text: &mut Prose, own: &OwnPart) {
     let mut mark = "    memory ";
     for address in 0..=u8::MAX {
@@ -238,17 +238,17 @@ fn put_memory(text: &mut Prose, own: &OwnPart) {
     }
 }
 
-/// What is known of a process beside its fields.
+/// What the description of a process needs besides its own fields.
 #[derive(Drop)]
 pub struct Around {
     pub times: Times,
-    /// Whether it has no turn.
+    /// True if it is not in the run queue, and the machine has not halted.
     pub sleeps: bool,
     pub terminal: Option<Terminal>,
     pub ticks: u64,
 }
 
-/// Writes a process that is there.
+/// Writes the lines of an existing process.
 pub fn put_process(
     view: View<'_, '_>,
     text: &mut Prose,
@@ -288,7 +288,7 @@ pub fn put_process(
     }
     put_ids(text, snapshot.creds);
     if snapshot.is_subreaper {
-        text.push_str("    is a subreaper\n");
+        text.push_str("    is a child subreaper\n");
     }
     if !view.only.is_empty() {
         put_registers(text, own);

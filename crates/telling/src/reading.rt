@@ -1,4 +1,4 @@
-//! The processes as they are from one event to the next: those alone are read anew that an event may have changed.
+//! The processes before and after each event. Only those that the event may have changed are read again.
 
 ghost use Rattle.std.specs.Prelude.{◌<◌, ◌≤◌, MatchResult, length};
 
@@ -7,19 +7,19 @@ use posix::{Life, Pid, Sig};
 use proctable::{OwnPart, Snapshot};
 use std::alloc::{AllocError, Global};
 
-/// What was read of some processes, in the order of their numbers.
+/// The state of some processes, read after an event, in the order of their numbers.
 #[derive(Drop)]
 pub struct Reading {
-    /// All that have a turn, in the order of their numbers.
+    /// All processes in the run queue, in the order of their numbers.
     acting: Vec<Pid>,
-    /// Those that are there.
+    /// Those that exist.
     pub(crate) rows: Vec<Row>,
-    /// Those that aren't any more.
+    /// Those that no longer exist.
     pub gone: Vec<Pid>,
 }
 
 impl Reading {
-    /// No process is read yet; these have a turn.
+    /// Returns a reading of no process. `turns` is the run queue.
     pub fn new(alloc: Global, turns: Vec<Pid>) -> Reading {
         let mut acting = turns;
         acting.sort_unstable();
@@ -30,7 +30,7 @@ impl Reading {
         }
     }
 
-    /// A process is there, after an event that sent this, or before one.
+    /// Adds an existing process. `sent` is the signal that the last event sent, or `None` before an event.
     pub fn add(
         &mut self,
         snapshot: Snapshot,
@@ -39,19 +39,19 @@ impl Reading {
     ) -> Result<(), AllocError> {
         let can_act = has(self.acting.as_slice(), snapshot.pid);
         let row = Row::new(snapshot, own, can_act, sent);
-        // The row is made anew, by a field whose type is named: the prover has to be told here that a row may have a signal.
+        // The row is rebuilt with a field whose type is named, because the prover needs that type here.
         let last_queued: Option<Sig> = row.last_queued;
         self.rows.push(Row { last_queued, ..row })?;
         Ok(())
     }
 }
 
-/// Whether a number is in a list that rises.
+/// Returns true if a number is in a sorted list.
 fn has(pids: &[Pid], pid: Pid) -> bool {
     pids.binary_search(&pid).is_ok()
 }
 
-/// Adds the numbers of one list that aren't in another one, which rises.
+/// Appends the numbers of `these` that are not in `those`, which is sorted.
 fn add_others(pids: &mut Vec<Pid>, these: &[Pid], those: &[Pid]) -> Result<(), AllocError> {
     for pid in these {
         if !has(those, *pid) {
@@ -61,39 +61,40 @@ fn add_others(pids: &mut Vec<Pid>, these: &[Pid], those: &[Pid]) -> Result<(), A
     Ok(())
 }
 
-/// The place of a process among rows that rise; where it isn't there, the place that it would have.
+/// Returns the index of a process in rows sorted by number. The error is the index at which to insert it.
 fn place_of(rows: &[Row], pid: Pid) -> Result<usize, usize>
     ensures { MatchResult result (λ place. place < length rows.now) (λ place. place ≤ length rows.now) }
 {
     rows.binary_search_by_key(&pid, |row| row.snapshot.pid)
 }
 
-/// The row of a process; none where it isn't there. The rows rise.
+/// Returns the row of a process, if there is one, in rows sorted by number.
 pub fn row_of(rows: &[Row], pid: Pid) -> Option<Row> {
     rows.get(place_of(rows, pid).ok()?).copied()
 }
 
-/// Whom an event may have changed, beside those that get a turn or lose theirs.
+/// The processes that an event may have changed, besides those that enter or leave the run queue.
 #[derive(Drop)]
 pub(crate) struct Concern {
-    /// Who acted; who hears that it stopped or ended; who was born, moved or collected by its call; whom it named for a
-    /// signal. Number 0 for nobody.
+    /// The process that acted; its parent, if it stopped or terminated; the process that its call forked, moved or
+    /// reported; the target of its signal. 0 means none.
     pub(crate) few: [Pid; 4],
-    /// Who ended: its children, and whoever may be their heir; number 0 for nobody.
+    /// The process that terminated, or 0: its children may have changed, and each process that may be their new parent.
     pub(crate) ended: Pid,
-    /// Those that are sent this, where they may be several.
+    /// The signal that the event sent, if it may have several targets.
     pub(crate) sent: Option<Sent>,
-    /// Anybody: a stopped process may go on, of which its parent hears, or a terminal hangs up.
+    /// True if any process may have changed: a stopped process may continue, so that its parent is sent SIGCHLD, or a
+    /// terminal hangs up.
     pub(crate) all: bool,
 }
 
 impl Concern {
-    /// Whether it may be others than the few.
+    /// Returns true if processes other than the few may have changed.
     fn is_wide(&self) -> bool {
         self.all || self.ended != Pid::NONE || self.sent.is_some()
     }
 
-    /// Whether a process, which was as this row says, is one of the others.
+    /// Returns true if a process may have changed, other than as one of the few. `old` is its row before the event.
     fn has_other(&self, old: &Row) -> bool {
         let snapshot = &old.snapshot;
         let may_inherit = snapshot.pid == Pid::INIT || snapshot.is_subreaper;
@@ -104,19 +105,19 @@ impl Concern {
     }
 }
 
-/// The processes as they are after an event.
+/// The rows of all processes after an event.
 #[derive(Drop)]
 pub struct Rows {
-    /// They rise.
+    /// Sorted by number.
     rows: Vec<Row>,
-    /// Those that have a turn, in the order of their numbers.
+    /// The processes in the run queue, in the order of their numbers.
     acting: Vec<Pid>,
-    /// After how many events; nothing before the first look.
+    /// The number of the last event, or `None` before the first reading.
     events: Option<u64>,
 }
 
 impl Rows {
-    /// Nothing is known yet.
+    /// Returns rows before the first reading.
     pub(crate) fn new(alloc: Global) -> Rows {
         Rows {
             rows: Vec::new(alloc),
@@ -125,30 +126,30 @@ impl Rows {
         }
     }
 
-    /// Whether they are those after so many events.
+    /// Returns true if the rows are those after this number of events.
     pub fn are_after(&self, events: u64) -> bool {
         self.events == Some(events)
     }
 
-    /// All processes were read, after so many events.
+    /// Replaces all rows by those read after this number of events.
     pub fn set(&mut self, events: u64, all: Reading) {
         self.rows = all.rows;
         self.acting = all.acting;
         self.events = Some(events);
     }
 
-    /// The row of a process; none where it isn't there.
+    /// Returns the row of a process, if it exists.
     pub(crate) fn of(&self, pid: Pid) -> Option<Row> {
         row_of(self.rows.as_slice(), pid)
     }
 
-    /// Whether a process is stopped.
+    /// Returns true if any process is stopped.
     pub(crate) fn have_stopped(&self) -> bool {
         let mut rows = self.rows.iter();
         rows.any(|row| matches!(row.snapshot.life, Life::Stopped))
     }
 
-    /// Adds those that an event may have changed, beside the few.
+    /// Appends the processes that an event may have changed, besides the few.
     fn add_wide(&self, pids: &mut Vec<Pid>, concern: &Concern) -> Result<(), AllocError> {
         for row in &self.rows {
             if concern.has_other(row) {
@@ -158,7 +159,8 @@ impl Rows {
         Ok(())
     }
 
-    /// Those that an event may have changed, in the order of their numbers, by who has a turn after it.
+    /// Returns the processes that an event may have changed, in the order of their numbers. `new` has the run queue
+    /// after the event.
     pub(crate) fn concerned(
         &self,
         alloc: Global,
@@ -177,7 +179,7 @@ impl Rows {
         Ok(pids)
     }
 
-    /// A process is as this row says.
+    /// Replaces or inserts the row of a process.
     fn put(&mut self, row: &Row) -> Result<(), AllocError> {
         match place_of(self.rows.as_slice(), row.snapshot.pid) {
             Ok(place) => self.rows[place] = *row,
@@ -186,7 +188,7 @@ impl Rows {
         Ok(())
     }
 
-    /// These aren't there any more.
+    /// Removes the rows of these processes.
     fn remove_all(&mut self, gone: &[Pid]) {
         for pid in gone {
             if let Ok(place) = place_of(self.rows.as_slice(), *pid) {
@@ -195,7 +197,7 @@ impl Rows {
         }
     }
 
-    /// Some were read anew, after so many events.
+    /// Replaces the rows of the processes that were read after this number of events.
     pub fn keep(&mut self, events: u64, new: Reading) -> Result<(), AllocError> {
         for row in &new.rows {
             self.put(row)?;

@@ -1,22 +1,24 @@
-//! Whom an event sends which signal, and what becomes of one that doesn't become pending.
+//! The signal that an event sends, its targets, and what each target does with it.
 
 use posix::{Call, DefaultAction, Entry, Handler, Life, Pid, Sig, SigSet, Target};
 use proctable::{OwnPart, Snapshot};
 use signal::Signals;
 
-/// So many real-time signals are queued for a process at most.
+/// The largest number of real-time signals queued for a process.
 pub(crate) const MOST_QUEUED: usize = 32;
 
-/// What a process makes of a signal that is sent to it.
+/// What happens to a signal that is sent to a process.
 #[derive(Clone, Copy)]
 pub enum Fate {
+    /// It becomes pending, is queued, or is pending already.
     Kept,
+    /// It is discarded, because the process ignores it.
     Ignored,
-    /// Process 1 has no handler for it.
+    /// It is discarded, because process 1 has no handler for it.
     NotCaught,
 }
 
-/// What a process makes of a signal.
+/// Returns what happens to a signal that is sent to a process.
 fn fate_of(pid: Pid, signals: &Signals, sig: Sig) -> Fate {
     match signals.action(sig).handler {
         Handler::At(_) => Fate::Kept,
@@ -30,7 +32,7 @@ fn fate_of(pid: Pid, signals: &Signals, sig: Sig) -> Fate {
     }
 }
 
-/// How many real-time signals are queued, and which is the last.
+/// Returns the number of queued real-time signals, and the last one.
 fn queue_of(signals: &Signals) -> (usize, Option<Sig>) {
     let mut last = None;
     for place in 0..MOST_QUEUED {
@@ -42,24 +44,24 @@ fn queue_of(signals: &Signals) -> (usize, Option<Sig>) {
     (MOST_QUEUED, last)
 }
 
-/// What is compared of a process before and after an event.
+/// The state of a process that is compared before and after an event.
 #[derive(Clone, Copy)]
 pub struct Row {
     pub snapshot: Snapshot,
     pub pending: SigSet,
-    /// How many real-time signals are queued, and which is the last.
+    /// The number of queued real-time signals, and the last one.
     pub queued: usize,
     pub last_queued: Option<Sig>,
     pub can_act: bool,
-    /// What it makes of the signal that the event may have sent.
+    /// What happens to the signal that the event may have sent.
     pub fate: Fate,
-    /// Whether it gets a notice of a child that ends, and of one that is stopped or continued.
+    /// Whether it is sent SIGCHLD if a child terminates, and if a child stops or continues.
     pub hears_ends: bool,
     pub hears_changes: bool,
 }
 
 impl Row {
-    /// What is compared of a process, after an event that sent this, or before one.
+    /// Returns the row of a process. `sent` is the signal that the last event sent, or `None` before an event.
     pub fn new(snapshot: Snapshot, own: &OwnPart, can_act: bool, sent: Option<&Sent>) -> Row {
         let signals = &own.signals;
         let (queued, last_queued): (usize, Option<Sig>) = queue_of(signals);
@@ -76,7 +78,7 @@ impl Row {
         }
     }
 
-    /// Whether the event made a signal pending, or queued it; of real-time signals the last one.
+    /// Returns true if the event made a standard signal pending, or queued a real-time signal as the last one.
     fn has_new(&self, old: &Row, sig: Sig) -> bool {
         if sig.is_realtime() {
             self.queued > old.queued && self.last_queued == Some(sig)
@@ -86,26 +88,26 @@ impl Row {
     }
 }
 
-/// Whom an event sends a signal.
+/// The targets of a signal.
 #[derive(Clone, Copy)]
 pub enum Whom {
-    /// Those that a process with these fields names, if it may signal them.
+    /// The processes that a caller names, except those that it must not signal.
     Named(Snapshot, Target),
     Group(Pid),
     /// The leader of a session whose terminal hangs up.
     Leader(Pid),
-    /// Those whose alarm rings, as so many ticks have passed.
+    /// The processes whose alarms ring after this number of ticks.
     Ringing(u64),
 }
 
-/// A signal that an event sends, and whom.
+/// A signal that an event sends, and its targets.
 #[derive(Clone, Copy)]
 pub struct Sent {
     pub sig: Sig,
     pub whom: Whom,
 }
 
-/// Whether a caller names a process.
+/// Returns true if the target that a caller names includes a process.
 fn is_named(caller: &Snapshot, target: &Target, snapshot: &Snapshot) -> bool {
     match *target {
         Target::Process(pid) => snapshot.pid == pid,
@@ -117,7 +119,7 @@ fn is_named(caller: &Snapshot, target: &Target, snapshot: &Snapshot) -> bool {
 }
 
 impl Sent {
-    /// The one process that is named; number 0 where it may be several.
+    /// Returns the target if it is given as one process, or 0 if there may be several.
     pub fn target(&self) -> Pid {
         match &self.whom {
             Whom::Named(_, Target::Process(pid)) | Whom::Leader(pid) => *pid,
@@ -125,7 +127,7 @@ impl Sent {
         }
     }
 
-    /// Whether the signal is sent to a process, which was as this row says.
+    /// Returns true if the signal is sent to a process. `old` is its row before the event.
     pub fn is_to(&self, old: &Row) -> bool {
         let snapshot = &old.snapshot;
         match &self.whom {
@@ -143,7 +145,7 @@ impl Sent {
     }
 }
 
-/// Whether a kill or a sigqueue has succeeded.
+/// Returns true if the entries have a successful `kill` or `sigqueue`.
 pub fn has_sent(entries: &[Entry]) -> bool {
     entries.iter().any(|entry| {
         matches!(
@@ -157,7 +159,7 @@ pub fn has_sent(entries: &[Entry]) -> bool {
     })
 }
 
-/// Whether a process has taken a signal.
+/// Returns true if the entries show that a process acted on a signal.
 pub fn is_taken(entries: &[Entry], taker: Pid, signal: Sig) -> bool {
     entries.iter().any(|entry| match *entry {
         Entry::Handled { pid, sig, .. }
@@ -167,8 +169,8 @@ pub fn is_taken(entries: &[Entry], taker: Pid, signal: Sig) -> bool {
     })
 }
 
-/// What is told behind a signal of a process, which hears of a child, and which was sent the signal; nothing where the
-/// signal isn't told.
+/// Returns what is written after a signal that was sent to a process, or `None` if the signal is not written. `hears`:
+/// a change of a child generated SIGCHLD for the process. `is_sent`: the event sent it this signal.
 pub fn fate_words(
     old: &Row,
     new: &Row,
@@ -180,14 +182,14 @@ pub fn fate_words(
         return Some("");
     }
     if hears && sig == Sig::CHLD {
-        return Some(", pending already");
+        return Some(", already pending");
     }
     let continues = sig == Sig::CONT && matches!(old.snapshot.life, Life::Stopped);
     if !is_sent || continues || matches!(new.snapshot.life, Life::Zombie(_)) {
         return None;
     }
     match new.fate {
-        Fate::Kept => Some(", pending already"),
+        Fate::Kept => Some(", already pending"),
         Fate::Ignored => Some(", which ignores it"),
         Fate::NotCaught => Some(", which doesn't catch it"),
     }

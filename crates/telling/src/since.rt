@@ -1,11 +1,11 @@
-//! Since when each process does what it does.
+//! Since when each process is blocked, stopped or a zombie.
 
 use posix::{Entry, Pid};
 use std::alloc::{AllocError, Global};
 use std::collections::BTreeMap;
 
-/// The events at which a process began to wait in its call, was stopped, by the signal with which number, and ended; 0
-/// for none.
+/// The events at which a process blocked in its call, stopped and terminated, and the number of the signal that stopped
+/// it. 0 means none.
 #[derive(Clone, Copy, Default)]
 pub struct Times {
     pub wait: u64,
@@ -14,21 +14,21 @@ pub struct Times {
     pub end: u64,
 }
 
-/// What the events told of each number.
+/// The times of each process ID.
 #[derive(Drop)]
 pub struct Since {
     times: BTreeMap<u32, Times>,
 }
 
 impl Since {
-    /// No events told anything.
+    /// Returns the times before the first event.
     pub fn new(alloc: Global) -> Since {
         Since {
             times: BTreeMap::new(alloc),
         }
     }
 
-    /// When the process with this number did what it does now.
+    /// Returns the times of a process.
     pub fn of(&self, pid: Pid) -> Times {
         self.times.get(&pid.number()).copied().unwrap_or_default()
     }
@@ -43,7 +43,7 @@ impl Since {
         Ok(())
     }
 
-    /// Notes what the entries of an event tell.
+    /// Records the stops and terminations in the entries of an event.
     pub fn note(&mut self, event: u64, entries: &[Entry]) -> Result<(), AllocError> {
         for entry in entries {
             match *entry {
@@ -58,7 +58,7 @@ impl Since {
         Ok(())
     }
 
-    /// Notes that a process waits from an event on.
+    /// Records that a process is blocked since an event.
     pub fn note_wait(&mut self, event: u64, pid: Pid) -> Result<(), AllocError> {
         self.change(pid, |times| times.wait = event)
     }

@@ -1,25 +1,25 @@
-//! What is shown.
+//! What `show` prints of a run.
 
 use posix::Pid;
 use std::alloc::Global;
 use wording::Listing;
 
-/// What is shown, and of what.
+/// The parts of a run that are shown.
 #[derive(Clone, Copy)]
 pub struct View<'l, 't> {
     pub alloc: Global,
     pub listing: &'l Listing<'t>,
-    /// How many events the list has.
+    /// The number of events in the list.
     pub events: u64,
-    /// Whether what an event did is told behind the first line of the trace that it shows; an event without one isn't told
-    /// then.
+    /// If true, the description of an event follows its first trace line, and an event without a trace line is omitted.
     pub traced: bool,
-    /// The processes that are shown, with registers and memory; all, without these, where none is named.
+    /// The processes that are shown, with their registers and memory. If it is empty, all processes are shown, without
+    /// registers and memory.
     pub only: &'t [Pid],
 }
 
 impl View<'_, '_> {
-    /// Whether a process is shown.
+    /// Returns true if a process is shown.
     pub fn has(&self, pid: Pid) -> bool {
         self.only.is_empty() || self.only.contains(&pid)
     }

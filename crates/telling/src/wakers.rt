@@ -1,19 +1,19 @@
-//! By what a process that sleeps would be woken, in words.
+//! The description of what can wake a sleeping process.
 
 use bitflags::Flags;
 use posix::{Asked, Blocked, Life, Pid, Target, WaitCall, WaitidOptions};
 use proctable::{OwnPart, Snapshot};
 use wording::{Arguments, Prose};
 
-/// The terminal of a process.
+/// The controlling terminal of a process.
 #[derive(Clone, Copy)]
 pub struct Terminal {
     pub number: usize,
-    /// Whether another living process has it.
+    /// True if another living process has it.
     pub is_shared: bool,
 }
 
-/// The process group of a wait that is for the children in one, by a caller.
+/// Returns the process group in which a wait selects children, if it selects by group.
 fn group_of(snapshot: &Snapshot, asked: &Asked) -> Option<Pid> {
     match asked.target {
         Target::OwnGroup => Some(snapshot.group),
@@ -22,7 +22,7 @@ fn group_of(snapshot: &Snapshot, asked: &Asked) -> Option<Pid> {
     }
 }
 
-/// Writes the children that a wait is for.
+/// Writes the children that a wait selects.
 fn put_children(text: &mut Prose, snapshot: &Snapshot, asked: &Asked) {
     if let Target::Process(pid) = asked.target {
         return text.push_with("by child ", pid.number());
@@ -33,8 +33,8 @@ fn put_children(text: &mut Prose, snapshot: &Snapshot, asked: &Asked) {
     }
 }
 
-/// Whether something lets a wait go on, and what a child does then, in words. Of a child that is dropped no wait hears, but
-/// the wait for it alone has no child left.
+/// Returns, for each change of a child, whether it can wake the wait, and its description. If `drops`, terminated
+/// children don't become zombies. Then a termination can wake only a wait for that one child, which has no child left.
 fn doings(snapshot: &Snapshot, asked: &Asked, drops: bool) -> [(bool, &'static str); 5] {
     let is_for_one = matches!(asked.target, Target::Process(_));
     let is_for_group = matches!(asked.target, Target::OwnGroup | Target::Group(_));
@@ -47,20 +47,23 @@ fn doings(snapshot: &Snapshot, asked: &Asked, drops: bool) -> [(bool, &'static s
     let continues = asked.options.contains(WaitidOptions::WCONTINUED);
     let gets_orphans = !is_for_one && (snapshot.pid == Pid::INIT || snapshot.is_subreaper);
     let (comes, words) = if stops || continues {
-        (gets_orphans, "is given to it so")
+        (gets_orphans, "is reparented to it after such a change")
     } else {
-        (gets_orphans && ends, "is given to it as a zombie")
+        (gets_orphans && ends, "is reparented to it as a zombie")
     };
     [
-        (ends, "ends"),
+        (ends, "terminates"),
         (stops, "is stopped"),
         (continues, "is continued"),
         (comes, words),
-        (continues && is_for_group, "joins the group so"),
+        (
+            continues && is_for_group,
+            "joins the group after being continued",
+        ),
     ]
 }
 
-/// Writes what a child does that lets a wait go on, where there is such.
+/// Writes the changes of a child that can wake a wait, if there are any.
 fn put_doings(text: &mut Prose, snapshot: &Snapshot, asked: &Asked, drops: bool) {
     let start = text.len();
     for (does, words) in doings(snapshot, asked, drops) {
@@ -79,7 +82,7 @@ fn put_doings(text: &mut Prose, snapshot: &Snapshot, asked: &Asked, drops: bool)
     }
 }
 
-/// Writes what else lets a wait go on: that it is for no child any more, or for others.
+/// Writes what else can wake a wait: it has no child left, or its caller is moved to another process group.
 fn put_losses(text: &mut Prose, snapshot: &Snapshot, asked: &Asked, drops: bool) {
     if let Some(group) = group_of(snapshot, asked) {
         text.push_with("once it has no child left in group ", group.number());
@@ -95,7 +98,8 @@ fn put_losses(text: &mut Prose, snapshot: &Snapshot, asked: &Asked, drops: bool)
     }
 }
 
-/// Writes what lets a wait for children go on. One that is refused doesn't sleep.
+/// Writes what can wake a wait for children, besides signals. Writes nothing for invalid arguments: that wait has
+/// failed.
 fn put_waiting(text: &mut Prose, snapshot: &Snapshot, own: &OwnPart, call: WaitCall) {
     let Some(asked) = Arguments::of(&own.cpu).asked(call) else {
         return;
@@ -105,7 +109,7 @@ fn put_waiting(text: &mut Prose, snapshot: &Snapshot, own: &OwnPart, call: WaitC
     put_losses(text, snapshot, &asked, drops);
 }
 
-/// Writes what lets a read go on.
+/// Writes what can wake a read, besides signals.
 fn put_reading(text: &mut Prose, snapshot: &Snapshot, terminal: Option<Terminal>) {
     let Some(terminal) = terminal else {
         return;
@@ -123,7 +127,7 @@ fn put_reading(text: &mut Prose, snapshot: &Snapshot, terminal: Option<Terminal>
     }
 }
 
-/// Writes by what a process that sleeps would be woken.
+/// Writes what can wake a sleeping process.
 pub fn put_wakers(
     text: &mut Prose,
     snapshot: &Snapshot,
@@ -131,7 +135,7 @@ pub fn put_wakers(
     terminal: Option<Terminal>,
 ) {
     if matches!(snapshot.life, Life::Stopped) {
-        return text.push_str("    goes on by SIGCONT, and ends by SIGKILL\n");
+        return text.push_str("    is continued by SIGCONT, and killed by SIGKILL\n");
     }
     let Some(blocked) = snapshot.blocked else {
         return;

@@ -1,4 +1,4 @@
--- Laws of events that are kept as runs.
+-- Laws of events that are stored as runs.
 use Rattle.std.proofs.Common.{◌≡◌, ℕ, ◌+◌, List, [], ◌∷◌, ◌++◌, length, get_or, ap, sym, ◌∙◌, append_assoc, append-nil, arith, zero, suc}
 use Rattle.std.proofs.Math.ListN.{set}
 use Rattle.std.proofs.lemmas.List.{replicate-append-replicate, get_or_default}
@@ -11,7 +11,7 @@ use Rattle.text.specs.EventLists.{CountedEvent, expanded}
 pub expanded_push : (rs : List CountedEvent) (r : CountedEvent) → expanded (rs ++ r ∷ []) ≡ expanded rs ++ replicate r.count r.event
 expanded_push rs r = grind (arith, common_steps)
 
--- the last run grows by n, and n of its events come at the end
+-- if the last run grows by n, n of its events are added at the end
 last_grow : (rs : List CountedEvent) (i n : ℕ) (d : CountedEvent) → i + 1 ≡ length rs →
     expanded (set rs i (record { event = (get_or rs i d).event; count = (get_or rs i d).count + n })) ≡ expanded rs ++ replicate n (get_or rs i d).event
 last_grow [] i n d h = absurd (omega arith)

@@ -7,20 +7,20 @@ use Rattle.text.specs.Numbers.{byte_in}
 use Rattle.text.specs.EventTexts.{bytes_within}
 use Rattle.text.specs.Reading.{◌>>=◌}
 
--- a byte is written by two digits
+-- a byte is written with two digits
 pub byte_len : (w : List ℕ) (byte : ℕ) → byte_in w ≡ Ok byte → length w ≡ 2
 byte_len [] byte h = cc
 byte_len (a ∷ []) byte h = cc
 byte_len (a ∷ b ∷ []) byte h = refl
 byte_len (a ∷ b ∷ c ∷ w) byte h = cc
 
--- a byte after some, and more after it
+-- bytes, another byte, and more bytes
 joined : (done : List ℕ) (byte : ℕ) (more : Result (List ℕ) Reason) →
     ((more >>= λ bytes. Ok (byte ∷ bytes)) >>= λ bytes. Ok (done ++ bytes)) ≡ (more >>= λ bytes. Ok ((done ++ byte ∷ []) ++ bytes))
 joined done byte (Ok bytes) = ap Ok (sym (append_assoc done (byte ∷ []) bytes))
 joined done byte (Err reason) = refl
 
--- where there is room, a byte is the first of those that its word and the words behind it say
+-- if there is room, the bytes of a word and the words after it begin with the byte of this word
 here : (room : ℕ) (w : List ℕ) (ws : List (List ℕ)) (byte : ℕ) → byte_in w ≡ Ok byte → 0 < room →
     bytes_within room (w ∷ ws) ≡ (bytes_within (room - 1) ws >>= λ bytes. Ok (byte ∷ bytes))
 here room w ws byte h lt =

@@ -7,7 +7,7 @@ use Rattle.text.specs.Lines.{lines_from, all_lines, closed, behind_line}
 abbrev is_feed : ℕ → Bool
 is_feed b = b == 10
 
--- all lines of a text, of whose first line some bytes have come
+-- all lines of a text; `begun` is the part of its first line that was read
 abbrev pub all_from : List ℕ → List ℕ → List (List ℕ)
 all_from begun bs = (lines_from begun bs).whole ++ closed (lines_from begun bs).rest
 
@@ -40,7 +40,7 @@ all_from_first begun [] some = closed_some begun some ∙ ap (λ (l : List ℕ).
 all_from_first begun (b ∷ bs) some =
     by_byte begun b bs (is_feed b) refl (all_from_first (begun ++ b ∷ []) bs (omega (arith, length-append begun (b ∷ []))))
 
--- a text that isn't empty is its first line and the lines behind it
+-- the lines of a text that is not empty are its first line and the lines after it
 pub lines_by_first : (text : List ℕ) → 0 < length text → all_lines text ≡ before_first is_feed text ∷ all_lines (behind_line text)
 lines_by_first [] some = absurd (omega arith)
 lines_by_first (b ∷ bs) some = by_byte [] b bs (is_feed b) refl (all_from_first (b ∷ []) bs (omega arith))

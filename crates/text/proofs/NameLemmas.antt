@@ -28,7 +28,7 @@ name_byte b h = (grind (arith, nat_tests, cases_Bool, h), grind (arith, nat_test
 letter_byte : (b : ℕ) → is_letter b ≡ true → is_name_byte b ≡ true
 letter_byte b h = rw h refl
 
--- all bytes of a name are such
+-- all bytes of a name are letters, digits or `_`
 name_bytes : (n : List ℕ) → is_name n ≡ true → list_all is_name_byte n ≡ true
 name_bytes [] h = absurd (cc)
 name_bytes (b ∷ bs) h = by (is_letter b) (nat_le (length bs) 15) (list_all is_name_byte bs) (letter_byte b) h
@@ -39,7 +39,7 @@ name_bytes (b ∷ bs) h = by (is_letter b) (nat_le (length bs) 15) (list_all is_
     by true false r byte h = absurd (cc)
     by false s r byte h = absurd (cc)
 
--- names with one number are the same
+-- names with the same number are equal
 key_same : (a b : List ℕ) → list_all is_name_byte a ≡ true → list_all is_name_byte b ≡ true → key_of a ≡ key_of b → a ≡ b
 key_same [] [] h k e = refl
 key_same [] (y ∷ ys) h k e =
@@ -57,7 +57,7 @@ key_same (x ∷ xs) (y ∷ ys) h k e =
     let rest : key_of xs ≡ key_of ys = omega (arith, e, first) in
     ap (λ b. b ∷ xs) first ∙ ap (λ bs. y ∷ bs) (key_same xs ys hs.1 ks.1 rest)
 
--- a number finds no other
+-- a number finds no other name
 at_other : (n q : ℕ) → n ≢ q → is_at (nat_cmp n) q ≡ false
 at_other n q apart = by (nat_lt n q) (n == q) (ne_eqb n q apart)
   where
@@ -66,7 +66,7 @@ at_other n q apart = by (nat_lt n q) (n == q) (ne_eqb n q apart)
     by false false h = refl
     by false true h = h
 
--- ---- one name more
+-- ---- one more name
 
 defined_more : (n : List ℕ) (ds : List Definition) (d : Definition) → defined n (ds ++ d ∷ []) ≡ option_or (defined n ds) (cond (bytes_eq d.name n) (Some d.number) None)
 unfolding defined
@@ -77,17 +77,17 @@ defined_more n ds d = ap (option_map (λ (x : Definition). x.number)) (find-appe
     by None false = refl
     by (Some x) b = refl
 
--- a copy is there where what is copied is
+-- a copy exists if the original exists
 pub copied_some : (x : Option (Bor ℕ)) → is_some (option_copied x) ≡ is_some x
 copied_some None = refl
 copied_some (Some b) = refl
 
--- a number stands for what it stood for, where its name is another one
+-- the number of a name stays if another name is added
 none_more : (x : Option ℕ) → x ≡ option_or x None
 none_more None = refl
 none_more (Some k) = refl
 
--- a name that stood for a number goes on to stand for it
+-- a name that has a number keeps it
 pub stood : (name n : List ℕ) (number : ℕ) (f : ℕ → Option ℕ) → is_some (f (key_of name)) ≡ true → f (key_of n) ≡ option_or (f (key_of n)) (cond (bytes_eq name n) (Some number) None)
 stood name n number f found = by (bytes_eq name n) (bytes_eq-Decides name n)
   where
@@ -99,7 +99,7 @@ stood name n number f found = by (bytes_eq name n) (bytes_eq-Decides name n)
     by true d = some_more (f (key_of n)) (Some number) (ap (λ l. is_some (f (key_of l))) (sym (d.0 refl)) ∙ found)
     by false d = none_more (f (key_of n))
 
--- a name that stood for none stands for one
+-- a name that has no number gets one
 pub stands : (name n : List ℕ) (key number : ℕ) (f f' : ℕ → Option ℕ) → is_name name ≡ true → is_name n ≡ true → key ≡ key_of name → f key ≡ None → f' key ≡ Some number
     → ((q : ℕ) → is_at (nat_cmp key) q ≡ false → f' q ≡ f q) → f' (key_of n) ≡ option_or (f (key_of n)) (cond (bytes_eq name n) (Some number) None)
 stands name n key number f f' is h key_is none here new = by (bytes_eq name n) (bytes_eq-Decides name n)
@@ -114,6 +114,6 @@ stands name n key number f f' is h key_is none here new = by (bytes_eq name n) (
         ap f' (sym same) ∙ here ∙ ap (λ x. option_or x (Some number)) (sym was)
     by false d = new (key_of n) (at_other key (key_of n) (apart d.1)) ∙ none_more (f (key_of n))
 
--- what a name stands for with one definition more
+-- the number of a name after one more definition
 pub defined_with : (n : List ℕ) (ds : List Definition) (d : Definition) (was : Option ℕ) → was ≡ defined n ds → option_or was (cond (bytes_eq d.name n) (Some d.number) None) ≡ defined n (ds ++ d ∷ [])
 defined_with n ds d was e = ap (λ x. option_or x (cond (bytes_eq d.name n) (Some d.number) None)) e ∙ sym (defined_more n ds d)

@@ -21,7 +21,7 @@ use Rattle.text.specs.WorldTexts.{Draft, empty_outline, empty_draft, world_line,
 use Rattle.text.specs.Numbers.{ranged}
 use Rattle.text.specs.EventTexts.{event_text, counted, keys, HasRead}
 
--- opens every definition of a text
+-- unfolds every definition of a text
 unfoldable everything : Unit {0}
 unfolding defined operation_named two_registers target operands completed program_of world_text world_of header setting program_line label_line instruction_line inner_line pidmax_line consoles_line outer_line line_at event_text counted keys
 everything = tt
@@ -93,7 +93,7 @@ row_restarted_wait : world_text (codes "pidmax 40\nconsoles 1\nprogram init\nset
 unfolding everything
 row_restarted_wait = refl
 
--- names of programs are used before they are defined; labels are those of their program
+-- names of programs are used before they are defined; labels belong to their program
 row_ids_and_later_programs : world_text (codes "pidmax 2\nconsoles 0\nprogram a setuid 0 setgid 2147483647\nset r1, $c\nend\nprogram b setgid 7\nx:\nend\nprogram c setuid 1\nset r1, $a\nx:\njmp x\nend\n") ≡
     worlds 2 0 (program (Some 0) (Some 2147483647) (Set 1 (pos 2) ∷ []) ∷ program None (Some 7) [] ∷ program (Some 1) None (Set 1 (pos 0) ∷ Jump 17 ∷ []) ∷ [])
 unfolding everything
@@ -110,7 +110,7 @@ row_unknown_label : world_text (codes "pidmax 40\nconsoles 1\nprogram init\njmp 
 unfolding everything
 row_unknown_label = refl
 
--- before the end that is missing
+-- an unknown name is reported before the missing end
 row_label_unknown : world_text (codes "pidmax 40\nconsoles 1\nprogram init\njmp away\n") ≡ refused 4 NameUnknown
 unfolding everything
 row_label_unknown = refl
@@ -143,7 +143,7 @@ row_too_many_consoles : world_text (codes "pidmax 40\nconsoles 65\nprogram init\
 unfolding everything
 row_too_many_consoles = refl
 
--- the words of a line are judged from left to right
+-- the words of a line are checked from left to right
 row_left_to_right : world_text (codes "pidmax 1 x\n") ≡ refused 1 OutOfRange
 unfolding everything
 row_left_to_right = refl
@@ -192,7 +192,7 @@ row_label_apart : world_text (header_text ++ codes "program a\na :\nend\n") ≡ 
 unfolding everything
 row_label_apart = refl
 
--- the name comes before the word too many
+-- the name is reported before the extra word
 row_label_twice : world_text (header_text ++ codes "program a\na:\na: jmp a\nend\n") ≡ refused 5 NameTwice
 unfolding everything
 row_label_twice = refl
@@ -225,7 +225,7 @@ row_label_of_another_program : world_text (header_text ++ codes "program a\njmp 
 unfolding everything
 row_label_of_another_program = refl
 
--- A line is refused: before it the names that the lines before it define are known.
+-- A line is rejected. In the lines before it, the names that these lines define are known.
 
 row_use_before_a_fault : world_text (header_text ++ codes "program a\njmp x\njmp y\nx:\nfly\ny:\nend\n") ≡ refused 5 NameUnknown
 unfolding everything
@@ -245,7 +245,7 @@ row_label_that_ends_a_text = refl
 
 -- ---- limits
 
--- n programs, each of another name
+-- programs with different names
 abbrev some_programs : List ℕ → List ℕ
 some_programs [] = []
 some_programs (b ∷ bs) = codes "program p" ++ b ∷ codes "\nend\n" ++ some_programs bs
@@ -254,7 +254,7 @@ row_32_programs : world_text (header_text ++ some_programs (codes "abcdefghijklm
 unfolding everything
 row_32_programs = refl
 
--- the 33rd isn't looked at
+-- the 33rd program is not checked
 row_33_programs : world_text (header_text ++ some_programs (codes "abcdefghijklmnopqrstuvwxyz012345") ++ codes "program pa\n") ≡ refused 67 OutOfRange
 unfolding everything
 row_33_programs = refl
@@ -263,13 +263,13 @@ row_33_programs_unknown : world_text (header_text ++ some_programs (codes "abcde
 unfolding everything
 row_33_programs_unknown = refl
 
--- a label may stand behind 1,000 instructions
+-- a label may follow 1,000 instructions
 row_1000_instructions : world_text (header_text ++ codes "program a\njmp x\n" ++ flat_map (λ (n : ℕ). codes "note r1\n") (replicate 999 0) ++ codes "x:\nend\n")
     ≡ world 2 0 (Jump 1016 ∷ replicate 999 (Note 1))
 unfolding everything
 row_1000_instructions = refl
 
--- a program of which so many came
+-- the draft of a program with n instructions
 abbrev with_instructions : ℕ → Draft
 with_instructions n = record empty_draft { section = InProgram; opened = record (empty_outline None None) { code = replicate n (record { line = 4; sketch = Ready (Note 1) }) } }
 
@@ -281,12 +281,12 @@ row_1001_instructions_unknown : world_line 1005 (with_instructions 1000) (codes 
 unfolding everything
 row_1001_instructions_unknown = refl
 
--- a line of 200 bytes is read
+-- a line of 200 bytes is accepted
 row_200_bytes : world_text (header_text ++ codes "program a #" ++ replicate 189 35 ++ codes "\nend\n") ≡ world 2 0 []
 unfolding everything
 row_200_bytes = refl
 
--- one of 201 is too long, whatever its words are
+-- a line of 201 bytes is too long, whatever its words are
 row_201_bytes : world_text (header_text ++ codes "program 9 #" ++ replicate 190 35 ++ codes "\nend\n") ≡ refused 3 LineTooLong
 unfolding everything
 row_201_bytes = refl
@@ -315,7 +315,7 @@ row_word_too_many = refl
 
 -- ---- keys
 
--- `hi` and a line feed, in either case of digits, and the greatest byte
+-- `hi` and a line feed, in either case of digits, and the largest byte
 row_keys : event_text 2 (codes "key 1 68,69\t0a # hi\nstep 1\nkey 2 fF") ≡ Ok (Key 1 104 ∷ Key 1 105 ∷ Key 1 10 ∷ Step ∷ Key 2 255 ∷ [])
 unfolding everything
 row_keys = refl
@@ -325,7 +325,7 @@ row_every_digit : event_text 1 (codes "key 1 00 12 34 56 78 9A BC DE Fa bc de ff
 unfolding everything
 row_every_digit = refl
 
--- a number may have zeros in front
+-- a number may have leading zeros
 row_console_with_zeros : event_text 8 (codes "key 008 41\n") ≡ Ok (Key 8 65 ∷ [])
 unfolding everything
 row_console_with_zeros = refl
@@ -339,7 +339,7 @@ row_66_bytes : event_text 1 (codes "key 1" ++ flat_map (λ (n : ℕ). codes " 61
 unfolding everything
 row_66_bytes = refl
 
--- a word too few
+-- a missing word
 row_key_alone : event_text 1 (codes "key\n") ≡ refused 1 UnknownWord
 unfolding everything
 row_key_alone = refl
@@ -348,7 +348,7 @@ row_key_without_a_byte : event_text 1 (codes "step 1\nkey 1 # 41\n") ≡ refused
 unfolding everything
 row_key_without_a_byte = refl
 
--- no byte
+-- not a byte
 row_one_digit : event_text 1 (codes "key 1 4\n") ≡ refused 1 BadNumber
 unfolding everything
 row_one_digit = refl
@@ -377,7 +377,7 @@ row_bad_last_byte : event_text 1 (codes "key 1 41 42 4\n") ≡ refused 1 BadNumb
 unfolding everything
 row_bad_last_byte = refl
 
--- no console
+-- not a console
 row_console_0 : event_text 1 (codes "key 0 41\n") ≡ refused 1 OutOfRange
 unfolding everything
 row_console_0 = refl
@@ -398,7 +398,7 @@ row_named_console : event_text 1 (codes "key A 41\n") ≡ refused 1 BadNumber
 unfolding everything
 row_named_console = refl
 
--- where the world has none, each number is out of range, and all else no number
+-- if a world has no consoles, every number is out of range, and any other word is a bad number
 no_console : (z : ℤ) → ranged 1 0 (Some z) ≡ Err OutOfRange
 no_console (pos n) = let e : (nat_le 1 n && nat_le n 0) ≡ false = grind (arith, nat_tests) in rw e refl
 no_console (negsuc n) = refl
@@ -419,7 +419,7 @@ row_no_consoles_and_no_byte : event_text 0 (codes "key 1\n") ≡ refused 1 OutOf
 unfolding everything
 row_no_consoles_and_no_byte = refl
 
--- the leftmost faulty word decides
+-- the first faulty word decides
 row_console_before_a_byte : event_text 1 (codes "key 2 4G\n") ≡ refused 1 OutOfRange
 unfolding everything
 row_console_before_a_byte = refl
@@ -428,7 +428,8 @@ row_console_before_no_byte : event_text 1 (codes "key 2\n") ≡ refused 1 OutOfR
 unfolding everything
 row_console_before_no_byte = refl
 
--- A text may be cut anywhere, here within a byte: this is what a reader keeps before the cut, and after the next piece.
+-- A text may be cut anywhere, here within a byte: this is what a reader stores before the cut, and after the next
+-- piece.
 
 row_before_a_cut : HasRead (codes "step 1\nkey 1 6")
     (record { consoles = 1; reading = record { lines = 1; events = Step ∷ []; fault = None }; partial = codes "key 1 6" })
@@ -449,7 +450,8 @@ row_upper_case_key : event_text 1 (codes "Key 1 41\n") ≡ refused 1 UnknownWord
 unfolding everything
 row_upper_case_key = refl
 
--- The byte that is too much is out of range, unless it is no byte. A line behind one that leaves room for so many events:
+-- A byte for which there is no room is out of range, unless it is not a byte. Lines for which there is room for 2
+-- events, or none:
 
 row_last_byte : keys 1 2 (codes "1" ∷ codes "41" ∷ codes "42" ∷ []) ≡ Ok (Key 1 65 ∷ Key 1 66 ∷ [])
 unfolding everything
@@ -471,7 +473,7 @@ row_no_room : keys 1 0 (codes "1" ∷ []) ≡ Err UnknownWord
 unfolding everything
 row_no_room = refl
 
--- a line of 200 bytes is read, one of 201 is too long, a comment and a last line without its line feed, too
+-- A line of 200 bytes is accepted, and a line of 201 is too long, even if it is a comment or lacks its line feed.
 row_long_enough : event_text 1 (replicate 200 35) ≡ Ok []
 unfolding everything
 row_long_enough = refl

@@ -17,13 +17,13 @@ by_test p xs false e =
     let same : length xs ≡ position_or_len p xs = omega (arith, ge, le) in
     rw e same
 
--- the first place, or the end
+-- the first index, or the end
 pub first_or_end : (p : ℕ → Bool) (xs : List ℕ) → unwrap_or (position p xs) (length xs) ≡ position_or_len p xs
 first_or_end p xs = by_test p xs (nat_lt (position_or_len p xs) (length xs)) refl
 
 -- ---- words
 
--- a separator at the front is skipped, and another byte isn't
+-- a separator at the start is skipped, and no other byte is
 skipped : (b : ℕ) (bs : List ℕ) → is_separator b ≡ true → from_word (b ∷ bs) ≡ from_word bs
 skipped b bs e =
     let next : position_or_len (λ b. not (is_separator b)) (b ∷ bs) ≡ suc (position_or_len (λ b. not (is_separator b)) bs) = rw e (omega arith) in
@@ -72,7 +72,7 @@ pub word_has_bytes : (text : List ℕ) → 0 < length (from_word text) → 0 < p
 word_has_bytes [] some = absurd (omega (arith, some))
 word_has_bytes (b ∷ bs) some = has_bytes b bs (is_separator b) refl (word_has_bytes bs) some
 
--- the words of a text are its first one and those behind it, where it has one
+-- the words of a text are its first word and the words after it, if there is a first word
 pub words_by_first : (text : List ℕ) → 0 < length (from_word text) → words text ≡ first_word text ∷ words (behind_word text)
 words_by_first text some =
     let has = word_has_bytes text some in

@@ -1,8 +1,8 @@
--- Events, kept as counted runs.
+-- Events, stored as counted runs.
 use Rattle.std.specs.Prelude.{ℕ, List, replicate, flat_map}
 use Rattle.posix.specs.declared.event.Event.{Event}
 
--- so many times one event
+-- an event, and how many times it occurs
 pub record CountedEvent : Type 0 where
   pub event : Event
   pub count : ℕ
@@ -11,6 +11,6 @@ pub record CountedEvent : Type 0 where
 abbrev pub run_events : CountedEvent → List Event
 run_events r = replicate r.count r.event
 
--- the events that runs stand for
+-- the events of all runs
 abbrev pub expanded : List CountedEvent → List Event
 expanded runs = flat_map run_events runs

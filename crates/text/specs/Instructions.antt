@@ -36,7 +36,7 @@ condition_text Zero = codes "jz"
 condition_text NotZero = codes "jnz"
 condition_text Negative = codes "jlt"
 
--- how an operation is written
+-- the word of an operation
 abbrev pub operation_text : Operation → List ℕ
 operation_text Set = codes "set"
 operation_text Move = codes "mov"
@@ -48,7 +48,7 @@ operation_text (JumpIf condition) = condition_text condition
 operation_text Note = codes "note"
 operation_text Sys = codes "sys"
 
--- for looking an operation up
+-- all operations, in which a word is looked up
 abbrev pub all_operations : List Operation
 all_operations =
     Set ∷ Move ∷ Compute Add ∷ Compute Sub ∷ Compute Mul ∷ Compute Div ∷ Compute Rem ∷ Compute And ∷ Compute Or ∷ Compute Xor
@@ -65,11 +65,11 @@ abbrev pub register : List ℕ → Result ℕ Reason
 register (r ∷ d ∷ []) = if r == 114 && nat_le 48 d && nat_le d 55 then Ok (d - 48) else Err UnknownWord
 register _ = Err UnknownWord
 
--- a name, used so
+-- an instruction with a name to look up
 abbrev pub lacking : Use → List ℕ → Result Sketch Reason
 lacking need w = name w >>= λ n. Ok (Lacks need n)
 
--- the value behind `set rA`: a number, `@` and a label, or `$` and a program
+-- the value after `set rA`: a number, `@` and a label, or `$` and a program
 abbrev pub set_value : ℕ → List ℕ → Result Sketch Reason
 set_value r [] = Err UnknownWord
 set_value r (b ∷ bs) =
@@ -77,7 +77,7 @@ set_value r (b ∷ bs) =
     else if b == 36 then lacking (named_by.SetProgram r) bs
     else (integer (b ∷ bs) >>= λ v. Ok (Ready (instr.Set r v)))
 
--- two registers alone
+-- two registers and no other word
 unfoldable pub two_registers : List (List ℕ) → Result (ℕ × ℕ) Reason
 two_registers ws = do
   a ← first register ws
@@ -88,7 +88,7 @@ two_registers ws = do
 unfoldable pub target : Use → List (List ℕ) → Result Sketch Reason
 target need ws = first (lacking need) ws >>= λ s. no_more s.rest s.value
 
--- the words behind the one that begins an instruction
+-- an instruction, by the words after its first word
 unfoldable pub operands : Operation → List (List ℕ) → Result Sketch Reason
 operands Set ws = do
   a ← first register ws

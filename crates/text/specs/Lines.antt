@@ -1,8 +1,8 @@
--- The lines of a text: each ends in a line feed, which the last may lack.
+-- The lines of a text: a line feed ends each, but the last may lack it.
 use Rattle.std.specs.Prelude.{ℕ, ◌==◌, List, [], ◌∷◌, ◌++◌, if◌then◌else◌, Option, Some, None}
 use Rattle.std.specs.List.{after_first, before_first}
 
--- the lines that are ended, and what follows the last line feed
+-- the complete lines, and what follows the last line feed
 pub record Lines : Type 0 where
   pub whole : List (List ℕ)
   pub rest : List ℕ
@@ -11,7 +11,7 @@ pub record Lines : Type 0 where
 abbrev pub after_line : List ℕ → Lines → Lines
 after_line line ls = record ls { whole = line ∷ ls.whole }
 
--- the lines of a text, of whose first line some bytes have come
+-- the lines of a text; `begun` is the part of its first line that was read
 abbrev pub lines_from : List ℕ → List ℕ → Lines
 lines_from begun [] = record { whole = []; rest = begun }
 lines_from begun (b ∷ bs) = if b == 10 then after_line begun (lines_from [] bs) else lines_from (begun ++ b ∷ []) bs
@@ -20,16 +20,16 @@ lines_from begun (b ∷ bs) = if b == 10 then after_line begun (lines_from [] bs
 abbrev pub lines_of : List ℕ → Lines
 lines_of text = lines_from [] text
 
--- a line or a word that has begun, if any byte of it has come
+-- a line or a word that has begun, if it has any byte
 abbrev pub closed : List ℕ → List (List ℕ)
 closed [] = []
 closed (b ∷ bs) = (b ∷ bs) ∷ []
 
--- Every line, the last also where it lacks its line feed. A final line feed doesn't begin another line.
+-- All lines, including a last line without a line feed. A line feed at the end does not begin another line.
 abbrev pub all_lines : List ℕ → List (List ℕ)
 all_lines text = (lines_of text).whole ++ closed (lines_of text).rest
 
--- the first line; none of the empty text
+-- the first line; `None` if the text is empty
 abbrev pub first_line : List ℕ → Option (List ℕ)
 first_line [] = None
 first_line (b ∷ bs) = Some (before_first (λ b. b == 10) (b ∷ bs))

@@ -29,7 +29,7 @@ is_within low high z = int_le low z && int_le z high
 abbrev pub is_i64 : ℤ → Bool
 is_i64 z = is_within (negsuc 9223372036854775807) (pos 9223372036854775807) z
 
--- a number, if there is one, has to be in its range
+-- a number, which must exist and be in range
 abbrev pub ranged : ℕ → ℕ → Option ℤ → Result ℕ Reason
 ranged low high None = Err BadNumber
 ranged low high (Some z) = if is_within (pos low) (pos high) z then Ok (unsigned_abs z) else Err OutOfRange
@@ -38,7 +38,7 @@ ranged low high (Some z) = if is_within (pos low) (pos high) z then Ok (unsigned
 abbrev pub number_in : ℕ → ℕ → List ℕ → Result ℕ Reason
 number_in low high w = ranged low high (number w)
 
--- likewise for an i64
+-- a number, which must exist and fit into i64
 abbrev pub fitting : Option ℤ → Result ℤ Reason
 fitting None = Err BadNumber
 fitting (Some z) = if is_i64 z then Ok z else Err OutOfRange
@@ -59,6 +59,6 @@ byte_in (h ∷ l ∷ []) = do
   Ok (high * 16 + low)
 byte_in _ = Err BadNumber
 
--- a byte as two of them
+-- a byte as two hexadecimal digits
 abbrev pub two_digits : ℕ → List ℕ
 two_digits byte = digit_glyph true (byte / 16) ∷ digit_glyph true (byte % 16) ∷ []

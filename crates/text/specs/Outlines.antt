@@ -1,4 +1,4 @@
--- Programs as they are written, and what they are when their names are looked up.
+-- Programs before their names are looked up, and afterwards.
 use Rattle.std.specs.Prelude.{ℕ, List, Option, Some, None, Result, Ok, Err, pos}
 use Rattle.posix.specs.declared.instr.Instr.{Instr}
 use Rattle.posix.specs.declared.instr.Instr.TheVariants.{Set, Jump}
@@ -15,28 +15,28 @@ use Rattle.text.specs.declared.sketch.Written.{Written}
 use Rattle.text.specs.Names.{defined}
 use Rattle.text.specs.Reading.{◌>>=◌, each}
 
--- a program as it is written
+-- a program before its names are looked up
 pub record Outline : Type 0 where
   pub setuid : Option ℕ
   pub setgid : Option ℕ
   pub labels : List Definition
   pub code : List Written
 
--- where the name of a use is looked up: a label in its own program
+-- the names among which a use is looked up: for a label, the labels of its own program
 abbrev pub names_for : List Definition → List Definition → Use → List Definition
 names_for programs labels (SetProgram r) = programs
 names_for programs labels (SetLabel r) = labels
 names_for programs labels JumpTo = labels
 names_for programs labels (JumpIf condition r) = labels
 
--- the instruction, where its name stands for n
+-- the instruction whose name has the number n
 abbrev pub with_number : Use → ℕ → Instr
 with_number (SetLabel r) n = Set r (pos n)
 with_number (SetProgram r) n = Set r (pos n)
 with_number JumpTo n = Jump n
 with_number (JumpIf condition r) n = instr.JumpIf condition r n
 
--- on line k
+-- the instruction on line k, by the number of its name, if the name is defined
 abbrev pub named : ℕ → Use → Option ℕ → Result Instr TextFault
 named k need None = Err (record { line = k; reason = NameUnknown })
 named k need (Some n) = Ok (with_number need n)

@@ -11,20 +11,20 @@ is_separator b = (b == 32) || (b == 9) || (b == 13) || (b == 44)
 abbrev pub before_comment : List ℕ → List ℕ
 before_comment line = before_first (λ b. b == 35) line
 
--- the words of the rest of a line, of whose first word some bytes have come
+-- the words of the rest of a line; `begun` is the part of its first word that was read
 abbrev pub words_from : List ℕ → List ℕ → List (List ℕ)
 words_from begun [] = closed begun
 words_from begun (b ∷ bs) = if is_separator b then closed begun ++ words_from [] bs else words_from (begun ++ b ∷ []) bs
 
--- the words of some bytes
+-- the words of a text
 abbrev pub words : List ℕ → List (List ℕ)
 words bs = words_from [] bs
 
--- without the separators at its front
+-- a text without the separators at its start
 abbrev pub from_word : List ℕ → List ℕ
 from_word text = drop (position_or_len (λ b. not (is_separator b)) text) text
 
--- its first word, and what follows that
+-- the first word of a text, and below, what follows that word
 abbrev pub first_word : List ℕ → List ℕ
 first_word text = before_first is_separator (from_word text)
 

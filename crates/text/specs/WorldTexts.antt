@@ -1,4 +1,4 @@
--- World texts: what a line says, and what a text says.
+-- World texts: the meaning of a line, and the meaning of a text.
 use Rattle.std.specs.Prelude.{◌≡◌, ◌⊎◌, ℕ, ◌+◌, ◌-◌, List, [], ◌∷◌, ◌++◌, length, drop, take, codes, nat_le, if◌then◌else◌, Option, Some, None, Result, Ok, Err, bytes_eq}
 use Rattle.posix.specs.Common.{Program, World}
 use Rattle.text.specs.declared.fault.Reason.{Reason}
@@ -16,40 +16,40 @@ use Rattle.text.specs.Instructions.{operation_named, operands}
 use Rattle.text.specs.Outlines.{Outline, program_of}
 use Rattle.text.specs.Reading.{◌>>=◌, Read, first, no_more, known, words_within, unless, each}
 
--- what the lines so far said
+-- the contents of the lines that were read so far
 pub record Draft : Type 0 where
   pub section : Section
   pub pidmax : ℕ
   pub consoles : ℕ
-  pub names : List Definition  -- of the programs that began
-  pub programs : List Outline  -- that ended
-  pub opened : Outline  -- the one that is open
+  pub names : List Definition  -- of the programs that were begun
+  pub programs : List Outline  -- the complete programs
+  pub opened : Outline  -- the open program
 
--- before its first line
+-- a program before its first line
 abbrev pub empty_outline : Option ℕ → Option ℕ → Outline
 empty_outline setuid setgid = record { setuid = setuid; setgid = setgid; labels = []; code = [] }
 
--- the least world, until the header has come
+-- before the first line, with the smallest values until the header is read
 abbrev pub empty_draft : Draft
 empty_draft = record { section = BeforePidmax; pidmax = 2; consoles = 0; names = []; programs = []; opened = empty_outline None None }
 
 -- ---- the header
 
--- the one number behind a word of the header
+-- the only number after the first word of a header line
 unfoldable pub header : ℕ → ℕ → List (List ℕ) → Result ℕ Reason
 header low high ws = first (number_in low high) ws >>= λ n. no_more n.rest n.value
 
--- its first line
+-- the draft after the first line of the header
 abbrev pub with_pidmax : Draft → ℕ → Draft
 with_pidmax d n = record d { section = BeforeConsoles; pidmax = n }
 
--- the second
+-- the draft after the second line of the header
 abbrev pub with_consoles : Draft → ℕ → Draft
 with_consoles d n = record d { section = BetweenPrograms; consoles = n }
 
 -- ---- programs
 
--- `setuid U` or `setgid G`, where it is there
+-- `setuid U` or `setgid G`, which may be absent
 unfoldable pub setting : List ℕ → List (List ℕ) → Result (Read (Option ℕ)) Reason
 setting word [] = Ok (record { value = None; rest = [] })
 setting word (w ∷ ws) =
@@ -64,7 +64,7 @@ open_program d name setuid setgid = record d {
   opened = empty_outline setuid setgid;
 }
 
--- behind `program`, of which a world has at most 32
+-- the words after `program`; a world has at most 32 programs
 unfoldable pub program_line : Draft → List (List ℕ) → Result Draft Reason
 program_line d ws = if nat_le 32 (length d.programs) then Err OutOfRange else (do
   name ← first (new_name d.names) ws
@@ -83,11 +83,11 @@ abbrev pub add_label : Draft → List ℕ → Draft
 add_label d name =
     let p = d.opened in record d { opened = record p { labels = p.labels ++ record { name = name; number = 16 + length p.code } ∷ [] } }
 
--- a label alone
+-- a label, and no other word
 unfoldable pub label_line : Draft → List ℕ → List (List ℕ) → Result Draft Reason
 label_line d w ws = new_name d.opened.labels w >>= λ name. no_more ws (add_label d name)
 
--- on line k
+-- adds an instruction on line k
 abbrev pub add_instruction : ℕ → Draft → Sketch → Draft
 add_instruction k d s = let p = d.opened in record d { opened = record p { code = p.code ++ record { line = k; sketch = s } ∷ [] } }
 
@@ -95,7 +95,7 @@ add_instruction k d s = let p = d.opened in record d { opened = record p { code 
 unfoldable pub instruction_line : ℕ → Draft → Operation → List (List ℕ) → Result Draft Reason
 instruction_line k d o ws = if nat_le 1000 (length d.opened.code) then Err OutOfRange else (operands o ws >>= λ s. Ok (add_instruction k d s))
 
--- what stands before the `:` that ends a word
+-- a word without the `:` at its end, if it has one
 abbrev pub before_colon : List ℕ → Option (List ℕ)
 before_colon w = if bytes_eq (drop (length w - 1) w) (codes ":") then Some (take (length w - 1) w) else None
 
@@ -116,11 +116,11 @@ inner_line k d w ws =
 unfoldable pub pidmax_line : Draft → List ℕ → List (List ℕ) → Result Draft Reason
 pidmax_line d w ws = if bytes_eq w (codes "pidmax") then (header 2 4194304 ws >>= λ n. Ok (with_pidmax d n)) else Err UnknownWord
 
--- the second
+-- the second line with words
 unfoldable pub consoles_line : Draft → List ℕ → List (List ℕ) → Result Draft Reason
 consoles_line d w ws = if bytes_eq w (codes "consoles") then (header 0 64 ws >>= λ n. Ok (with_consoles d n)) else Err UnknownWord
 
--- between programs
+-- a line between programs
 unfoldable pub outer_line : Draft → List ℕ → List (List ℕ) → Result Draft Reason
 outer_line d w ws = if bytes_eq w (codes "program") then program_line d ws else Err UnknownWord
 
@@ -140,7 +140,7 @@ world_words k d (w ∷ ws) = line_at d.section k d w ws
 abbrev pub world_line : ℕ → Draft → List ℕ → Result Draft Reason
 world_line k d line = words_within line >>= world_words k d
 
--- How a function that changes a draft went: after a refusal the draft is as it was.
+-- What a function did that changes a draft. After an error, the draft is unchanged.
 abbrev pub Becomes : {X : Type 0} → Draft → Draft → Result X Reason → Result Draft Reason → Type 0
 Becomes old new (Ok x) meaning = meaning ≡ Ok new
 Becomes old new (Err reason) meaning = (new ≡ old) × ((reason ≡ Memory) ⊎ (meaning ≡ Err reason))
@@ -154,19 +154,19 @@ opened_at InProgram = 1
 
 -- ---- texts
 
--- the programs that began
+-- the programs that were begun
 abbrev pub outlines_at : Section → List Outline → Outline → List Outline
 outlines_at BeforePidmax programs opened = programs
 outlines_at BeforeConsoles programs opened = programs
 outlines_at BetweenPrograms programs opened = programs
 outlines_at InProgram programs opened = programs ++ opened ∷ []
 
--- they with their names looked up
+-- the programs that were begun, with their names looked up
 abbrev pub programs_of : Draft → Result (List Program) TextFault
 programs_of d = each (program_of d.names) (outlines_at d.section d.programs d.opened)
 
--- The lines before a fault made d, and they define the names that they may use: the first of them that uses another is the
--- least faulty line.
+-- The lines before a fault make d, and may only use names that they define. The first of them that uses another name is
+-- the first faulty line.
 unfoldable pub world_of : Draft → Option TextFault → Result World TextFault
 world_of d fault =
     programs_of d >>= λ programs. unless fault (record { pidmax = d.pidmax; consoles = d.consoles; programs = programs })
@@ -187,7 +187,7 @@ fault_at_end InProgram ps k = Some (record { line = k; reason = EndMissing })
 abbrev pub world_at_end : Draft → ℕ → Result World TextFault
 world_at_end d k = world_of d (fault_at_end d.section d.programs k)
 
--- line k is refused, or the rest follows
+-- line k is rejected, or the rest follows
 abbrev pub goes_on : ℕ → Draft → (Draft → Result World TextFault) → Result Draft Reason → Result World TextFault
 goes_on k before rest (Ok d) = rest d
 goes_on k before rest (Err reason) = world_of before (Some (record { line = k; reason = reason }))
@@ -197,6 +197,6 @@ abbrev pub world_from : ℕ → Draft → List (List ℕ) → Result World TextF
 world_from k d [] = world_at_end d (k + 1)
 world_from k d (line ∷ lines) = goes_on (k + 1) d (λ e. world_from (k + 1) e lines) (world_line (k + 1) d line)
 
--- the world that a text stands for, or its least faulty line and the reason
+-- the world that a text describes, or its first faulty line and the reason
 unfoldable pub world_text : List ℕ → Result World TextFault
 world_text text = world_from 0 empty_draft (all_lines text)

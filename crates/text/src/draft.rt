@@ -1,4 +1,4 @@
-//! A world of which some lines have come.
+//! Worlds of which some lines were read.
 
 ghost use Rattle.std.specs.Prelude.{◌≡◌, ◌≤◌, length, true, Ok, Err, Some, IfOk, IfSome, MatchOption, MatchResult};
 ghost use Rattle.std.specs.List.{list_all};
@@ -20,7 +20,7 @@ use std::marker::Model;
 use std::mem;
 use umach::{Program, World};
 
-/// The most programs of a world.
+/// The largest number of programs of a world.
 const MAX_PROGRAMS: usize = 32;
 
 /// What may come next in a world text.
@@ -32,18 +32,18 @@ pub enum Section {
     InProgram,
 }
 
-/// What the lines of a world text so far said.
+/// The contents of the lines of a world text that were read so far.
 #[derive(Drop)]
 pub struct Draft {
     alloc: Global,
     section: Section,
     pidmax: u32,
     consoles: u8,
-    /// The names of the programs that began.
+    /// The names of the programs that were begun.
     names: Definitions,
-    /// The programs that ended.
+    /// The complete programs.
     programs: Vec<Outline>,
-    /// The program that is open.
+    /// The open program.
     opened: Outline,
 }
 
@@ -58,7 +58,7 @@ impl Model for Draft {
     ghost invariant = { λ d. (2 ≤ d.pidmax) × (d.pidmax ≤ 4194304) × (d.consoles ≤ 64) × (length d.programs.items + opened_at d.section ≤ 32) };
 }
 
-/// The one number behind a word of the header, from `low` to `high`.
+/// Returns the number in a line of the header, from `low` to `high`. No other word may follow it.
 #[tactic(auto, unfolding(crate::specs::WorldTexts::header))]
 fn header(low: u32, high: u32, line: &[u8]) -> Result<u32, Reason>
     ensures value { result ≡ header_of low high (words line.now) }
@@ -70,7 +70,7 @@ fn header(low: u32, high: u32, line: &[u8]) -> Result<u32, Reason>
     Ok(number)
 }
 
-/// The number of `setuid U` or `setgid G`, where the line begins with that word, and what follows it.
+/// Returns the number of `setuid U` or `setgid G`, if the line begins with the word `name`, and the rest of the line.
 #[tactic(auto, unfolding(crate::specs::WorldTexts::setting))]
 fn setting<'a>(name: &[u8], line: &'a [u8]) -> Result<(Option<u32>, &'a [u8]), Reason>
     ensures value { MatchResult result (λ f. setting_of name.now (words line.entry.now) ≡ Ok (record { value = f.0; rest = words f.1.now })) (λ reason. setting_of name.now (words line.entry.now) ≡ Err reason) }
@@ -86,7 +86,7 @@ fn setting<'a>(name: &[u8], line: &'a [u8]) -> Result<(Option<u32>, &'a [u8]), R
     }
 }
 
-/// What stands before the `:` that ends a word.
+/// Returns a word without the `:` at its end; `None` if it has none.
 fn before_colon(word: &[u8]) -> Option<&[u8]>
     ensures { MatchOption result (before_colon_of word.now ≡ None) (λ name. before_colon_of word.now ≡ Some name.now) }
 {
@@ -94,7 +94,7 @@ fn before_colon(word: &[u8]) -> Option<&[u8]>
 }
 
 impl Draft {
-    /// Before the first line.
+    /// Returns the draft before the first line.
     pub fn new(alloc: Global) -> Draft
         ensures { result ≡ empty_draft }
     {
@@ -109,8 +109,8 @@ impl Draft {
         }
     }
 
-    /// Takes the next line, the `number`-th. It is refused for its length or its words, or with
-    /// `Memory`; the draft is then unchanged.
+    /// Adds the next line, the `number`-th. Fails, without a change, if its length or a word is rejected, or if there
+    /// is no memory.
     pub fn take_line(&mut self, number: u64, line: &[u8]) -> Result<(), Reason>
         ensures { Becomes self.old self.new result (world_line_of number self.old line.now) }
     {
@@ -120,7 +120,7 @@ impl Draft {
         }
     }
 
-    /// Takes a line of a first word and those of `rest`.
+    /// Adds a line with a first word, and the words of `rest`.
     #[tactic(auto, unfolding(crate::specs::WorldTexts::line_at))]
     fn take_words(&mut self, number: u64, word: &[u8], rest: &[u8]) -> Result<(), Reason>
         ensures { Becomes self.old self.new result (line_at_of self.old.section number self.old word.now (words rest.now)) }
@@ -133,7 +133,7 @@ impl Draft {
         }
     }
 
-    /// The line `pidmax N`, N from 2 to 4,194,304.
+    /// Adds the line `pidmax N`, N from 2 to 4,194,304.
     #[tactic(auto, unfolding(crate::specs::WorldTexts::pidmax_line))]
     fn pidmax_line(&mut self, word: &[u8], rest: &[u8]) -> Result<(), Reason>
         ensures { Becomes self.old self.new result (pidmax_line_of self.old word.now (words rest.now)) }
@@ -146,7 +146,7 @@ impl Draft {
         Ok(())
     }
 
-    /// The line `consoles N`, N from 0 to 64.
+    /// Adds the line `consoles N`, N from 0 to 64.
     #[tactic(auto, unfolding(crate::specs::WorldTexts::consoles_line))]
     fn consoles_line(&mut self, word: &[u8], rest: &[u8]) -> Result<(), Reason>
         ensures { Becomes self.old self.new result (consoles_line_of self.old word.now (words rest.now)) }
@@ -159,7 +159,7 @@ impl Draft {
         Ok(())
     }
 
-    /// A line between programs: `program NAME`, then optionally `setuid U`, then optionally `setgid G`.
+    /// Adds a line between programs: `program NAME`, then optionally `setuid U`, then optionally `setgid G`.
     #[tactic(auto, unfolding(crate::specs::WorldTexts::outer_line, crate::specs::WorldTexts::program_line))]
     fn outer_line(&mut self, word: &[u8], rest: &[u8]) -> Result<(), Reason>
         requires { self.old.section ≡ Section.BetweenPrograms }
@@ -187,7 +187,7 @@ impl Draft {
         Ok(())
     }
 
-    /// A line within a program: an instruction, a label, or `end`.
+    /// Adds a line within a program: an instruction, a label, or `end`.
     #[tactic(auto, unfolding(crate::specs::WorldTexts::inner_line))]
     fn inner_line(&mut self, number: u64, word: &[u8], rest: &[u8]) -> Result<(), Reason>
         requires { self.old.section ≡ Section.InProgram }
@@ -206,7 +206,7 @@ impl Draft {
         }
     }
 
-    /// Ends the program that is open.
+    /// Ends the open program.
     fn close_program(&mut self) -> Result<(), Reason>
         requires { self.old.section ≡ Section.InProgram }
         ensures { Becomes self.old self.new result (Ok (closed self.old)) }
@@ -218,7 +218,7 @@ impl Draft {
         Ok(())
     }
 
-    /// A label: a name for the code address of the next instruction.
+    /// Adds a label: a name for the code address of the next instruction.
     #[tactic(auto, unfolding(crate::specs::WorldTexts::label_line))]
     fn label_line(&mut self, word: &[u8], rest: &[u8]) -> Result<(), Reason>
         ensures { Becomes self.old self.new result (label_line_of self.old word.now (words rest.now)) }
@@ -229,7 +229,7 @@ impl Draft {
         Ok(())
     }
 
-    /// An instruction, of which a program has at most 1,000.
+    /// Adds an instruction. Fails if the program has 1,000 instructions.
     #[tactic(auto, unfolding(crate::specs::WorldTexts::instruction_line))]
     fn instruction_line(
         &mut self,
@@ -247,8 +247,8 @@ impl Draft {
         Ok(())
     }
 
-    /// The programs that began, with their names looked up. The first name that isn't found is
-    /// `NameUnknown` at its line, and `line` is that of a fault `Memory`.
+    /// Returns the programs that were begun, with their names looked up. The first unknown name is `NameUnknown` at its
+    /// line. `line` is the line of a fault `Memory`.
     fn completed(&self, line: u64) -> Result<Vec<Program>, TextFault>
         ensures answer { AnswersAs result (λ v. v.items) (programs_of self.now) }
         ensures len { IfOk result (λ v. length v.items ≡ length (outlines_at self.now.section self.now.programs self.now.opened)) }
@@ -266,9 +266,9 @@ impl Draft {
         }
     }
 
-    /// The fault of a text that has this fault behind the lines so far: it, or the first name of theirs
-    /// that they don't define. `Memory` stays as it is.
-    /// If memory was refused, no name is looked up: a name that the rest of the text defines would be called unknown.
+    /// Returns the fault of a text that has this fault after the lines so far: the fault of the first name that these
+    /// lines use and do not define, or otherwise this fault. After a fault `Memory`, no name is looked up: the rest of
+    /// the text could define it.
     #[tactic(auto, unfolding(crate::specs::WorldTexts::world_of))]
     pub fn refused(&self, fault: TextFault) -> TextFault
         ensures answer { IsFaultOf (world_of self.now (Some fault)) result }
@@ -283,7 +283,7 @@ impl Draft {
         }
     }
 
-    /// The fault of a text that ends here, and has one line fewer than `line`.
+    /// Returns the fault of a text that ends here, if it has one. `line` is the number of its lines plus one.
     fn fault_at_end(&self, line: u64) -> Option<TextFault>
         ensures { result ≡ fault_at_end self.now.section self.now.programs line }
     {
@@ -297,9 +297,9 @@ impl Draft {
         Some(TextFault { line, reason })
     }
 
-    /// The world, where the text ends here. `line` is the number of its lines plus one, at which a
-    /// fault of the end stands: `EndMissing` within the header or a program, `NoProgram` after the
-    /// header. A name that the text doesn't define comes before it.
+    /// Returns the world of a text that ends here. `line` is the number of its lines plus one, the line of a fault at
+    /// the end: `EndMissing` within the header or a program, `NoProgram` after the header. An unknown name is reported
+    /// before such a fault.
     #[tactic(auto, unfolding(crate::specs::WorldTexts::world_of))]
     pub fn finish(&self, line: u64) -> Result<World, TextFault>
         ensures { Answers result (world_at_end self.now line) }

@@ -1,4 +1,4 @@
-//! Events, kept as counted runs.
+//! Events, stored as counted runs.
 
 ghost use Rattle.std.specs.Prelude.{◌≡◌, ◌==◌, ◌+◌, ◌<◌, ◌≤◌, ◌^◌, [], ◌++◌, length, map, replicate, MatchBool, OnOk, OnErr, vec_len, vec_capacity};
 ghost use Rattle.std.specs.List.{AllByRecursion};
@@ -10,10 +10,10 @@ use posix::Event;
 use std::alloc::{AllocError, Global};
 use std::marker::Model;
 
-/// What a count is kept in units of, and their rest.
+/// The unit of a count. A run stores how many units its count has, and the rest.
 const UNIT: u64 = 1 << 32;
 
-/// So many times one event, fewer than 2^40. It takes eight bytes, as a text can have a run for each key.
+/// A number of equal events, fewer than 2^40. It takes eight bytes, because a text can have a run for each key.
 #[derive(Clone, Copy, PartialEq, Eq)]
 pub struct EventRun {
     event: Event,
@@ -36,7 +36,7 @@ impl Model for EventRun {
 }
 
 impl EventRun {
-    /// So many times one event.
+    /// Returns a run of `count` equal events.
     pub fn new(event: Event, count: u64) -> EventRun
         requires { count < 2 ^ 40 }
         ensures { result ≡ record { event = event; count = count } }
@@ -48,14 +48,14 @@ impl EventRun {
         }
     }
 
-    /// The event.
+    /// Returns the event.
     pub fn event(self) -> Event
         ensures { result ≡ self.event }
     {
         self.event
     }
 
-    /// How often.
+    /// Returns the number of events.
     pub fn count(self) -> u64
         ensures { result ≡ self.count }
     {
@@ -63,8 +63,8 @@ impl EventRun {
     }
 }
 
-/// A list of fewer than 2^40 events. It takes memory for each run of equal events, whatever their number. It keeps that
-/// each key brings a byte.
+/// A list of fewer than 2^40 events, each in range (`IsEvent`). It takes memory for each run of equal events, whatever
+/// their number.
 #[derive(Drop)]
 pub struct EventList {
     runs: Vec<EventRun>,
@@ -85,8 +85,8 @@ impl Model for EventList {
     ghost invariant = { λ l. (l.len ≡ length (expanded l.runs.items)) × AllByRecursion IsEvent (expanded l.runs.items) };
 }
 
-/// Adds one event so many times to the last run, where that is of the same event. The answer is whether
-/// it is; else the runs are unchanged.
+/// Adds `count` equal events to the last run, and returns true. If the last run is of another event, or there is none,
+/// returns false, and the runs are unchanged.
 fn grow_last(runs: &mut Vec<EventRun>, event: Event, count: u64) -> bool
     requires { length (expanded runs.old.items) + count < 2 ^ 40 }
     ensures items { MatchBool result (expanded runs.new.items ≡ expanded runs.old.items ++ replicate count event) (runs.new.items ≡ runs.old.items) }
@@ -101,8 +101,8 @@ fn grow_last(runs: &mut Vec<EventRun>, event: Event, count: u64) -> bool
     false
 }
 
-/// Adds one event so many times: to the last run, where that is of the same event. Without memory the
-/// runs are unchanged.
+/// Adds `count` equal events: to the last run, if it is of the same event. If there is no memory, the runs are
+/// unchanged.
 #[tactic(auto, using(crate::proofs::EventLemmas::expanded_rules))]
 fn push_run(runs: &mut Vec<EventRun>, event: Event, count: u64) -> Result<(), AllocError>
     requires { length (expanded runs.old.items) + count < 2 ^ 40 }
@@ -115,7 +115,7 @@ fn push_run(runs: &mut Vec<EventRun>, event: Event, count: u64) -> Result<(), Al
     Ok(())
 }
 
-/// Adds a key on a console for each byte, where there is room for a run each.
+/// Adds a key on a console for each byte. There must be room for a run for each.
 #[tactic(auto, using(crate::proofs::EventLemmas::expanded_rules))]
 fn push_key_runs(runs: &mut Vec<EventRun>, console: u8, bytes: &[u8])
     requires room { vec_len runs.old + length bytes.now ≤ vec_capacity runs.old }
@@ -136,7 +136,7 @@ fn push_key_runs(runs: &mut Vec<EventRun>, console: u8, bytes: &[u8])
 }
 
 impl EventList {
-    /// No events.
+    /// Returns the empty list.
     pub fn new(alloc: Global) -> EventList
         ensures { result ≡ [] }
     {
@@ -146,21 +146,21 @@ impl EventList {
         }
     }
 
-    /// How many events they are.
+    /// Returns the number of events.
     pub fn len(&self) -> u64
         ensures { result ≡ length self.now }
     {
         self.len
     }
 
-    /// Whether there is no event.
+    /// Returns true if there are no events.
     pub fn is_empty(&self) -> bool
         ensures { result ≡ (length self.now == 0) }
     {
         self.len == 0
     }
 
-    /// Adds one event so many times. Without memory the list is unchanged.
+    /// Adds `count` equal events. If there is no memory, the list is unchanged.
     pub fn push(&mut self, event: Event, count: u64) -> Result<(), AllocError>
         requires { length self.old + count < 2 ^ 40 }
         ensures ok { OnOk result (self.new ≡ self.old ++ replicate count event) }
@@ -172,7 +172,7 @@ impl EventList {
         Ok(())
     }
 
-    /// Adds a key on a console for each byte. Without memory the list is unchanged.
+    /// Adds a key on a console for each byte. If there is no memory, the list is unchanged.
     pub fn push_keys(&mut self, console: u8, bytes: &[u8]) -> Result<(), AllocError>
         requires { length self.old + length bytes.now < 2 ^ 40 }
         ensures ok { OnOk result (self.new ≡ self.old ++ map (Key console) bytes.now) }
@@ -184,14 +184,14 @@ impl EventList {
         Ok(())
     }
 
-    /// Nothing is done. That each key brings a byte is then known of the events, as their types say.
+    /// Does nothing. Its contract lets a proof use that each event is in range, as the type of an event ensures.
     pub fn range_holds(&self)
         ensures { AllByRecursion IsEvent self.now }
     {
         let _ = &self.runs;
     }
 
-    /// The events as counted runs, in their order.
+    /// Returns the events as counted runs, in their order.
     pub fn runs(&self) -> &[EventRun]
         ensures { expanded result.now ≡ self.now }
     {

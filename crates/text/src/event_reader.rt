@@ -1,4 +1,4 @@
-//! Event texts, read in pieces.
+//! Reads event texts in pieces.
 
 ghost use Rattle.std.specs.Prelude.{◌≡◌, ◌≢◌, ◌-◌, ◌^◌, ◌<◌, ◌≤◌, [], ◌∷◌, ◌++◌, length, List, ℕ, Some, None, Ok, Err, MatchResult, IfOk, IfErr, IfSome, IsOk, IsSome};
 ghost use Rattle.text.specs.Words.{words};
@@ -14,12 +14,11 @@ use posix::Event;
 use std::alloc::Global;
 use std::marker::Model;
 
-/// The most events of a text.
+/// The largest number of events of a text.
 const MAX_EVENTS: u64 = 1_000_000_000_000;
 
-/// Adds the events of `step N` or `tick N`, N from 1 to 1,000,000, where `line` is what stands behind
-/// the first word. More events than a text may have are `OutOfRange`. After an error the list is
-/// unchanged.
+/// Adds the events of `step N` or `tick N`, N from 1 to 1,000,000. `line` is the part after the first word. More events
+/// than a text may have are `OutOfRange`. After an error, the list is unchanged.
 #[tactic(auto, unfolding(crate::specs::EventTexts::counted))]
 fn add_counted(list: &mut EventList, event: Event, line: &[u8]) -> Result<(), Reason>
     requires { length list.old ≤ most_events }
@@ -37,11 +36,11 @@ fn add_counted(list: &mut EventList, event: Event, line: &[u8]) -> Result<(), Re
     Ok(())
 }
 
-/// Room for the bytes that a line says, by two digits each.
+/// Room for the bytes of a line, each in two digits.
 const MAX_KEYS: usize = MAX_LINE_LEN / 2;
 
-/// The bytes that the words of a line say, where there is room for so many events. A word that is no byte
-/// is `BadNumber`, one without room `OutOfRange`.
+/// Returns the bytes in the words of a line, of which there may be at most `room`. A word that is not a byte is
+/// `BadNumber`, and one more byte is `OutOfRange`.
 fn bytes_within(room: u64, line: &[u8]) -> Result<ArrayVec<u8, MAX_KEYS>, Reason>
     requires { length line.now ≤ 200 }
     ensures bytes { MatchResult result (λ bytes. bytes_within_of room (words line.now) ≡ Ok bytes.items) (λ reason. bytes_within_of room (words line.now) ≡ Err reason) }
@@ -60,12 +59,13 @@ fn bytes_within(room: u64, line: &[u8]) -> Result<ArrayVec<u8, MAX_KEYS>, Reason
     Ok(bytes)
 }
 
-/// Adds the events of `key C B ..`, C from 1 to the number of consoles, where `line` is what stands
-/// behind the first word: a key for each of one or more bytes B. A word too few is `UnknownWord`; a C that
-/// is no number and a B that is no byte is `BadNumber`; another C, and a B that is one event more than a
-/// text may have, is `OutOfRange`. After an error the list is unchanged.
-/// All bytes are gathered, and room is made for all, before the first becomes an event. So a line is read whole or not
-/// at all, also if memory is refused.
+/// Adds the events of `key C B ..`, C from 1 to the number of consoles: a key for each of one or more bytes B. `line`
+/// is the part after the first word. A missing word is `UnknownWord`. A C that is not a number, or a B that is not a
+/// byte, is `BadNumber`. A C out of range, or a B that is one event more than a text may have, is `OutOfRange`. After
+/// an error, the list is unchanged.
+///
+/// All bytes are collected, and room is reserved for all, before the first becomes an event. So a line is read whole or
+/// not at all, even if there is no memory.
 #[tactic(auto, unfolding(crate::specs::EventTexts::keys))]
 fn add_keys(list: &mut EventList, consoles: u8, line: &[u8]) -> Result<(), Reason>
     requires events { length list.old ≤ most_events }
@@ -84,8 +84,8 @@ fn add_keys(list: &mut EventList, consoles: u8, line: &[u8]) -> Result<(), Reaso
     Ok(())
 }
 
-/// Adds the event of `hangup C`, C from 1 to the number of consoles, where `line` is what stands behind the first
-/// word. A C that is one event more than a text may have is `OutOfRange`. After an error the list is unchanged.
+/// Adds the event of `hangup C`, C from 1 to the number of consoles. `line` is the part after the first word. If this
+/// is one event more than a text may have, C is `OutOfRange`. After an error, the list is unchanged.
 #[tactic(auto, unfolding(crate::specs::EventTexts::hangup))]
 fn add_hangup(list: &mut EventList, consoles: u8, line: &[u8]) -> Result<(), Reason>
     requires { length list.old ≤ most_events }
@@ -103,8 +103,8 @@ fn add_hangup(list: &mut EventList, consoles: u8, line: &[u8]) -> Result<(), Rea
     Ok(())
 }
 
-/// Adds the events of a line in a world of so many consoles. After an error the list is unchanged. A line that
-/// stands for no events takes no memory, so it has no error.
+/// Adds the events of a line in a world with this number of consoles. After an error, the list is unchanged. A line
+/// without events takes no memory, so it never fails.
 fn add_line(list: &mut EventList, consoles: u8, line: &[u8]) -> Result<(), Reason>
     requires { length list.old ≤ most_events }
     ensures adds { Adds list.old list.new result (event_line_of consoles (most_events - length list.old) line.now) }
@@ -127,18 +127,18 @@ fn add_line(list: &mut EventList, consoles: u8, line: &[u8]) -> Result<(), Reaso
     }
 }
 
-/// Reads an event text that comes in pieces, however it is cut.
+/// A reader of an event text that arrives in pieces, no matter how it is cut.
 ///
-/// A line is `step N` or `tick N`, N from 1 to 1,000,000: so many events; or `key C B ..`, C from 1 to the
-/// number of consoles, with one or more bytes B of two hexadecimal digits each: a key for each byte; or
-/// `hangup C`, with such a C. A text has at most 1,000,000,000,000 events.
+/// A line is `step N` or `tick N`, N from 1 to 1,000,000: N events; or `key C B ..`, C from 1 to the number of
+/// consoles, with one or more bytes B of two hexadecimal digits each: a key for each byte; or `hangup C`, with such a
+/// C. A text has at most 1,000,000,000,000 events.
 #[derive(Drop)]
 pub struct EventReader {
     consoles: u8,
     events: EventList,
-    /// How many lines ended.
+    /// The number of complete lines.
     lines: u64,
-    /// The line that hasn't ended, up to one byte above the limit.
+    /// The incomplete line, up to one byte above the limit.
     partial: ArrayVec<u8, 201>,
     fault: Option<TextFault>,
 }
@@ -155,7 +155,7 @@ impl Model for EventReader {
 }
 
 impl EventReader {
-    /// Before the first piece of a text for a world of so many consoles.
+    /// Returns the reader before the first piece of a text, for a world with this number of consoles.
     pub fn new(alloc: Global, consoles: u8) -> EventReader
         ensures read { HasRead [] result }
         ensures consoles { result.consoles ≡ consoles }
@@ -170,15 +170,15 @@ impl EventReader {
         }
     }
 
-    /// The number of consoles of the world that the text is for.
+    /// Returns the number of consoles of the world that the text is for.
     pub fn consoles(&self) -> u8
         ensures { result ≡ self.now.consoles }
     {
         self.consoles
     }
 
-    /// Judges the line that has come. One that stands for no events has no fault, while the lines are fewer than
-    /// 64 bits count.
+    /// Ends the incomplete line, and checks it. A line without events has no fault, unless there are more lines than 64
+    /// bits can count.
     fn end_line(&mut self)
         requires { self.old.reading.fault ≡ None }
         ensures ends { EndsLine self.old self.new }
@@ -201,7 +201,7 @@ impl EventReader {
         }
     }
 
-    /// Takes one byte of the text.
+    /// Reads one byte of the text.
     fn feed_byte(&mut self, byte: u8)
         ensures read { (text : List ℕ) → HasRead text self.old → HasRead (text ++ byte ∷ []) self.new }
         ensures consoles { self.new.consoles ≡ self.old.consoles }
@@ -220,11 +220,10 @@ impl EventReader {
         self.partial.push(byte);
     }
 
-    /// Takes the next piece of the text.
+    /// Reads the next piece of the text.
     ///
-    /// The answer is a fault as soon as the end of a faulty line has come, or with reason `Memory` where
-    /// memory is refused or the lines are too many to be counted. From then on the reader stays as it
-    /// is, and each call answers that fault.
+    /// Returns a fault as soon as a faulty line is complete. Its reason is `Memory` if there is no memory, or if there
+    /// are too many lines to count. From then on, the reader does not change, and each call returns the same fault.
     pub fn feed(&mut self, piece: &[u8]) -> Result<(), TextFault>
         ensures read { (text : List ℕ) → HasRead text self.old → HasRead (text ++ piece.now) self.new }
         ensures fault { MatchResult result (λ _. self.new.reading.fault ≡ None) (λ f. self.new.reading.fault ≡ Some f) }
@@ -241,7 +240,7 @@ impl EventReader {
         Ok(())
     }
 
-    /// Judges the last line, where it lacks its line feed.
+    /// Checks the last line, if it lacks its line feed.
     fn end_text(&mut self)
         ensures meets { (text : List ℕ) → HasRead text self.old → Meets self.new.reading (event_text self.old.consoles text) }
         ensures stays { IsSome self.old.reading.fault → self.new ≡ self.old }
@@ -255,8 +254,8 @@ impl EventReader {
         self.end_line();
     }
 
-    /// The events of the text that came, or its least faulty line and the reason: the fault that was
-    /// answered before, where there was one.
+    /// Returns the events of the text, or its first faulty line and the reason. If `feed` returned a fault before, this
+    /// is that fault.
     pub fn finish(mut self) -> Result<EventList, TextFault>
         ensures answer { (text : List ℕ) → HasRead text self → Answers result (event_text self.consoles text) }
         ensures fault { IfSome self.reading.fault (λ f. result ≡ Err f) }
@@ -270,7 +269,8 @@ impl EventReader {
     }
 }
 
-/// The events of a whole text for a world of so many consoles, or its least faulty line and the reason.
+/// Returns the events of a whole text for a world with this number of consoles, or its first faulty line and the
+/// reason.
 pub fn read_events(alloc: Global, consoles: u8, text: &[u8]) -> Result<EventList, TextFault>
     ensures answer { Answers result (event_text consoles text.now) }
     ensures within { IfOk result (λ list. length list ≤ most_events) }

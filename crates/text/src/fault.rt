@@ -1,4 +1,4 @@
-//! Faults of a text.
+//! The faults of texts.
 
 ghost use Rattle.std.specs.Prelude.{◌≡◌};
 ghost use Rattle.text.specs.declared.fault.Reason.TheVariants.{Memory};
@@ -7,14 +7,14 @@ ghost use Rattle.text.specs.Reading.{unless_memory};
 use std::alloc::AllocError;
 use thiserror::Error;
 
-/// Why a line is refused. On one line `LineTooLong` comes first, then the first word from the left that
-/// is refused, and `NameUnknown` last.
+/// Why a line is rejected. If several reasons apply to a line, `LineTooLong` is reported first, then the reason of the
+/// first rejected word, and `NameUnknown` last.
 #[derive(Clone, Copy, Debug, PartialEq, Eq, Error)]
 pub enum Reason {
-    /// A word that its place doesn't allow, a malformed name or register, or a word too few or too many.
+    /// An unexpected or missing word, or a malformed name or register.
     #[error("unknown word")]
     UnknownWord,
-    /// The place of a number or a byte holds none.
+    /// A word that should be a number or a byte, and is not.
     #[error("bad number")]
     BadNumber,
     /// A number outside its range, more programs than a world may have, more instructions than a program
@@ -33,10 +33,10 @@ pub enum Reason {
     /// The text ends before its header is complete, or within a program.
     #[error("end missing")]
     EndMissing,
-    /// The text ends after its header.
+    /// The text ends after its header, without a program.
     #[error("no program")]
     NoProgram,
-    /// A growth was refused for want of memory. It can stand in place of any answer.
+    /// There was no memory. This can replace any other result.
     #[error("memory")]
     Memory,
 }
@@ -49,17 +49,17 @@ impl From<AllocError> for Reason {
     }
 }
 
-/// The least faulty line of a text.
+/// The first faulty line of a text.
 #[derive(Clone, Copy, Debug, PartialEq, Eq, Error)]
 #[error("line {line}: {reason}")]
 pub struct TextFault {
-    /// Its number, from 1. A fault of the end of a text has the number of lines plus one.
+    /// Its number, from 1. A fault at the end of the text has the number of lines plus one.
     pub line: u64,
     pub reason: Reason,
 }
 
 impl TextFault {
-    /// `why`, unless memory was refused, which is no fault of the text: then `memory`.
+    /// Returns `why`; or `memory` if there was no memory, because that is no fault of the text.
     pub fn unless_memory<E: Drop>(self, why: E, memory: E) -> E
         ensures { result ≡ unless_memory self.reason why memory }
     {
@@ -70,7 +70,7 @@ impl TextFault {
     }
 }
 
-/// There was no memory at a line.
+/// Returns the fault `Memory` at a line.
 pub(crate) fn no_memory(line: u64) -> TextFault
     ensures { result ≡ record { line = line; reason = Memory } }
 {

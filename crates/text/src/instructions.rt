@@ -11,7 +11,7 @@ use crate::sketch::{Sketch, Use};
 use crate::words::{first_word, no_more_words};
 use posix::{Call, Condition, Instr, Operator, Register};
 
-/// What the first word of an instruction names.
+/// The operation of an instruction, which its first word names.
 #[derive(Clone, Copy)]
 pub enum Operation {
     Set,
@@ -51,7 +51,7 @@ impl Operation {
         Operation::Sys,
     ];
 
-    /// How it is written: at most 4 bytes.
+    /// Returns the word of the operation, of at most 4 bytes.
     fn text(self) -> &'static [u8]
         ensures text { result.now ≡ operation_text self }
         ensures len { length result.now ≤ 4 }
@@ -79,7 +79,7 @@ impl Operation {
     }
 }
 
-/// The operation that a word names.
+/// Returns the operation that a word names.
 #[tactic(auto, unfolding(crate::specs::Instructions::operation_named))]
 pub fn operation_named(word: &[u8]) -> Option<Operation>
     ensures { result ≡ operation_named_of word.now }
@@ -90,7 +90,7 @@ pub fn operation_named(word: &[u8]) -> Option<Operation>
         .find(|operation| word == operation.text())
 }
 
-/// The register that a word names, `r0` to `r7`.
+/// Returns the register that a word names, `r0` to `r7`. Any other word is `UnknownWord`.
 fn register(word: &[u8]) -> Result<Register, Reason>
     ensures { result ≡ register_of word.now }
 {
@@ -100,14 +100,14 @@ fn register(word: &[u8]) -> Result<Register, Reason>
     }
 }
 
-/// A name, used so; a word that is none is `UnknownWord`.
+/// Returns an instruction with a name to look up. A word that is not a name is `UnknownWord`.
 fn lacking(need: Use, word: &[u8]) -> Result<Sketch, Reason>
     ensures { result ≡ lacking_of need word.now }
 {
     Ok(Sketch::Lacks(need, Name::new(word)?))
 }
 
-/// The `set` of a register to the value that a word says: an i64, `@` and a label, or `$` and a program.
+/// Returns the `set` of a register to the value of a word: an i64, `@` and a label, or `$` and a program.
 fn set_value(register: Register, word: &[u8]) -> Result<Sketch, Reason>
     ensures { result ≡ set_value_of register word.now }
 {
@@ -119,7 +119,7 @@ fn set_value(register: Register, word: &[u8]) -> Result<Sketch, Reason>
     }
 }
 
-/// What stands behind `mov` and the like: `rA, rB`.
+/// Returns the operands of `mov`, of a computation, or of `ld` or `st`: `rA, rB`.
 #[tactic(auto, unfolding(crate::specs::Instructions::two_registers))]
 fn two_registers(line: &[u8]) -> Result<(Register, Register), Reason>
     ensures { result ≡ two_registers_of (words line.now) }
@@ -132,7 +132,7 @@ fn two_registers(line: &[u8]) -> Result<(Register, Register), Reason>
     Ok((first, second))
 }
 
-/// What stands behind `jmp`: a label.
+/// Returns a jump to the label that is the only word of `line`.
 #[tactic(auto, unfolding(crate::specs::Instructions::target))]
 fn target(need: Use, line: &[u8]) -> Result<Sketch, Reason>
     ensures { result ≡ target_of need (words line.now) }
@@ -143,7 +143,7 @@ fn target(need: Use, line: &[u8]) -> Result<Sketch, Reason>
     Ok(sketch)
 }
 
-/// What stands behind `set`: `rA, V`.
+/// Returns the instruction `set` with the operands `rA, V`.
 #[tactic(auto, unfolding(crate::specs::Instructions::operands))]
 fn set_operands(line: &[u8]) -> Result<Sketch, Reason>
     ensures { result ≡ operands_of Operation.Set (words line.now) }
@@ -156,7 +156,7 @@ fn set_operands(line: &[u8]) -> Result<Sketch, Reason>
     Ok(sketch)
 }
 
-/// What stands behind `jz` and the like: `rA, L`.
+/// Returns a conditional jump with the operands `rA, L`.
 #[tactic(auto, unfolding(crate::specs::Instructions::operands))]
 fn jump_operands(condition: Condition, line: &[u8]) -> Result<Sketch, Reason>
     ensures { result ≡ operands_of (Operation.JumpIf condition) (words line.now) }
@@ -165,7 +165,7 @@ fn jump_operands(condition: Condition, line: &[u8]) -> Result<Sketch, Reason>
     target(Use::JumpIf(condition, register(word)?), rest)
 }
 
-/// What stands behind `note`: `rA`.
+/// Returns the instruction `note` with the operand `rA`.
 #[tactic(auto, unfolding(crate::specs::Instructions::operands))]
 fn note_operands(line: &[u8]) -> Result<Sketch, Reason>
     ensures { result ≡ operands_of Operation.Note (words line.now) }
@@ -176,7 +176,7 @@ fn note_operands(line: &[u8]) -> Result<Sketch, Reason>
     Ok(Sketch::Ready(Instr::Note(register)))
 }
 
-/// What stands behind `sys`: the name of a call.
+/// Returns the instruction `sys` with the name of a call.
 #[tactic(auto, unfolding(crate::specs::Instructions::operands))]
 fn sys_operands(line: &[u8]) -> Result<Sketch, Reason>
     ensures { result ≡ operands_of Operation.Sys (words line.now) }
@@ -187,8 +187,8 @@ fn sys_operands(line: &[u8]) -> Result<Sketch, Reason>
     Ok(Sketch::Ready(Instr::Sys(call)))
 }
 
-/// The instruction whose operands are the words of `line`. A word too few or too many, a malformed
-/// register or name and an unknown call are `UnknownWord`; a value is refused as by [`integer`].
+/// Returns the instruction whose operands are the words of `line`. A missing or extra word, a malformed register or
+/// name, and an unknown call are `UnknownWord`. A value is rejected as by [`integer`].
 #[tactic(auto, unfolding(crate::specs::Instructions::operands))]
 pub fn operands(operation: Operation, line: &[u8]) -> Result<Sketch, Reason>
     ensures { result ≡ operands_of operation (words line.now) }

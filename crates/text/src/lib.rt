@@ -1,14 +1,14 @@
-//! The texts of a run, read: world texts and event texts.
+//! Reads the texts of a run: world texts and event texts.
 //!
-//! A text is a list of lines, each ended by a line feed, which the last may lack. Space, tab, carriage
-//! return and comma separate words. `#` and what follows it on a line is skipped, and a line without
-//! words is skipped, but counted. The least faulty line of a text is reported, with a [`Reason`].
+//! A text is a list of lines. A line feed ends each line, but the last may lack it. Space, tab, carriage return and
+//! comma separate words. A `#` and everything after it on the line are skipped. Lines without words are skipped, but
+//! counted. Only the first faulty line of a text is reported, with a [`Reason`].
 //!
-//! `read_world` returns the world that a text stands for if the grammar accepts it; otherwise the first faulty line and
-//! its reason. The reason `Memory`, with any line, may replace either. `EventReader` does the same however a text is
-//! cut into pieces. Its fault is final, and is that of every text that continues so, except `Memory` (`answer`). A line
-//! without events is no fault while 64 bits count the lines (`end_line`). An `EventList` has fewer than 2^40 events,
-//! each in range.
+//! `read_world` returns the world that a text describes if the grammar accepts it; otherwise the first faulty line and
+//! its reason. The reason `Memory`, with any line, may replace either. `EventReader` does the same, no matter how a
+//! text is cut into pieces. Its fault is final, and every text that begins with these pieces has this fault, unless it
+//! is `Memory` (`answer`). A line without events has no fault while 64 bits can count the lines (`end_line`). An
+//! `EventList` has fewer than 2^40 events, each in range.
 #![tactic(auto)]
 
 mod draft;

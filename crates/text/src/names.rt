@@ -1,4 +1,4 @@
-//! Names, and what they stand for.
+//! Names and their numbers.
 
 ghost use Rattle.std.specs.Prelude.{◌≡◌, ◌<◌, ◌≤◌, ◌^◌, ◌++◌, ◌∷◌, [], List, ℕ, true, Some, None, length, bytes_eq, if◌then◌else◌, OnOk, OnErr};
 ghost use Rattle.std.specs.Option.{option_or};
@@ -14,7 +14,7 @@ use std::alloc::{AllocError, Global};
 use std::collections::BTreeMap;
 use std::marker::Model;
 
-/// A letter a to z, and then at most 15 of a to z, 0 to 9 and `_`.
+/// A name: a letter a to z, and then at most 15 of a to z, 0 to 9 and `_`.
 #[derive(Drop)]
 pub struct Name {
     bytes: ArrayVec<u8, 16>,
@@ -31,7 +31,7 @@ impl Model for Name {
     ghost invariant = { λ n. is_name n.bytes.items ≡ true };
 }
 
-/// Some bytes as one number, the first in its lowest eight bits.
+/// Returns bytes as one number, the first byte in its lowest eight bits.
 fn key_in(bytes: &[u8]) -> u128
     requires { length bytes.now ≤ 16 }
     ensures value { result ≡ key_of bytes.now }
@@ -44,7 +44,7 @@ fn key_in(bytes: &[u8]) -> u128
 }
 
 impl Name {
-    /// The name that a word is; another word is `UnknownWord`.
+    /// Returns a word as a name. A word that is not a name is `UnknownWord`.
     pub fn new(word: &[u8]) -> Result<Name, Reason>
         ensures { result ≡ name_of word.now }
     {
@@ -56,9 +56,8 @@ impl Name {
         Ok(Name { bytes })
     }
 
-    /// A number that no other name has.
-    /// In a list, 80,000 labels of one program took ten seconds; a `HashMap` has a known seed, so names could be chosen
-    /// to collide.
+    /// Returns a number that no other name has, the key of a `BTreeMap`. With a list, 80,000 labels of one program took
+    /// ten seconds. With a `HashMap`, which has a known seed, names could be chosen to collide.
     fn key(&self) -> u128
         ensures value { result ≡ key_of self.now }
         ensures name { is_name_of self.now ≡ true }
@@ -74,8 +73,7 @@ pub struct Definition {
     pub number: u16,
 }
 
-/// Has a name stand for a number, unless it stands for one already. At an error there is no memory for it, and nothing
-/// changes.
+/// Maps a name to a number, unless it has a number. Fails, without a change, if there is no memory.
 fn index(numbers: &mut BTreeMap<u128, u16>, name: &Name, number: u16) -> Result<(), AllocError>
     ensures ok { OnOk result ((n : List ℕ) → is_name_of n ≡ true → get nat_cmp numbers.new (key_of n) ≡ option_or (get nat_cmp numbers.old (key_of n)) (if bytes_eq name.now n then Some number else None)) }
     ensures err { OnErr result ((key : ℕ) → get nat_cmp numbers.new key ≡ get nat_cmp numbers.old key) }
@@ -88,12 +86,12 @@ fn index(numbers: &mut BTreeMap<u128, u16>, name: &Name, number: u16) -> Result<
     Ok(())
 }
 
-/// Names with what they stand for, in the order in which they were defined. A name is found in time that grows with the
-/// logarithm of their number, as a text can define as many as it has lines.
+/// Names and their numbers, in the order of their definitions. A search takes logarithmic time, because a text can
+/// define a name on each of its lines.
 #[derive(Drop)]
 pub struct Definitions {
     list: Vec<Definition>,
-    /// What each name of the list stands for.
+    /// The number of each name of the list.
     numbers: BTreeMap<u128, u16>,
 }
 
@@ -113,7 +111,7 @@ impl Model for Definitions {
 }
 
 impl Definitions {
-    /// No names.
+    /// Returns an empty list of names.
     pub fn new(alloc: Global) -> Definitions
         ensures { result ≡ [] }
     {
@@ -123,15 +121,15 @@ impl Definitions {
         }
     }
 
-    /// What a name stands for, where it is defined.
+    /// Returns the number of a name; `None` if the name is not defined.
     pub fn number_of(&self, name: &Name) -> Option<u16>
         ensures { result ≡ defined name.now self.now }
     {
         self.numbers.get(&name.key()).copied()
     }
 
-    /// The name that a word is, which isn't defined yet. A word that is no name is `UnknownWord`, and a name that is
-    /// defined `NameTwice`.
+    /// Returns a word as a name that is not defined yet. A word that is not a name is `UnknownWord`, and a defined name
+    /// is `NameTwice`.
     pub fn new_name(&self, word: &[u8]) -> Result<Name, Reason>
         ensures { result ≡ new_name_of self.now word.now }
     {
@@ -142,8 +140,7 @@ impl Definitions {
         Ok(name)
     }
 
-    /// Defines a name, which goes on to stand for what it stood for before, if anything. At an error there is no memory
-    /// for it, and nothing changes.
+    /// Defines a name. If it is defined already, it keeps its number. Fails, without a change, if there is no memory.
     pub fn push(&mut self, name: Name, number: u16) -> Result<(), AllocError>
         ensures ok { OnOk result (self.new ≡ self.old ++ record { name = name; number = number } ∷ []) }
         ensures err { OnErr result (self.new ≡ self.old) }

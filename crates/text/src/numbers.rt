@@ -1,4 +1,4 @@
-//! Numbers in words: an optional `-` and one or more decimal digits, or two hexadecimal digits for a byte.
+//! Reads numbers: an optional `-` and one or more decimal digits, or two hexadecimal digits for a byte.
 
 ghost use Rattle.std.specs.Prelude.{◌≡◌, ◌≤◌, ◌<◌, IfOk};
 ghost use Rattle.std.specs.List.{list_all};
@@ -8,21 +8,21 @@ ghost use Rattle.text.specs.Numbers.{byte_in as byte_in_of, hex_digit as hex_dig
 use crate::fault::Reason;
 use posix::decimal_value;
 
-/// Whether no byte is another one than a digit.
+/// Returns true if all bytes are decimal digits.
 fn has_digits_alone(text: &[u8]) -> bool
     ensures { result ≡ list_all is_ascii_digit text.now }
 {
     text.iter().all(|b| b.is_ascii_digit())
 }
 
-/// Whether these are digits, one or more.
+/// Returns true if these are one or more decimal digits.
 pub fn are_digits(text: &[u8]) -> bool
     ensures { result ≡ is_numeral text.now }
 {
     !text.is_empty() && has_digits_alone(text)
 }
 
-/// The i64 that a word says. No number is `BadNumber`, and one outside i64 `OutOfRange`.
+/// Returns the number in a word. A word that is not a number is `BadNumber`, and a number outside i64 is `OutOfRange`.
 #[tactic(auto, unfolding(posix::specs::Decimals::decimal_value))]
 pub fn integer(word: &[u8]) -> Result<i64, Reason>
     ensures { result ≡ integer_of word.now }
@@ -40,8 +40,8 @@ pub fn integer(word: &[u8]) -> Result<i64, Reason>
     }
 }
 
-/// The number from `low` to `high` that a word says. No number is `BadNumber`, and another
-/// `OutOfRange`.
+/// Returns the number from `low` to `high` in a word. A word that is not a number is `BadNumber`, and any other number
+/// is `OutOfRange`.
 pub fn number_in(low: u32, high: u32, word: &[u8]) -> Result<u32, Reason>
     ensures value { result ≡ number_in_of low high word.now }
     ensures range { IfOk result (λ n. (low ≤ n) × (n ≤ high)) }
@@ -53,7 +53,7 @@ pub fn number_in(low: u32, high: u32, word: &[u8]) -> Result<u32, Reason>
     u32::try_from(value).map_err(|_| Reason::OutOfRange)
 }
 
-/// The value of a hexadecimal digit in either case. Any other byte is `BadNumber`.
+/// Returns the value of a hexadecimal digit in either case. Any other byte is `BadNumber`.
 fn hex_digit(byte: u8) -> Result<u32, Reason>
     ensures value { result ≡ hex_digit_of byte }
     ensures range { IfOk result (λ n. n < 16) }
@@ -61,7 +61,7 @@ fn hex_digit(byte: u8) -> Result<u32, Reason>
     char::from(byte).to_digit(16).ok_or(Reason::BadNumber)
 }
 
-/// The byte that a word says. A word that isn't two hexadecimal digits is `BadNumber`.
+/// Returns the byte in a word. A word that is not two hexadecimal digits is `BadNumber`.
 pub fn byte_in(word: &[u8]) -> Result<u8, Reason>
     ensures { result ≡ byte_in_of word.now }
 {

@@ -1,4 +1,4 @@
-//! Programs as they are written.
+//! Programs before their names are looked up.
 
 ghost use Rattle.std.specs.Prelude.{◌≡◌, ◌<◌, ◌≤◌, ◌+◌, ◌++◌, ◌∷◌, [], length, true, IfOk, OnOk, OnErr, nat_le};
 ghost use Rattle.std.specs.List.{list_all};
@@ -16,7 +16,7 @@ use std::alloc::{AllocError, Global};
 use std::marker::Model;
 use umach::Program;
 
-/// A program whose names aren't looked up yet, of at most 1,000 instructions.
+/// A program of at most 1,000 instructions, whose names are not looked up yet.
 #[derive(Drop)]
 pub struct Outline {
     setuid: Option<Uid>,
@@ -37,7 +37,7 @@ impl Model for Outline {
 }
 
 impl Outline {
-    /// A program without an instruction, which takes on these ids as it is run.
+    /// Returns a program without instructions. `exec` of the program sets these effective IDs, if there are any.
     pub fn new(alloc: Global, setuid: Option<Uid>, setgid: Option<Gid>) -> Outline
         ensures { result ≡ empty_outline setuid setgid }
     {
@@ -49,23 +49,22 @@ impl Outline {
         }
     }
 
-    /// Whether it has 1,000 instructions, and so takes no more.
+    /// Returns true if it has 1,000 instructions, the maximum.
     pub fn is_full(&self) -> bool
         ensures { result ≡ nat_le 1000 (length self.now.code) }
     {
         self.code.len() >= Program::MAX_LEN
     }
 
-    /// The name that a word is, which no label has yet. A word that is no name is `UnknownWord`, and
-    /// a label's name `NameTwice`.
+    /// Returns a word as a name that no label has yet. A word that is not a name is `UnknownWord`, and the name of a
+    /// label is `NameTwice`.
     pub fn new_label(&self, word: &[u8]) -> Result<Name, Reason>
         ensures { result ≡ new_name_of self.now.labels word.now }
     {
         self.labels.new_name(word)
     }
 
-    /// Adds a label, which stands for the code address of the next instruction. At an error there is no
-    /// memory for it, and the outline is unchanged.
+    /// Adds a label for the code address of the next instruction. Fails, without a change, if there is no memory.
     pub fn add_label(&mut self, name: Name) -> Result<(), AllocError>
         ensures ok { OnOk result (self.new ≡ record self.old { labels = self.old.labels ++ record { name = name; number = 16 + length self.old.code } ∷ [] }) }
         ensures err { OnErr result (self.new ≡ self.old) }
@@ -74,8 +73,7 @@ impl Outline {
         self.labels.push(name, number)
     }
 
-    /// Adds an instruction to fewer than 1,000. At an error there is no memory for it, and the outline is
-    /// unchanged.
+    /// Adds an instruction to a program that has fewer than 1,000. Fails, without a change, if there is no memory.
     pub fn add_instruction(&mut self, line: u64, sketch: Sketch) -> Result<(), AllocError>
         requires { length self.old.code < 1000 }
         ensures ok { OnOk result (self.new ≡ record self.old { code = self.old.code ++ record { line = line; sketch = sketch } ∷ [] }) }
@@ -85,8 +83,8 @@ impl Outline {
         Ok(())
     }
 
-    /// The program, with its names looked up in these of programs and in its own labels. The first name
-    /// that isn't found is `NameUnknown` at its line, and `line` is that of a fault `Memory`.
+    /// Returns the program, with its names looked up in the names of programs and in its own labels. The first unknown
+    /// name is `NameUnknown` at its line. `line` is the line of a fault `Memory`.
     #[tactic(auto, unfolding(crate::specs::Outlines::program_of))]
     pub fn program(
         &self,
@@ -106,7 +104,7 @@ impl Outline {
     }
 }
 
-/// The code address of a program's first instruction.
+/// The code address of the first instruction of a program.
 const FIRST_ADDRESS: u16 = 16;
 
 /// The names that a program may use.
@@ -117,7 +115,7 @@ struct Names<'a> {
 }
 
 impl<'a> Names<'a> {
-    /// Those that a use looks its name up in.
+    /// Returns the names among which a use looks its name up.
     fn of(self, need: Use) -> &'a Definitions
         ensures { result.now ≡ names_for self.entry.programs.now self.entry.labels.now need }
     {
@@ -128,7 +126,7 @@ impl<'a> Names<'a> {
     }
 }
 
-/// An instruction with its name looked up; a name that isn't found is `NameUnknown`.
+/// Returns an instruction with its name looked up. An unknown name is `NameUnknown`.
 #[tactic(auto, unfolding(crate::specs::Outlines::completed))]
 fn complete(names: Names<'_>, written: &Written) -> Result<Instr, TextFault>
     ensures { result ≡ completed names.entry.programs.now names.entry.labels.now written.now }
@@ -145,7 +143,7 @@ fn complete(names: Names<'_>, written: &Written) -> Result<Instr, TextFault>
     }
 }
 
-/// Nothing is done. That the word of a `set` is an i64 is then known of the instruction, as its type says.
+/// Does nothing. Its contract lets a proof use that the word of a `set` is in range, as its type, i64, ensures.
 fn range_holds(instr: &Instr)
     ensures { is_instruction instr.now ≡ true }
 {
@@ -154,7 +152,7 @@ fn range_holds(instr: &Instr)
     }
 }
 
-/// Instructions with their names looked up, as [`Outline::program`] says.
+/// Returns instructions with their names looked up, as [`Outline::program`] says.
 fn instructions(
     alloc: Global,
     names: Names<'_>,
@@ -180,7 +178,7 @@ fn instructions(
     Ok(instructions)
 }
 
-/// These programs with their names looked up, in their order, as [`Outline::program`] says.
+/// Returns programs with their names looked up, in their order, as [`Outline::program`] says.
 pub fn programs(
     alloc: Global,
     names: &Definitions,

@@ -6,7 +6,7 @@ ghost use Rattle.text.specs.Outlines.{with_number};
 use crate::names::Name;
 use posix::{Condition, Instr, Register};
 
-/// An instruction that a name is missing from.
+/// An instruction that lacks the number of a name.
 #[derive(Clone, Copy)]
 pub enum Use {
     /// `set rA, @label`.
@@ -15,12 +15,12 @@ pub enum Use {
     SetProgram(Register),
     /// `jmp label`.
     JumpTo,
-    /// `jz rA, label` and the like.
+    /// `jz rA, label`, or another conditional jump.
     JumpIf(Condition, Register),
 }
 
 impl Use {
-    /// The instruction, where its name stands for a number.
+    /// Returns the instruction with the number of its name.
     pub fn with_number(self, number: u16) -> Instr
         ensures { result ≡ with_number self number }
     {
@@ -34,14 +34,14 @@ impl Use {
     }
 }
 
-/// An instruction, or one whose name is to be looked up.
+/// A complete instruction, or an instruction whose name is to be looked up.
 #[derive(Drop)]
 pub enum Sketch {
     Ready(Instr),
     Lacks(Use, Name),
 }
 
-/// An instruction and its line.
+/// An instruction and the number of its line.
 #[derive(Drop)]
 pub struct Written {
     pub line: u64,

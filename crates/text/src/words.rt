@@ -1,4 +1,4 @@
-//! Lines of a text, and words of a line.
+//! Splits texts into lines, and lines into words.
 
 ghost use Rattle.std.specs.Prelude.{◌≡◌, ◌==◌, ◌+◌, ◌<◌, ◌≤◌, ◌++◌, ℕ, List, [], ◌∷◌, Some, Ok, Err, MatchOption, MatchResult, IfSome, IfOk, length, not};
 ghost use Rattle.std.specs.List.{list_all, position_or_len};
@@ -9,13 +9,13 @@ ghost use Rattle.text.specs.declared.fault.Reason.TheVariants.{UnknownWord};
 
 use crate::fault::Reason;
 
-/// The most bytes of a line without its line feed.
+/// The largest length of a line without its line feed, in bytes.
 pub const MAX_LINE_LEN: usize = 200;
 
-/// The most bytes of a name.
+/// The largest length of a name, in bytes.
 const MAX_NAME_LEN: usize = 16;
 
-/// How many bytes stand before the first that is this one; all of them where none is.
+/// Returns the number of bytes before the first `byte`; the length of the text if there is none.
 fn len_before(byte: u8, text: &[u8]) -> usize
     ensures len { result ≡ position_or_len (λ b. b == byte) text.now }
     ensures within { result ≤ length text.now }
@@ -23,8 +23,8 @@ fn len_before(byte: u8, text: &[u8]) -> usize
     text.iter().position(|b| *b == byte).unwrap_or(text.len())
 }
 
-/// The first line of a text without its line feed, which the last one may lack, and what follows it; none of the empty
-/// text.
+/// Returns the first line of a text without its line feed, and the text after that line feed; `None` if the text is
+/// empty. The last line may lack its line feed.
 pub fn next_line(text: &[u8]) -> Option<(&[u8], &[u8])>
     ensures lines { MatchOption result (all_lines text.now ≡ []) (λ f. all_lines text.now ≡ f.0.now ∷ all_lines f.1.now) }
     ensures first { MatchOption result (text.now ≡ []) (λ f. (first_line text.now ≡ Some f.0.now) × (f.1.now ≡ behind_line text.now)) }
@@ -38,14 +38,14 @@ pub fn next_line(text: &[u8]) -> Option<(&[u8], &[u8])>
     Some((line, more))
 }
 
-/// Whether a byte separates words.
+/// Returns true if a byte separates words: space, tab, carriage return or comma.
 pub fn is_separator(byte: u8) -> bool
     ensures { result ≡ is_separator_of byte }
 {
     byte == b' ' || byte == b'\t' || byte == b'\r' || byte == b','
 }
 
-/// How many separators are at the front.
+/// Returns the number of separators at the start.
 fn separators_len(text: &[u8]) -> usize
     ensures len { result ≡ position_or_len (λ b. not (is_separator_of b)) text.now }
     ensures within { result ≤ length text.now }
@@ -55,7 +55,7 @@ fn separators_len(text: &[u8]) -> usize
         .unwrap_or(text.len())
 }
 
-/// How many bytes the word at the front has.
+/// Returns the length of the word at the start.
 pub fn word_len(text: &[u8]) -> usize
     ensures len { result ≡ position_or_len is_separator_of text.now }
     ensures within { result ≤ length text.now }
@@ -65,7 +65,7 @@ pub fn word_len(text: &[u8]) -> usize
         .unwrap_or(text.len())
 }
 
-/// A line without its comment, and the comment.
+/// Splits a line into the part before its comment, and the comment, which begins with `#`.
 pub fn split_comment(line: &[u8]) -> (&[u8], &[u8])
     ensures front { result.0.now ≡ before_comment line.now }
     ensures whole { line.now ≡ result.0.now ++ result.1.now }
@@ -73,7 +73,7 @@ pub fn split_comment(line: &[u8]) -> (&[u8], &[u8])
     line.split_at(len_before(b'#', line))
 }
 
-/// A line of at most 200 bytes without its comment; a longer one is `LineTooLong`.
+/// Returns a line of at most 200 bytes without its comment. A longer line is `LineTooLong`.
 pub fn words_within(line: &[u8]) -> Result<&[u8], Reason>
     ensures short { IfOk result (λ rest. length rest.now ≤ 200) }
     ensures words { MatchResult result (λ rest. words_within_of line.now ≡ Ok (words rest.now)) (λ reason. words_within_of line.now ≡ Err reason) }
@@ -85,7 +85,7 @@ pub fn words_within(line: &[u8]) -> Result<&[u8], Reason>
     Ok(code)
 }
 
-/// A text without the separators at its front.
+/// Returns a text without the separators at its start.
 pub fn skip_separators(text: &[u8]) -> &[u8]
     ensures rest { result.now ≡ from_word text.now }
     ensures within { length result.now ≤ length text.now }
@@ -94,7 +94,7 @@ pub fn skip_separators(text: &[u8]) -> &[u8]
     rest
 }
 
-/// The separators at the front, the word behind them, and what follows it; none where there is no word.
+/// Returns the separators at the start, the word after them, and the rest; `None` if there is no word.
 #[tactic(auto, using(crate::proofs::WordLemmas::word_rules))]
 pub fn next_word(text: &[u8]) -> Option<(&[u8], &[u8], &[u8])>
     ensures words { MatchOption result (words text.now ≡ []) (λ f. words text.now ≡ f.1.now ∷ words f.2.now) }
@@ -111,7 +111,7 @@ pub fn next_word(text: &[u8]) -> Option<(&[u8], &[u8], &[u8])>
     Some((separators, word, more))
 }
 
-/// The words of some bytes, one after another.
+/// An iterator over the words of a text.
 #[derive(Clone, Copy)]
 pub struct Words<'a>(pub &'a [u8]);
 
@@ -133,7 +133,7 @@ impl<'a> Iterator for Words<'a> {
     }
 }
 
-/// The lines of a text without their line feeds, one after another.
+/// An iterator over the lines of a text, without their line feeds.
 #[derive(Clone, Copy)]
 pub struct Lines<'a>(pub &'a [u8]);
 
@@ -155,7 +155,7 @@ impl<'a> Iterator for Lines<'a> {
     }
 }
 
-/// The first word, and what follows it. A word too few is `UnknownWord`.
+/// Returns the first word, and the rest of the line. If there is no word, fails with `UnknownWord`.
 pub fn first_word(line: &[u8]) -> Result<(&[u8], &[u8]), Reason>
     ensures within { IfOk result (λ f. length f.0.now + length f.1.now ≤ length line.now) }
     ensures words { MatchResult result (λ f. words line.now ≡ f.0.now ∷ words f.1.now) (λ reason. (words line.now ≡ []) × (reason ≡ UnknownWord)) }
@@ -166,7 +166,7 @@ pub fn first_word(line: &[u8]) -> Result<(&[u8], &[u8]), Reason>
     }
 }
 
-/// The end of a line. A word too many is `UnknownWord`.
+/// Checks that a line has no more words. Another word is `UnknownWord`.
 pub fn no_more_words(line: &[u8]) -> Result<(), Reason>
     ensures { MatchResult result (λ _. words line.now ≡ []) (λ reason. (reason ≡ UnknownWord) × ((w : List ℕ) × (ws : List (List ℕ)) × (words line.now ≡ w ∷ ws))) }
 {
@@ -176,21 +176,21 @@ pub fn no_more_words(line: &[u8]) -> Result<(), Reason>
     }
 }
 
-/// Whether a byte may stand in a name behind its first.
+/// Returns true if a byte may occur in a name after its first byte.
 pub fn is_name_byte(byte: u8) -> bool
     ensures { result ≡ is_name_byte_of byte }
 {
     byte.is_ascii_lowercase() || byte.is_ascii_digit() || byte == b'_'
 }
 
-/// Whether all bytes may stand in a name behind its first.
+/// Returns true if all bytes may occur in a name after its first byte.
 pub fn are_name_bytes(text: &[u8]) -> bool
     ensures { result ≡ list_all is_name_byte_of text.now }
 {
     text.iter().all(|b| is_name_byte(*b))
 }
 
-/// Whether a word is a name: a letter a to z, and then at most 15 of a to z, 0 to 9 and `_`.
+/// Returns true if a word is a name: a letter a to z, and then at most 15 of a to z, 0 to 9 and `_`.
 pub fn is_name(word: &[u8]) -> bool
     ensures { result ≡ is_name_of word.now }
 {

@@ -6,7 +6,7 @@ use Rattle.posix.specs.declared.call.Call.{Call}
 use Rattle.posix.specs.declared.call.Call.TheVariants.{Exit, Fork, Waitpid, Waitid, Pause, SchedYield, Getpid, Getppid, Getuid, Geteuid, Getgid, Getegid, Setuid, Seteuid, Setgid, Setegid, Kill, Sigqueue, Sigaction, Sigprocmask, Sigpending, Sigsuspend, Sigreturn, Alarm, Exec, Getpgid, Getsid, Setpgid, Setsid, Setctty, Tcgetpgrp, Tcsetpgrp, Settostop, Read, Write, Subreaper}
 use Rattle.trace.proofs.WordLemmas.{is_clean}
 
--- what is known of the name of each call: it names the call, no space stands in it, and it is at most 16 bytes
+-- what is known of the name of each call: it names the call, has no space, and is at most 16 bytes
 abbrev IsName : Call → Type 0
 IsName c = (call_named (call_text c) ≡ Some c) × (is_clean (call_text c) ≡ true) × (nat_le (length (call_text c)) 16 ≡ true)
 

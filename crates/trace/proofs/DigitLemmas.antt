@@ -1,4 +1,4 @@
--- A number's digits, moved with the bytes behind them.
+-- A number's digits, copied with the bytes after them.
 use Rattle.std.proofs.Common.{◌≡◌, ℕ, ◌+◌, ◌-◌, ◌≤◌, List, ◌++◌, length, take, drop, ap, ◌∙◌, arith}
 use Rattle.std.proofs.lemmas.List.{take-append-le, length-take-le}
 use Rattle.std.proofs.lemmas.Grind.{common_steps}
@@ -10,7 +10,7 @@ moved_there a m xs ys post le fits =
     let at : a + m ≡ length (take a xs) + m = omega (arith, length-take-le a xs le) in
     ap (λ n. take n (take a xs ++ (ys ++ post))) at ∙ take-append-add (take a xs) (ys ++ post) m ∙ ap (λ (l : List ℕ). take a xs ++ l) (take-append-le m ys post fits)
 
--- the digits stand before the bytes that were moved with them
+-- the digits come before the bytes that were copied with them
 digits_first : (m k : ℕ) (ds rest : List ℕ) → m ≡ length ds → m ≤ k → take m (take k (ds ++ rest)) ≡ ds
 digits_first m k ds rest is le = grind (arith, common_steps)
 

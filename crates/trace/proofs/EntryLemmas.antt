@@ -33,7 +33,7 @@ stop_is_signal s h = grind (arith, nat_tests)
 end_size : (w : ℕ) → is_end_word w ≡ true → w ≤ 65535
 end_size w h = grind (arith, nat_tests)
 
--- the words of an entry, behind the number of an event, are guessed as the entry, and are at most 106 bytes
+-- the words of an entry, after an event number, are guessed as the entry, and are at most 106 bytes
 abbrev Back : Entry → Type 0
 Back e = ((k : ℕ) → k < 2 ^ 64 → guess (decimal k ++ 32 ∷ join_with_byte 32 (words_of e)) ≡ Some (k, e)) × (length (join_with_byte 32 (words_of e)) ≤ 106)
 
@@ -58,7 +58,7 @@ unfolding guess form_named
 halt_back k h =
     rw (behind_back (decimal k) (codes "halt") (decimal_clean k h), word_back (decimal k) (codes "halt") (decimal_clean k h), decimal_back k h) refl
 
--- the sizes of what is told of a child
+-- the sizes of what is reported of a child
 told_sizes : (p c w : ℕ) → (is_number p && is_number c && nat_le w 65535) ≡ true → (p ≤ 2147483647) × (c ≤ 2147483647) × (w ≤ 65535) × (length (told_words c w) ≤ 48)
 told_sizes p c w h =
     let a = and_parts (is_number p && is_number c) (nat_le w 65535) h in

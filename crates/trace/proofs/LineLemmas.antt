@@ -7,7 +7,7 @@ use Rattle.std.proofs.lemmas.Bool.{cases_Bool, cases_lt, cases_order, eqb-true, 
 use Rattle.memchr.specs.Find.{IsFirstByte, is_byte}
 use Rattle.trace.specs.Lines.{is_one_line, IsCut}
 
--- what stands before the first line feed is one line
+-- what comes before the first line feed is one line
 before_one : (text : List ℕ) → is_one_line (before_first (λ b. b == 10) text) ≡ true
 before_one [] = refl
 before_one (b ∷ bs) = elim (cases_Bool (b == 10)) [

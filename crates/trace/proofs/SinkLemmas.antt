@@ -72,7 +72,7 @@ gathers_break a b c p q xs ys g h = record {
   last = h.last;
 }
 
--- what comes after the bytes that were cut short matters to nobody
+-- what follows the bytes that were cut short doesn't matter
 pub break_on : (a b : Seen) (xs ys : List ℕ) → BreaksOff a b xs → BreaksOff a b (xs ++ ys)
 break_on a b xs ys g = record {
   front = g.front;

@@ -9,11 +9,11 @@ use Rattle.std.proofs.lemmas.Grind.{common_steps}
 use Rattle.std.proofs.lemmas.Bool.Decides.{nat_tests}
 use Rattle.trace.specs.Words.{word, behind}
 
--- where the first space stands
+-- the index of the first space
 abbrev place : List ℕ → ℕ
 place text = position_or_len (λ b. b == 32) text
 
--- what stands before the first space and behind it
+-- what comes before the first space, and after it
 space_at : (text : List ℕ) (at : ℕ) → position (λ b. b == 32) text ≡ Some at → (take at text ≡ word text) × (take (length text - (at + 1)) (drop (at + 1) text) ≡ behind text)
 space_at text at h =
     let same : at ≡ place text = grind (arith, h) in (
@@ -42,7 +42,7 @@ pub ruleset space_rules = (before_space, behind_space, one_word, none_behind)
 
 -- ---- words that were printed
 
--- no space stands in it
+-- it has no space
 abbrev pub is_clean : List ℕ → Bool
 is_clean w = list_all (λ b. not (b == 32)) w
 

@@ -1,4 +1,4 @@
--- What a line may say, by its words at their places. It may be any nonsense: it is tested and printed.
+-- Guesses of what a line says, from its words by position. A guess may be nonsense: it is tested and printed.
 use Rattle.std.specs.Prelude.{ℕ, List, [], ◌∷◌, Option, Some, codes, find, bytes_eq}
 use Rattle.posix.specs.Common.{call_named, decimal_value}
 use Rattle.posix.specs.declared.call.Call.{Call as SystemCall}
@@ -18,9 +18,9 @@ guess_note ws = do
   value ← integer (behind ws)
   Some (Noted pid value)
 
--- ---- what a call gave
+-- ---- the result of a call
 
--- the word behind the result of a call
+-- Returns the word after the result of a call.
 abbrev pub shown_text : Shown → List ℕ
 shown_text Value = codes ""
 shown_text Bytes = codes "bytes"
@@ -33,7 +33,7 @@ shown_text Mark = codes "mark"
 unfoldable pub shown_by : List ℕ → Option Shown
 shown_by w = find (λ s. bytes_eq w (shown_text s)) (Value ∷ Bytes ∷ Status ∷ Take ∷ Look ∷ NoMemory ∷ Mark ∷ [])
 
--- a child and its status, with a word between them
+-- Guesses a child and its wait status, with a word between them.
 unfoldable pub child_and_status : List ℕ → Option (ℕ × ℕ)
 child_and_status ws = do
   child ← pid_in (word ws)
@@ -52,7 +52,7 @@ guess_shown Look pid call value last = child_and_status last >>= λ it. Some (Lo
 guess_shown NoMemory pid call value last = Some (entry.NoMemory pid call)
 guess_shown Mark pid call value last = Some (Marked pid (bytes_eq last (codes "1")))
 
--- from the number of the process, its call, the result and what follows
+-- Guesses the entry of a call, from the process ID, the call, the result and what follows.
 unfoldable pub guess_result : ℕ → SystemCall → List ℕ → List ℕ → Option Entry
 guess_result pid call value ws = shown_by (word ws) >>= λ shown. guess_shown shown pid call value (behind ws)
 
@@ -92,7 +92,7 @@ guess_end ws = do
 
 -- ---- a line
 
--- the first word of a form
+-- Returns the first word of a form.
 abbrev pub form_text : Form → List ℕ
 form_text Note = codes "note"
 form_text Call = codes "call"
@@ -116,7 +116,7 @@ guess_entry Return ws = pid_in ws >>= λ pid. Some (Returned pid)
 guess_entry End ws = guess_end ws
 guess_entry Halt ws = Some Halted
 
--- the number of the event and the entry
+-- Guesses the event number and the entry of a line.
 unfoldable pub guess : List ℕ → Option (ℕ × Entry)
 guess text = do
   form ← form_named (word (behind text))

@@ -1,4 +1,4 @@
-//! The forms of a line of a trace, and the ranges of what each holds.
+//! The forms of a trace line, and the ranges of their values.
 
 ghost use Rattle.std.specs.Prelude.{◌≡◌, ◌&&◌, length, nat_le};
 ghost use Rattle.std.specs.List.{list_all};
@@ -8,17 +8,17 @@ ghost use Rattle.laws.specs.TraceLines.{is_entry as is_entry_of, is_line as is_l
 
 use posix::{Call, DefaultAction, Entry, Pid, Sig};
 
-/// The greatest number of an event.
+/// The largest event number.
 const MAX_EVENT: u64 = 1_000_000_000_000;
 
-/// Whether it is the number of a process, and not 0.
+/// Returns true if it is the ID of a process, and not 0.
 fn is_process(pid: Pid) -> bool
     ensures { result ≡ is_number pid }
 {
     pid.number() >= 1
 }
 
-/// Whether a call that shows no more than its result may give this one.
+/// Returns true if a call that prints only its result may return this one.
 fn is_result(call: Call, value: i64) -> bool
     ensures { result ≡ is_result_of call value }
 {
@@ -30,35 +30,35 @@ fn is_result(call: Call, value: i64) -> bool
     }
 }
 
-/// Whether a call moves bytes.
+/// Returns true if a call moves bytes.
 fn moves_bytes(call: Call) -> bool
     ensures { result ≡ moves_bytes_of call }
 {
     matches!(call, Call::Read | Call::Write)
 }
 
-/// Whether a call can move these bytes: 1 to 16 of them.
+/// Returns true if a call can move these bytes: 1 to 16 of them.
 fn can_be_moved(bytes: &[u8]) -> bool
     ensures { result ≡ (nat_le 1 (length bytes.now) && nat_le (length bytes.now) 16 && list_all is_byte bytes.now) }
 {
     matches!(bytes.len(), 1..=16)
 }
 
-/// Whether a call asks for memory, and may be refused for it.
+/// Returns true if a call may need memory from the host, and can fail for lack of it.
 fn asks_memory(call: Call) -> bool
     ensures { result ≡ asks_memory_of call }
 {
     matches!(call, Call::Fork | Call::Kill | Call::Sigqueue)
 }
 
-/// Whether a signal stops by default.
+/// Returns true if a signal stops by default.
 fn is_stop_signal(sig: Sig) -> bool
     ensures { result ≡ is_stop_signal_of sig }
 {
     matches!(sig.default_action(), DefaultAction::Stop)
 }
 
-/// Whether what an event shows has one of the forms.
+/// Returns true if an entry has one of the forms.
 fn is_entry(entry: Entry) -> bool
     ensures { result ≡ is_entry_of entry }
 {
@@ -82,7 +82,7 @@ fn is_entry(entry: Entry) -> bool
     }
 }
 
-/// Whether a line has one of the forms.
+/// Returns true if a line has one of the forms.
 pub fn is_line(event: u64, entry: Entry) -> bool
     ensures { result ≡ is_line_of (line event entry) }
 {

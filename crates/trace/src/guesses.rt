@@ -1,4 +1,4 @@
-//! What a line may say, by its words at their places. A guess may be any nonsense: whoever asks for it
+//! Guesses of what a line says, from its words by position. A guess may be nonsense: the caller
 //! tests it, prints it and compares.
 
 ghost use Rattle.std.specs.Prelude.{◌≡◌};
@@ -7,7 +7,7 @@ ghost use Rattle.trace.specs.Guesses.{child_and_status as child_and_status_of, g
 use crate::words::{bytes_in, integer, pid_in, sig_in, split_word, status_in};
 use posix::{Call, Entry, Pid, Status, WaitCall, decimal_value};
 
-/// A note, behind its first word.
+/// Guesses a note, after its first word.
 #[tactic(auto, unfolding(crate::specs::Guesses::guess_note))]
 fn guess_note(words: &[u8]) -> Option<Entry>
     ensures { result ≡ guess_note_of words.now }
@@ -19,7 +19,7 @@ fn guess_note(words: &[u8]) -> Option<Entry>
     })
 }
 
-/// What a line shows of a call.
+/// What a line says of the result of a call.
 #[derive(Clone, Copy)]
 enum Shown {
     Value,
@@ -34,7 +34,7 @@ enum Shown {
 impl Shown {
     ghost use Rattle.trace.specs.Guesses.{shown_by, shown_text};
 
-    /// Each of them.
+    /// All of them.
     const ALL: [Shown; 7] = [
         Shown::Value,
         Shown::Bytes,
@@ -45,7 +45,7 @@ impl Shown {
         Shown::Mark,
     ];
 
-    /// The word behind a call's result that names it.
+    /// Returns the word after a call's result that names it.
     fn text(self) -> &'static [u8]
         ensures { result.now ≡ shown_text self }
     {
@@ -60,7 +60,7 @@ impl Shown {
         }
     }
 
-    /// The one that a word names.
+    /// Returns the one that a word names, if any.
     #[tactic(auto, unfolding(crate::specs::Guesses::shown_by))]
     fn named(word: &[u8]) -> Option<Shown>
         ensures { result ≡ shown_by word.now }
@@ -72,7 +72,7 @@ impl Shown {
     }
 }
 
-/// A child and its status, with a word between them.
+/// Guesses a child and its wait status, with a word between them.
 #[tactic(auto, unfolding(crate::specs::Guesses::child_and_status))]
 fn child_and_status(words: &[u8]) -> Option<(Pid, Status)>
     ensures { result ≡ child_and_status_of words.now }
@@ -82,7 +82,7 @@ fn child_and_status(words: &[u8]) -> Option<(Pid, Status)>
     Some((pid_in(child)?, status_in(status)?))
 }
 
-/// What a call gave, from the process, the call, the result and what follows.
+/// Guesses the entry of a call, from the process, the call, the result and what follows.
 #[tactic(auto, unfolding(crate::specs::Guesses::guess_result))]
 fn guess_result(pid: Pid, call: Call, value: &[u8], words: &[u8]) -> Option<Entry>
     ensures { result ≡ guess_result_of pid call value.now words.now }
@@ -126,7 +126,7 @@ fn guess_result(pid: Pid, call: Call, value: &[u8], words: &[u8]) -> Option<Entr
     }
 }
 
-/// What a call gave, behind the first word.
+/// Guesses the entry of a call, after its first word.
 #[tactic(auto, unfolding(crate::specs::Guesses::guess_call))]
 fn guess_call(words: &[u8]) -> Option<Entry>
     ensures { result ≡ guess_call_of words.now }
@@ -138,7 +138,7 @@ fn guess_call(words: &[u8]) -> Option<Entry>
     guess_result(pid_in(pid)?, Call::named(name)?, value, words)
 }
 
-/// An entry of a handler, behind its first word.
+/// Guesses the entry of a handler, after its first word.
 #[tactic(auto, unfolding(crate::specs::Guesses::guess_handler))]
 fn guess_handler(words: &[u8]) -> Option<Entry>
     ensures { result ≡ guess_handler_of words.now }
@@ -154,7 +154,7 @@ fn guess_handler(words: &[u8]) -> Option<Entry>
     })
 }
 
-/// A signal without effect, behind its first word.
+/// Guesses a discarded signal, after its first word.
 #[tactic(auto, unfolding(crate::specs::Guesses::guess_discard))]
 fn guess_discard(words: &[u8]) -> Option<Entry>
     ensures { result ≡ guess_discard_of words.now }
@@ -166,7 +166,7 @@ fn guess_discard(words: &[u8]) -> Option<Entry>
     })
 }
 
-/// A stop by a signal, behind its first word.
+/// Guesses a stop by a signal, after its first word.
 #[tactic(auto, unfolding(crate::specs::Guesses::guess_stop))]
 fn guess_stop(words: &[u8]) -> Option<Entry>
     ensures { result ≡ guess_stop_of words.now }
@@ -178,7 +178,7 @@ fn guess_stop(words: &[u8]) -> Option<Entry>
     })
 }
 
-/// An end, behind its first word.
+/// Guesses a termination, after its first word.
 #[tactic(auto, unfolding(crate::specs::Guesses::guess_end))]
 fn guess_end(words: &[u8]) -> Option<Entry>
     ensures { result ≡ guess_end_of words.now }
@@ -190,7 +190,7 @@ fn guess_end(words: &[u8]) -> Option<Entry>
     })
 }
 
-/// What a first word begins.
+/// The form of a line, which its first word names.
 #[derive(Clone, Copy)]
 enum Form {
     Note,
@@ -206,7 +206,7 @@ enum Form {
 impl Form {
     ghost use Rattle.trace.specs.Guesses.{form_named, form_text};
 
-    /// Every form.
+    /// All forms.
     const ALL: [Form; 8] = [
         Form::Note,
         Form::Call,
@@ -218,7 +218,7 @@ impl Form {
         Form::Halt,
     ];
 
-    /// Its first word.
+    /// Returns the first word of the form.
     fn text(self) -> &'static [u8]
         ensures { result.now ≡ form_text self }
     {
@@ -234,7 +234,7 @@ impl Form {
         }
     }
 
-    /// The form that a first word names.
+    /// Returns the form that a first word names, if any.
     #[tactic(auto, unfolding(crate::specs::Guesses::form_named))]
     fn named(word: &[u8]) -> Option<Form>
         ensures { result ≡ form_named word.now }
@@ -243,7 +243,7 @@ impl Form {
     }
 }
 
-/// An entry of a form, behind its first word.
+/// Guesses an entry of a form, after its first word.
 fn guess_entry(form: Form, words: &[u8]) -> Option<Entry>
     ensures { result ≡ guess_entry_of form words.now }
 {
@@ -261,7 +261,7 @@ fn guess_entry(form: Form, words: &[u8]) -> Option<Entry>
     }
 }
 
-/// The number of the event and the entry of a line, where its words at their places may be one's.
+/// Guesses the event number and the entry of a line, if its words may be those of one.
 #[tactic(auto, unfolding(crate::specs::Guesses::guess))]
 pub fn guess(text: &[u8]) -> Option<(u64, Entry)>
     ensures { result ≡ guess_of text.now }

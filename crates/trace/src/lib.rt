@@ -1,11 +1,10 @@
-//! Lines of a trace, printed and read, and where they go.
+//! Printing and reading the lines of a trace, and sinks for them.
 //!
-//! A trace has one line for each thing that an event shows: the number of the event and some words, with
-//! one space between two and a line feed at the end.
+//! A trace has one line for each entry of an event: the event number and some words, separated by
+//! one space, and a line feed.
 //!
-//! What a line says is guessed from its words at their places. The guess stands where it has one of the
-//! forms of a line and printing it gives the text back; so no rule is needed for leading zeros, for two
-//! spaces or for a word too many.
+//! What a line says is guessed from its words by position. The guess is accepted if it has one of the forms of a
+//! line, and prints as exactly this text; so no rule is needed for leading zeros, double spaces or extra words.
 //!
 //! `write_entry`, `write_note` and `print_entry` print exactly the line. `read_line` returns the line that a text says,
 //! and `None` exactly if it says none. `put_all` and `LineBuffer` lose and repeat no byte, however much a put takes,

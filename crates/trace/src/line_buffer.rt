@@ -1,4 +1,4 @@
-//! Lines of a trace that wait to be put.
+//! A buffer for the lines of a trace.
 
 ghost use Rattle.std.specs.Prelude.{◌≡◌, ◌<◌, ◌≤◌, ◌++◌, [], take, OnOk, OnErr};
 ghost use Rattle.posix.specs.Common.{printed};
@@ -9,12 +9,10 @@ use crate::{NoteWords, write_entry, write_note};
 use posix::Entry;
 use std::marker::Model;
 
-/// At least so many bytes are put at once, but for the last put: a put may be a system call, which
-/// costs more than a line.
+/// The minimum number of bytes of a put, except the last one: a put may be a system call, which costs more than a line.
 const PIECE: usize = 8192;
 
-/// Puts the first `len` bytes once they are 8 KiB or more. Then none of them wait any more, even after a
-/// failure.
+/// Puts the first `len` bytes if they are 8 KiB or more. After that, the buffer is empty, even if the put failed.
 #[inline(always)]
 fn put_if_full<S: Sink>(bytes: &[u8; 8320], len: &mut usize, out: &mut S) -> Result<(), SinkFault>
     requires { len.old ≤ 8320 }
@@ -31,7 +29,7 @@ fn put_if_full<S: Sink>(bytes: &[u8; 8320], len: &mut usize, out: &mut S) -> Res
     put
 }
 
-/// Less than 8 KiB of printed lines that wait to be put, and room for a line behind them.
+/// Less than 8 KiB of printed lines to be put, and room for another line after them.
 #[derive(Drop)]
 pub struct LineBuffer {
     bytes: [u8; 8320],
@@ -49,7 +47,7 @@ impl Model for LineBuffer {
 }
 
 impl LineBuffer {
-    /// No bytes.
+    /// Creates an empty buffer.
     pub fn new() -> Self
         ensures { result ≡ [] }
     {
@@ -59,8 +57,8 @@ impl LineBuffer {
         }
     }
 
-    /// Adds the line of what an event shows, which is written where it waits. All that waits is put once
-    /// it is 8 KiB or more; after a failure nothing waits.
+    /// Adds the line of an entry, which is written directly into the buffer. The buffer is put once it has 8 KiB or
+    /// more; after a failure, it is empty.
     #[inline(never)]
     pub fn add<S: Sink>(&mut self, event: u64, entry: &Entry, out: &mut S) -> Result<(), SinkFault>
         ensures ok { OnOk result (Gathers (S.seen out.old) self.old (S.seen out.new) self.new (printed event entry.now)) }
@@ -71,7 +69,7 @@ impl LineBuffer {
         put_if_full(&self.bytes, &mut self.len, out)
     }
 
-    /// Adds the line of a note as [`LineBuffer::add`] adds it, from the words of the process's notes.
+    /// Adds the line of a note, as [`LineBuffer::add`] does, from the prepared words of the process's notes.
     #[inline]
     pub fn add_note<S: Sink>(
         &mut self,
@@ -88,7 +86,7 @@ impl LineBuffer {
         put_if_full(&self.bytes, &mut self.len, out)
     }
 
-    /// Puts all that waits.
+    /// Puts all buffered bytes. After that, the buffer is empty, even if the put failed.
     pub fn flush<S: Sink>(&mut self, out: &mut S) -> Result<(), SinkFault>
         ensures ok { OnOk result (TakesAll (S.seen out.old) (S.seen out.new) self.old) }
         ensures err { OnErr result (BreaksOff (S.seen out.old) (S.seen out.new) self.old) }

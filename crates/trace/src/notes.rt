@@ -9,8 +9,8 @@ use crate::print::{put, put_number, put_signed};
 use posix::{Entry, Pid};
 use std::marker::Model;
 
-/// The words of the notes of one process up to the value: ` note `, the number of the process, and a
-/// space. They are 8 to 17 of the 32 bytes.
+/// The words of the notes of one process up to the value: ` note `, the process ID, and a space. They are 8 to 17 of
+/// the 32 bytes.
 /// Made once for all notes of a burst.
 #[derive(Drop)]
 pub struct NoteWords {
@@ -26,12 +26,12 @@ impl Model for NoteWords {
 
     ghost view = { λ w. w.pid };
 
-    // 27: `put_number` promises at most 20 digits, and the other words are 7 bytes
+    // 27, because `put_number` ensures at most 20 digits, and the rest is 7 bytes
     ghost invariant = { λ w. (w.len ≤ 27) × (take w.len w.bytes ≡ codes " note " ++ decimal w.pid ++ codes " ") };
 }
 
 impl NoteWords {
-    /// The words of the notes of a process.
+    /// Prepares the words of the notes of a process.
     pub fn new(pid: Pid) -> NoteWords
         ensures { result ≡ pid }
     {
@@ -42,8 +42,7 @@ impl NoteWords {
         NoteWords { bytes, len, pid }
     }
 
-    /// Writes the words. The bytes that are moved are always as many; those behind the words are written
-    /// over by what follows.
+    /// Writes the words. Always copies 32 bytes; those after the words are overwritten by what follows.
     #[inline]
     fn put(&self, room: &mut [u8], at: usize) -> usize
         requires { at + 32 ≤ length room.old }
@@ -55,8 +54,8 @@ impl NoteWords {
     }
 }
 
-/// Writes the line of a note, with its line feed, from a place on, as [`write_entry`] writes it: the
-/// number of the event, the words and the value. There has to be room for 128 bytes. Returns where it ends.
+/// Writes the line of a note, with its line feed, from an index on, as [`write_entry`] does: the event number, the
+/// words and the value. Needs room for 128 bytes. Returns the index after the line.
 ///
 /// [`write_entry`]: crate::print::write_entry
 #[inline]

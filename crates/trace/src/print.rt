@@ -1,7 +1,7 @@
-//! Lines of a trace, printed.
+//! Printing the lines of a trace.
 //!
-//! A line is written into room that has enough of it, from a place on; each function returns the place
-//! behind what it wrote, so that no line is moved.
+//! A line is written into a buffer with enough room, from an index on. Each function returns the index after what it
+//! wrote, so that no line is moved.
 
 ghost use Rattle.std.specs.Prelude.{◌≡◌, ◌+◌, ◌*◌, ◌<◌, ◌≤◌, ◌++◌, length, ◌∷◌, take, codes, decimal};
 ghost use Rattle.std.specs.List.{join_with_byte};
@@ -25,8 +25,8 @@ pub(crate) fn put(room: &mut [u8], at: usize, bytes: &[u8]) -> usize
     end
 }
 
-/// Writes a number. Its digits stand in the middle of an array, so that the bytes that are moved are
-/// always as many; those behind the digits are written over by what follows.
+/// Writes a number. Its digits end in the middle of an array, so that always 20 bytes are copied; those after the
+/// digits are overwritten by what follows.
 #[inline]
 pub(crate) fn put_number(room: &mut [u8], at: usize, number: u64) -> usize
     requires { at + 20 ≤ length room.old }
@@ -75,7 +75,7 @@ fn put_next_signed(room: &mut [u8], at: usize, number: i64) -> usize
     put_signed(room, at, number)
 }
 
-/// Writes bytes as lower case digits to base 16, two a byte.
+/// Writes bytes in lower case hexadecimal, two digits per byte.
 fn put_hex(room: &mut [u8], at: usize, bytes: &[u8]) -> usize
     requires { at + 2 * length bytes.now ≤ length room.old }
     ensures text { take result room.new ≡ take at room.old ++ hex bytes.now }
@@ -86,7 +86,7 @@ fn put_hex(room: &mut [u8], at: usize, bytes: &[u8]) -> usize
     end
 }
 
-/// Writes the numbers of a process and of a signal, each behind a space.
+/// Writes a process ID and a signal number, each after a space.
 #[inline]
 fn put_pid_and_sig(room: &mut [u8], at: usize, pid: Pid, sig: Sig) -> usize
     requires { at + 42 ≤ length room.old }
@@ -97,7 +97,7 @@ fn put_pid_and_sig(room: &mut [u8], at: usize, pid: Pid, sig: Sig) -> usize
     put_next(room, at, u64::from(sig.number()))
 }
 
-/// Writes the words of a call of a process, up to its result.
+/// Writes the words of a process's call, up to its result.
 #[inline(always)]
 fn put_call(room: &mut [u8], at: usize, pid: Pid, call: Call) -> usize
     requires { at + 45 ≤ length room.old }
@@ -122,7 +122,7 @@ fn put_note(room: &mut [u8], at: usize, pid: Pid, value: i64) -> usize
     put_next_signed(room, at, value)
 }
 
-/// Writes the words of a call that completed.
+/// Writes the words of a call that returned a result.
 fn put_result(room: &mut [u8], at: usize, pid: Pid, call: Call, value: i64) -> usize
     requires { at + 106 ≤ length room.old }
     ensures text { take result room.new ≡ take at room.old ++ 32 ∷ join_with_byte 32 (words_of (Entry.Called pid call value)) }
@@ -145,7 +145,7 @@ fn put_moved(room: &mut [u8], at: usize, pid: Pid, call: Call, bytes: Bytes) -> 
     put_hex(room, at, bytes)
 }
 
-/// Writes the words of a waitpid that reported the status of a child.
+/// Writes the words of a waitpid that reported a child's wait status.
 fn put_report(room: &mut [u8], at: usize, pid: Pid, child: Pid, status: Status) -> usize
     requires { at + 106 ≤ length room.old }
     ensures text { take result room.new ≡ take at room.old ++ 32 ∷ join_with_byte 32 (words_of (Entry.Reported pid WaitCall.Waitpid child status)) }
@@ -157,7 +157,7 @@ fn put_report(room: &mut [u8], at: usize, pid: Pid, child: Pid, status: Status) 
     put_next(room, at, u64::from(status.word()))
 }
 
-/// Writes the words of a waitid that reported the status of a child, and what it did with that.
+/// Writes the words of a waitid that reported a child's wait status; `done` says whether it consumed the report.
 fn put_waitid(
     room: &mut [u8],
     at: usize,
@@ -178,7 +178,7 @@ fn put_waitid(
     put_next(room, at, u64::from(status.word()))
 }
 
-/// Writes the words of a waitid that collected what it reported.
+/// Writes the words of a waitid that consumed what it reported.
 fn put_take(room: &mut [u8], at: usize, pid: Pid, child: Pid, status: Status) -> usize
     requires { at + 106 ≤ length room.old }
     ensures text { take result room.new ≡ take at room.old ++ 32 ∷ join_with_byte 32 (words_of (Entry.Reported pid WaitCall.Waitid child status)) }
@@ -187,7 +187,7 @@ fn put_take(room: &mut [u8], at: usize, pid: Pid, child: Pid, status: Status) ->
     put_waitid(room, at, pid, b" 0 take ", child, status)
 }
 
-/// Writes the words of a waitid that looked at a child.
+/// Writes the words of a waitid with WNOWAIT, which left what it reported.
 fn put_look(room: &mut [u8], at: usize, pid: Pid, child: Pid, status: Status) -> usize
     requires { at + 106 ≤ length room.old }
     ensures text { take result room.new ≡ take at room.old ++ 32 ∷ join_with_byte 32 (words_of (Entry.Looked pid child status)) }
@@ -196,7 +196,7 @@ fn put_look(room: &mut [u8], at: usize, pid: Pid, child: Pid, status: Status) ->
     put_waitid(room, at, pid, b" 0 look ", child, status)
 }
 
-/// Writes the words of a call that was refused for memory.
+/// Writes the words of a call that failed for lack of memory.
 fn put_no_memory(room: &mut [u8], at: usize, pid: Pid, call: Call) -> usize
     requires { at + 106 ≤ length room.old }
     ensures text { take result room.new ≡ take at room.old ++ 32 ∷ join_with_byte 32 (words_of (Entry.NoMemory pid call)) }
@@ -218,7 +218,7 @@ fn put_bit(room: &mut [u8], at: usize, mark: bool) -> usize
     put(room, at, b"0")
 }
 
-/// Writes the words of a mark that is set or cleared.
+/// Writes the words of a subreaper mark that is set or cleared.
 fn put_mark(room: &mut [u8], at: usize, pid: Pid, mark: bool) -> usize
     requires { at + 106 ≤ length room.old }
     ensures text { take result room.new ≡ take at room.old ++ 32 ∷ join_with_byte 32 (words_of (Entry.Marked pid mark)) }
@@ -229,7 +229,7 @@ fn put_mark(room: &mut [u8], at: usize, pid: Pid, mark: bool) -> usize
     put_bit(room, at, mark)
 }
 
-/// Writes the words of an entry of a handler.
+/// Writes the words of a handler that is entered.
 fn put_handler(room: &mut [u8], at: usize, pid: Pid, sig: Sig, carried: i64, sender: Pid) -> usize
     requires { at + 106 ≤ length room.old }
     ensures text { take result room.new ≡ take at room.old ++ 32 ∷ join_with_byte 32 (words_of (Entry.Handled pid sig carried sender)) }
@@ -241,7 +241,7 @@ fn put_handler(room: &mut [u8], at: usize, pid: Pid, sig: Sig, carried: i64, sen
     put_next(room, at, u64::from(sender.number()))
 }
 
-/// Writes the words of a signal without effect.
+/// Writes the words of a signal that is discarded.
 fn put_discard(room: &mut [u8], at: usize, pid: Pid, sig: Sig) -> usize
     requires { at + 106 ≤ length room.old }
     ensures text { take result room.new ≡ take at room.old ++ 32 ∷ join_with_byte 32 (words_of (Entry.Discarded pid sig)) }
@@ -271,7 +271,7 @@ fn put_return(room: &mut [u8], at: usize, pid: Pid) -> usize
     put_next(room, at, u64::from(pid.number()))
 }
 
-/// Writes the words of an end.
+/// Writes the words of a termination.
 fn put_end(room: &mut [u8], at: usize, pid: Pid, status: Status) -> usize
     requires { at + 106 ≤ length room.old }
     ensures text { take result room.new ≡ take at room.old ++ 32 ∷ join_with_byte 32 (words_of (Entry.Ended pid status)) }
@@ -282,7 +282,7 @@ fn put_end(room: &mut [u8], at: usize, pid: Pid, status: Status) -> usize
     put_next(room, at, u64::from(status.word()))
 }
 
-/// Writes the words of what an event shows.
+/// Writes the words of an entry.
 fn put_entry(room: &mut [u8], at: usize, entry: &Entry) -> usize
     requires { at + 106 ≤ length room.old }
     ensures text { take result room.new ≡ take at room.old ++ 32 ∷ join_with_byte 32 (words_of entry.now) }
@@ -321,8 +321,8 @@ fn put_entry(room: &mut [u8], at: usize, entry: &Entry) -> usize
     }
 }
 
-/// Writes one line of a trace, with its line feed, from a place on: the number of the event and the words
-/// of what it shows, separated by one space. There has to be room for 128 bytes. Returns where it ends.
+/// Writes one line of a trace, with its line feed, from an index on: the event number and the words of the entry,
+/// separated by one space. Needs room for 128 bytes. Returns the index after the line.
 #[inline]
 pub fn write_entry(room: &mut [u8], at: usize, event: u64, entry: &Entry) -> usize
     requires { at + 128 ≤ length room.old }
@@ -334,7 +334,7 @@ pub fn write_entry(room: &mut [u8], at: usize, event: u64, entry: &Entry) -> usi
     put(room, at, b"\n")
 }
 
-/// One line of a trace, as [`write_entry`] writes it.
+/// Returns one line of a trace, as [`write_entry`] writes it.
 pub fn print_entry(event: u64, entry: &Entry) -> ArrayVec<u8, 128>
     ensures { result.items ≡ printed event entry.now }
 {

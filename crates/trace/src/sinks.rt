@@ -1,4 +1,4 @@
-//! Where a trace goes.
+//! Sinks, which take the bytes of a trace.
 
 ghost use Rattle.std.specs.Prelude.{◌≡◌, ◌≤◌, length, IfOk, OnOk, OnErr, false};
 ghost use Rattle.std.specs.Io.KnownBytes.{WriteAppends};
@@ -6,20 +6,20 @@ ghost use Rattle.trace.specs.Sinks.{Seen, TakesAll, BreaksOff, failures_after, i
 
 use std::io::Write;
 
-/// A sink took no more.
+/// The error of a sink that takes no more bytes.
 #[derive(Clone, Copy)]
 pub struct SinkFault;
 
-/// What takes bytes.
+/// A destination for bytes.
 ///
-/// A put fails at an `Err`, and at `Ok(0)` for a slice that isn't empty.
+/// A put fails if it returns an `Err`, or `Ok(0)` for a slice that isn't empty.
 /// `seen` is the one ghost member. It records whether the last put failed, so that a contract can say that nothing is
 /// put after a failure.
 pub trait Sink {
-    // The bytes that it took, the puts that failed, and whether the last one did.
+    // The bytes that the sink took, the number of failed puts, and whether the last put failed.
     ghost seen: { Self → Seen };
 
-    /// Takes the first n bytes of the slice at `Ok(n)`, and none at an `Err`.
+    /// Takes the first n bytes of the slice if it returns `Ok(n)`, and none if it returns an `Err`.
     fn put(&mut self, bytes: &[u8]) -> Result<usize, SinkFault>
         ensures bound { IfOk result (λ n. n ≤ length bytes.now) }
         ensures taken { WriteAppends (seen self.old).taken (seen self.new).taken result bytes.now }
@@ -27,8 +27,8 @@ pub trait Sink {
         ensures last { (seen self.new).last_failed ≡ is_failure result bytes.now };
 }
 
-/// A writer as a sink, each put being one write. What it took is known where the writer tells it, as
-/// those over memory do.
+/// A writer as a sink; each put is one write. The bytes that it took are known only if the writer tells them, as
+/// writers to memory do.
 #[derive(Drop)]
 pub struct WriteSink<W: Write + Drop> {
     writer: W,
@@ -37,7 +37,7 @@ pub struct WriteSink<W: Write + Drop> {
 }
 
 impl<W: Write + Drop> WriteSink<W> {
-    /// A sink that puts into the writer.
+    /// Creates a sink that puts into the writer.
     pub fn new(writer: W) -> Self
         ensures { result ≡ record { writer = writer; failures = 0; last_failed = false } }
     {
@@ -48,7 +48,7 @@ impl<W: Write + Drop> WriteSink<W> {
         }
     }
 
-    /// The writer.
+    /// Returns the writer.
     pub fn into_writer(self) -> W
         ensures { result ≡ self.writer }
     {
@@ -82,7 +82,7 @@ impl<W: Write + Drop> Sink for WriteSink<W> {
     }
 }
 
-/// Puts all bytes. At an `Err` a beginning of them was taken, one put failed, and it was the last.
+/// Puts all bytes. If it returns an `Err`, a prefix of them was taken, one put failed, and it was the last.
 pub fn put_all<S: Sink>(out: &mut S, bytes: &[u8]) -> Result<(), SinkFault>
     ensures ok { OnOk result (TakesAll (S.seen out.old) (S.seen out.new) bytes.now) }
     ensures err { OnErr result (BreaksOff (S.seen out.old) (S.seen out.new) bytes.now) }

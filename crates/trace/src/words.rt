@@ -1,5 +1,4 @@
-//! Words of a line, and what they stand for where printing made them. What they stand for elsewhere is no
-//! more than a guess.
+//! Words of a line, and their values if they were printed. For any other word, the value is only a guess.
 
 ghost use Rattle.std.specs.Prelude.{◌≡◌, ◌==◌};
 ghost use Rattle.std.specs.List.{position};
@@ -8,14 +7,14 @@ ghost use Rattle.trace.specs.Words.{behind as behind_of, bytes_in as bytes_in_of
 use hex::decode_to_slice;
 use posix::{Bytes, Pid, Sig, Status, decimal_value};
 
-/// Where the first space stands, if there is one.
+/// Returns the index of the first space, if any.
 fn first_space(text: &[u8]) -> Option<usize>
     ensures { result ≡ position (λ b. b == 32) text.now }
 {
     text.iter().position(|b| *b == b' ')
 }
 
-/// The first word, and what follows the space behind it.
+/// Returns the first word, and what follows the space after it.
 #[tactic(auto, using(crate::proofs::WordLemmas::space_rules))]
 pub fn split_word(text: &[u8]) -> (&[u8], &[u8])
     ensures first { result.0.now ≡ word text.now }
@@ -27,7 +26,7 @@ pub fn split_word(text: &[u8]) -> (&[u8], &[u8])
     }
 }
 
-/// The number that decimal digits say behind a `-`, if one stands there; none outside i64.
+/// Returns the number that decimal digits denote, negated after a `-`; `None` if it is not an i64.
 #[tactic(auto, unfolding(crate::specs::Words::integer))]
 pub fn integer(word: &[u8]) -> Option<i64>
     ensures { result ≡ integer_of word.now }
@@ -38,7 +37,7 @@ pub fn integer(word: &[u8]) -> Option<i64>
     }
 }
 
-/// The number of a process, or 0; none above those.
+/// Returns a process ID, or 0; `None` if the number is too large.
 #[tactic(auto, unfolding(crate::specs::Words::pid_in))]
 pub fn pid_in(word: &[u8]) -> Option<Pid>
     ensures { result ≡ pid_in_of word.now }
@@ -46,7 +45,7 @@ pub fn pid_in(word: &[u8]) -> Option<Pid>
     Pid::new(u32::try_from(decimal_value(word)).ok()?)
 }
 
-/// The signal with a number; none where no signal has it.
+/// Returns the signal with a number; `None` if no signal has it.
 #[tactic(auto, unfolding(crate::specs::Words::sig_in))]
 pub fn sig_in(word: &[u8]) -> Option<Sig>
     ensures { result ≡ sig_in_of word.now }
@@ -54,7 +53,7 @@ pub fn sig_in(word: &[u8]) -> Option<Sig>
     Sig::new(u8::try_from(decimal_value(word)).ok()?)
 }
 
-/// The status with a word; none above 65,535.
+/// Returns the wait status with a number; `None` above 65,535.
 #[tactic(auto, unfolding(crate::specs::Words::status_in))]
 pub fn status_in(word: &[u8]) -> Option<Status>
     ensures { result ≡ status_in_of word.now }
@@ -62,7 +61,7 @@ pub fn status_in(word: &[u8]) -> Option<Status>
     Some(Status::from_word(u16::try_from(decimal_value(word)).ok()?))
 }
 
-/// The bytes that digits to base 16 say, two digits a byte and at most 16 bytes; none of other words.
+/// Returns the bytes of hexadecimal digits, two per byte and at most 16 bytes; `None` for any other word.
 #[tactic(auto, unfolding(crate::specs::Words::bytes_in))]
 pub fn bytes_in(word: &[u8]) -> Option<Bytes>
     ensures { result ≡ bytes_in_of word.now }

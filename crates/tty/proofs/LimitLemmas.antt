@@ -1,4 +1,4 @@
--- Lemmas on how much a console holds.
+-- Facts about the limits of a console.
 use Rattle.std.proofs.Common.{ℕ, List, [], ◌∷◌, length, drop, nat_le, arith, length-drop}
 use Rattle.std.proofs.lemmas.Bool.{cond_both}
 use Rattle.std.proofs.lemmas.List.Sums.{sum_by-cons}
@@ -9,7 +9,7 @@ pub few_none : AreFew []
 unfolding waiting
 few_none = record { count = omega arith; bytes = omega arith; each = tt }
 
--- after a read
+-- the limits hold after a read
 pub few_left : (n : ℕ) (lines : List (List ℕ)) → AreFew lines → AreFew (lines_left n lines)
 unfolding waiting
 few_left n [] few = few

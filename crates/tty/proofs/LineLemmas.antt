@@ -1,4 +1,4 @@
--- Lemmas on bytes that lengths cut into lines.
+-- Facts about bytes that lengths cut into lines.
 use Rattle.std.proofs.Common.{◌≡◌, ℕ, ◌+◌, ◌-◌, ◌<◌, ◌≤◌, ◌&&◌, true, Some, slice_get, nat_lt, nat_le, min, List, [], ◌∷◌, ◌++◌, length, take, drop, refl, ap, ◌∙◌, sym, subst, arith, append_assoc, length-append, length-drop, length-take}
 use Rattle.std.specs.List.{AllByRecursion, sum}
 use Rattle.std.proofs.lemmas.List.{append-nil, take-append-le, drop-append-le, take_all, drop_all, drop-drop, drop-take, take-take, take_at, drop_at, take_min}
@@ -9,7 +9,7 @@ use Rattle.circular_buffer.specs.Buffer.{Buffer, buffer, keep_last}
 use Rattle.tty.specs.Limits.{most_in_line, IsShort, AreFew}
 use Rattle.tty.specs.Lines.{cut, AreLines, TakesLine}
 
--- the lengths of a list whose sum is that of the bytes: the first, and those of what is left
+-- the lengths of a list whose sum is the number of bytes: the first, and those of the rest
 rest_of : (n : ℕ) (ns bs : List ℕ) → sum (n ∷ ns) ≡ length bs → (n ≤ length bs) × (sum ns ≡ length (drop n bs))
 rest_of n ns bs e = let first = sum_by-cons (λ (x : ℕ). x) n ns in (omega (arith, e, first), omega (arith, e, first, length-drop n bs))
 
@@ -17,7 +17,7 @@ pub cut_length : (ns bs : List ℕ) → length (cut ns bs) ≡ length ns
 cut_length [] bs = refl
 cut_length (n ∷ ns) bs = omega (arith, cut_length ns (drop n bs))
 
--- the lines have all the bytes
+-- the lines contain all the bytes
 pub cut_waiting : (ns bs : List ℕ) → sum ns ≡ length bs → waiting (cut ns bs) ≡ length bs
 unfolding waiting
 cut_waiting [] bs e = e
@@ -38,7 +38,7 @@ cut_append (n ∷ ns) bs line e =
     (λ i. take-append-le n bs line rest.0 i ∷ cut (ns ++ length line ∷ []) (drop-append-le n bs line rest.0 i))
     ∙ ap (λ ls. take n bs ∷ ls) (cut_append ns (drop n bs) line rest.1)
 
--- what is known of the lines of a queue
+-- what holds of the lines of a queue
 pub cut_few : (ns bs : Buffer ℕ) → AreLines ns bs → AreFew (cut ns.items bs.items)
 unfolding waiting
 cut_few ns bs is = record {
@@ -57,12 +57,12 @@ has_room_parts : (lines : List (List ℕ)) (line : List ℕ) → has_room line l
 unfolding has_room
 has_room_parts lines line room = let both = and_parts _ _ room in (ltb-true _ _ both.0, leb-true _ _ both.1)
 
--- all of a list goes into a buffer that has room for it
+-- all items of a list are added to a buffer that has room for them
 appended : (xs ys : List ℕ) (capacity n : ℕ) (b : Buffer ℕ) → length xs + length ys ≤ capacity → n ≡ min (length ys) (capacity - length xs) → b ≡ buffer (xs ++ take n ys) capacity
     → b ≡ buffer (xs ++ ys) capacity
 appended xs ys capacity n b fits e is = is ∙ ap (λ l. buffer (xs ++ l) capacity) (take_all n ys (omega (arith, fits, e)))
 
--- a list goes in after another
+-- one list is added after another
 appended_both : (b one two : Buffer ℕ) (xs ys : List ℕ) (m n : ℕ) → length b.items + (length xs + length ys) ≤ b.capacity
     → m ≡ min (length xs) (b.capacity - length b.items) → one ≡ buffer (b.items ++ take m xs) b.capacity
     → n ≡ min (length ys) (one.capacity - length one.items) → two ≡ buffer (one.items ++ take n ys) one.capacity
@@ -75,7 +75,7 @@ appended_both b one two xs ys m n fits is_m is_one is_n is_two =
     (is_two ∙ ap (λ (c : Buffer ℕ). buffer (c.items ++ take n ys) c.capacity) first)
     ∙ ap (λ l. buffer l b.capacity) (append_assoc b.items xs ys)
 
--- one more item goes into a buffer that isn't full
+-- one more item is added to a buffer that isn't full
 pushed_one : (b new : Buffer ℕ) (x : ℕ) → length b.items < b.capacity → new ≡ buffer (keep_last b.capacity (b.items ++ x ∷ [])) b.capacity → new ≡ buffer (b.items ++ x ∷ []) b.capacity
 pushed_one b new x room is =
     let none : length (b.items ++ x ∷ []) - b.capacity ≡ 0 = omega (arith, room, length-append b.items (x ∷ [])) in
@@ -116,7 +116,7 @@ pushed ns bs ns2 bs1 bs2 lines line end m n are is room short is_m is_bs1 is_n i
           ∙ ap (λ ls. ls ++ (line ++ end) ∷ []) is,
     )
 
--- ---- what is taken
+-- ---- a read
 
 -- the first length, and the others
 first_of_all : (ns : List ℕ) (n : ℕ) → Some n ≡ slice_get ns 0 → ns ≡ n ∷ drop 1 ns
@@ -147,17 +147,17 @@ is_first ns bs n are e =
       is = ap (λ l. cut l bs.items) split;
     }
 
--- what is left of a line goes before the others
+-- the rest of a line goes before the others
 cut_partial : (n k : ℕ) (ns bs : List ℕ) → k ≤ n → cut ((n - k) ∷ ns) (drop k bs) ≡ drop k (take n bs) ∷ cut ns (drop n bs)
 cut_partial n k ns bs within =
     let whole : k + (n - k) ≡ n = omega (arith, within) in
     λ i. (sym (drop-take k (n - k) bs) ∙ ap (λ m. drop k (take m bs)) whole) i ∷ cut ns ((drop-drop (n - k) k bs ∙ ap (λ m. drop m bs) whole) i)
 
--- so many bytes are read
+-- how many bytes are read
 pub taken_all : (ns bs : Buffer ℕ) (out : List ℕ) (n k r : ℕ) → AreLines ns bs → Some n ≡ slice_get ns.items 0 → k ≡ min n (length out) → r ≡ min (length (take k out)) (length bs.items) → r ≡ k
 taken_all ns bs out n k r are e is_k is_r = let first = is_first ns bs n are e in omega (arith, first.within, is_k, is_r, length-take k out)
 
--- what is read
+-- the bytes that are read
 pub takes_line : (ns bs : Buffer ℕ) (lines : List (List ℕ)) (out into : List ℕ) (n k r : ℕ) → AreLines ns bs → cut ns.items bs.items ≡ lines → Some n ≡ slice_get ns.items 0
     → k ≡ min n (length out) → r ≡ min (length (take k out)) (length bs.items) → into ≡ take r bs.items ++ drop r (take k out) → TakesLine lines out (into ++ drop k out) k
 takes_line ns bs lines out into n k r are is e is_k is_r is_into =
@@ -178,11 +178,11 @@ takes_line ns bs lines out into n k r are is e is_k is_r is_into =
       rest = drop_at into (drop k out) k size;
     }
 
--- what stays of lines the first of which is longer than what is read
+-- what is left of lines if the first is longer than the bytes read
 left_long : (n : ℕ) (line : List ℕ) (later : List (List ℕ)) → n < length line → lines_left n (line ∷ later) ≡ drop n line ∷ later
 left_long n line later long = cond-false _ _ _ (lt-leb (length line) n long)
 
--- a queue of whose first line a part was read
+-- a queue after a part of its first line was read
 pub left_partly : (ns bs ns1 bs1 ns2 : Buffer ℕ) (lines : List (List ℕ)) (out : List ℕ) (n k r : ℕ) → AreLines ns bs → cut ns.items bs.items ≡ lines → Some n ≡ slice_get ns.items 0
     → k ≡ min n (length out) → r ≡ k → k < n
     → ns1 ≡ buffer (drop 1 ns.items) ns.capacity → bs1 ≡ buffer (drop r bs.items) bs.capacity → ns2 ≡ buffer (take ns1.capacity ((n - k) ∷ ns1.items)) ns1.capacity

@@ -1,9 +1,9 @@
--- How much a console holds.
+-- The limits of a console.
 use Rattle.std.specs.Prelude.{ℕ, ◌≤◌, List, length}
 use Rattle.std.specs.List.{AllByRecursion}
 use Rattle.posix.specs.Common.{Console, waiting, most_edited, most_lines, most_waiting}
 
--- the bytes that are edited, and one that ends them
+-- the edited bytes, and one that ends them
 abbrev pub most_in_line : ℕ
 most_in_line = 256
 

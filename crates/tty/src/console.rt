@@ -1,4 +1,4 @@
-//! A console: the keys that are typed at it, the lines that they make, and whose terminal it is.
+//! A console: the keys that are typed at it, the lines that they make, and the session whose terminal it is.
 
 ghost use Rattle.std.specs.Prelude.{◌≡◌, ◌≤◌, ◌==◌, ◌||◌, ◌++◌, not, length, true, IfOk};
 ghost use Rattle.posix.specs.Common.{unused_console, keyed, keyed_by, key_signal, signal_typed, disconnected, session_told, edit as edited_by, finish_line, flushed, erased, with_byte, line_taken, acquired, released, with_foreground, with_tostop};
@@ -32,14 +32,14 @@ const QUIT: u8 = 0x1c;
 /// ERASE, the key DEL.
 const ERASE: u8 = 0x7f;
 
-/// Whether a key ends the line that is edited: NL and EOF do (XBD 11.1.9).
+/// Returns true if a key ends the edited line: NL or EOF (XBD 11.1.9).
 pub fn ends_line(key: u8) -> bool
     ensures { result ≡ (key == 10 || key == 4) }
 {
     key == NL || key == EOF
 }
 
-/// The signal that a key sends: INT for INTR, QUIT for QUIT, TSTP for SUSP (XBD 11.1.9).
+/// Returns the signal that a key sends: SIGINT for INTR, SIGQUIT for QUIT, SIGTSTP for SUSP (XBD 11.1.9).
 #[tactic(auto, unfolding(posix::specs::Consoles::key_signal))]
 fn signal_of(key: u8) -> Option<Sig>
     ensures { result ≡ key_signal key }
@@ -52,19 +52,19 @@ fn signal_of(key: u8) -> Option<Sig>
     }
 }
 
-/// A terminal in canonical mode (XBD 11.1.6). It takes memory in [`Console::new`] alone.
+/// A terminal in canonical mode (XBD 11.1.6). Allocates only in [`Console::new`].
 #[derive(Drop)]
 pub struct Console {
     /// The session whose controlling terminal it is.
     session: Pid,
-    /// The process group in the foreground.
+    /// The foreground process group.
     foreground: Pid,
-    /// Finished, and not read yet.
+    /// The finished lines that have not been read yet.
     lines: LineQueue,
     /// The line that is edited, at most 255 bytes.
     edited: ArrayVec<u8, 255>,
     tostop: bool,
-    /// Whether its line is lost.
+    /// Whether it is hung up.
     hung_up: bool,
 }
 
@@ -80,7 +80,7 @@ impl Model for Console {
 }
 
 impl Console {
-    /// A console that nobody uses, with nothing typed; an error where the host has no memory for it.
+    /// Creates a console with no session and no input. Fails if the host has no memory for it.
     #[tactic(auto, using(crate::proofs::LimitLemmas::few_none))]
     pub fn new(alloc: Global) -> Result<Console, AllocError>
         ensures { IfOk result (λ c. c ≡ unused_console) }
@@ -96,9 +96,9 @@ impl Console {
         })
     }
 
-    // ---- whose it is
+    // ---- the session
 
-    /// The session whose controlling terminal it is, [`Pid::NONE`] for none (XBD 11.1.3).
+    /// Returns the session whose controlling terminal it is, [`Pid::NONE`] for none (XBD 11.1.3).
     pub fn session(&self) -> Pid
         ensures is { result ≡ self.now.session }
         ensures limits { IsWithinLimits self.now }
@@ -106,7 +106,7 @@ impl Console {
         self.session
     }
 
-    /// Its foreground process group, [`Pid::NONE`] for none (XBD 11.1.2).
+    /// Returns its foreground process group, [`Pid::NONE`] for none (XBD 11.1.2).
     pub fn foreground(&self) -> Pid
         ensures is { result ≡ self.now.foreground }
         ensures limits { IsWithinLimits self.now }
@@ -114,7 +114,7 @@ impl Console {
         self.foreground
     }
 
-    /// Whether a write from the background stops the writer, TOSTOP (XBD 11.2.5).
+    /// Returns true if a write from the background stops the writer, TOSTOP (XBD 11.2.5).
     pub fn tostop(&self) -> bool
         ensures is { result ≡ self.now.tostop }
         ensures limits { IsWithinLimits self.now }
@@ -122,7 +122,7 @@ impl Console {
         self.tostop
     }
 
-    /// Whether its line is lost (XBD 11.1.10).
+    /// Returns true if the console is hung up (XBD 11.1.10 Modem Disconnect).
     pub fn is_hung_up(&self) -> bool
         ensures is { result ≡ self.now.hung_up }
         ensures limits { IsWithinLimits self.now }
@@ -130,7 +130,7 @@ impl Console {
         self.hung_up
     }
 
-    /// Whether another console is the same: whose it is, what was typed, and its settings.
+    /// Returns true if another console has the same session, foreground process group, input and settings.
     pub fn is_same(&self, other: &Console) -> bool
         ensures { result ≡ true → self.now ≡ other.now }
     {
@@ -142,8 +142,8 @@ impl Console {
             && self.edited() == other.edited()
     }
 
-    /// It becomes the controlling terminal of a session, with a foreground process group (XBD 11.1.3). What was typed
-    /// stays, and its line is there again (own).
+    /// Makes the console the controlling terminal of a session, with a foreground process group (XBD 11.1.3). Its input
+    /// stays, and a hangup is over (own).
     #[tactic(auto, unfolding(posix::specs::Consoles::acquired))]
     pub fn acquire(&mut self, session: Pid, group: Pid)
         ensures { self.new ≡ acquired session group self.old }
@@ -153,11 +153,12 @@ impl Console {
         self.hung_up = false;
     }
 
-    /// Its line is lost: all input is discarded, and the console is hung up, where it is a session's terminal, until it is
-    /// acquired again. The session that is to be told, if there is one. Nothing happens where it is hung up already
-    /// (XBD 11.1.10; own).
-    /// A console stays hung up until the next setctty, also after its leader terminates, because a terminal must be
-    /// opened again.
+    /// Disconnects the console: discards all input, and hangs it up if it is a session's terminal. It stays hung up
+    /// until it is acquired again. Returns the session whose terminal it is, if there is one. Nothing happens if the
+    /// console is hung up already (XBD 11.1.10; own).
+    ///
+    /// A console stays hung up until the next setctty, even after the session leader terminates, because a terminal must
+    /// be opened again.
     #[tactic(auto, unfolding(posix::specs::Consoles::disconnected, posix::specs::Consoles::flushed))]
     pub fn hang_up(&mut self) -> Option<Pid>
         ensures console { self.new ≡ disconnected self.old }
@@ -174,7 +175,7 @@ impl Console {
         Some(self.session)
     }
 
-    /// It is nobody's controlling terminal any more. What was typed stays (own).
+    /// Makes the console the controlling terminal of no session. Its input stays (own).
     #[tactic(auto, unfolding(posix::specs::Consoles::released))]
     pub fn release(&mut self)
         ensures { self.new ≡ released self.old }
@@ -183,7 +184,7 @@ impl Console {
         self.foreground = Pid::NONE;
     }
 
-    /// A process group comes into the foreground (XBD 11.1.2).
+    /// Sets the foreground process group (XBD 11.1.2).
     #[tactic(auto, unfolding(posix::specs::Consoles::with_foreground))]
     pub fn set_foreground(&mut self, group: Pid)
         ensures { self.new ≡ with_foreground group self.old }
@@ -199,26 +200,28 @@ impl Console {
         self.tostop = tostop;
     }
 
-    // ---- what is typed
+    // ---- typing
 
-    /// The bytes of the line that is edited.
+    /// Returns the bytes of the edited line.
     pub fn edited(&self) -> &[u8]
         ensures { result.now ≡ self.now.edited }
     {
         &self.edited
     }
 
-    /// How many lines are finished, and wait to be read.
+    /// Returns how many finished lines wait to be read.
     pub fn finished_lines(&self) -> usize
         ensures { result ≡ length self.now.lines }
     {
         self.lines.len()
     }
 
-    /// A key is pressed (XBD 11.1.6, 11.1.9). A signal key discards all input, edited and finished. ERASE and KILL
-    /// edit the line; NL finishes it, and so does EOF, which isn't put into it. A line that has no room, as the 65th
-    /// or beyond 1,024 bytes, is dropped whole (own). Any other byte is edited, and dropped where 255 are (own).
-    /// Nothing changes while it is hung up. The signal that goes to the foreground process group, if the key sends one.
+    /// Types a key, and returns the signal for the foreground process group, if the key sends one (XBD 11.1.6, 11.1.9).
+    ///
+    /// A signal key discards all input, edited and finished. ERASE and KILL edit the line. NL and EOF finish it; EOF
+    /// isn't added to it. A finished line without room, as the 65th or beyond 1,024 bytes, is dropped whole (own). Any
+    /// other byte is added to the line, or dropped if the line has 255 bytes (own). While the console is hung up,
+    /// nothing changes and no signal is sent.
     #[tactic(auto, unfolding(posix::specs::Consoles::keyed, posix::specs::Consoles::signal_typed))]
     pub fn key(&mut self, byte: u8) -> Option<Sig>
         ensures console { self.new ≡ keyed byte self.old }
@@ -230,7 +233,7 @@ impl Console {
         self.typed(byte)
     }
 
-    /// A key of a console that isn't hung up, and the signal that the key sends, if it sends one.
+    /// Types a key at a console that isn't hung up, and returns the signal that the key sends, if any.
     fn typed(&mut self, byte: u8) -> Option<Sig>
         ensures console { self.new ≡ keyed_by (key_signal byte) byte self.old }
         ensures signal { result ≡ key_signal byte }
@@ -252,7 +255,7 @@ impl Console {
         self.edited.clear();
     }
 
-    /// A byte of no signal key.
+    /// Types a key that sends no signal.
     #[tactic(auto, unfolding(posix::specs::Consoles::edit))]
     fn edit(&mut self, byte: u8)
         ensures { self.new ≡ edited_by byte self.old }
@@ -266,7 +269,7 @@ impl Console {
         }
     }
 
-    /// Erases the last byte of the line that is edited, where there is one.
+    /// Erases the last byte of the edited line, if there is one.
     #[tactic(auto, unfolding(posix::specs::Consoles::erased))]
     fn erase(&mut self)
         ensures { self.new ≡ record self.old { edited = erased self.old.edited } }
@@ -274,7 +277,7 @@ impl Console {
         let _ = self.edited.pop();
     }
 
-    /// Appends a byte to the line that is edited, where it has room.
+    /// Appends a byte to the edited line, if there is room.
     #[tactic(auto, unfolding(posix::specs::Consoles::with_byte))]
     fn insert(&mut self, byte: u8)
         ensures { self.new ≡ record self.old { edited = with_byte byte self.old.edited } }
@@ -282,7 +285,7 @@ impl Console {
         let _ = self.edited.try_push(byte);
     }
 
-    /// Finishes the line that is edited, with an end. Without room among those that wait it is dropped.
+    /// Finishes the edited line, with an end. Without room among the finished lines, it is dropped.
     #[tactic(auto, unfolding(posix::specs::Consoles::finish_line))]
     fn finish(&mut self, end: &[u8])
         requires { length end.now ≤ 1 }
@@ -292,9 +295,9 @@ impl Console {
         self.edited.clear();
     }
 
-    // ---- what is read
+    // ---- reading
 
-    /// Whether a finished line waits.
+    /// Returns true if a finished line waits to be read.
     pub fn has_line(&self) -> bool
         ensures is { result ≡ not (length self.now.lines == 0) }
         ensures limits { IsWithinLimits self.now }
@@ -302,10 +305,11 @@ impl Console {
         !self.lines.is_empty()
     }
 
-    /// Reads as many bytes of the first finished line as `out` holds, and returns their number; none where no line is
-    /// finished, and then nothing changes. The rest of `out` stays as it was, and the rest of the line waits. A line
-    /// without a rest is gone, also the empty one that EOF makes, which reads as 0 bytes, the end of file; into an
-    /// `out` of no bytes 0 are read of any other, and it waits (XBD 11.1.6, 11.1.9).
+    /// Reads as many bytes of the first finished line as fit in `out`, and returns their number. Returns `None` and
+    /// changes nothing if no line is finished. The rest of `out` is unchanged, and the rest of the line stays.
+    ///
+    /// A line with nothing left is removed. This includes the empty line that EOF makes: it reads as 0 bytes, the end
+    /// of file. Any other line read into an empty `out` also returns 0, but stays (XBD 11.1.6, 11.1.9).
     #[tactic(auto, unfolding(posix::specs::Consoles::line_taken))]
     pub fn take(&mut self, out: &mut [u8]) -> Option<usize>
         ensures taken { Takes self.old.lines out.old out.new result }

@@ -1,4 +1,4 @@
-//! Finished lines of a console, which wait to be read.
+//! The finished lines of a console, which wait to be read.
 
 ghost use Rattle.std.specs.Prelude.{◌≡◌, ◌+◌, ◌≤◌, ◌==◌, ◌&&◌, nat_lt, nat_le, [], ◌∷◌, ◌++◌, length, true, if◌then◌else◌, IfOk};
 ghost use Rattle.posix.specs.Common.{has_room, lines_left, waiting, most_lines, most_waiting};
@@ -9,13 +9,13 @@ use circular_buffer::HeapCircularBuffer;
 use std::alloc::{AllocError, Global};
 use std::marker::Model;
 
-/// At most 64 lines with 1,024 bytes together, the first of which is the next one read. A line has at most
-/// 256 bytes. It takes memory in [`LineQueue::new`] alone.
+/// At most 64 lines with 1,024 bytes together, next line to be read first. A line has at most 256 bytes. Allocates only
+/// in [`LineQueue::new`].
 #[derive(Drop)]
 pub struct LineQueue {
     /// The bytes of all lines.
     bytes: HeapCircularBuffer<u8>,
-    /// How many of them each line has.
+    /// The length of each line.
     lengths: HeapCircularBuffer<u16>,
 }
 
@@ -31,13 +31,13 @@ impl Model for LineQueue {
 }
 
 impl LineQueue {
-    /// The most lines that wait.
+    /// The largest number of lines.
     pub const MOST_LINES: usize = 64;
 
-    /// The most bytes in them.
+    /// The largest number of bytes in all lines together.
     pub const MOST_BYTES: usize = 1024;
 
-    /// No line; an error where the host has no memory for it.
+    /// Creates an empty queue. Fails if the host has no memory for it.
     pub fn new(alloc: Global) -> Result<LineQueue, AllocError>
         ensures { IfOk result (λ q. q ≡ []) }
     {
@@ -46,7 +46,7 @@ impl LineQueue {
         Ok(LineQueue { bytes, lengths })
     }
 
-    /// Whether there is no line.
+    /// Returns true if there are no lines.
     #[tactic(auto, using(crate::proofs::LineLemmas::cut_length, crate::proofs::LineLemmas::cut_few))]
     pub fn is_empty(&self) -> bool
         ensures is { result ≡ (length self.now == 0) }
@@ -55,7 +55,7 @@ impl LineQueue {
         self.lengths.is_empty()
     }
 
-    /// How many lines there are.
+    /// Returns the number of lines.
     #[tactic(auto, using(crate::proofs::LineLemmas::cut_length))]
     pub fn len(&self) -> usize
         ensures { result ≡ length self.now }
@@ -63,7 +63,7 @@ impl LineQueue {
         self.lengths.len()
     }
 
-    /// Whether another queue has the same lines, in the same order.
+    /// Returns true if another queue has the same lines in the same order.
     pub fn is_same(&self, other: &LineQueue) -> bool
         ensures { result ≡ true → self.now ≡ other.now }
     {
@@ -78,7 +78,7 @@ impl LineQueue {
         self.lengths.clear();
     }
 
-    /// Whether a line of so many bytes has room.
+    /// Returns true if there is room for a line of `len` bytes.
     #[tactic(auto, using(crate::proofs::LineLemmas::cut_length, crate::proofs::LineLemmas::cut_waiting))]
     fn has_room(&self, len: usize) -> bool
         requires { len ≤ 256 }
@@ -88,7 +88,7 @@ impl LineQueue {
             && self.bytes.len() + len <= LineQueue::MOST_BYTES
     }
 
-    /// Appends the line of these bytes and an end; without room nothing changes.
+    /// Appends a line of these bytes and an end. Without room, nothing changes.
     #[tactic(auto, using(crate::proofs::LineLemmas::room_of, crate::proofs::LineLemmas::cut_few))]
     pub fn push(&mut self, line: &[u8], end: &[u8])
         requires { length line.now + length end.now ≤ 256 }
@@ -104,8 +104,8 @@ impl LineQueue {
         let _ = self.lengths.push_back(len as u16);
     }
 
-    /// Moves bytes of the first line into the front of `out`, as many as it holds, and returns their number; none where
-    /// there is no line, and then nothing changes. A line without a rest is gone, and of another the rest stays.
+    /// Moves bytes of the first line to the front of `out`, as many as fit, and returns their number. Returns `None`
+    /// and changes nothing if there are no lines. Removes the line if nothing of it is left; otherwise the rest stays.
     pub fn take(&mut self, out: &mut [u8]) -> Option<usize>
         ensures taken { Takes self.old out.old out.new result }
         ensures lines { self.new ≡ lines_left (length out.old) self.old }

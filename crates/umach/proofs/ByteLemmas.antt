@@ -38,7 +38,7 @@ zero_bytes : (f : ℤ → ℕ) (c : ℕ) → f (pos 0) ≡ 0 → replicate c 0 �
 zero_bytes f zero none = refl
 zero_bytes f (suc c) none = ap (λ b. b ∷ replicate c 0) (sym none) ∙ ap (λ bs. f (pos 0) ∷ bs) (zero_bytes f c none)
 
--- the first words, with zeros behind them, give the bytes of those that are kept, with zeros behind them
+-- the first words, followed by zeros, give the bytes of the stored words, followed by zeros
 first_bytes : (f : ℤ → ℕ) (c m n : ℕ) (words : List ℤ) → f (pos 0) ≡ 0 → c ≤ length words + m → c ≤ length words + n
     → take c (map f (take c words) ++ replicate m 0) ≡ map f (take c (words ++ replicate n (pos 0)))
 first_bytes f zero m n words none more most = refl
@@ -46,7 +46,7 @@ first_bytes f (suc c) m n [] none more most =
     take-replicate (suc c) m 0 (omega (arith, more)) ∙ zero_bytes f (suc c) none ∙ ap (map f) (sym (take-replicate (suc c) n (pos 0) (omega (arith, most))))
 first_bytes f (suc c) m n (w ∷ words) none more most = ap (λ bs. f w ∷ bs) (first_bytes f c m n words none (omega (arith, more)) (omega (arith, most)))
 
--- what stands from an address on
+-- the words from an address on
 drop_kept : (a n : ℕ) (words : List ℤ) → drop a (words ++ replicate n (pos 0)) ≡ drop a words ++ replicate (n - (a - length words)) (pos 0)
 drop_kept zero n words = ap (λ k. words ++ replicate k (pos 0)) (omega arith)
 drop_kept (suc a) n [] = drop-replicate (suc a) n (pos 0) ∙ ap (λ k. replicate k (pos 0)) (omega arith)
@@ -58,7 +58,7 @@ kept_span a c words =
     let count : min (a + c) (length words) - min a (length words) ≡ min c (length (drop a words)) = omega (arith, length-drop a words) in
     ap (λ n. take n (drop (min a (length words)) words)) count ∙ ap (take (min c (length (drop a words)))) (drop_min a words) ∙ take_min c (drop a words)
 
--- the bytes of a span are those of its kept words, with zeros behind them
+-- the bytes of a span are those of its stored words, followed by zeros
 pub span_bytes : (f : ℤ → ℕ) (a c : ℕ) (words : List ℤ) → f (pos 0) ≡ 0 → c ≤ 16 → a + c ≤ 256 → length words ≤ 256
     → take c (map f (take c (drop a words)) ++ replicate (16 - length (take c (drop a words))) 0) ≡ map f (take c (drop a (words_of words)))
 span_bytes f a c words none few within kept =

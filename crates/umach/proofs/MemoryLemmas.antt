@@ -24,11 +24,11 @@ zeros xs each =
     ext_get_or (pos 0) xs (replicate (length xs) (pos 0)) (sym (length-replicate (length xs) (pos 0)))
     (λ i lt. each i lt ∙ sym (get_or-replicate (length xs) i (pos 0) (pos 0) lt))
 
--- all behind some words
+-- all words after the first ones
 tail : (xs : List ℤ) (n : ℕ) → take (length xs - n) (drop n xs) ≡ drop n xs
 tail xs n = take_all (length xs - n) (drop n xs) (omega (arith, length-drop n xs))
 
--- the words behind some of those that are kept are 0
+-- the words after some of the stored ones are 0
 fewer_words : (xs : List ℤ) (n : ℕ) → n ≤ length xs → length xs ≤ 256 → EachIndex (drop n xs) (λ k. get_or (drop n xs) k (pos 0) ≡ pos 0) → words_of xs ≡ words_of (take n xs)
 fewer_words xs n few most each =
     let kept : length (take n xs) ≡ n = length-take-le n xs few in

@@ -1,4 +1,4 @@
-//! The processor of a process, and the run of one instruction.
+//! The processor of a process, and the execution of instructions.
 
 ghost use Rattle.std.specs.Prelude.{◌≡◌, ◌+◌, ◌<◌, ◌≤◌, true, length, IfOk, IfSome, if◌then◌else◌, pos, slice_index_or};
 ghost use Rattle.posix.specs.Common.{fresh_cpu, exec_one as executed, execute as execute_instr, set_register, register as register_of, move_on, put_result, load_from, store_at, address_of, jump, computed, passes as passed, fetched, StaysUnlessRun, frame_of, restore, stored, bytes_in};
@@ -14,7 +14,7 @@ use std::marker::Model;
 /// The code address of a program's first instruction.
 const FIRST_ADDRESS: i64 = 16;
 
-/// Eight registers, a pc and a memory.
+/// A processor: eight registers, a pc and a memory.
 #[derive(Drop)]
 pub struct Cpu {
     pc: i64,
@@ -31,8 +31,8 @@ impl Model for Cpu {
 }
 
 impl Cpu {
-    /// A processor at the start of a program: registers and memory are 0. An error where the host has no
-    /// memory for it.
+    /// Creates a processor at the start of a program: registers and memory are 0. Fails if the host
+    /// has no memory for it.
     #[tactic(auto, unfolding(posix::specs::Processes::zero_registers))]
     pub fn new(arena: Arena) -> Result<Cpu, AllocError>
         ensures { IfOk result (λ c. c ≡ fresh_cpu) }
@@ -44,8 +44,8 @@ impl Cpu {
         })
     }
 
-    /// Another processor in the same state, with a memory of its own, in the place of `spare`, if there is
-    /// one. Without it an error where the host has no memory for it.
+    /// Copies the processor, with a memory of its own, which reuses `spare` if there is one. Without `spare`, fails
+    /// if the host has no memory for the copy.
     pub fn try_clone(&self, spare: Option<UserMem>) -> Result<Cpu, AllocError>
         ensures { IfOk result (λ c. c ≡ self.now) }
     {
@@ -56,7 +56,7 @@ impl Cpu {
         })
     }
 
-    /// Whether two processors are in the same state.
+    /// Returns true if two processors are in the same state.
     pub fn is_same(&self, other: &Cpu) -> bool
         ensures { result ≡ true → self.now ≡ other.now }
     {
@@ -65,15 +65,15 @@ impl Cpu {
             && self.memory.is_same(&other.memory)
     }
 
-    /// The memory of a processor that is needed no more.
+    /// Returns the memory of a processor that is no longer needed.
     pub fn into_memory(self) -> UserMem
         ensures { result ≡ self.memory }
     {
         self.memory
     }
 
-    /// The start of another program with two arguments, in r1 and r2: the other registers and the memory are
-    /// 0 (XSH exec). It takes no memory.
+    /// Starts another program with two arguments, in r1 and r2: the other registers and the memory become 0 (XSH
+    /// exec). Allocates no memory.
     #[tactic(auto, unfolding(posix::specs::Processes::zero_registers))]
     pub fn reset(&mut self, first: i64, second: i64)
         ensures { self.new ≡ set_register (set_register fresh_cpu 1 first) 2 second }
@@ -85,14 +85,14 @@ impl Cpu {
         self.set_register(Register::SECOND_ARGUMENT, second);
     }
 
-    /// The value of a register.
+    /// Returns the value of a register.
     pub fn register(&self, register: Register) -> i64
         ensures { result ≡ register_of self.now register }
     {
         self.registers[register.index()]
     }
 
-    /// The word of its memory at an address.
+    /// Returns the word at an address of the memory.
     pub fn word(&self, address: u8) -> i64
         ensures { result ≡ slice_index_or self.now.memory address (pos 0) }
     {
@@ -106,14 +106,14 @@ impl Cpu {
         self.registers[register.index()] = value;
     }
 
-    /// Moves the pc on by one; it wraps. Registers and memory stay.
+    /// Advances the pc by one; it wraps. Registers and memory stay.
     pub fn move_on(&mut self)
         ensures { self.new ≡ move_on self.old }
     {
         self.pc = self.pc.wrapping_add(1);
     }
 
-    /// What a handler that is entered now gives back as it returns, with this signal mask.
+    /// Returns the frame that a handler entered now restores when it returns, with this signal mask.
     pub fn frame(&self, mask: SigSet) -> Frame
         ensures { result ≡ frame_of self.now mask }
     {
@@ -124,7 +124,7 @@ impl Cpu {
         }
     }
 
-    /// The pc and the registers become those of a frame; the memory stays (sigreturn(2)).
+    /// Restores the pc and the registers from a frame; the memory stays (sigreturn(2)).
     pub fn restore(&mut self, frame: &Frame)
         ensures { self.new ≡ restore frame.now self.old }
     {
@@ -132,15 +132,15 @@ impl Cpu {
         self.registers = frame.registers;
     }
 
-    /// Goes on at any code address; registers and memory stay.
+    /// Jumps to any code address; registers and memory stay.
     pub fn go_to(&mut self, address: i64)
         ensures { self.new ≡ record self.old { pc = address } }
     {
         self.pc = address;
     }
 
-    /// Puts bytes into the words of the memory from an address on, one a word; the other words, the pc and the
-    /// registers stay (XSH read). The last word has at most the address 255.
+    /// Stores bytes in the words of the memory from an address on, one per word; the rest of the memory, the pc and
+    /// the registers stay (XSH read). The last word has at most address 255.
     pub fn store(&mut self, address: u16, bytes: &[u8])
         requires { address + length bytes.now ≤ 256 }
         ensures { self.new ≡ record self.old { memory = stored address bytes.now self.old.memory } }
@@ -148,8 +148,8 @@ impl Cpu {
         self.memory.store(address, bytes);
     }
 
-    /// The bytes in the words of a span, each the low 8 bits of its word (XSH write). They are at most 16, and
-    /// the last word has at most the address 255.
+    /// Returns the bytes in the words of a span, each the low 8 bits of its word (XSH write). There are at most 16,
+    /// and the last word has at most address 255.
     pub fn bytes(&self, span: Span) -> Bytes
         requires few { span.count ≤ 16 }
         requires within { span.address + span.count ≤ 256 }
@@ -158,8 +158,7 @@ impl Cpu {
         self.memory.bytes(span)
     }
 
-    /// Runs the instruction of a program at the pc. A call and a machine fault leave the processor as
-    /// it was.
+    /// Runs the instruction of a program at the pc. A system call and a machine fault leave the processor unchanged.
     #[tactic(auto, unfolding(posix::specs::Execute::exec_one))]
     #[inline(always)]
     pub fn exec_one(&mut self, program: &Program) -> Trap
@@ -173,9 +172,9 @@ impl Cpu {
         }
     }
 
-    /// Runs plain instructions, at most so many, and the one after them, which may give a note. The number of
-    /// the plain ones, and how that one came out; a call and a machine fault leave the processor as it
-    /// was.
+    /// Runs at most `most` instructions, up to the first one that isn't plain, which may be a note. Returns the
+    /// number of plain ones, and the trap of that one, or `Next` if all were plain. A system call and a machine fault
+    /// leave the processor unchanged.
     #[inline(never)]
     pub fn run_until(&mut self, program: &Program, most: u64) -> (u64, Trap)
         ensures count { result.0 ≡ (exec_until program.now.instructions most self.old).count }
@@ -229,7 +228,7 @@ impl Cpu {
         }
     }
 
-    /// Writes a register and moves on.
+    /// Writes a register and advances the pc.
     fn put(&mut self, register: Register, value: i64) -> Trap
         ensures trap { result ≡ Trap.Next }
         ensures cpu { self.new ≡ move_on (set_register self.old register value) }
@@ -239,7 +238,7 @@ impl Cpu {
         Trap::Next
     }
 
-    /// Puts a result into a register; a fault FPE without a result.
+    /// Writes a result to a register; without a result, it is a SIGFPE fault.
     fn put_result(&mut self, register: Register, value: Option<i64>) -> Trap
         ensures trap { result ≡ (put_result self.old register value).trap }
         ensures cpu { self.new ≡ (put_result self.old register value).cpu }
@@ -251,7 +250,7 @@ impl Cpu {
         }
     }
 
-    /// Loads a register from an address of the memory; a fault SEGV without an address.
+    /// Loads a register from an address of the memory; without an address, it is a SIGSEGV fault.
     fn load_from(&mut self, register: Register, address: Option<usize>) -> Trap
         requires { IfSome address (λ a. a < 256) }
         ensures trap { result ≡ (load_from self.old register address).trap }
@@ -267,7 +266,7 @@ impl Cpu {
         }
     }
 
-    /// Stores a value at an address of the memory; a fault SEGV without an address.
+    /// Stores a value at an address of the memory; without an address, it is a SIGSEGV fault.
     fn store_at(&mut self, value: i64, address: Option<usize>) -> Trap
         requires { IfSome address (λ a. a < 256) }
         ensures trap { result ≡ (store_at self.old value address).trap }
@@ -284,7 +283,7 @@ impl Cpu {
         }
     }
 
-    /// Goes on at a code address.
+    /// Jumps to a code address.
     fn jump(&mut self, address: u16) -> Trap
         ensures trap { result ≡ Trap.Next }
         ensures cpu { self.new ≡ jump self.old address }
@@ -293,7 +292,7 @@ impl Cpu {
         Trap::Next
     }
 
-    /// Goes on at a code address if a register passes a test, and else at the next instruction.
+    /// Jumps to a code address if a register meets a condition, and otherwise advances the pc.
     fn jump_if(&mut self, condition: Condition, register: Register, address: u16) -> Trap
         ensures trap { result ≡ Trap.Next }
         ensures cpu { self.new ≡ (if passed condition (register_of self.old register) then jump self.old address else move_on self.old) }
@@ -306,7 +305,7 @@ impl Cpu {
     }
 }
 
-/// The result of an operator; none of a division by 0.
+/// Returns the result of an operator, or `None` for a division by 0.
 fn compute(operator: Operator, x: i64, y: i64) -> Option<i64>
     ensures { result ≡ computed operator x y }
 {
@@ -322,7 +321,7 @@ fn compute(operator: Operator, x: i64, y: i64) -> Option<i64>
     }
 }
 
-/// The quotient, cut towards 0; none by 0.
+/// Returns the quotient, rounded towards 0, or `None` if the divisor is 0.
 fn divide(x: i64, y: i64) -> Option<i64>
     ensures { result ≡ computed Operator.Div x y }
 {
@@ -333,7 +332,7 @@ fn divide(x: i64, y: i64) -> Option<i64>
     }
 }
 
-/// The remainder of that quotient; none by 0.
+/// Returns the remainder of that quotient, or `None` if the divisor is 0.
 fn remainder(x: i64, y: i64) -> Option<i64>
     ensures { result ≡ computed Operator.Rem x y }
 {
@@ -344,7 +343,7 @@ fn remainder(x: i64, y: i64) -> Option<i64>
     }
 }
 
-/// Whether a value passes a test.
+/// Returns true if a value meets a condition.
 fn passes(condition: Condition, value: i64) -> bool
     ensures { result ≡ passed condition value }
 {
@@ -355,7 +354,7 @@ fn passes(condition: Condition, value: i64) -> bool
     }
 }
 
-/// The address in the memory that a value names; none outside 0 to 255.
+/// Returns the address in the memory that a value names, or `None` outside 0 to 255.
 fn address_in(value: i64) -> Option<usize>
     ensures named { result ≡ address_of value }
     ensures within { IfSome result (λ a. a < 256) }
@@ -367,7 +366,7 @@ fn address_in(value: i64) -> Option<usize>
     }
 }
 
-/// The instruction at a code address.
+/// Returns the instruction at a code address, if any.
 fn fetch(program: &Program, address: i64) -> Option<Instr>
     ensures { result ≡ fetched program.now.instructions address }
 {

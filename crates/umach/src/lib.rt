@@ -1,9 +1,9 @@
-//! The user machine: worlds and their programs, a processor with its memory, and the run of one
-//! instruction.
+//! The user machine: worlds and their programs, a processor with its memory, and the execution of instructions.
 //!
 //! `Cpu::exec_one` runs every instruction as the definitions do; a call and a machine fault leave the processor
-//! unchanged. `Cpu::run_until` runs at most so many plain instructions, and returns how the one after them came out.
-//! The types `Program` and `World` keep each number within its range.
+//! unchanged. `Cpu::run_until` runs a given number of instructions at most, up to the first one that isn't plain, and
+//! returns the number of plain ones and the trap of that one. The types `Program` and `World` keep
+//! each number within its range.
 #![tactic(auto)]
 
 pub mod cpu;

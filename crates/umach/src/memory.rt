@@ -11,7 +11,8 @@ use std::marker::Model;
 
 /// The 256 words of a process, at the addresses 0 to 255.
 ///
-/// Its room is taken at once. Behind the greatest address that was written all words are 0, and aren't kept.
+/// The room for all words is allocated at once. After the highest address that was written, all
+/// words are 0, and not stored.
 #[derive(Drop)]
 pub struct UserMem {
     words: Vec<i64, Arena>,
@@ -29,7 +30,7 @@ impl Model for UserMem {
 }
 
 impl UserMem {
-    /// A memory of zeros; an error where the host has no memory for it.
+    /// Creates a memory of zeros. Fails if the host has no memory for it.
     #[tactic(auto, unfolding(posix::specs::Processes::zero_memory))]
     pub fn zeroed(arena: Arena) -> Result<UserMem, AllocError>
         ensures { IfOk result (λ m. m ≡ zero_memory) }
@@ -39,7 +40,7 @@ impl UserMem {
         })
     }
 
-    /// The word at an address below 256.
+    /// Returns the word at an address below 256.
     #[inline]
     pub fn get(&self, address: usize) -> i64
         requires { address < 256 }
@@ -63,8 +64,8 @@ impl UserMem {
         self.words[address] = value;
     }
 
-    /// Puts bytes into the words from an address on, one a word; the other words stay (XSH read). The last has
-    /// at most the address 255.
+    /// Stores bytes in the words from an address on, one per word; the rest of the memory stays (XSH read).
+    /// The last word has at most address 255.
     pub fn store(&mut self, address: u16, bytes: &[u8])
         requires { address + length bytes.now ≤ 256 }
         ensures { self.new ≡ stored address bytes.now self.old }
@@ -74,8 +75,8 @@ impl UserMem {
         }
     }
 
-    /// The bytes in the words of a span, each the low 8 bits of its word (XSH write). They are at most 16, and
-    /// the last word has at most the address 255.
+    /// Returns the bytes in the words of a span, each the low 8 bits of its word (XSH write). There are at most 16,
+    /// and the last word has at most address 255.
     pub fn bytes(&self, span: Span) -> Bytes
         requires few { span.count ≤ 16 }
         requires within { span.address + span.count ≤ 256 }
@@ -88,7 +89,7 @@ impl UserMem {
         Bytes::new(&bytes[..usize::from(span.count)])
     }
 
-    /// All words are 0 again. It takes no memory.
+    /// Sets all words to 0. Allocates no memory.
     #[tactic(auto, unfolding(posix::specs::Processes::zero_memory))]
     pub fn clear(&mut self)
         ensures { self.new ≡ zero_memory }
@@ -96,8 +97,7 @@ impl UserMem {
         self.words.clear();
     }
 
-    /// Another memory with the same words, in the place of `spare`, if there is one. Without it an error where
-    /// the host has no memory for it.
+    /// Copies the memory, into `spare` if there is one. Without `spare`, fails if the host has no memory for the copy.
     pub fn try_clone(&self, spare: Option<UserMem>) -> Result<UserMem, AllocError>
         ensures { IfOk result (λ m. m ≡ self.now) }
     {
@@ -109,7 +109,7 @@ impl UserMem {
         Ok(UserMem { words })
     }
 
-    /// Whether two memories have the same words; how many of them are kept may differ.
+    /// Returns true if two memories have the same words; the numbers of stored words may differ.
     pub fn is_same(&self, other: &UserMem) -> bool
         ensures { result ≡ true → self.now ≡ other.now }
     {
@@ -117,8 +117,8 @@ impl UserMem {
     }
 }
 
-/// Whether memories of which these words are kept, at most 256 of each, have the same words: those that both keep
-/// are equal, and those behind them 0.
+/// Returns true if memories that store these words, at most 256 each, have the same words: those that both store are
+/// equal, and those after them are 0.
 #[tactic(auto, using(crate::proofs::MemoryLemmas::same_words))]
 fn mean_the_same(mine: &[i64], others: &[i64]) -> bool
     requires mine { length mine.now ≤ 256 }
@@ -131,21 +131,21 @@ fn mean_the_same(mine: &[i64], others: &[i64]) -> bool
         && are_zero(&others[common..])
 }
 
-/// Whether words are equal, one by one, and as many.
+/// Returns true if two slices have the same words.
 pub fn are_equal(mine: &[i64], others: &[i64]) -> bool
     ensures { result ≡ true → mine.now ≡ others.now }
 {
     mine == others
 }
 
-/// Whether all words are 0.
+/// Returns true if all words are 0.
 fn are_zero(words: &[i64]) -> bool
     ensures { result ≡ true → EachIndex words.now (λ k. slice_index_or words.now k (pos 0) ≡ pos 0) }
 {
     words.iter().all(|word| *word == 0)
 }
 
-/// Keeps the word at an address below 256 from now on.
+/// Makes the word at an address below 256 a stored one.
 #[tactic(auto, using(crate::proofs::MemoryLemmas::more_words))]
 #[inline]
 fn cover(words: &mut Vec<i64, Arena>, address: usize)
@@ -162,7 +162,7 @@ fn cover(words: &mut Vec<i64, Arena>, address: usize)
     }
 }
 
-/// Keeps so many words, more than before.
+/// Stores this many words, at least as many as before; the new ones are 0.
 #[cold]
 fn keep(words: &mut Vec<i64, Arena>, count: usize)
     requires more { length words.old.items ≤ count }
@@ -173,7 +173,7 @@ fn keep(words: &mut Vec<i64, Arena>, count: usize)
     let _ = words.resize(count, 0);
 }
 
-/// The low 8 bits of each of at most 16 words, and zeros behind them.
+/// Returns the low 8 bits of each of at most 16 words, and zeros after them.
 fn low_bytes(words: &[i64]) -> [u8; 16]
     requires { length words.now ≤ 16 }
     ensures { result ≡ map low_byte words.now ++ replicate (16 - length words.now) 0 }
@@ -185,7 +185,7 @@ fn low_bytes(words: &[i64]) -> [u8; 16]
     bytes
 }
 
-/// The low 8 bits of a word.
+/// Returns the low 8 bits of a word.
 fn low_byte(word: i64) -> u8
     ensures { result ≡ low_byte word }
 {

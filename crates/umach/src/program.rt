@@ -8,8 +8,8 @@ use posix::{Gid, Instr, Uid};
 use std::alloc::{AllocError, Global};
 use std::marker::Model;
 
-/// The code of a program, at most 1,000 instructions, and the ids that it takes on as it is run. What it holds is within
-/// the ranges of its types.
+/// A program: at most 1,000 instructions, and the user and group IDs that exec sets for it, if any. All numbers are
+/// within the ranges of their types.
 #[derive(Drop)]
 pub struct Program {
     setuid: Option<Uid>,
@@ -30,10 +30,10 @@ impl Model for Program {
 }
 
 impl Program {
-    /// The most instructions of a program.
+    /// The maximum number of instructions of a program.
     pub const MAX_LEN: usize = 1000;
 
-    /// A program of at most 1,000 instructions, each within its range, which takes on these ids as it is run.
+    /// Creates a program of at most 1,000 instructions, each within its range. Exec sets these IDs for it, if any.
     pub fn from_parts(setuid: Option<Uid>, setgid: Option<Gid>, instructions: Vec<Instr>) -> Self
         requires len { length instructions.items ≤ 1000 }
         requires range { list_all is_instruction instructions.items ≡ true }
@@ -47,21 +47,21 @@ impl Program {
         }
     }
 
-    /// The user id that it takes on as it is run, if any (XSH exec).
+    /// Returns the user ID that exec sets for the program, if any (XSH exec).
     pub fn setuid(&self) -> Option<Uid>
         ensures { result ≡ self.now.setuid }
     {
         self.setuid
     }
 
-    /// The group id that it takes on as it is run, if any.
+    /// Returns the group ID that exec sets for the program, if any.
     pub fn setgid(&self) -> Option<Gid>
         ensures { result ≡ self.now.setgid }
     {
         self.setgid
     }
 
-    /// How many instructions it has.
+    /// Returns the number of instructions.
     pub fn len(&self) -> usize
         ensures value { result ≡ length self.now.instructions }
         ensures limit { result ≤ 1000 }
@@ -69,14 +69,14 @@ impl Program {
         self.instructions.len()
     }
 
-    /// The instruction at a place, from 0.
+    /// Returns the instruction at an index, from 0, if any.
     pub fn get(&self, place: usize) -> Option<Instr>
         ensures { result ≡ slice_get self.now.instructions place }
     {
         self.instructions.get(place).copied()
     }
 
-    /// Another program with the same instructions and ids; an error where the host has no memory for it.
+    /// Copies the program. Fails if the host has no memory for the copy.
     pub fn try_clone(&self, alloc: Global) -> Result<Program, AllocError>
         ensures { IfOk result (λ p. p ≡ self.now) }
     {

@@ -8,8 +8,8 @@ use crate::program::Program;
 use std::alloc::{AllocError, Global};
 use std::marker::Model;
 
-/// What a world text stands for: the greatest process number, the number of consoles, and the
-/// programs, of which process 1 runs the first.
+/// The contents of a world file: the largest process ID, the number of consoles, and the programs, of which process 1
+/// runs the first.
 #[derive(Drop)]
 pub struct World {
     pidmax: u32,
@@ -31,8 +31,8 @@ impl Model for World {
 }
 
 impl World {
-    /// A world of these parts: `pidmax` from 2 to 4,194,304, at most 64 consoles, 1 to 32 programs, whose numbers are within
-    /// their ranges.
+    /// Creates a world of these parts: `pidmax` from 2 to 4,194,304, at most 64 consoles, and 1 to 32 programs, whose
+    /// numbers are within their ranges.
     pub fn new(pidmax: u32, consoles: u8, programs: Vec<Program>) -> World
         requires pidmax_range { (2 ≤ pidmax) × (pidmax ≤ 4194304) }
         requires consoles_range { consoles ≤ 64 }
@@ -47,7 +47,7 @@ impl World {
         }
     }
 
-    /// The greatest process number that is given: 2 to 4,194,304.
+    /// Returns the largest process ID that is allocated: 2 to 4,194,304.
     pub fn pidmax(&self) -> u32
         ensures value { result ≡ self.now.pidmax }
         ensures range { (2 ≤ result) × (result ≤ 4194304) }
@@ -55,7 +55,7 @@ impl World {
         self.pidmax
     }
 
-    /// The number of consoles: 0 to 64.
+    /// Returns the number of consoles: 0 to 64.
     pub fn consoles(&self) -> u8
         ensures value { result ≡ self.now.consoles }
         ensures range { result ≤ 64 }
@@ -63,7 +63,7 @@ impl World {
         self.consoles
     }
 
-    /// The programs: 1 to 32.
+    /// Returns the programs: 1 to 32.
     pub fn programs(&self) -> &[Program]
         ensures value { result.now ≡ self.now.programs }
         ensures range { (1 ≤ length result.now) × (length result.now ≤ 32) }
@@ -71,14 +71,14 @@ impl World {
         self.programs.as_slice()
     }
 
-    /// Nothing is done. That each number is within its range is then known of the world, as its type says.
+    /// Does nothing. Its contract states what the type of a world ensures: each number is within its range.
     pub fn range_holds(&self)
         ensures { IsWorld self.now }
     {
         let _ = &self.pidmax;
     }
 
-    /// Another world of the same parts; an error where there is no memory for it.
+    /// Copies the world. Fails if there is no memory for the copy.
     pub fn try_clone(&self, alloc: Global) -> Result<World, AllocError>
         ensures { IfOk result (λ w. w ≡ self.now) }
     {
@@ -90,7 +90,7 @@ impl World {
     }
 }
 
-/// Copies of programs.
+/// Copies programs. Fails if there is no memory for the copies.
 fn clone_programs(alloc: Global, programs: &[Program]) -> Result<Vec<Program>, AllocError>
     ensures { IfOk result (λ copies. copies.items ≡ programs.now) }
 {

@@ -1,4 +1,4 @@
--- What is still known once a register is written.
+-- What is known after a register was written.
 use Rattle.std.proofs.Common.{◌≡◌, ◌≢◌, ◌<◌, ◌<ℤ◌, ◌⊎◌, ⊎_elim, ap, ℕ, zero, suc, ℤ, pos, negsuc, List, [], ◌∷◌, Option, Some, None, length, slice_set, slice_index_or, refl, sym, ◌∙◌, subst, arith}
 use Rattle.posix.specs.Common.{Cpu, put_result, load_from, store_at, address_of, register, execute, faulted, SEGV}
 use Rattle.posix.specs.declared.call.Call.{Call}
@@ -9,7 +9,7 @@ use Rattle.warning.specs.declared.held.Held.{Held}
 use Rattle.warning.specs.declared.held.Held.TheVariants.{Unknown, Constant}
 use Rattle.warning.specs.Holds.{held, Holds, Keeps, IsBehindCall}
 
--- a register gets a value, as is known of it
+-- a register gets a value, and what is known of the register afterwards is true of this value
 put_at : (known : List Held) (registers : List ℤ) (a r : ℕ) (h : Held) (z v : ℤ) → a < length registers → (h ≡ Constant v → z ≡ v) → (held known r ≡ Constant v → slice_index_or registers r (pos 0) ≡ v) → held (slice_set known a h) r ≡ Constant v → slice_index_or (slice_set registers a z) r (pos 0) ≡ v
 put_at [] registers a r h z v within is was e = absurd (cc)
 put_at (k ∷ ks) [] a r h z v within is was e = absurd (omega arith)
@@ -45,7 +45,7 @@ keeps_most Sigprocmask r a b d e f never = absurd (e refl)
 keeps_most Sigpending r a b d e f never = absurd (f refl)
 keeps_most call r a b d e f never = never
 
--- what is still known is of registers that the call keeps
+-- only registers that the call keeps are still known
 pub behind_call : (call : Call) (known less : List Held) (old new : List ℤ) → ((r : ℕ) (z : ℤ) → held less r ≡ Constant z → Keeps call r × (held known r ≡ Constant z)) → IsBehindCall call old new → Holds known old → Holds less new
 behind_call call known less old new kept behind holds = λ r z e. let both = kept r z e in behind r both.0 ∙ holds r z both.1
 
@@ -56,7 +56,7 @@ unknown z e = cc
 pub without_result : (known : List Held) (r : ℕ) (z : ℤ) → held (slice_set known 0 Unknown) r ≡ Constant z → (r ≢ 0) × (held known r ≡ Constant z)
 without_result known r z e = gone known 0 r Unknown z (unknown z) e
 
--- and of the register of another result
+-- nothing is known any more of a register with another result
 pub without_two : (known : List Held) (a r : ℕ) (h : Held) (z : ℤ) → (h ≡ Constant z → ⊥) → held (slice_set (slice_set known 0 Unknown) a h) r ≡ Constant z → ((r ≢ 0) × (r ≢ a)) × (held known r ≡ Constant z)
 without_two known a r h z never e =
     let last = gone (slice_set known 0 Unknown) a r h z never e in
@@ -77,12 +77,12 @@ without_four known a b d r h z never e =
 
 -- ---- other instructions
 
--- a register gets what is known of it
+-- a register gets a known value
 pub behind_put : (known : List Held) (registers new : List ℤ) (a : ℕ) (x y : ℤ) → a < length registers → x ≡ y → new ≡ slice_set registers a x → Holds known registers → Holds (slice_set known a (Constant y)) new
 behind_put known registers new a x y within same is holds =
     subst (λ (l : List ℤ). Holds (slice_set known a (Constant y)) l) (sym is) (holds_put known registers a (Constant y) x within (λ v e. cc (same, e)) holds)
 
--- a register gets what isn't known
+-- a register gets an unknown value
 pub behind_forget : (known : List Held) (registers new : List ℤ) (a : ℕ) (x : ℤ) → a < length registers → new ≡ slice_set registers a x → Holds known registers → Holds (slice_set known a Unknown) new
 behind_forget known registers new a x within is holds =
     subst (λ (l : List ℤ). Holds (slice_set known a Unknown) l) (sym is) (holds_put known registers a Unknown x within (λ v e. absurd (unknown v e)) holds)

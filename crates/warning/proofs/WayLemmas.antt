@@ -1,4 +1,4 @@
--- A way out is known of each place from which one is reached.
+-- If a process can reach a call that leaves a handler from a place, the way from this place is `Out`.
 use Rattle.std.proofs.Common.{◌≡◌, ◌≢◌, ◌+◌, ◌<◌, ℕ, zero, suc, Bool, true, false, ℤ, pos, List, Some, None, length, slice_get, subst, refl, sym, ⊎_elim, arith}
 use Rattle.std.proofs.lemmas.Bool.{cases_lt}
 use Rattle.std.proofs.lemmas.Option.{slice_get_past}
@@ -18,7 +18,7 @@ known_past program ways place none = record {
   follows = λ instr next is f n. absurd (cc (is, none));
 }
 
--- the way from the instruction there isn't out
+-- the way from the instruction there is not `Out`
 pub known_by : (program : List Instr) (ways : List Way) (place : ℕ) (instr : Instr) (way : Way) → slice_get program place ≡ Some instr → (leaves_by instr ≡ true → way ≡ Out) → ((next : ℕ) → Follows instr place next → way_at ways next ≡ Out → way ≡ Out) → way ≢ Out → IsKnownAt program ways place
 known_by program ways place instr way at leaves follows differs = record {
   leaves = λ i is l.
@@ -40,21 +40,21 @@ known_more program ways k below here p within = ⊎_elim
 pub known_all : (program : List Instr) (ways : List Way) → ((p : ℕ) → p < length program → IsKnownAt program ways p) → AreKnown program ways
 known_all program ways below p = ⊎_elim (λ less. below p less) (λ past. known_past program ways p (slice_get_past program p past)) (cases_lt p (length program))
 
--- ---- behind a place
+-- ---- after a place
 
 comes_out : (program : List Instr) (ways : List Way) → AreKnown program ways → (steps from to : ℕ) (instr : Instr) → Reached steps program from to → slice_get program to ≡ Some instr → leaves_by instr ≡ true → way_at ways from ≡ Out
 comes_out program ways known zero from to instr is at leaves = (known from).leaves instr (subst (λ (p : ℕ). slice_get program p ≡ Some instr) (sym is) at) leaves
 comes_out program ways known (suc steps) from to instr (next, (goes, rest)) at leaves =
     (known from).follows goes.instr next goes.is goes.follows (comes_out program ways known steps next to instr rest at leaves)
 
--- a place of which none is known
+-- a place whose way is `OffTheEnd`
 pub never_leaves : (program : List Instr) (ways : List Way) (from : ℕ) → AreKnown program ways → way_at ways from ≡ OffTheEnd → NeverLeaves program from
 never_leaves program ways from known off = λ steps to instr reached at. elim (leaves_by instr) as (λ (b : Bool). leaves_by instr ≡ b → b ≡ false) [
   | true ↦ λ leaves. absurd (cc (off, comes_out program ways known steps from to instr reached at leaves))
   | false ↦ λ never. refl
 ] refl
 
--- the same of the place of an address
+-- a code address whose place has the way `OffTheEnd`
 pub never_leaves_at : (program : List Instr) (ways : List Way) (address : ℤ) (from place : ℕ) → AreKnown program ways → address ≡ pos (from + 16) → way_at ways from ≡ OffTheEnd → address ≡ pos (place + 16) → NeverLeaves program place
 never_leaves_at program ways address from place known is off also =
     let both : from + 16 ≡ place + 16 = cc (is, also) in

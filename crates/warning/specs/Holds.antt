@@ -11,11 +11,11 @@ use Rattle.warning.specs.declared.held.Held.TheVariants.{Unknown, Constant}
 abbrev pub held : List Held → ℕ → Held
 held known r = slice_index_or known r Unknown
 
--- a register that is known as a constant holds it
+-- A register holds the constant that is known of it, if one is known.
 abbrev pub Holds : List Held → List ℤ → Type 0
 Holds known registers = (r : ℕ) (z : ℤ) → held known r ≡ Constant z → slice_index_or registers r (pos 0) ≡ z
 
--- the registers that a call keeps (docs/FORMATS.md, "Calls")
+-- the registers that a call does not change (docs/FORMATS.md, "Calls")
 abbrev pub Keeps : Call → ℕ → Type 0
 Keeps Waitpid r = (r ≢ 0) × (r ≢ 1)
 Keeps Waitid r = (r ≢ 0) × ((r ≢ 1) × (r ≢ 2))
@@ -24,11 +24,11 @@ Keeps Sigprocmask r = (r ≢ 0) × (r ≢ 2)
 Keeps Sigpending r = (r ≢ 0) × (r ≢ 1)
 Keeps call r = r ≢ 0
 
--- the registers behind a call: those that it keeps are the same
+-- After a call, the registers that it keeps have their old values.
 abbrev pub IsBehindCall : Call → List ℤ → List ℤ → Type 0
 IsBehindCall call old new = (r : ℕ) → Keeps call r → slice_index_or new r (pos 0) ≡ slice_index_or old r (pos 0)
 
--- the registers behind an instruction
+-- the registers after an instruction
 abbrev pub IsBehind : Instr → Cpu → List ℤ → Type 0
 IsBehind (Sys call) c new = IsBehindCall call c.registers new
 IsBehind instr c new = new ≡ (execute c instr).cpu.registers

@@ -1,11 +1,11 @@
--- What a warning tells of a program.
+-- What a warning says about a program.
 use Rattle.std.specs.Prelude.{◌≡◌, ℕ, ◌+◌, pos, List}
 use Rattle.posix.specs.declared.instr.Instr.{Instr}
 use Rattle.warning.specs.Ways.{NeverLeaves}
 use Rattle.warning.specs.declared.warnings.Warning.{Warning}
 use Rattle.warning.specs.declared.warnings.Warning.TheVariants.{NumberForSet, NoReturn, HandlerOfAnother, Exchanged}
 
--- a process comes from the handler to no call that leaves
+-- From the handler in a warning `NoReturn`, a process reaches no call that leaves a handler.
 abbrev pub Tells : List Instr → Warning → Type 0
 Tells program (NumberForSet call sig) = Unit {0}
 Tells program (NoReturn sig address) = (place : ℕ) → address ≡ pos (place + 16) → NeverLeaves program place

@@ -1,4 +1,4 @@
--- Where a process comes to from a place of its program, whatever its registers hold.
+-- What a process can reach from a place of its program, whatever its registers hold.
 use Rattle.std.specs.Prelude.{◌≡◌, ℕ, zero, suc, ◌+◌, ◌⊎◌, Bool, true, false, List, Some, slice_get, slice_index_or}
 use Rattle.posix.specs.declared.call.Call.{Call}
 use Rattle.posix.specs.declared.call.Call.TheVariants.{Sigreturn, Exit, Exec, Kill, Sigqueue, Pause, Sigsuspend}
@@ -7,7 +7,7 @@ use Rattle.posix.specs.declared.instr.Instr.TheVariants.{Set, Move, Compute, Loa
 use Rattle.warning.specs.declared.way.Way.{Way}
 use Rattle.warning.specs.declared.way.Way.TheVariants.{OffTheEnd, Out}
 
--- the calls that leave a handler, or may end their caller or let it wait for signals
+-- the calls that leave a handler, may terminate their caller, or wait for signals
 abbrev pub leaves : Call → Bool
 leaves Sigreturn = true
 leaves Exit = true
@@ -29,7 +29,7 @@ leaves_by (JumpIf condition a address) = false
 leaves_by (Note a) = false
 leaves_by (Sys call) = leaves call
 
--- the places at which a process may go on behind an instruction at a place
+-- the places at which a process may continue after an instruction at a place
 abbrev pub Follows : Instr → ℕ → ℕ → Type 0
 Follows (Set a z) place next = next ≡ place + 1
 Follows (Move a b) place next = next ≡ place + 1
@@ -46,12 +46,12 @@ pub record GoesOn (program : List Instr) (place next : ℕ) : Type 0 where
   pub is : slice_get program place ≡ Some instr
   pub follows : Follows instr place next
 
--- a place that is so many steps behind another one
+-- a place that a process can reach from another place in this many steps
 abbrev pub Reached : ℕ → List Instr → ℕ → ℕ → Type 0
 Reached zero program from to = from ≡ to
 Reached (suc steps) program from to = (next : ℕ) × (GoesOn program from next × Reached steps program next to)
 
--- from a place a process comes to no call that leaves
+-- From a place, a process reaches no call that leaves a handler.
 abbrev pub NeverLeaves : List Instr → ℕ → Type 0
 NeverLeaves program from = (steps to : ℕ) (instr : Instr) → Reached steps program from to → slice_get program to ≡ Some instr → leaves_by instr ≡ false
 
@@ -60,7 +60,7 @@ NeverLeaves program from = (steps to : ℕ) (instr : Instr) → Reached steps pr
 abbrev pub way_at : List Way → ℕ → Way
 way_at ways place = slice_index_or ways place OffTheEnd
 
--- the way out of a place is known where its instruction leaves, and where it is known of a place behind it
+-- The way from a place is `Out` if its instruction leaves, or if the way from a place that may follow is `Out`.
 pub record IsKnownAt (program : List Instr) (ways : List Way) (place : ℕ) : Type 0 where
   pub leaves : (instr : Instr) → slice_get program place ≡ Some instr → leaves_by instr ≡ true → way_at ways place ≡ Out
   pub follows : (instr : Instr) (next : ℕ) → slice_get program place ≡ Some instr → Follows instr place next → way_at ways next ≡ Out → way_at ways place ≡ Out

@@ -1,4 +1,4 @@
-//! What the registers of a process surely hold.
+//! What is known of the registers of a process.
 
 ghost use Rattle.std.specs.Prelude.{◌≡◌, ◌<◌, ℤ, IfSome, IsTrue, List, length, slice_set};
 ghost use Rattle.posix.specs.Common.{Cpu};
@@ -12,7 +12,7 @@ use posix::{Call, Instr, Register, SaFlags, Sig};
 use std::marker::Model;
 use wording::signal_in;
 
-/// What the eight registers surely hold before an instruction, where the process came there from the one before it.
+/// What is known of the eight registers before an instruction.
 #[derive(Drop)]
 pub struct Known {
     registers: [Held; 8],
@@ -29,7 +29,7 @@ impl Model for Known {
     ghost invariant = { λ k. length k.registers ≡ 8 };
 }
 
-/// Whether a word is flags of an action.
+/// Returns true if a word has only valid flags of sigaction.
 fn are_flags(word: i64) -> bool {
     u32::try_from(word)
         .ok()
@@ -38,7 +38,7 @@ fn are_flags(word: i64) -> bool {
 }
 
 impl Known {
-    /// Nothing is known of them.
+    /// Returns registers of which nothing is known.
     pub fn nothing() -> Known
         ensures { (registers : List ℤ) → Holds result registers }
     {
@@ -47,14 +47,14 @@ impl Known {
         }
     }
 
-    /// What a register surely holds.
+    /// Returns what is known of a register.
     pub fn held(&self, register: Register) -> Held
         ensures { result ≡ held self.now register }
     {
         self.registers[register.index()]
     }
 
-    /// The number that a register surely holds; none where it isn't known.
+    /// Returns the number in a register; `None` if it is unknown.
     pub fn constant(&self, register: Register) -> Option<i64>
         ensures { IfSome result (λ z. held self.now register ≡ Held.Constant z) }
     {
@@ -64,7 +64,8 @@ impl Known {
         }
     }
 
-    /// The signal whose action a sigaction tells or sets; none where it isn't known, or the call may be refused.
+    /// Returns the signal of a sigaction; `None` if it is unknown, if it is SIGKILL or SIGSTOP, or if the flags are
+    /// known to be invalid.
     pub fn signal(&self) -> Option<Sig> {
         let sig = signal_in(self.constant(Register::FIRST_ARGUMENT)?)?;
         let flags = self.constant(Register::FOURTH_ARGUMENT);
@@ -74,7 +75,7 @@ impl Known {
         Some(sig)
     }
 
-    /// What a sigaction puts into r2, as far as it is known.
+    /// Returns what is known of r2 after a sigaction.
     fn old_handler(&self) -> Held
         ensures { (z : ℤ) → result ≡ Held.Constant z → ⊥ }
     {
@@ -84,7 +85,7 @@ impl Known {
         }
     }
 
-    /// A register holds something else.
+    /// Sets what is known of a register.
     fn put(&mut self, register: Register, value: Held)
         ensures value { self.new ≡ slice_set self.old register value }
         ensures within { register < 8 }
@@ -92,7 +93,7 @@ impl Known {
         self.registers[register.index()] = value;
     }
 
-    /// Nothing is known of a register any more.
+    /// Forgets what is known of a register.
     fn forget(&mut self, register: Register)
         ensures value { self.new ≡ slice_set self.old register Held.Unknown }
         ensures within { register < 8 }
@@ -100,7 +101,7 @@ impl Known {
         self.put(register, Held::Unknown);
     }
 
-    /// A call is made.
+    /// Updates what is known for a call that returns.
     fn call(&mut self, call: Call)
         ensures { (old new : List ℤ) → IsBehindCall call old new → Holds self.old old → Holds self.new new }
     {
@@ -123,7 +124,7 @@ impl Known {
         }
     }
 
-    /// An instruction is run, and the process goes on at the next one.
+    /// Updates what is known for an instruction, after which the process continues at the next one.
     pub fn run(&mut self, instr: &Instr)
         ensures { (c : Cpu) (new : List ℤ) → length c.registers ≡ 8 → IsBehind instr.now c new → Holds self.old c.registers → Holds self.new new }
     {
@@ -135,7 +136,7 @@ impl Known {
             },
             Instr::Compute(_, to, _) => self.forget(to),
             Instr::Load(to, _) => self.forget(to),
-            // who looks at an old handler knows that it is there
+            // a program that prints an old handler uses it on purpose
             Instr::Note(shown) => {
                 if self.constant(shown).is_none() {
                     self.forget(shown);
@@ -147,7 +148,8 @@ impl Known {
         }
     }
 
-    /// A process comes to a place: nothing is known where a jump goes to, as it may come from there.
+    /// Updates what is known at a place. At the target of a jump, nothing is known, because the process may come from
+    /// that jump.
     pub fn come_to(&mut self, targets: &Targets, place: usize)
         ensures holds { (registers : List ℤ) → Holds self.old registers → Holds self.new registers }
         ensures nothing { IsTrue (told_of targets.now.are_targets.items place) → (registers : List ℤ) → Holds self.new registers }

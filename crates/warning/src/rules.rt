@@ -1,4 +1,4 @@
-//! The rules: what of an instruction is surely not meant, by what its registers surely hold.
+//! The rules for probable mistakes in an instruction, by what is known of the registers.
 
 ghost use Rattle.std.specs.Prelude.{◌≡◌, IfSome, IsTrue, None};
 ghost use Rattle.posix.specs.Common.{address_of, execute, faulted, Cpu, SEGV};
@@ -14,8 +14,8 @@ use posix::{Call, How, Instr, Register, Sig};
 use umach::Program;
 use wording::signal_in;
 
-/// The handler that a sigaction sets, and its signal; none where it isn't known to be one of the program's, or the call may
-/// be refused.
+/// Returns the signal of a sigaction, as [`Known::signal`] does, and its handler. `None` if one of them is unknown, or
+/// if the handler is at most 1: then it is SIG_DFL, SIG_IGN or no code address.
 fn handler(known: &Known) -> Option<(Sig, i64)> {
     let address = known.constant(Register::SECOND_ARGUMENT)?;
     if address > 1 {
@@ -25,14 +25,14 @@ fn handler(known: &Known) -> Option<(Sig, i64)> {
     }
 }
 
-/// Whether a sigprocmask with these registers may be obeyed.
+/// Returns true unless the operation of a sigprocmask is known to be invalid.
 fn has_how(known: &Known) -> bool {
     known
         .constant(Register::FIRST_ARGUMENT)
         .is_none_or(|how| How::from_word(how).is_some())
 }
 
-/// The set that a call takes; none where it isn't known, or the call takes none.
+/// Returns the signal set that a call uses; `None` if it is unknown, or the call uses none.
 fn set_of(known: &Known, call: Call) -> Option<i64> {
     match call {
         Call::Sigsuspend => known.constant(Register::FIRST_ARGUMENT),
@@ -42,8 +42,9 @@ fn set_of(known: &Known, call: Call) -> Option<i64> {
     }
 }
 
-/// The signal whose number a call takes for a set: as a set this one has SIGILL or SIGTRAP, and another signal, which
-/// nobody blocks together. 8, 16 and 24 are sets of these two alone, and 31 of the first five signals.
+/// Returns a warning if a call uses the number of a signal as a set. As a set, each of these numbers has SIGILL or
+/// SIGTRAP and another signal, which programs do not block together. 8, 16 and 24, the sets of only SIGILL and SIGTRAP,
+/// get no warning, and neither does 31, the set of the first five signals.
 pub fn number_for_set(known: &Known, call: Call) -> Option<Warning> {
     match set_of(known, call)? {
         number @ (9..=15 | 17..=23 | 25..=30) => {
@@ -53,7 +54,8 @@ pub fn number_for_set(known: &Known, call: Call) -> Option<Warning> {
     }
 }
 
-/// The handler that a sigaction sets, where a process runs off the end of the program from it.
+/// Returns a warning if the handler that a sigaction sets can run off the end of the program, and reaches no call that
+/// leaves it.
 pub fn no_return(known: &Known, call: Call, program: &Program, ways: &Ways) -> Option<Warning>
     ensures { IfSome result (Tells program.now.instructions) }
 {
@@ -64,7 +66,7 @@ pub fn no_return(known: &Known, call: Call, program: &Program, ways: &Ways) -> O
     }
 }
 
-/// The signals of two sigaction, where the second one sets the handler that the first one put into r2.
+/// Returns a warning if a sigaction sets the old handler of another signal, which the previous sigaction left in r2.
 pub fn handler_of_another(known: &Known, call: Call) -> Option<Warning> {
     match (call, known.held(Register::SECOND_ARGUMENT)) {
         (Call::Sigaction, Held::OldHandler(other)) => {
@@ -79,7 +81,7 @@ pub fn handler_of_another(known: &Known, call: Call) -> Option<Warning> {
     }
 }
 
-/// Whether a word is no address, and not right beside one.
+/// Returns true if a word is no address, and not next to one, as -1 and 256 are.
 #[tactic(auto, using(crate::proofs::HeldLemmas::outside))]
 fn is_outside(word: i64) -> bool
     ensures { IsTrue result → address_of word ≡ None }
@@ -87,7 +89,8 @@ fn is_outside(word: i64) -> bool
     word < -1 || 256 < word
 }
 
-/// A store at what is no address, and not right beside one, of a word that is the address of a word which the program uses.
+/// Returns a warning if a store writes to a word that is no address, and not next to one, and the stored word is an
+/// address that the program uses.
 #[tactic(auto, using(crate::proofs::HeldLemmas::faults))]
 pub fn exchanged(known: &Known, instr: &Instr, addresses: &Addresses) -> Option<Warning>
     ensures { IfSome result (λ warning. (c : Cpu) → Holds known.now c.registers → execute c instr.now ≡ faulted c SEGV) }

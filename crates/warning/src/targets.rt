@@ -1,4 +1,4 @@
-//! The places that jumps go to.
+//! The targets of jumps.
 
 ghost use Rattle.std.specs.Prelude.{◌≡◌, ◌<◌, ◌||◌, ℕ, IfOk, length};
 ghost use Rattle.warning.specs.Targets.{AreTold, jumps_to, told_of};
@@ -8,15 +8,15 @@ use std::alloc::{AllocError, Global};
 use umach::Program;
 use wording::place_of;
 
-/// The places of a program that its jumps go to.
+/// The places of a program that are targets of its jumps.
 #[derive(Drop)]
 pub struct Targets {
-    /// One for each place.
+    /// For each place, whether it is a target.
     are_targets: Vec<bool>,
 }
 
 impl Targets {
-    /// Those of a program.
+    /// Returns the targets of the jumps of a program.
     pub fn new(alloc: Global, program: &Program) -> Result<Targets, AllocError>
         ensures { IfOk result (λ targets. AreTold program.now.instructions program.now.instructions targets.are_targets.items) }
     {
@@ -45,7 +45,7 @@ impl Targets {
         }
     }
 
-    /// Whether a jump goes to a place.
+    /// Returns true if a place is the target of a jump.
     pub fn have(&self, place: usize) -> bool
         ensures { result ≡ told_of self.now.are_targets.items place }
     {

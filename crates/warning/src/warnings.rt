@@ -1,20 +1,21 @@
-//! Warnings, and how they are told.
+//! Warnings about probable mistakes, and their messages.
 
 ghost use Rattle.wording.specs.Proses.{Grows};
 
 use posix::{Call, Sig, SigSet};
 use wording::{Prose, Source, put_address, put_set, put_signal};
 
-/// What is lawful and surely not meant.
+/// A probable mistake in an accepted world.
 #[derive(Clone, Copy)]
 pub enum Warning {
-    /// The set that a call takes is the number of a signal.
+    /// A call uses the number of a signal as a set.
     NumberForSet(Call, Sig),
-    /// From this code address, the handler of a signal, a process runs off the end of its program.
+    /// The handler of a signal, at this code address, runs off the end of its program.
     NoReturn(Sig, i64),
-    /// The handler that is set for the first signal is the one that the second one had before.
+    /// A sigaction sets the handler of the first signal to the old handler of the second signal.
     HandlerOfAnother(Sig, Sig),
-    /// A word that is an address is stored at what is none, outside of the memory, by these registers.
+    /// A store has its registers exchanged: the first has a word that is an address, the second a word outside the
+    /// memory.
     Exchanged {
         registers: (usize, usize),
         word: i64,
@@ -22,47 +23,50 @@ pub enum Warning {
     },
 }
 
-/// Tells that the set which a call takes is the number of a signal.
+/// Writes that a call uses the number of a signal as a set.
 fn put_number_for_set(text: &mut Prose, call: Call, sig: Sig)
     ensures { Grows text.old.text text.new.text }
 {
     let number = i64::from(sig.number());
     text.push_bytes(call.name());
     text.push_str(match call {
-        Call::Sigaction => " takes a set as mask: ",
-        _ => " takes a set: ",
+        Call::Sigaction => " takes a signal set as its mask: ",
+        _ => " takes a signal set: ",
     });
     text.push_number(number);
     text.push_str(" is the number of ");
     put_signal(text, sig);
-    text.push_str(", and as a set ");
+    text.push_str(", and as a set it is ");
     put_set(text, SigSet::from_word(number));
-    text.push_with("; its set is ", SigSet::just(sig).word());
+    text.push_with(
+        "; for a set of only that signal, use ",
+        SigSet::just(sig).word(),
+    );
 }
 
-/// Tells that a handler has no sigreturn.
+/// Writes that a handler never reaches sigreturn.
 fn put_no_return(text: &mut Prose, source: &Source<'_>, sig: Sig, address: i64)
     ensures { Grows text.old.text text.new.text }
 {
-    text.push_str("from ");
+    text.push_str("handler ");
     put_address(text, Some(source), address);
-    text.push_str(", the handler of ");
+    text.push_str(" of ");
     put_signal(text, sig);
-    text.push_str(", a process comes to no sigreturn: it runs off the end of the program");
+    text.push_str(" never reaches sigreturn: it runs off the end of the program");
 }
 
-/// Tells that the handler which is set for a signal is the one that another had.
+/// Writes that a sigaction sets the old handler of another signal.
 fn put_handler_of_another(text: &mut Prose, sig: Sig, other: Sig)
     ensures { Grows text.old.text text.new.text }
 {
-    text.push_str("sigaction sets for ");
+    text.push_str("sigaction sets the handler of ");
     put_signal(text, sig);
-    text.push_str(" the old handler of ");
+    text.push_str(" to the old handler of ");
     put_signal(text, other);
-    text.push_str(", which the sigaction before put into r2");
+    text.push_str("; r2 still holds the result of the previous sigaction");
 }
 
-/// Writes a store of one register at the address in another, and what they hold.
+/// Writes a store of one register at the address in another, with the contents of both.
 fn put_store(text: &mut Prose, value: usize, address: usize, stored: i64, at: i64)
     ensures { Grows text.old.text text.new.text }
 {
@@ -73,7 +77,7 @@ fn put_store(text: &mut Prose, value: usize, address: usize, stored: i64, at: i6
 }
 
 impl Warning {
-    /// Tells it.
+    /// Writes the message.
     fn put(&self, text: &mut Prose, source: &Source<'_>)
         ensures { Grows text.old.text text.new.text }
     {
@@ -87,13 +91,13 @@ impl Warning {
                 outside,
             } => {
                 put_store(text, value, address, word, outside);
-                text.push_str(", which is no address; ");
+                text.push_str(", which is not an address (0 to 255); swap the registers: ");
                 put_store(text, address, value, outside, word);
             }
         }
     }
 
-    /// Tells it of the instruction at a place, in a line.
+    /// Writes a line with the message about the instruction at a place.
     pub fn put_line(&self, text: &mut Prose, source: &Source<'_>, place: usize)
         ensures { Grows text.old.text text.new.text }
     {

@@ -1,20 +1,21 @@
-//! Where a process may come to.
+//! What a process can reach.
 
 ghost use Rattle.std.specs.Prelude.{◌≡◌};
 
-/// Where a process may come to from a place of its program, whatever its registers hold. The greatest one counts.
+/// What a process can reach from a place of its program, whatever its registers hold. If it can reach several of these,
+/// the last one counts.
 #[derive(Clone, Copy, PartialEq, Eq)]
 pub enum Way {
-    /// It goes round for ever.
+    /// It loops forever.
     Round,
     /// It runs off the end of the program.
     OffTheEnd,
-    /// It comes to a call that leaves a handler, or may end its caller or let it wait for signals.
+    /// It reaches a call that leaves a handler, may terminate its caller, or waits for signals.
     Out,
 }
 
 impl Way {
-    /// The greater one of two.
+    /// Returns the one of two that counts.
     pub fn or(self, other: Way) -> Way
         ensures this { self ≡ Way.Out → result ≡ Way.Out }
         ensures other { other ≡ Way.Out → result ≡ Way.Out }

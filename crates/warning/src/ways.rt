@@ -1,4 +1,4 @@
-//! Where a process comes to from each place of a program.
+//! What a process can reach from each place of a program.
 
 ghost use Rattle.std.specs.Prelude.{◌≡◌, ◌+◌, ◌<◌, ℕ, IsTrue, pos, true};
 ghost use Rattle.warning.specs.Ways.{AreKnown, Follows, IsKnownAt, NeverLeaves, leaves as leaves_of, leaves_by, way_at};
@@ -15,7 +15,7 @@ pub struct Ways {
     ways: Vec<Way>,
 }
 
-/// Whether a call leaves a handler, or may end its caller or let it wait for signals.
+/// Returns true if a call leaves a handler, may terminate its caller, or waits for signals.
 fn leaves(call: Call) -> bool
     ensures { result ≡ leaves_of call }
 {
@@ -32,7 +32,7 @@ fn leaves(call: Call) -> bool
 }
 
 impl Ways {
-    /// The ways of a program.
+    /// Returns the ways from all places of a program.
     pub fn new(alloc: Global, program: &Program) -> Result<Ways, AllocError> {
         let mut ways = Ways {
             ways: vec![in alloc; Way::Round; program.len()]?,
@@ -45,14 +45,14 @@ impl Ways {
         Ok(ways)
     }
 
-    /// The way from a place.
+    /// Returns the way from a place; `OffTheEnd` if it is after the end of the program.
     fn at(&self, place: usize) -> Way
         ensures { result ≡ way_at self.now.ways.items place }
     {
         self.ways.get(place).copied().unwrap_or(Way::OffTheEnd)
     }
 
-    /// The way from a code address.
+    /// Returns the way from a code address.
     fn to(&self, address: u16) -> Way
         ensures { (next : ℕ) → address ≡ next + 16 → result ≡ way_at self.now.ways.items next }
     {
@@ -62,7 +62,7 @@ impl Ways {
         }
     }
 
-    /// The way from an instruction at a place, by those from the instructions behind it.
+    /// Returns the way from an instruction at a place, by the ways from the instructions that can follow it.
     fn from(&self, place: usize, instr: Instr) -> Way
         requires { place < 1000 }
         ensures leaves { leaves_by instr ≡ true → result ≡ Way.Out }
@@ -76,7 +76,7 @@ impl Ways {
         }
     }
 
-    /// Takes each instruction once, from the last one on; whether a way changed.
+    /// Updates the way from each place once, from the last place to the first. Returns true if a way changed.
     fn go_back(&mut self, program: &Program) -> bool {
         let mut is_changed = false;
         for place in (0..program.len()).rev() {
@@ -91,7 +91,7 @@ impl Ways {
         is_changed
     }
 
-    /// Whether no way out is missing at a place.
+    /// Returns true unless the way from a place has to be `Out` and is not.
     #[tactic(auto, using(crate::proofs::WayLemmas::known_out, crate::proofs::WayLemmas::known_past, crate::proofs::WayLemmas::known_by))]
     fn is_known(&self, program: &Program, place: usize) -> bool
         requires { place < 1000 }
@@ -106,7 +106,7 @@ impl Ways {
         }
     }
 
-    /// Whether no way out is missing.
+    /// Returns true unless a way has to be `Out` and is not.
     fn are_known(&self, program: &Program) -> bool
         ensures { IsTrue result → AreKnown program.now.instructions self.now.ways.items }
     {
@@ -118,8 +118,8 @@ impl Ways {
         true
     }
 
-    /// Whether a process that goes on at this code address of the program may come off its end, and comes to no call that
-    /// leaves a handler.
+    /// Returns true if a process that continues at this code address can run off the end of the program, and reaches no
+    /// call that leaves a handler.
     pub fn run_off(&self, program: &Program, address: i64) -> bool
         ensures { IsTrue result → (place : ℕ) → address ≡ pos (place + 16) → NeverLeaves program.now.instructions place }
     {

@@ -1,4 +1,4 @@
-//! The warnings of a world.
+//! The warnings about a world.
 
 ghost use Rattle.wording.specs.Proses.{Grows};
 
@@ -13,7 +13,7 @@ use std::alloc::{AllocError, Global};
 use umach::{Program, World};
 use wording::{Listing, Prose, Source};
 
-/// A program, as its world writes it, and what is known of all of it.
+/// A program, its source, and what is known of the whole program.
 #[derive(Drop)]
 struct View<'a, 't> {
     program: &'a Program,
@@ -23,7 +23,7 @@ struct View<'a, 't> {
 }
 
 impl View<'_, '_> {
-    /// Adds a line for a warning of the instruction at a place, if there is one.
+    /// Adds a line for a warning about the instruction at a place, if there is one.
     fn put(&self, text: &mut Prose, place: usize, warning: Option<Warning>)
         ensures { Grows text.old.text text.new.text }
     {
@@ -32,7 +32,7 @@ impl View<'_, '_> {
         }
     }
 
-    /// Adds the warnings of an instruction.
+    /// Adds the warnings about an instruction.
     fn put_instr(&self, text: &mut Prose, place: usize, known: &Known, instr: &Instr)
         ensures { Grows text.old.text text.new.text }
     {
@@ -49,7 +49,7 @@ impl View<'_, '_> {
     }
 }
 
-/// Adds the warnings of a program.
+/// Adds the warnings about a program.
 fn put_program(
     alloc: Global,
     program: &Program,
@@ -76,7 +76,7 @@ fn put_program(
     Ok(())
 }
 
-/// Adds a line for each warning of a world, in the order of its lines.
+/// Adds a line for each warning about a world, in the order of its lines.
 pub fn put_warnings(
     alloc: Global,
     world: &World,

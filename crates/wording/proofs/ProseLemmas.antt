@@ -4,7 +4,7 @@ use Rattle.std.specs.Prelude.{if◌then◌else◌}
 use Rattle.std.proofs.lemmas.Bool.{false≢true}
 use Rattle.wording.specs.Proses.{Adds, Grows, ProseView}
 
--- a piece, where there is memory for it
+-- a piece, if there is memory for it
 pub adds_if : (is_there : Bool) (piece : List ℕ) (old new : ProseView) → old.is_whole ≡ true → new.text ≡ (if is_there then old.text ++ piece else old.text)
     → new.is_whole ≡ is_there → Adds piece old new
 adds_if true piece old new before is now = (λ _. (before, is), (piece, is))

@@ -1,6 +1,6 @@
--- What stands behind counts.
+-- Plurals of counted nouns.
 use Rattle.std.specs.Prelude.{ℕ, ◌==◌, List, [], codes, if◌then◌else◌}
 
--- `s`, or nothing behind one
+-- the plural ending `s`; nothing for a count of 1
 abbrev pub plural : ℕ → List ℕ
 plural count = if count == 1 then [] else codes "s"

@@ -1,5 +1,5 @@
--- The table of names: signals (signal(7), x86), errors (errno(3), x86), wait options and ID types (waitid(2)), actions and flags (sigaction(2)), and
--- operations of sigprocmask(2).
+-- The table of names: signals (signal(7), x86), errors (errno(3), x86), wait options and ID types (waitid(2)), actions
+-- and flags (sigaction(2)), and operations of sigprocmask(2).
 use Rattle.std.specs.Prelude.{ℕ, ℤ, pos, ◌+◌, ◌-◌, ◌*◌, ◌==◌, ◌&&◌, nat_le, Bool, false, List, [], ◌∷◌, Option, None, Some, codes, drop, find, option_map, take, if◌then◌else◌}
 use Rattle.std.specs.Borrow.{Bor}
 use Rattle.std.specs.Char.{is_ascii_digit}

@@ -1,4 +1,4 @@
-//! Calls with their arguments, as the programs give them, and what they gave.
+//! Calls with their arguments, and the results of calls.
 
 ghost use Rattle.std.specs.Prelude.{◌≡◌, ◌+◌, ◌<ℤ◌, IfSome, None, pos};
 ghost use Rattle.posix.specs.Common.{asked};
@@ -15,7 +15,7 @@ use posix::{
 use std::fmt::Write;
 use umach::Cpu;
 
-/// What a process has in r1 to r4.
+/// The arguments of a call: r1 to r4.
 #[derive(Clone, Copy)]
 pub struct Arguments {
     first: i64,
@@ -25,7 +25,7 @@ pub struct Arguments {
 }
 
 impl Arguments {
-    /// What a process has in r1 to r4 now.
+    /// Returns the current arguments of a process.
     pub fn of(cpu: &Cpu) -> Arguments {
         Arguments {
             first: cpu.register(Register::FIRST_ARGUMENT),
@@ -35,7 +35,7 @@ impl Arguments {
         }
     }
 
-    /// What a wait with these arguments asks; nothing where it is refused.
+    /// Returns what a wait with these arguments asks for; `None` if they are invalid.
     pub fn asked(&self, call: WaitCall) -> Option<Asked>
         ensures { result ≡ asked call self.now.first self.now.second self.now.third }
     {
@@ -46,7 +46,8 @@ impl Arguments {
 /// The code address of the first instruction of a program.
 const FIRST_ADDRESS: i64 = 16;
 
-/// The place of the instruction with a code address, from 0 on; none for an address before the first.
+/// Returns the place of the instruction at a code address, from 0; `None` if the address is before the first
+/// instruction.
 pub fn place_of(address: i64) -> Option<usize>
     ensures place { IfSome result (λ place. address ≡ pos (place + 16)) }
     ensures none { result ≡ None → address <ℤ pos 16 }
@@ -54,8 +55,8 @@ pub fn place_of(address: i64) -> Option<usize>
     usize::try_from(address.checked_sub(FIRST_ADDRESS)?).ok()
 }
 
-/// Writes the label nearest before a place, and how far behind it the place is: `loop`, `loop+2`; nothing where no label
-/// stands before it. Whether one does.
+/// Writes `mark`, the last label at or before a place, and the distance of the place from it: `loop`, `loop+2`. Returns
+/// false, and writes nothing, if there is no such label.
 pub fn put_label(text: &mut Prose, source: Option<&Source<'_>>, place: usize, mark: &str) -> bool
     ensures { Grows text.old.text text.new.text }
 {
@@ -70,7 +71,7 @@ pub fn put_label(text: &mut Prose, source: Option<&Source<'_>>, place: usize, ma
     true
 }
 
-/// Writes where a process with this pc stands in its program: the line of the world, and the label before it.
+/// Writes where a process with this pc is in its program: the line of the world, and the last label at or before it.
 pub fn put_place(text: &mut Prose, source: Option<&Source<'_>>, pc: i64) {
     let (Some(place), Some(source)) = (place_of(pc), source) else {
         return text.push_with("at address ", pc);
@@ -84,7 +85,7 @@ pub fn put_place(text: &mut Prose, source: Option<&Source<'_>>, pc: i64) {
     }
 }
 
-/// Writes a code address by the label before it, `@ended`; as a number where there is none.
+/// Writes a code address by the last label at or before it, `@ended`; as a number if there is none.
 pub fn put_address(text: &mut Prose, source: Option<&Source<'_>>, address: i64)
     ensures { Grows text.old.text text.new.text }
 {
@@ -96,7 +97,7 @@ pub fn put_address(text: &mut Prose, source: Option<&Source<'_>>, address: i64)
     text.push_number(address);
 }
 
-/// Writes the program that a word names.
+/// Writes the name of the program with this number; the number if there is no such program.
 fn put_program(text: &mut Prose, listing: &Listing<'_>, word: i64) {
     let number = usize::try_from(word).ok();
     match number.and_then(|number| listing.program(number)) {
@@ -105,7 +106,7 @@ fn put_program(text: &mut Prose, listing: &Listing<'_>, word: i64) {
     }
 }
 
-/// What a word in a register is for a call.
+/// What an argument of a call means.
 #[derive(Clone, Copy)]
 enum Argument {
     Number,
@@ -120,7 +121,7 @@ enum Argument {
     Program,
 }
 
-/// What the words in the registers are for a call, from r1 on: for a sigaction that sets nothing no mask and no flags.
+/// Returns what the arguments of a call mean, from r1. A sigaction that sets nothing has no mask and no flags.
 fn arguments_of(call: Call, with: Arguments) -> &'static [Argument] {
     match call {
         Call::Fork
@@ -170,7 +171,7 @@ fn arguments_of(call: Call, with: Arguments) -> &'static [Argument] {
     }
 }
 
-/// Writes a word in a register as what it is for a call.
+/// Writes an argument, by what it means.
 fn put_argument(
     text: &mut Prose,
     kind: Argument,
@@ -232,7 +233,7 @@ pub fn put_result(text: &mut Prose, value: i64) {
     }
 }
 
-/// Writes a byte as a text in C has it: as a letter, or `\n`, or `\x1b`.
+/// Writes a byte as a string literal in C has it: as a character, or as an escape such as `\n` or `\x1b`.
 pub fn put_byte(text: &mut Prose, byte: u8) {
     match byte {
         b'\n' => text.push_str("\\n"),
@@ -247,7 +248,7 @@ pub fn put_byte(text: &mut Prose, byte: u8) {
     }
 }
 
-/// Writes bytes between quotation marks, as a text in C has them.
+/// Writes bytes between quotation marks, as a string literal in C has them.
 pub fn put_quoted(text: &mut Prose, bytes: &[u8]) {
     text.push_str("\"");
     for byte in bytes {
@@ -256,14 +257,14 @@ pub fn put_quoted(text: &mut Prose, bytes: &[u8]) {
     text.push_str("\"");
 }
 
-/// Writes the bytes that a read or a write moved.
+/// Writes the result of a read or a write that moved bytes: their number, and the bytes.
 pub fn put_moved(text: &mut Prose, bytes: &Bytes) {
     text.push_with(" = ", bytes.as_slice().len());
     text.push_str(" ");
     put_quoted(text, bytes.as_slice());
 }
 
-/// Writes the child of which a wait took the report, and its status.
+/// Writes the child whose status change a wait consumed, and its wait status.
 pub fn put_report(text: &mut Prose, call: WaitCall, child: u32, status: Status) {
     let (before, behind) = match call {
         WaitCall::Waitpid => (" = ", ", "),
@@ -274,7 +275,7 @@ pub fn put_report(text: &mut Prose, call: WaitCall, child: u32, status: Status) 
     put_status(text, status);
 }
 
-/// Writes the child that a wait looked at, and its status.
+/// Writes the child whose status change a wait reported and left, with WNOWAIT, and its wait status.
 pub fn put_look(text: &mut Prose, child: u32, status: Status) {
     text.push_with(" = look ", child);
     text.push_str(" ");

@@ -1,5 +1,5 @@
-//! What a world and its machine are told by: names of signals, sets, errors, statuses and options, calls with their
-//! arguments, the lines and labels of a world's text, and the text that is written; and the name that a word is near to.
+//! The words of reports and messages: names of signals, sets, errors, statuses and options, calls with their arguments,
+//! and the lines and labels of a world. Also the text that they are written to, and the known name closest to a word.
 //!
 //! A `Prose` has exactly the pieces added (`Adds`), or `finish` fails: it records its own failure, because a call with
 //! `?` costs three times as much to prove as one that returns nothing. `place_of` returns the instruction of a code

@@ -7,12 +7,12 @@ use text::{Lines, is_separator, split_comment};
 /// An instruction as its world writes it.
 #[derive(Clone, Copy)]
 pub struct Written<'t> {
-    /// The number of its line, from 1 on.
+    /// The number of its line, from 1.
     pub line: u64,
     pub text: &'t str,
 }
 
-/// A label, and the place of the instruction behind it.
+/// A label, and the place of the instruction after it.
 #[derive(Clone, Copy)]
 pub struct Label<'t> {
     pub name: &'t str,
@@ -23,9 +23,9 @@ pub struct Label<'t> {
 #[derive(Drop)]
 pub struct Source<'t> {
     pub name: &'t str,
-    /// One for each instruction.
+    /// The instructions, in their order.
     instructions: Vec<Written<'t>>,
-    /// In the order of their places.
+    /// The labels, in the order of their places.
     labels: Vec<Label<'t>>,
 }
 
@@ -35,13 +35,13 @@ pub struct Listing<'t> {
     programs: Vec<Source<'t>>,
 }
 
-/// What stands in a line before its comment, without the blanks around it.
+/// Returns a line without its comment and without the whitespace around it; an empty text if it is not UTF-8.
 fn code_of(line: &[u8]) -> &str {
     let (code, _) = split_comment(line);
     str::from_utf8(code).unwrap_or("").trim()
 }
 
-/// The words of a line: the first, and the second.
+/// Returns the first and the second word of a line; an empty text for a missing word.
 fn first_words(code: &str) -> (&str, &str) {
     let mut words = code
         .split(|c| u8::try_from(c).is_ok_and(|b| is_separator(b)))
@@ -51,7 +51,7 @@ fn first_words(code: &str) -> (&str, &str) {
 }
 
 impl<'t> Source<'t> {
-    /// A program of which no line has come.
+    /// Returns a program without instructions and labels.
     fn new(alloc: Global, name: &'t str) -> Source<'t> {
         Source {
             name,
@@ -60,18 +60,18 @@ impl<'t> Source<'t> {
         }
     }
 
-    /// The instruction at a place, from 0 on; none where there is none.
+    /// Returns the instruction at a place, from 0; `None` if there is none.
     pub fn at(&self, place: usize) -> Option<Written<'t>> {
         self.instructions.get(place).copied()
     }
 
-    /// The label that stands nearest before the instruction at a place, or right before it.
+    /// Returns the last label at or before the instruction at a place.
     pub fn label_of(&self, place: usize) -> Option<Label<'t>> {
         let before = self.labels.iter().filter(|label| label.place <= place);
         before.last().copied()
     }
 
-    /// Takes one of its lines, in their order.
+    /// Adds the next of its lines.
     fn take(&mut self, line: u64, code: &'t str) -> Result<(), AllocError> {
         let (first, _) = first_words(code);
         let place = self.instructions.len();
@@ -85,7 +85,7 @@ impl<'t> Source<'t> {
 }
 
 impl<'t> Listing<'t> {
-    /// The programs of a world text.
+    /// Returns the programs of a world text.
     pub fn new(alloc: Global, text: &'t [u8]) -> Result<Listing<'t>, AllocError> {
         let mut listing = Listing {
             programs: Vec::new(alloc),
@@ -107,7 +107,7 @@ impl<'t> Listing<'t> {
         Ok(listing)
     }
 
-    /// Takes a line of its last program.
+    /// Adds a line to the last program.
     fn take(&mut self, line: u64, code: &'t str) -> Result<(), AllocError> {
         match self.programs.last_mut() {
             Some(source) => source.take(line, code),
@@ -115,7 +115,7 @@ impl<'t> Listing<'t> {
         }
     }
 
-    /// The program with a number, from 0 on; none where there is none.
+    /// Returns the program with a number, from 0; `None` if there is none.
     pub fn program(&self, number: usize) -> Option<&Source<'t>> {
         self.programs.get(number)
     }

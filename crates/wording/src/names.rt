@@ -9,10 +9,10 @@ use crate::table::{Kind, SIGRTMIN, name_of};
 use bitflags::Flags;
 use posix::{Pid, Sig, SigSet, Status};
 
-/// So many signals there are.
+/// The number of signals.
 const SIGNAL_COUNT: usize = 62;
 
-/// Writes the name of a number of a kind; the number where it has none.
+/// Writes the name of a number of a kind; the number if it has no name.
 pub fn put_name(text: &mut Prose, kind: Kind, number: i64)
     ensures { Grows text.old.text text.new.text }
 {
@@ -32,7 +32,7 @@ pub fn put_signal(text: &mut Prose, sig: Sig)
     }
 }
 
-/// The signal of a word; none where the word is none.
+/// Returns the signal with this number; `None` if there is none.
 pub fn signal_in(word: i64) -> Option<Sig>
     ensures signal { result ≡ signal_number_in word }
     ensures word { IfSome result (λ sig. word ≡ pos sig) }
@@ -40,7 +40,7 @@ pub fn signal_in(word: i64) -> Option<Sig>
     Sig::new(u8::try_from(word).ok()?)
 }
 
-/// The process with a number; none where no process can have it.
+/// Returns the process ID with this number; `None` if no process can have it.
 pub fn process_in(number: i128) -> Option<Pid>
     ensures some { IfSome result (λ pid. (number ≡ pos pid) × (0 < pid)) }
     ensures none { result ≡ None → (number ≤ℤ pos 0) ⊎ (pos 2147483647 <ℤ number) }
@@ -49,7 +49,7 @@ pub fn process_in(number: i128) -> Option<Pid>
     Some(pid).filter(|pid| *pid != Pid::NONE)
 }
 
-/// Writes the name of the signal that a word is, or the word.
+/// Writes the name of the signal with this number; the number if there is none.
 pub fn put_signal_word(text: &mut Prose, word: i64) {
     match signal_in(word) {
         Some(sig) => put_signal(text, sig),
@@ -57,7 +57,7 @@ pub fn put_signal_word(text: &mut Prose, word: i64) {
     }
 }
 
-/// Writes the signals that are in a set, or that aren't, with blanks between them.
+/// Writes the signals that are in a set, or those that are not in it, with spaces between them.
 fn put_signals(text: &mut Prose, set: SigSet, is_in: bool)
     ensures { Grows text.old.text text.new.text }
 {
@@ -72,13 +72,14 @@ fn put_signals(text: &mut Prose, set: SigSet, is_in: bool)
     }
 }
 
-/// How many signals are in a set.
+/// Returns the number of signals in a set.
 fn count_of(set: SigSet) -> usize {
     let signals = (1..65u8).filter_map(Sig::new);
     signals.filter(|sig| set.contains(*sig)).count()
 }
 
-/// Writes a set of signals: `{SIGINT SIGCHLD}`, or `~{SIGKILL SIGSTOP}` for all but these, where most are in it.
+/// Writes a set of signals: `{SIGINT SIGCHLD}`; or `~{SIGKILL SIGSTOP}`, all but these, if it has more than half of
+/// all.
 pub fn put_set(text: &mut Prose, set: SigSet)
     ensures { Grows text.old.text text.new.text }
 {
@@ -88,7 +89,7 @@ pub fn put_set(text: &mut Prose, set: SigSet)
     text.push_str("}");
 }
 
-/// Writes a set of signals, and `-` for none.
+/// Writes a set of signals; `-` for the empty set.
 pub fn put_set_or_none(text: &mut Prose, set: SigSet) {
     if count_of(set) == 0 {
         text.push_str("-");
@@ -97,7 +98,7 @@ pub fn put_set_or_none(text: &mut Prose, set: SigSet) {
     }
 }
 
-/// Writes what a status word says of a process.
+/// Writes a wait status: `exit 1`, `killed by SIGTERM`, `stopped by SIGTSTP` or `continued`.
 pub fn put_status(text: &mut Prose, status: Status) {
     let word = status.word();
     let (low, high) = (word % 256, word / 256);
@@ -129,7 +130,7 @@ pub fn put_flags<F: Flags>(text: &mut Prose, flags: &F) {
     }
 }
 
-/// Writes the names of the flags that a word is; the word where it is none.
+/// Writes the names of the flags of a word; the word if it is not a combination of flags.
 pub fn put_flags_or<F: Flags>(text: &mut Prose, flags: Option<F>, word: i64) {
     match flags {
         Some(flags) => put_flags(text, &flags),

@@ -1,4 +1,4 @@
-//! Which name is meant by a word that is none.
+//! The known name closest to an unknown word.
 
 ghost use Rattle.std.specs.Iterator.{IsFinite};
 
@@ -7,7 +7,7 @@ use std::alloc::{AllocError, Global};
 use std::str;
 use strsim::osa_distance;
 
-/// So many letters may be wrong: two, or a third of the letters; one in a word of three.
+/// Returns how many letters of a word may be wrong: one of up to three bytes, two of up to eight, a third of more.
 fn limit_of(word: &str) -> usize {
     match word.len() {
         0..=3 => 1,
@@ -16,8 +16,8 @@ fn limit_of(word: &str) -> usize {
     }
 }
 
-/// How many letters are left out, put in, replaced, or exchanged with their neighbour, between a word and a name that it is
-/// near to; none where it isn't near, or one of them isn't UTF-8.
+/// Returns how many letters are left out, inserted, replaced, or exchanged with their neighbour between a word and a
+/// name. `None` if these are too many, or if the word or the name is not UTF-8.
 pub fn distance(alloc: Global, word: &[u8], name: &[u8]) -> Result<Option<usize>, AllocError> {
     let (Ok(word), Ok(name)) = (str::from_utf8(word), str::from_utf8(name)) else {
         return Ok(None);
@@ -30,7 +30,8 @@ pub fn distance(alloc: Global, word: &[u8], name: &[u8]) -> Result<Option<usize>
     Ok(Some(distance).filter(|distance| *distance <= limit))
 }
 
-/// The one of some names that is nearest to a word, if one is near; of several the first with the word's first letter.
+/// Returns the name closest to a word, if one is close. Of equally close names, those with the first letter of the word
+/// are preferred, and of these, the first.
 pub fn nearest_name<'n, I: Iterator<Item = &'n [u8]> + Drop>(
     alloc: Global,
     word: &[u8],
@@ -55,23 +56,23 @@ pub fn nearest_name<'n, I: Iterator<Item = &'n [u8]> + Drop>(
     Ok(found)
 }
 
-/// The name that is a word behind these letters.
+/// Returns the name that consists of these letters and a word.
 fn name_behind(letters: &[u8], word: &[u8]) -> Option<&'static [u8]> {
     let mut names = NAMES.iter().map(|(_, name, _)| name.as_bytes());
     names.find(|name| name.strip_prefix(letters) == Some(word))
 }
 
-/// The letters that names of one kind begin with.
+/// The prefixes of names, by kind.
 const BEGINNINGS: [&str; 6] = ["SIG", "SIG_", "SA_", "W", "E", "P_"];
 
-/// The name of which a word lacks the letters at the front.
+/// Returns the name that a word becomes with one of the prefixes.
 fn name_without_beginning(word: &[u8]) -> Option<&'static [u8]> {
     BEGINNINGS
         .iter()
         .find_map(|letters| name_behind(letters.as_bytes(), word))
 }
 
-/// The name that is meant by a word that is none; none is where the word isn't UTF-8.
+/// Returns the name that an unknown word probably stands for; `None` if no name is close.
 pub fn meant(alloc: Global, word: &[u8]) -> Result<Option<&'static [u8]>, AllocError> {
     if let Some(name) = name_without_beginning(word) {
         return Ok(Some(name));

@@ -8,8 +8,8 @@ use std::alloc::{AllocError, Global};
 use std::fmt;
 use std::marker::Model;
 
-/// A text that grows piece by piece, of words and of bytes that a user wrote. Once there is no memory for a piece it takes no
-/// other, and isn't given out.
+/// A text that grows piece by piece, from words of the program and bytes that a user wrote. Once there is no memory for
+/// a piece, it accepts no other piece, and its bytes cannot be read.
 #[derive(Drop)]
 pub struct Prose {
     alloc: Global,
@@ -26,7 +26,7 @@ impl Model for Prose {
 }
 
 impl Prose {
-    /// The empty text.
+    /// Returns the empty text.
     pub fn new(alloc: Global) -> Prose
         ensures { result ≡ record { text = []; is_whole = true } }
     {
@@ -37,7 +37,7 @@ impl Prose {
         }
     }
 
-    /// What its memory is of.
+    /// Returns its allocator.
     pub fn alloc(&self) -> Global {
         self.alloc
     }
@@ -99,14 +99,15 @@ impl Prose {
         self.push_number(number);
     }
 
-    /// Adds a byte so often that there are so many bytes, if there are fewer.
+    /// Adds copies of a byte until the text has `len` bytes; nothing if it is already as long.
     pub fn pad_to(&mut self, len: usize, byte: u8) {
         if self.is_whole && self.text.len() < len {
             self.is_whole = self.text.resize(len, byte).is_ok();
         }
     }
 
-    /// What was looked for, to be told here. Where there was no memory to find it this text isn't given out.
+    /// Returns the result of a search for something to write. If there was no memory for the search, the text is
+    /// incomplete, and its bytes cannot be read.
     pub fn found<'n>(&mut self, what: Result<Option<&'n [u8]>, AllocError>) -> Option<&'n [u8]>
         ensures state { self.new ≡ record self.old { is_whole = is_ok what.entry && self.old.is_whole } }
         ensures given { MatchResult what.entry (λ known. option_map (λ name. name.now) result ≡ option_map (λ name. name.now) known) (λ e. result ≡ None) }
@@ -120,7 +121,7 @@ impl Prose {
         }
     }
 
-    /// Adds which name is meant, if one is near.
+    /// Adds the question whether a close name is intended, if there is such a name.
     pub fn push_meant(&mut self, near: Result<Option<&[u8]>, AllocError>)
         ensures grows { Grows self.old.text self.new.text }
         ensures meant { MatchResult near.entry (λ name. Adds (meant (option_map (λ n. n.now) name)) self.old self.new) (λ e. self.new ≡ record self.old { is_whole = false }) }
@@ -130,21 +131,21 @@ impl Prose {
         }
     }
 
-    /// How many bytes it has.
+    /// Returns the number of its bytes.
     pub fn len(&self) -> usize
         ensures { result ≡ length self.now.text }
     {
         self.text.len()
     }
 
-    /// Takes all pieces away. What lacks a piece is given out neither then.
+    /// Removes all pieces. A text that lacked a piece remains incomplete.
     pub fn clear(&mut self)
         ensures { self.new ≡ record self.old { text = [] } }
     {
         self.text.clear();
     }
 
-    /// Its bytes; an error where there was no memory for a piece.
+    /// Returns its bytes. Fails if there was no memory for a piece.
     pub fn as_bytes(&self) -> Result<&[u8], AllocError>
         ensures whole { is_ok result ≡ self.now.is_whole }
         ensures text { IfOk result (λ bytes. bytes.now ≡ self.now.text) }
@@ -156,7 +157,7 @@ impl Prose {
         }
     }
 
-    /// Its bytes, at its end; an error where there was no memory for a piece.
+    /// Returns its bytes, and ends it. Fails if there was no memory for a piece.
     pub fn finish(self) -> Result<Vec<u8>, AllocError>
         ensures whole { is_ok result ≡ self.is_whole }
         ensures text { IfOk result (λ bytes. bytes.items ≡ self.text) }

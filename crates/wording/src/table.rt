@@ -1,25 +1,25 @@
-//! The names of numbers.
+//! The table of names and their numbers.
 
 ghost use Rattle.std.specs.Prelude.{◌≡◌, map, option_map};
 ghost use Rattle.wording.specs.Names.{called_among as first_called, is_called as is_called_of, named_among as first_named, named_as, number_named as number_named_of, realtime as realtime_of, said, up_to_30 as small_number, without_sig as without_sig_of};
 
-/// What a name is one of.
+/// The kind of a name.
 #[derive(Clone, Copy, PartialEq, Eq)]
 pub enum Kind {
     Signal,
     Errno,
     /// An option of waitpid or waitid.
     WaitOption,
-    /// Which children waitid is for.
+    /// An ID type of waitid, which selects children.
     Children,
     Handler,
-    /// A flag of an action.
+    /// A flag of sigaction.
     Flag,
-    /// What sigprocmask does with its set.
+    /// An operation of sigprocmask.
     How,
 }
 
-/// The names of numbers, by kind. Of several names of one number the first is the one that is shown.
+/// The names, by kind. If a number has several names, reports show the first.
 pub static NAMES: [(Kind, &str, i64); 66] = [
     // signal(7), x86
     (Kind::Signal, "SIGHUP", 1),
@@ -97,7 +97,7 @@ pub static NAMES: [(Kind, &str, i64); 66] = [
 /// The first real-time signal.
 pub const SIGRTMIN: u8 = 34;
 
-/// The kind and the number that a name is of; none where a word is no name in the table.
+/// Returns the kind and the number of a name; `None` if the word is not in the table.
 pub fn named(word: &[u8]) -> Option<(Kind, i64)>
     ensures { result ≡ named_as word.now }
 {
@@ -116,7 +116,7 @@ fn named_among(entries: &[(Kind, &str, i64)], word: &[u8]) -> Option<(Kind, i64)
     None
 }
 
-/// The name that is shown for a number of a kind; none where it has none.
+/// Returns the name that reports show for a number of a kind; `None` if it has no name.
 pub fn name_of(kind: Kind, number: i64) -> Option<&'static str> {
     let (_, name, _) = NAMES
         .iter()

@@ -34,7 +34,7 @@ returns-clause-entries g c = λ me e.
     let shown = ap (λ n. cond (n == 1) (Ended n status ∷ Halted ∷ []) (Ended n status ∷ [])) (sym named) ∙ sym (end_entries s me status (me.pid == 1) refl) in
     c.show_end.ensures ∙ ap (λ (l : List Entry). c.args.entries.now.items ++ l) shown
 
--- what the three calls read, where the terminal was hung up first and then the heir was found
+-- what the three calls read, if the terminal was hung up first and then the new parent was found
 read : (hung found : State) (me : Process) (p heir status before mid walked after hangup : ℕ) → me.pid ≡ p → found ≡ hung → heir ≡ heir_in hung.processes p → mid ≤ before + (1 + hangup) → walked ≤ mid + slots_of_heir hung.processes p → after ≤ walked + slots_of_ending found p heir status
     → after ≤ before + (1 + hangup + slots_of_heir hung.processes me.pid + slots_of_ending hung me.pid (heir_in hung.processes me.pid) status)
 read hung found me p heir status before mid walked after hangup named same is a b c =

@@ -5,7 +5,7 @@ use Rattle.schedules.specs.Families.{RisesFrom}
 use Rattle.schedules.specs.Schedules.{from_front}
 use Rattle.counting.proofs.placing.push_run.Given as goal
 
--- the events before the one with index done and what is put in at the first spots are there, and the others are to come
+-- The events before index done, and the insertions at the first spots, are in the list; the others follow.
 abbrev pub invariant-loop-spot : goal.invariant-loop-spot
 invariant-loop-spot l = record {
   rising : (high : ℕ) → RisesFrom (length l.loose) l.start high l.spots → RisesFrom (length l.loose) l.done high l.rest;

@@ -4,7 +4,7 @@ use Rattle.schedules.specs.Families.{RisesFrom}
 use Rattle.schedules.specs.Schedules.{from_front, scheduled}
 use Rattle.counting.proofs.placing.scheduled.Given as goal
 
--- the events of the runs before this one and what is put in before them are there, and the others are to come
+-- The events of the runs before this one, and the insertions before them, are in the list; the others follow.
 abbrev pub invariant-loop-run : goal.invariant-loop-run
 invariant-loop-run l = record {
   at : l.start ≡ length (expanded (take l.run-index l.run-items));

@@ -5,7 +5,7 @@ use Rattle.pidset.specs.Indexes.{is_pair_in, is_turned}
 use Rattle.jobs.specs.Indexes.{child_key}
 use Rattle.jobs.proofs.anchors.update_anchors_of_children.Given as goal
 
--- all but those that are left stand as they are to
+-- all processes except the children that are left have the keys that they should have
 abbrev pub invariant-loop-next : goal.invariant-loop-next
 invariant-loop-next g l =
     let rs = g.K.ProcessTable.contents l.fn.table in

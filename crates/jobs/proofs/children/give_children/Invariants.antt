@@ -5,7 +5,8 @@ use Rattle.pidset.specs.Indexes.{is_pair_in, is_turned}
 use Rattle.jobs.specs.Indexes.{child_key}
 use Rattle.jobs.proofs.children.give_children.Given as goal
 
--- the children that were passed have their new parent, and all but those that are left stand as they are to
+-- the children done have their new parent; all processes except the children that are left have the keys that they
+-- should have
 abbrev pub invariant-loop-next : goal.invariant-loop-next
 invariant-loop-next g l =
     let rs = g.K.ProcessTable.contents l.fn.table in

@@ -4,7 +4,7 @@ use Rattle.life.specs.Machines.{MachineView}
 use Rattle.calls.specs.Counts.{slots_of_rechecks}
 use Rattle.kernel.proofs.settle.give_places.Given as goal
 
--- the same places are left to give
+-- the same processes are left to enter the run queue
 pub record IsGiving (old now : MachineView) (last : Option ℕ) : Type 0 where
   pub places : give_places now.state ≡ give_places old.state
   pub foregrounds_unchecked : now.foregrounds_unchecked ≡ old.foregrounds_unchecked

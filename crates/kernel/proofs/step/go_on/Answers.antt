@@ -12,7 +12,8 @@ use Rattle.posix.proofs.ConsoleLemmas.{regular_signalled_group}
 use Rattle.laws.proofs.AgainLemmas.{again_begins_again}
 use Rattle.kernel.proofs.step.go_on.Goals as goal
 
--- a call that is taken up and begins again signals a process group, and changes nothing else: who has a place is there then
+-- a call that is attempted again and restarts signals a process group, and changes nothing else: a process in the run
+-- queue then exists
 placed_again : (s t : State) (p : ℕ) (me : Process) (b : Blocked) → IsRegular s → is_in p s.order ≡ true → attempt_again s me b ≡ Again t → IsPlaced t.processes p
 placed_again s t p me b i place e = elim (again_begins_again s me b t e).1 [
   | inl reads ↦ subst (λ (x : State). IsPlaced x.processes p) (sym reads) ((regular_signalled_group TTIN me.group s i).placed p place)

@@ -11,7 +11,7 @@ use Rattle.kernel.proofs.step.tick.Goals as goal
 pub go_last-requires : goal.go_last-requires
 go_last-requires g c = first_in c.in-Some.pid c.pass_time.new.self.state.order (sym c.current.ensures ∙ c.in-Some.is)
 
--- what was read by then, and what rechecking those reads for whom a signal is chosen
+-- what was read by then, and what rechecking reads for processes with a chosen signal
 time_reads : (k : ℕ) (old mid : MachineView) → mid.foregrounds_unchecked ≡ Nothing → AreTaking mid.state.processes mid.to_recheck × (length mid.to_recheck ≤ k) → mid.visits ≤ old.visits + k → ReadsAtMost (2 * k) old mid
 time_reads k old mid checked taking read =
     settling_rechecks (2 * k) (length mid.to_recheck) old mid checked (rechecks_taking mid.state.processes None mid.to_recheck taking.0) (let few = taking.1 in omega (arith, few, read))

@@ -1,7 +1,7 @@
 use Rattle.std.proofs.Common.{◌≡◌}
 use Rattle.merging.proofs.digest.with_processes.Given as goal
 
--- nothing changed
+-- Nothing changed.
 abbrev pub invariant-loop : goal.invariant-loop
 invariant-loop l = record {
   state : l.kernel.state ≡ l.fn.kernel.state;

@@ -3,7 +3,7 @@ use Rattle.std.specs.List.{All}
 use Rattle.merging.specs.Merging.{IsNode, counted_all, texts_of}
 use Rattle.merging.proofs.merging.count_all.Given as goal
 
--- these nodes are left, and with them the book tells of all
+-- These nodes are left, and with them the book counts all.
 abbrev pub invariant-loop-node : goal.invariant-loop-node
 invariant-loop-node l =
     let s = l.search in

@@ -2,7 +2,7 @@ use Rattle.std.proofs.Common.{◌≡◌}
 use Rattle.merging.specs.Merging.{AreRows, Property, nodes_tally, rows_tally}
 use Rattle.merging.proofs.merging.reach.Given as goal
 
--- the nodes at this place tell what the first did
+-- The tally of the nodes at this place is that of the first nodes.
 abbrev pub invariant-loop-place : goal.invariant-loop-place
 invariant-loop-place g l =
     let s = l.search in

@@ -3,7 +3,7 @@ use Rattle.std.specs.List.{All}
 use Rattle.merging.specs.Merging.{AreRows, IsNode, Property, rows_tally, tally_of_all}
 use Rattle.merging.proofs.rows.all_behind.Given as goal
 
--- this row, those with more spots and those behind the event tell what all rows did
+-- The tally of this row, of those with more spots, and of those after the event is that of all rows before.
 abbrev pub invariant-loop-spots : goal.invariant-loop-spots
 invariant-loop-spots l =
     let s = l.search in

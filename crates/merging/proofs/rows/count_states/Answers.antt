@@ -1,4 +1,4 @@
-use Rattle.std.proofs.Common.{◌<◌, ◌≤◌, ◌+◌, arith, length}
+use Rattle.std.proofs.Common.{◌≡◌, ◌-◌, ◌^◌, ◌<◌, ◌≤◌, ◌+◌, arith, length, min}
 use Rattle.merging.proofs.RowLemmas.{count_all, count_more}
 use Rattle.merging.proofs.rows.count_states.Goals as goal
 
@@ -8,7 +8,7 @@ loop-index-preserved c =
     let l = c.loop-index in
     let row = c.in-Some.row.now in
     let within : l.index < length rows.items = omega (arith, c.loop-index-test.true, c.len-index-end.ensures, rows.ok.0) in
-    let more : c.saturating_add-states.result ≤ l.states + length row.nodes.items = omega (arith, c.saturating_add-states.ensures, c.len.ensures, row.nodes.ok.0) in
+    let more : c.saturating_add-states.result ≡ min (l.states + length row.nodes.items) (2 ^ 64 - 1) = omega (arith, c.saturating_add-states.ensures, c.len.ensures, row.nodes.ok.0) in
     count_more rows.items l.index row l.states c.saturating_add-states.result within c.in-Some.ensures.lookup l.invariant more
 
 pub returns : goal.returns

@@ -1,6 +1,6 @@
 use Rattle.std.proofs.Common.{◌≡◌, ◌++◌, replicate}
 use Rattle.merging.proofs.spot_list.add_run.Given as goal
 
--- so many times so far
+-- The spots so far.
 abbrev pub invariant-loop-time : goal.invariant-loop-time
 invariant-loop-time l = l.spots.items ≡ l.fn.spots.items ++ replicate l._time l.run.spot

@@ -4,7 +4,7 @@ use Rattle.counting.specs.Tallies.{both}
 use Rattle.merging.specs.Merging.{IsNode, Property, kind_tally, nodes_tally, over_kinds}
 use Rattle.merging.proofs.spreading.put_loose.Given as goal
 
--- so many of the loose events were put in
+-- The loose events so far were inserted.
 abbrev pub invariant-loop-number : goal.invariant-loop-number
 invariant-loop-number l = record {
   nodes : (least : ℕ) → IsNode l.search l.place least l.node → All (IsNode l.search l.place (least + 1)) l.fn.more.nodes.items → All (IsNode l.search l.place (least + 1)) l.more.nodes.items;

@@ -4,7 +4,7 @@ use Rattle.counting.specs.Tallies.{both}
 use Rattle.merging.specs.Merging.{IsNode, Property, nodes_tally, tally_around}
 use Rattle.merging.proofs.spreading.spread_all.Given as goal
 
--- the nodes that are left, and those that went on so far, tell what all did
+-- The tally of the remaining nodes, and of those that advanced so far, is that of all.
 abbrev pub invariant-loop-node : goal.invariant-loop-node
 invariant-loop-node l = record {
   nodes : (least : ℕ) → All (IsNode l.search l.place least) l.fn.nodes.items → All (IsNode l.search l.place least) l.nodes.items;

@@ -16,7 +16,7 @@ by_parts line code comment operand before code_is whole operand_is before_is =
     let rest : drop (length code) line ≡ comment = ap (drop (length code)) whole ∙ drop-append_seam code comment in
     rw (← code_is) (rw (← operand_is) (rw (← before_is) (rw rest refl)))
 
--- what stands before the operand, the comment and the operand are one line where the line is
+-- the part before the operand, the comment and the operand have no line feed if the line has none
 parts : (line code comment before operand : List ℕ) (at : ℕ) → line ≡ code ++ comment → before ≡ take at code → operand ≡ from_word (behind_second code) → IsOneLine line
     → IsOneLine before × IsOneLine comment × IsOneLine operand
 parts line code comment before operand at whole front back one =

@@ -3,7 +3,7 @@ use Rattle.pidset.specs.Rows.{sizes_of}
 use Rattle.pidset.specs.Lists.{AreLinked, IsAbove, list_of, before_of}
 use Rattle.pidset.proofs.lists.move_all.Given as goal
 
--- each stands where it did, or was moved, and all that are left are at most the next
+-- each process is where it was, or was moved; all that are left are at most the next one
 abbrev pub invariant-loop-from : goal.invariant-loop-from
 invariant-loop-from l =
     let old = l.fn.nodes in

@@ -2,7 +2,7 @@ use Rattle.std.proofs.Common.{◌≡◌, ◌<◌, ◌⊎◌}
 use Rattle.pidset.specs.Lists.{Stands, behind_of}
 use Rattle.pidset.proofs.lists.place_for.Given as goal
 
--- it stands in the list or before it, and who comes behind it is above the process
+-- `at` is in the list or before it, and the process after it is above the new one
 abbrev pub invariant-loop-list : goal.invariant-loop-list
 invariant-loop-list l = record {
   stands : Stands l.nodes l.fn.list l.at;

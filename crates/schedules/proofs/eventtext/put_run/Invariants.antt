@@ -4,7 +4,7 @@ use Rattle.posix.specs.declared.event.Event.TheVariants.{Key}
 use Rattle.schedules.specs.EventLines.{AddsFirst}
 use Rattle.schedules.proofs.eventtext.put_run.Given as goal
 
--- those before the next are added
+-- The events before the next one are added.
 abbrev pub invariant-loop-remark : goal.invariant-loop-remark
 invariant-loop-remark l = record {
   least : l.start ≤ l.next;

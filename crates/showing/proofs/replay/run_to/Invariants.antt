@@ -4,7 +4,7 @@ use Rattle.text.specs.EventLists.{expanded}
 use Rattle.showing.specs.Pasts.{IsReached}
 use Rattle.showing.proofs.replay.run_to.Given as goal
 
--- the events of the runs so far were given, up to the last one that is wanted
+-- the events of the counted runs so far were run, up to the last requested event
 abbrev pub invariant-loop-run : goal.invariant-loop-run
 invariant-loop-run g l = record {
   end : l.end ≡ length (expanded (take l.run-index l.run-items));

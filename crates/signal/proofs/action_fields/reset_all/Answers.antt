@@ -5,7 +5,7 @@ use Rattle.signal.specs.declared.action_fields.Disposition.TheVariants as dispos
 use Rattle.signal.specs.ActionFields.{disposition_on_exec}
 use Rattle.signal.proofs.action_fields.reset_all.Goals as goal
 
--- what is read stands there, or nothing does
+-- reading again, with the item that was read as the default, gives the same item
 read_again : (ds : List Disposition) (i : ℕ) (d : Disposition) → get_or ds i d ≡ get_or ds i (get_or ds i d)
 read_again [] i d = refl
 read_again (x ∷ ds) zero d = refl

@@ -25,7 +25,7 @@ same_life a b e = search rules
 same_news : (a b : News) → news.eq a b ≡ true → a ≡ b
 same_news a b e = search rules
 
--- two of which the indexes see the same
+-- fields that compare as equal are the same
 same : (a b : IndexedFields) → ghosts.eq a b ≡ true → a ≡ b
 same a b e =
     let group = and_parts (nat_eq a.group b.group) _ e in

@@ -8,7 +8,7 @@ use Rattle.life.proofs.SoundLemmas.{sound_first, first_is_boot, within_first}
 use Rattle.pidset.specs.Numbers.{Rises}
 use Rattle.life.proofs.machine.Machine.boot.Goals as goal
 
--- the table of process 1 alone
+-- the table with only process 1
 first_alone : first_process ∷ [] ≡ inserted first_process []
 unfolding inserted
 first_alone = refl

@@ -14,7 +14,7 @@ use Rattle.life.proofs.machine.Machine.census.Goals.{then-is_zombie, else-is_zom
 none_counted : (t : Process → Bool) (rs : List Process) (next : Option ℕ) → IsRising rs → ((p : ℕ) (r : Process) → lookup p rs ≡ Some r → 1 ≤ r.pid) → IsNext t 0 rs next → 0 + count_by t (left_of next rs) ≡ count_by t rs
 none_counted t rs next up least i = omega (arith, length-filter t (left_of next rs), ap length (walk_begins t rs next up least i), length-filter t rs)
 
--- and goes on: at p, which is there, it is counted where it passes, and those left from the one that comes next on
+-- and goes on: the existing process p is counted if it passes, and then those left from the next one on
 counted : (t : Process → Bool) (p : ℕ) (rs : List Process) → IsRising rs → (r : Process) → lookup p rs ≡ Some r → (now next : Option ℕ) → now ≡ Some p → IsNext t p rs next → (n total : ℕ) (b : Bool) → t r ≡ b
     → n + count_by t (left_of now rs) ≡ total → cond b (n + 1) n + count_by t (left_of next rs) ≡ total
 counted t p rs up r e now next f i n total b h k =

@@ -4,7 +4,7 @@ use Rattle.posix.proofs.WalkLemmas.{numbers_left}
 use Rattle.life.specs.Machines.{AreSame}
 use Rattle.life.proofs.machine.Machine.has_same_processes.Given as goal
 
--- the processes are the same where those that are left are
+-- the processes are the same if those that are left are
 abbrev pub invariant-loop-next : goal.invariant-loop-next
 invariant-loop-next g l =
     let rs = l.fn.self.state.processes in

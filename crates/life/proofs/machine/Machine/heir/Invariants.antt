@@ -5,7 +5,7 @@ use Rattle.life.specs.Machines.{AreSame}
 use Rattle.life.proofs.HeirLemmas.{walk_from}
 use Rattle.life.proofs.machine.Machine.heir.Given as goal
 
--- the walk goes on to the heir, which is process 1 where it comes to that
+-- the walk goes on to the new parent, which is process 1 if it reaches that
 abbrev pub invariant-loop-left : goal.invariant-loop-left
 invariant-loop-left g l =
     let rs = l.fn.self.state.processes in

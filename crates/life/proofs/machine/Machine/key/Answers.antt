@@ -8,7 +8,7 @@ use Rattle.life.proofs.ViewLemmas.{state_is, costs_then, cost_more}
 use Rattle.life.proofs.machine.Machine.key.Goals as goal
 use Rattle.life.proofs.CodeLemmas.{get_some, past_none}
 
--- the console that was read is the one in its place
+-- the console that was read is the one at its index
 there : {m n : MachineView} {cs : List Console} → m ≡ n → cs ≡ m.state.consoles → (k : ℕ) (c : Console) → true ≡ nat_lt k (length cs) → c ≡ slice_index_or cs k c → slice_get n.state.consoles k ≡ Some c
 there same all k c within is = ap (λ cs. slice_get cs k) (sym (all ∙ ap (λ (s : State). s.consoles) (state_is same))) ∙ get_some _ k c (within, is)
 

@@ -7,12 +7,12 @@ use Rattle.life.proofs.ViewLemmas.{state_is}
 use Rattle.life.proofs.machine.Machine.named.Goals as goal
 use Rattle.life.proofs.machine.Machine.named.Goals.{then-word-lt0-via-then-word-lt0, then-word-lt0-via-else-word-lt0+then-word-from}
 
--- a negative word names nobody
+-- a negative word names no process
 named_negative : (me : Process) (z : ℤ) (rs : List Process) → lt_z z (pos 0) ≡ true → named me z rs ≡ None
 named_negative me (pos n) rs e = absurd (grind (arith, e))
 named_negative me (negsuc n) rs e = refl
 
--- nobody has a number above the greatest
+-- no process has an ID above the largest
 nobody_above : (s : State) (p : ℕ) → IsRegular s → s.world.pidmax < p → lookup p s.processes ≡ None
 nobody_above s p i above = grind (arith, above, pid_looked p s.processes, λ (r : Process) (e : lookup p s.processes ≡ Some r). (i.bounded p r e).pid)
 

@@ -16,7 +16,7 @@ change-requires-clause-signals g c = signals_as c.args.pid (signalled c.args.sig
 pub change-requires-clause-regular : goal.change-requires-clause-regular
 change-requires-clause-regular g c = stays_regular c.args.pid (signalled c.args.signal) c.args.self.now.state (keeps_signalled c.args.signal) (λ b d r k q. search rules)
 
--- what the change comes to
+-- the outcome of the change
 abbrev responds : PendingSignal → Process → Effect → Type 0
 responds signal r e = e ≡ effect_of r.pid r.life signal r.signals
 

@@ -8,7 +8,7 @@ use Rattle.life.specs.Rechecks.{is_candidate}
 use Rattle.life.specs.Callers.{process_like}
 use Rattle.life.proofs.machine.Machine.survey_all.Given as goal
 
--- those who were looked at, and those that are left, are all
+-- those that were looked at, and those that are left, are all
 abbrev pub invariant-loop-next : goal.invariant-loop-next
 invariant-loop-next g l =
     let r = process_like l.me in let rs = l.fn.self.state.processes in

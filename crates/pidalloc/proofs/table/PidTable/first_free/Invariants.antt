@@ -2,7 +2,7 @@ use Rattle.std.proofs.Common.{◌≡◌, ℕ, ◌-◌, ◌<◌, ◌≤◌, false
 use Rattle.pidalloc.specs.Rows.{is_free_in}
 use Rattle.pidalloc.proofs.table.PidTable.first_free.Given as goal
 
--- none so far is free
+-- no ID so far is free
 abbrev pub invariant-loop-at : goal.invariant-loop-at
 invariant-loop-at l = record {
   from : l.from ≤ l.at;

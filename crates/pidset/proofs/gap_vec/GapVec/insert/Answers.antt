@@ -1,7 +1,7 @@
 use Rattle.std.proofs.Common.{◌≡◌, ◌+◌, ◌≤◌, ◌∙◌, ℕ, zero, suc, arith, refl, ap, List, [], ◌∷◌, drop, insert, length}
 use Rattle.pidset.proofs.gap_vec.GapVec.insert.Goals as goal
 
--- an item put in behind a gap
+-- an item inserted after a gap
 behind_gap : {X : Type 0} (gap i k : ℕ) (xs : List X) (x : X) → k ≡ gap + i → gap ≤ length xs → drop gap (insert xs k x) ≡ insert (drop gap xs) i x
 behind_gap zero i k xs x e l = let same : k ≡ i = omega (arith, e) in ap (λ j. insert xs j x) same
 behind_gap (suc gap) i zero xs x e l = absurd (omega (arith, e))

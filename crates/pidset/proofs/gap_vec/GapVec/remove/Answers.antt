@@ -1,7 +1,7 @@
 use Rattle.std.proofs.Common.{◌≡◌, ◌+◌, ◌<◌, ◌∙◌, ℕ, zero, suc, arith, refl, ap, add-one, List, [], ◌∷◌, drop, remove, length, length-drop}
 use Rattle.pidset.proofs.gap_vec.GapVec.remove.Goals as goal
 
--- an item taken out behind a gap
+-- an item removed after a gap
 behind_gap : {X : Type 0} (gap i k : ℕ) (xs : List X) → k ≡ gap + i → k < length xs → drop gap (remove xs k) ≡ remove (drop gap xs) i
 behind_gap zero i k xs e l = let same : k ≡ i = omega (arith, e) in ap (remove xs) same
 behind_gap (suc gap) i zero xs e l = absurd (omega (arith, e))

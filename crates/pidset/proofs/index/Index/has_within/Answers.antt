@@ -5,7 +5,7 @@ use Rattle.pidset.specs.Indexes.{ArePairs, IndexView, has_within, pair_number}
 use Rattle.pidset.proofs.PairLemmas.{within_first}
 use Rattle.pidset.proofs.index.Index.has_within.Goals as goal
 
--- what the first pair tells whose key isn't above
+-- what follows from the first pair whose key isn't above
 told : (low high : ℕ) (from : Pair) (items pairs seen : List Pair) (first : Option Pair) → high ≤ 18446744073709551615 → ArePairs pairs → from ≡ record { key = high; pid = 0 } → items ≡ pairs → seen ≡ pairs
     → first ≡ slice_get (filter (λ y. nat_lt (pair_number from) (pair_number y)) items) 0 → option_map_or (λ (x : Pair). nat_le low x.key) first false ≡ has_within low high seen
 told low high from items pairs seen first most are is same view read = rw (read, is, same, view) (sym (within_first low high pairs most are))

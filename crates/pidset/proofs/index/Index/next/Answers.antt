@@ -11,7 +11,7 @@ next_of_none : (k n : ℕ) (pairs : List Pair) → ArePairs pairs → slice_get 
 next_of_none k n [] h e = next_is k n [] h
 next_of_none k n (x ∷ xs) h e = absurd (cc)
 
--- what the first pair above tells
+-- what follows from the first pair above
 told : (k n : ℕ) (from : Pair) (items pairs : List Pair) (set : IndexView) (first : Option Pair) → ArePairs pairs → from ≡ record { key = k; pid = n } → items ≡ pairs → pairs ≡ set.pairs
     → first ≡ slice_get (filter (λ y. nat_lt (pair_number from) (pair_number y)) items) 0 → IsNextPair k n set.pairs (pid_under k first)
 told k n from items pairs set first h is same view read = rw (read, is, same, ← view) (next_is k n pairs h)

@@ -3,7 +3,7 @@ use Rattle.std.specs.Option.{option_map_or}
 use Rattle.pidset.specs.Indexes.{ArePairs, IsNextPair, is_pair_in}
 use Rattle.pidset.proofs.index.Index.rekey.Given as goal
 
--- those stand under the other key that stood under the one and do so no more; the next of the one is the first that is left
+-- the processes that lost the one key have the other, and the next process is the first that still has the one
 abbrev pub invariant-loop-next : goal.invariant-loop-next
 invariant-loop-next l =
     let old = l.fn.self.pairs in

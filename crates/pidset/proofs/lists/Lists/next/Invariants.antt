@@ -2,7 +2,7 @@ use Rattle.std.proofs.Common.{◌+◌, ◌-◌, ◌==◌, cond}
 use Rattle.pidset.specs.Lists.{IsFrom}
 use Rattle.pidset.proofs.lists.Lists.next.Given as goal
 
--- nobody between is left out
+-- no process between is skipped
 abbrev pub invariant-loop-next : goal.invariant-loop-next
 invariant-loop-next l = IsFrom l.self-inside.nodes l.list l.after l.next
 

@@ -2,7 +2,7 @@ use Rattle.std.proofs.Common.{◌≡◌, ◌+◌, ◌-◌, ◌<◌, ◌≤◌, �
 use Rattle.pidset.specs.Pages.{value_at}
 use Rattle.pidset.proofs.page.Page.next_above.Given as goal
 
--- none so far that is above has a value
+-- no ID above `after` has a value so far
 abbrev pub invariant-loop-at : goal.invariant-loop-at
 invariant-loop-at g l = record {
   high : l.at ≤ 64;

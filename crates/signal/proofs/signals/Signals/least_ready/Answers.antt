@@ -7,7 +7,7 @@ use Rattle.signal.specs.SignalTables.{signals_of}
 use Rattle.signal.proofs.SetLemmas.{none_ready, least_is, is_ready_by, is_unready}
 use Rattle.signal.proofs.signals.Signals.least_ready.Goals as goal
 
--- the signal with that number is the least one
+-- the signal with that number is the lowest one
 least_from : (f : ℕ → Bool) (r : ℕ) (o : Option ℕ) → ((s : ℕ) → s < 65 → f s ≡ has r s) → f 32 ≡ false → f 33 ≡ false → (r ≡ 0 → ⊥) → r < 2 ^ 64
     → (is_signal (trailing_zeros w64 r + 1) ≡ true → IsSome o) → IfSome o (λ s. s ≡ trailing_zeros w64 r + 1) → o ≡ find f all_signals
 least_from f r o same e e2 some small there is =

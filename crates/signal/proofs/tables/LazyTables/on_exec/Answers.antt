@@ -6,7 +6,7 @@ use Rattle.signal.specs.ActionFields.{actions_of, blank_actions, actions_or_blan
 use Rattle.signal.specs.SignalTables.{TablesView, view_of, carried_or_blank, queue_in}
 use Rattle.signal.proofs.tables.LazyTables.on_exec.Goals as goal
 
--- blank ones are as another program leaves them
+-- the default actions stay so after exec
 blank_stays : (kept : List Actions) → length kept ≡ 0 → actions_of (actions_or_blank kept) ≡ map action_on_exec (actions_of (actions_or_blank kept))
 unfolding actions_of blank_actions
 blank_stays [] e = refl
