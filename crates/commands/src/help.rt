@@ -16,12 +16,12 @@ pub const HELP: &[u8] =
     jobk explore WORLD EVENTS  run every schedule: every way to insert ticks into EVENTS
         --ticks K              insert at most K ticks, 0 to 1000000 (default: 2)
         --upto N               insert only before the first N events (default: all)
-        --states N             when schedules are merged: fail if an event has more than N states (default: 50000)
+        --states N             if schedules are merged, fail at more than N states before an event (default: 50000)
         --anywhere EVENT       also insert EVENT once, such as key 1 1A or hangup 1
         --find TEXT            count the schedules that have a line with these words, such as stop * SIGTSTP
         --must-halt            exit with 4 if a schedule does not halt
-        --all                  run every schedule separately; otherwise more than 10000000 are merged
-        --outcomes             require the list of outcomes: exit with 2 if schedules would be merged
+        --all                  run every schedule separately; otherwise, they are merged if there are more than 10000000
+        --outcomes             print the list of outcomes, or exit with 2 if merging would leave no list
         --write WHICH          print only the events of one schedule: rest, going, find, or the number of an outcome
     jobk show WORLD EVENTS     print the state after the last event
         --at E                 print the state after event E
