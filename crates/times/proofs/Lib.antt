@@ -1,0 +1,17 @@
+pub mod TableLemmas
+pub mod SignalLemmas
+pub mod CallLemmas
+pub mod OutcomeLemmas
+pub mod GroupLemmas
+pub mod EndLemmas
+pub mod DeliveryLemmas
+pub mod WaitLemmas
+pub mod OwnCallLemmas
+pub mod SendLemmas
+pub mod GroupCallLemmas
+pub mod TerminalLemmas
+pub mod AttemptLemmas
+pub mod SettleLemmas
+pub mod StepLemmas
+pub mod RunLemmas
+pub mod RegularLemmas
