@@ -1,5 +1,6 @@
 pub mod LineLemmas
 pub mod DigitLemmas
+pub mod ToldLemmas
 pub mod TextLemmas
 pub mod NameLemmas
 pub mod BlankLemmas

@@ -1,10 +1,10 @@
 -- The sorts of lines, and the lines that replace them.
-use Rattle.std.specs.Prelude.{◌≡◌, ◌≢◌, ℕ, ◌==◌, ◌||◌, not, Bool, true, false, List, All, Option, None, Some, codes, length, if◌then◌else◌}
+use Rattle.std.specs.Prelude.{◌≡◌, ◌≢◌, ℕ, ◌==◌, ◌||◌, not, Bool, true, false, List, All, ◌∷◌, ◌++◌, Option, None, Some, codes, length, if◌then◌else◌}
 use Rattle.std.specs.Char.{is_ascii_uppercase}
 use Rattle.std.specs.List.{list_any}
 use Rattle.std.specs.Str.{bytes_eq}
 use Rattle.text.specs.Words.{before_comment, behind_word, first_word}
-use Rattle.wording.specs.Proses.{Grows}
+use Rattle.wording.specs.Proses.{Grows, ProseView}
 use Rattle.naming.specs.declared.line.Outcome.{Outcome}
 use Rattle.naming.specs.declared.line.Outcome.TheVariants.{Same, Named, Refused}
 use Rattle.naming.specs.declared.line.Sort.{Sort}
@@ -57,11 +57,30 @@ said line Same = kept line
 said line (Named text) = record { text = text.items; is_refused = false }
 said line Refused = refused line
 
--- Only a rejected line may add messages.
-abbrev pub IsTold : Outcome → List ℕ → List ℕ → Type 0
+-- ---- the messages about a line
+
+-- At least one byte was added.
+abbrev pub IsMore : List ℕ → List ℕ → Type 0
+IsMore old new = (byte : ℕ) × (more : List ℕ) × (new ≡ old ++ byte ∷ more)
+
+-- Bytes were added, possibly none. If the text has all its pieces now, it had all of them before.
+abbrev pub Extends : ProseView → ProseView → Type 0
+Extends old new = (new.is_whole ≡ true → old.is_whole ≡ true) × Grows old.text new.text
+
+-- At least one byte was added, unless the text lacks a piece now. The old bytes stay in any case.
+abbrev pub AddsMore : ProseView → ProseView → Type 0
+AddsMore old new = (new.is_whole ≡ true → (old.is_whole ≡ true) × IsMore old.text new.text) × Grows old.text new.text
+
+-- The messages before and after a line: if something in it is rejected, bytes were added. Otherwise, the messages stay.
+abbrev pub IsToldIf : Bool → ProseView → ProseView → Type 0
+IsToldIf false old new = new ≡ old
+IsToldIf true old new = AddsMore old new
+
+-- A rejected line adds bytes to the messages, and no other line does.
+abbrev pub IsTold : Outcome → ProseView → ProseView → Type 0
 IsTold Same old new = new ≡ old
 IsTold (Named text) old new = new ≡ old
-IsTold Refused old new = Grows old new
+IsTold Refused old new = AddsMore old new
 
 abbrev pub IsOneLineOutcome : Outcome → Type 0
 IsOneLineOutcome Same = Unit {0}

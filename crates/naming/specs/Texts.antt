@@ -2,8 +2,9 @@
 use Rattle.std.specs.Prelude.{◌≡◌, ℕ, ◌==◌, ◌||◌, Bool, false, List, [], ◌∷◌, ◌++◌, All, flat_map, if◌then◌else◌}
 use Rattle.naming.specs.Keys.{keys_named}
 use Rattle.naming.specs.Letters.{type_named}
-use Rattle.naming.specs.Lines.{IsOneLine, Renamed, is_plain, kept, refused, sort_of}
+use Rattle.naming.specs.Lines.{IsOneLine, IsToldIf, Renamed, is_plain, kept, refused, sort_of}
 use Rattle.naming.specs.Sets.{set_named}
+use Rattle.wording.specs.Proses.{ProseView}
 use Rattle.naming.specs.declared.line.Sort.{Sort}
 use Rattle.naming.specs.declared.line.Sort.TheVariants.{Set, Key, Typed, Other}
 
@@ -53,27 +54,27 @@ pub record NamedLine : Type 0 where
   pub named : List ℕ
   pub told : List ℕ
 
--- One line replaces one line. If nothing in it is rejected, there are no messages.
+-- One line replaces one line. There are no messages about it exactly if nothing in it is rejected.
 pub record IsNamedLine (l : NamedLine) : Type 0 where
   pub given : IsOneLine l.line
   pub one_line : IsOneLine l.named
   pub is : l.named ≡ (renamed l.line).text
   pub quiet : (renamed l.line).is_refused ≡ false → l.told ≡ []
+  pub loud : l.told ≡ [] → (renamed l.line).is_refused ≡ false
 
--- A line replaces a line, and the messages about it were added.
-abbrev pub StandsFor : List ℕ → List ℕ → List ℕ → List ℕ → Type 0
-StandsFor line named told told_then =
-    (more : List ℕ) × (told_then ≡ told ++ more) × IsNamedLine (record { line = line; named = named; told = more })
+-- The line that replaces a line was added; and bytes were added to the messages exactly if something in it is rejected.
+pub record AddsLine (line text text_then : List ℕ) (told told_then : ProseView) : Type 0 where
+  pub given : IsOneLine line
+  pub one_line : IsOneLine (renamed line).text
+  pub text_is : text_then ≡ text ++ (renamed line).text
+  pub told_is : IsToldIf (renamed line).is_refused told told_then
 
--- The line that replaces a line, and the messages about it, were added.
-abbrev pub AddsLine : List ℕ → List ℕ → List ℕ → List ℕ → List ℕ → Type 0
-AddsLine line text text_then told told_then = (named : List ℕ) × (text_then ≡ text ++ named) × StandsFor line named told told_then
-
--- The text that replaces a text, by its lines: a line feed ends each but the last. If nothing is rejected, there are no
--- messages.
+-- The text that replaces a text, by its lines: a line feed ends each but the last. There are no messages exactly if
+-- nothing is rejected.
 pub record IsNamed (text named told : List ℕ) : Type 0 where
   pub is : named ≡ named_text text
   pub quiet : is_refused text ≡ false → told ≡ []
+  pub loud : told ≡ [] → is_refused text ≡ false
   pub lines : List NamedLine
   pub last : NamedLine
   pub each : All IsNamedLine lines

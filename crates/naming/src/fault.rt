@@ -1,6 +1,6 @@
 //! Errors in names, keys and texts, and their messages.
 
-ghost use Rattle.wording.specs.Proses.{Grows};
+ghost use Rattle.naming.specs.Lines.{AddsMore, Extends};
 
 use wording::{Prose, meant};
 
@@ -40,7 +40,7 @@ pub enum Fault<'a> {
 impl Fault<'_> {
     /// Adds a line with the message, and with the number of the faulty line.
     pub fn tell(self, line: u64, told: &mut Prose)
-        ensures { Grows told.old.text told.new.text }
+        ensures { AddsMore told.old told.new }
     {
         told.push_with("jobk: line ", line);
         told.push_str(": ");
@@ -50,7 +50,7 @@ impl Fault<'_> {
 
     /// Adds the message.
     fn say(self, told: &mut Prose)
-        ensures { Grows told.old.text told.new.text }
+        ensures { Extends told.old told.new }
     {
         match self {
             Fault::Missing => told.push_str("expected a name on each side of |"),

@@ -1,11 +1,10 @@
 //! Lines `key C ^Z ..`.
 
-ghost use Rattle.std.specs.Prelude.{◌≡◌, ◌<◌, ◌++◌, IfOk, OnOk, false, true};
+ghost use Rattle.std.specs.Prelude.{◌≡◌, ◌<◌, ◌++◌, IfOk, OnOk, true};
 ghost use Rattle.std.specs.Fmt.{digit_glyph};
 ghost use Rattle.text.specs.Numbers.{two_digits};
 ghost use Rattle.naming.specs.Keys.{control as control_of, is_no_key, key_named, keys_named};
-ghost use Rattle.naming.specs.Lines.{IsOneLine};
-ghost use Rattle.wording.specs.Proses.{Grows};
+ghost use Rattle.naming.specs.Lines.{IsOneLine, IsToldIf};
 
 use crate::fault::Fault;
 use crate::line::behind_second;
@@ -58,8 +57,7 @@ fn push_word(
 ) -> Result<(), AllocError>
     ensures items { OnOk result (text.new.items ≡ text.old.items ++ key_named word.now) }
     ensures one_line { IsOneLine text.old.items → IsOneLine word.now → OnOk result (IsOneLine text.new.items) }
-    ensures told { Grows told.old.text told.new.text }
-    ensures quiet { is_no_key word.now ≡ false → told.new.text ≡ told.old.text }
+    ensures told { IsToldIf (is_no_key word.now) told.old told.new }
 {
     match control(word) {
         Some(byte) => push_byte(text, byte),
@@ -82,8 +80,7 @@ pub fn key_line(
 ) -> Result<Vec<u8>, AllocError>
     ensures items { IfOk result (λ v. v.items ≡ (keys_named line.now).text) }
     ensures one_line { IsOneLine line.now → IfOk result (λ v. IsOneLine v.items) }
-    ensures told { OnOk result (Grows told.old.text told.new.text) }
-    ensures quiet { OnOk result ((keys_named line.now).is_refused ≡ false → told.new.text ≡ told.old.text) }
+    ensures told { OnOk result (IsToldIf (keys_named line.now).is_refused told.old told.new) }
 {
     let (code, comment) = split_comment(line);
     let keys = behind_second(code);

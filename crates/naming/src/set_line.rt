@@ -167,7 +167,7 @@ impl Around<'_> {
     ) -> Result<Outcome, AllocError>
         requires { len ≤ length operand.now }
         ensures is { IfOk result (λ o. (line : List ℕ) → said line o ≡ renamed_as line (number_put self.entry.before.now self.entry.comment.now form operand.now len)) }
-        ensures told { IfOk result (λ o. IsTold o told.old.text told.new.text) }
+        ensures told { IfOk result (λ o. IsTold o told.old told.new) }
         ensures one_line { IsOneLine self.entry.before.now → IsOneLine self.entry.comment.now → IsOneLine operand.now → IfOk result IsOneLineOutcome }
     {
         let (names, behind) = operand.split_at(len);
@@ -190,7 +190,7 @@ pub fn set_line(
     told: &mut Prose,
 ) -> Result<Outcome, AllocError>
     ensures is { IfOk result (λ o. said line.now o ≡ set_named line.now) }
-    ensures told { IfOk result (λ o. IsTold o told.old.text told.new.text) }
+    ensures told { IfOk result (λ o. IsTold o told.old told.new) }
     ensures one_line { IsOneLine line.now → IfOk result IsOneLineOutcome }
 {
     let (code, comment) = split_comment(line);
@@ -224,7 +224,7 @@ fn set_in_braces(
     told: &mut Prose,
 ) -> Result<Outcome, AllocError>
     ensures is { IfOk result (λ o. (line : List ℕ) → said line o ≡ renamed_as line (in_braces around.entry.before.now around.entry.comment.now operand.now)) }
-    ensures told { IfOk result (λ o. IsTold o told.old.text told.new.text) }
+    ensures told { IfOk result (λ o. IsTold o told.old told.new) }
     ensures one_line { IsOneLine around.entry.before.now → IsOneLine around.entry.comment.now → IsOneLine operand.now → IfOk result IsOneLineOutcome }
 {
     match end_of_set(operand) {
@@ -245,7 +245,7 @@ fn set_of_names(
     told: &mut Prose,
 ) -> Result<Outcome, AllocError>
     ensures is { IfOk result (λ o. (line : List ℕ) → said line o ≡ renamed_as line (of_names around.entry.before.now around.entry.comment.now operand.now)) }
-    ensures told { IfOk result (λ o. IsTold o told.old.text told.new.text) }
+    ensures told { IfOk result (λ o. IsTold o told.old told.new) }
     ensures one_line { IsOneLine around.entry.before.now → IsOneLine around.entry.comment.now → IsOneLine operand.now → IfOk result IsOneLineOutcome }
 {
     let close = without_blanks(alloc, operand)?;

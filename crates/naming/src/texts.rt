@@ -1,9 +1,8 @@
 //! Texts with numbers in place of their names.
 
-ghost use Rattle.std.specs.Prelude.{◌≡◌, ℕ, List, IfOk, OnOk, false};
-ghost use Rattle.naming.specs.Lines.{IsOneLine, IsOneLineOutcome, IsTold, said};
+ghost use Rattle.std.specs.Prelude.{◌≡◌, ℕ, List, IfOk, OnOk};
+ghost use Rattle.naming.specs.Lines.{IsOneLine, IsOneLineOutcome, IsTold, IsToldIf, said};
 ghost use Rattle.naming.specs.Texts.{AddsLine, IsNamed, plain_renamed, renamed};
-ghost use Rattle.wording.specs.Proses.{Grows};
 
 use crate::fault::Fault;
 use crate::key_line::key_line;
@@ -26,7 +25,7 @@ pub struct Named {
 /// text.
 fn plain_line(number: u64, sort: Sort, told: &mut Prose) -> Outcome
     ensures is { (line : List ℕ) → said line result ≡ plain_renamed sort line }
-    ensures told { IsTold result told.old.text told.new.text }
+    ensures told { IsTold result told.old told.new }
     ensures one_line { IsOneLineOutcome result }
 {
     match sort {
@@ -47,8 +46,7 @@ fn named_line(
     told: &mut Prose,
 ) -> Result<Outcome, AllocError>
     ensures is { IfOk result (λ o. (said line.now o).text ≡ (renamed line.now).text) }
-    ensures told { OnOk result (Grows told.old.text told.new.text) }
-    ensures quiet { OnOk result ((renamed line.now).is_refused ≡ false → told.new.text ≡ told.old.text) }
+    ensures told { OnOk result (IsToldIf (renamed line.now).is_refused told.old told.new) }
     ensures one_line { IsOneLine line.now → IfOk result IsOneLineOutcome }
 {
     let sort = sort_of(line);
@@ -72,7 +70,7 @@ fn push_line(
     told: &mut Prose,
 ) -> Result<(), AllocError>
     requires { IsOneLine line.now }
-    ensures { OnOk result (AddsLine line.now text.old.items text.new.items told.old.text told.new.text) }
+    ensures { OnOk result (AddsLine line.now text.old.items text.new.items told.old told.new) }
 {
     let outcome = named_line(alloc, number, line, told)?;
     text.extend_from_slice(outcome.text(line))

@@ -205,7 +205,7 @@ pub fn type_line(
     told: &mut Prose,
 ) -> Result<Outcome, AllocError>
     ensures is { IfOk result (λ o. said line.now o ≡ type_named line.now) }
-    ensures told { IfOk result (λ o. IsTold o told.old.text told.new.text) }
+    ensures told { IfOk result (λ o. IsTold o told.old told.new) }
     ensures one_line { IsOneLine line.now → IfOk result IsOneLineOutcome }
 {
     match key_line_of(alloc, line)? {

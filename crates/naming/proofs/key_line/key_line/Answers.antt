@@ -1,15 +1,23 @@
-use Rattle.std.proofs.Common.{◌≡◌, ◌≢◌, ◌-◌, ◌∙◌, ◌++◌, [], List, ℕ, ap, append-nil, length, refl, subst, sym, take}
+use Rattle.std.proofs.Common.{◌≡◌, ◌≢◌, ◌-◌, ◌∙◌, ◌++◌, [], Bool, List, ℕ, ap, false, length, refl, true, subst, sym, take}
+use Rattle.std.specs.Prelude.{◌||◌}
 use Rattle.std.specs.List.{list_any}
-use Rattle.std.proofs.lemmas.Bool.{or_parts}
 use Rattle.std.proofs.lemmas.List.Elements.{All-take}
 use Rattle.text.specs.Words.{words}
 use Rattle.naming.specs.Keys.{is_no_key, key_named, keys_from, keys_named}
-use Rattle.naming.specs.Lines.{IsOneLine}
+use Rattle.naming.specs.Lines.{IsOneLine, IsToldIf}
 use Rattle.naming.specs.Sets.{behind_second}
 use Rattle.naming.proofs.KeyLemmas.{front_of, keys_all, keys_more, keys_of}
 use Rattle.naming.proofs.LineLemmas.{behind_second_one_line, both_one_line, front_one_line, parts_one_line, rest_one_line}
-use Rattle.wording.proofs.ProseLemmas.{grows_then}
+use Rattle.naming.proofs.ToldLemmas.{told_then}
 use Rattle.naming.proofs.key_line.key_line.Goals as goal
+
+or_assoc : (a b c : Bool) → ((a || b) || c) ≡ (a || (b || c))
+or_assoc true b c = refl
+or_assoc false b c = refl
+
+or_false : (a : Bool) → (a || false) ≡ a
+or_false true = refl
+or_false false = refl
 
 pub loop-separators-init : goal.loop-separators-init
 loop-separators-init c =
@@ -23,8 +31,7 @@ loop-separators-init c =
       items = rw (text, keys, c.split_comment.ensures.front) refl;
       text = λ one. subst IsOneLine (sym text) (All-take (λ b. b ≢ 10) _ code (one_code one));
       rest = λ one. subst IsOneLine (sym keys) (behind_second_one_line code (one_code one));
-      told = ([], sym (append-nil c.args.told.now.text));
-      quiet = λ none. (rw (keys, c.split_comment.ensures.front) none, refl);
+      told = (false, refl, rw (keys, c.split_comment.ensures.front) refl);
     }
 
 pub loop-separators-preserved : goal.loop-separators-preserved
@@ -38,11 +45,13 @@ loop-separators-preserved c =
       text = λ h. c.in_ok-push_word.ensures.one_line
           (subst IsOneLine (sym c.in_ok-extend_from_slice-2.ensures.items) (both_one_line c.loop-separators.text.items c.in-Some.separators.now (so_far.text h) (parts h).0)) (parts h).1;
       rest = λ h. (parts h).2;
-      told = grows_then c.args.told.now.text c.loop-separators.told.text c.push_word.new.told.text so_far.told c.push_word.ensures.told;
-      quiet = λ none.
-          let q = so_far.quiet none in
-          let two = or_parts (is_no_key c.in-Some.word.now) (list_any is_no_key (words c.in-Some.more.now)) (rw c.in-Some.ensures.words at q.0) in
-          (two.1, c.push_word.ensures.quiet two.0 ∙ q.1);
+      told =
+          let (refused, told, is) = so_far.told in
+          let other = is_no_key c.in-Some.word.now in (
+            refused || other,
+            told_then refused other c.args.told.now c.loop-separators.told c.push_word.new.told told c.push_word.ensures.told,
+            or_assoc refused other (list_any is_no_key (words c.in-Some.more.now)) ∙ rw c.in-Some.ensures.words at is,
+          );
     }
 
 pub returns-clause-items : goal.returns-clause-items
@@ -59,6 +68,9 @@ returns-clause-one_line c = λ h.
     subst IsOneLine (sym c.in_ok-extend_from_slice-3.ensures.items) (both_one_line c.loop-separators.text.items c.loop-separators.rest.now (so_far.text h) (so_far.rest h)) in
     subst IsOneLine (sym c.in_ok-extend_from_slice-4.ensures.items) (both_one_line c.extend_from_slice-2.new.self.items c.split_comment.result.1.now code comment)
 
-pub returns-clause-quiet : goal.returns-clause-quiet
+pub returns-clause-told : goal.returns-clause-told
 unfolding keys_named
-returns-clause-quiet c = λ none. (c.loop-separators.invariant.quiet none).1
+returns-clause-told c =
+    let (refused, told, is) = c.loop-separators.invariant.told in
+    let all : refused ≡ list_any is_no_key (words (keys_of c.args.line.now)) = sym (or_false refused) ∙ rw c.in_default.ensures.words at is in
+    subst (λ b. IsToldIf b c.args.told.now c.loop-separators.told) all told
