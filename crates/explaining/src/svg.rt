@@ -111,8 +111,8 @@ fn put_number(text: &mut Prose, place: Point, number: u64) {
     text.push_str("</text>\n");
 }
 
-/// Returns the height of a row, measured downward. Row 0 has the headings of the lanes, which begin half a row below
-/// it.
+/// Returns the height of a row, measured downward. The first row has the headings of the lanes, which begin half a row
+/// below it.
 fn height(row: usize) -> usize {
     row.saturating_mul(20).saturating_add(18)
 }

@@ -93,7 +93,7 @@ impl<K: ProcessTable> IndexedTable<K> {
     }
 
     /// Returns the process group that the process named by a caller in this session would move to. `target` is `None`
-    /// if no process has the ID, and `group` 0 stands for the ID of the process itself.
+    /// if no process has the ID, and `group` 0 means the ID of the process itself.
     ///
     /// Fails with EINVAL if the group is negative; with ESRCH if the process doesn't exist, or is neither the caller
     /// nor its child; with EPERM if the child is in another session, the process leads its session, or the group is

@@ -39,7 +39,7 @@ pub struct Terminal {
 pub enum Unchecked {
     /// No console.
     Nothing,
-    /// The terminal of this session. Number 0 is no session, and stands for any console.
+    /// The terminal of this session; if the number is 0, which is no session, any console.
     In(Pid),
     /// Any console.
     All,

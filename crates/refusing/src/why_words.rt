@@ -61,7 +61,7 @@ pub fn put_no_name(why: &mut Prose, word: &[u8], named: Named) {
 
 /// Adds why a word is not a name, if it is empty, begins with no lower-case letter, or has characters that names lack.
 fn put_no_letter(why: &mut Prose, word: &[u8], named: Named) {
-    let behind = match word {
+    let found = match word {
         [] => "",
         _ if is_number(word) => ", found a number",
         [b'@', ..] => " without @",
@@ -71,7 +71,7 @@ fn put_no_letter(why: &mut Prose, word: &[u8], named: Named) {
         ),
         _ => return why.push_str("expected a lower-case letter at the start of a name"),
     };
-    why.push_around("expected the name of a ", text_of(named).as_bytes(), behind);
+    why.push_around("expected the name of a ", text_of(named).as_bytes(), found);
 }
 
 /// Returns what follows the `@` or `$` of a word.

@@ -76,9 +76,6 @@ handle_later d s r signal address = ap (λ (t : State). cond (is_full r.signals)
 
 -- ---- default actions
 
-pub discard_later : (d : ℕ) (s : State) (p n : ℕ) → discard (state_later d s) p n ≡ outcome_later d (discard s p n)
-discard_later d s p n = refl
-
 pub stop_process_later : (d : ℕ) (s : State) (r : Process) (n : ℕ) → stop_process (state_later d s) (later d r) n ≡ outcome_later d (stop_process s r n)
 unfolding stop_process
 stop_process_later d s r n =

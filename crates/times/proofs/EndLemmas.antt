@@ -11,9 +11,9 @@ use Rattle.posix.specs.Consoles.{Console, console_of, changed_console, released}
 use Rattle.posix.specs.Choice.{from_kernel}
 use Rattle.posix.specs.Notices.{signalled_all}
 use Rattle.posix.specs.Groups.{newly_orphaned}
-use Rattle.posix.specs.Ends.{ended, made_zombie, halt, leave_children_and_die, drop_child, notice_of_end, status_of, zombies_of, tell_of_all, signalled_members, signalled_group, hup_and_cont, hup_and_cont_all, hup_and_cont_orphans, hung_up, hang_up, end_with_heir, end_process}
+use Rattle.posix.specs.Ends.{ended, made_zombie, halt, leave_children_and_die, notice_of_end, status_of, zombies_of, tell_of_all, signalled_members, signalled_group, hup_and_cont, hup_and_cont_all, hup_and_cont_orphans, hung_up, hang_up, end_with_heir, end_process}
 use Rattle.times.specs.Times.{later, all_later, state_later, outcome_later}
-use Rattle.times.proofs.TableLemmas.{changed_later, removed_later, members_later}
+use Rattle.times.proofs.TableLemmas.{changed_later, members_later}
 use Rattle.times.proofs.SignalLemmas.{pids_later, children_later, adopted_later, made_zombie_later, signalled_all_later, notice_of_end_later}
 use Rattle.times.proofs.GroupLemmas.{filter_later, heir_in_later, newly_orphaned_later}
 
@@ -25,9 +25,6 @@ ended_later d status r = refl
 
 pub halt_later : (d : ℕ) (s : State) (status : ℕ) → halt (state_later d s) status ≡ state_later d (halt s status)
 halt_later d s status = ap (λ (rs : List Process). record (halt (state_later d s) status) { processes = rs }) (changed_later d 1 (ended status) (ended status) s.processes (ended_later d status))
-
-pub drop_child_later : (d : ℕ) (s : State) (child : ℕ) → drop_child (state_later d s) child ≡ state_later d (drop_child s child)
-drop_child_later d s child = ap (λ (rs : List Process). record (drop_child (state_later d s) child) { processes = rs }) (removed_later d child s.processes)
 
 pub leave_children_and_die_later : (d : ℕ) (s : State) (p heir status : ℕ) → leave_children_and_die (state_later d s) p heir status ≡ state_later d (leave_children_and_die s p heir status)
 leave_children_and_die_later d s p heir status =

@@ -1,5 +1,5 @@
 -- Shows that new parents, process groups and subreapers don't depend on the time.
-use Rattle.std.proofs.Common.{◌≡◌, ℕ, Bool, false, List, [], ◌∷◌, Option, Some, None, refl, ap, ◌∙◌, not, ◌&&◌, ◌||◌, ◌==◌}
+use Rattle.std.proofs.Common.{◌≡◌, ℕ, Bool, false, List, [], ◌∷◌, Option, Some, None, refl, ap, ◌∙◌, not, ◌&&◌, ◌||◌}
 use native.Mathlib.Omega.{arith}
 use Rattle.std.specs.Prelude.{option_map, filter, option_and_then}
 use Rattle.std.specs.List.{list_any}
@@ -12,7 +12,7 @@ use Rattle.posix.specs.Outcomes.{Done, finished}
 use Rattle.posix.specs.Terminals.{is_nonzero}
 use Rattle.posix.specs.Heirs.{Forebear, forebear_of, forebears, heir_among, heir_in}
 use Rattle.posix.specs.Subreapers.{marked_as, finish_marked, subreaper}
-use Rattle.posix.specs.Groups.{is_outside, is_anchor, is_orphaned, loses_anchor, group_numbers, some_stopped, has_stopped, is_newly_orphaned, newly_orphaned}
+use Rattle.posix.specs.Groups.{is_outside, is_anchor, is_orphaned, group_numbers, some_stopped, has_stopped, is_newly_orphaned, newly_orphaned}
 use Rattle.posix.specs.declared.entry.Entry.TheVariants.{Marked}
 use Rattle.times.specs.Times.{later, all_later, state_later}
 use Rattle.times.proofs.TableLemmas.{lookup_later, changed_later, members_later}
@@ -34,9 +34,6 @@ filter_same f g (n ∷ ns) h = grind (arith, filter_same f g ns h, h n)
 
 -- ---- new parents
 
-pub forebear_of_later : (d : ℕ) (r : Process) → forebear_of (later d r) ≡ forebear_of r
-forebear_of_later d r = refl
-
 pub forebears_later : (d : ℕ) (rs : List Process) (p : ℕ) → forebears (all_later d rs) p ≡ forebears rs p
 forebears_later d rs p = ap (option_and_then forebear_of) (lookup_later d p rs) ∙ go (lookup p rs) where
   go : (r : Option Process) → option_and_then forebear_of (option_map (later d) r) ≡ option_and_then forebear_of r
@@ -47,9 +44,6 @@ pub heir_in_later : (d : ℕ) (rs : List Process) (p : ℕ) → heir_in (all_lat
 heir_in_later d rs p = ap (λ (f : ℕ → Option Forebear). heir_among f p) (λ i q. forebears_later d rs q i)
 
 -- ---- process groups
-
-pub is_outside_later : (d : ℕ) (r parent : Process) → is_outside (later d r) (later d parent) ≡ is_outside r parent
-is_outside_later d r parent = refl
 
 pub is_anchor_later : (d : ℕ) (rs : List Process) (r : Process) → is_anchor (all_later d rs) (later d r) ≡ is_anchor rs r
 unfolding is_anchor
@@ -63,12 +57,6 @@ unfolding is_orphaned
 is_orphaned_later d group rs =
     ap (λ (ms : List Process). not (list_any (is_anchor (all_later d rs)) ms)) (members_later d group rs)
     ∙ ap not (list_any_later d (is_anchor (all_later d rs)) (is_anchor rs) (members_in group rs) (is_anchor_later d rs))
-
-pub loses_anchor_later : (d p : ℕ) (rs : List Process) (group : ℕ) → loses_anchor p (all_later d rs) group ≡ loses_anchor p rs group
-unfolding loses_anchor
-loses_anchor_later d p rs group =
-    list_any_later d (λ r. (r.pid == p || r.parent == p) && (is_anchor (all_later d rs) r && r.group == group)) (λ r. (r.pid == p || r.parent == p) && (is_anchor rs r && r.group == group)) rs
-    (λ r. ap (λ (b : Bool). (r.pid == p || r.parent == p) && (b && r.group == group)) (is_anchor_later d rs r))
 
 pub group_numbers_later : (d : ℕ) (rs : List Process) → group_numbers (all_later d rs) ≡ group_numbers rs
 unfolding group_numbers

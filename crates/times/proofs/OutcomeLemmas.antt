@@ -2,28 +2,18 @@
 use Rattle.std.proofs.Common.{◌≡◌, ℕ, List, [], ◌∷◌, refl, ap, ◌∙◌}
 use Rattle.std.specs.Prelude.{ℤ}
 use Rattle.posix.specs.Processes.{Process}
-use Rattle.posix.specs.States.{State, change, go_last}
-use Rattle.posix.specs.Outcomes.{Reply, Done, silent, finish, finished, written, plain, finish_call, finish_with, refusing, refused, refusal, no_memory}
+use Rattle.posix.specs.States.{State, change}
+use Rattle.posix.specs.Outcomes.{Reply, Done, finish, finished, plain, finish_call, finish_with, refusing, refused, refusal, no_memory}
 use Rattle.posix.specs.declared.call.Call.{Call}
 use Rattle.posix.specs.declared.errno.Errno.{Errno}
 use Rattle.posix.specs.declared.entry.Entry.{Entry}
 use Rattle.posix.specs.declared.entry.Entry.TheVariants.{Called}
-use Rattle.times.specs.Times.{later, state_later, outcome_later}
+use Rattle.times.specs.Times.{later, state_later}
 use Rattle.times.proofs.TableLemmas.{changed_later}
 use Rattle.times.proofs.CallLemmas.{attempted_later, AreLater}
 
 pub change_later : (d : ℕ) (s : State) (p : ℕ) (f g : Process → Process) → ((r : Process) → f (later d r) ≡ later d (g r)) → change (state_later d s) p f ≡ state_later d (change s p g)
 change_later d s p f g h = ap (λ (rs : List Process). record (state_later d s) { processes = rs }) (changed_later d p f g s.processes h)
-
-pub go_last_later : (d : ℕ) (s : State) (p : ℕ) → go_last (state_later d s) p ≡ state_later d (go_last s p)
-go_last_later d s p = refl
-
-pub silent_later : (d : ℕ) (s : State) → silent (state_later d s) ≡ outcome_later d (silent s)
-silent_later d s = refl
-
-pub written_later : (d i : ℕ) (z : ℤ) (r : Process) → written i z (later d r) ≡ later d (written i z r)
-unfolding written
-written_later d i z r = refl
 
 pub finished_later : (d : ℕ) (results : List (ℕ × ℤ)) (r : Process) → finished results (later d r) ≡ later d (finished results r)
 unfolding finished

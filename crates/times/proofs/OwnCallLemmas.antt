@@ -1,7 +1,7 @@
 -- Shows that fork, exec and calls that change only their caller don't depend on the time.
 use Rattle.std.proofs.Common.{◌≡◌, ℕ, ◌+◌, Bool, true, false, cond, List, [], ◌∷◌, Option, Some, None, refl, ap, ◌∙◌, not}
 use native.Mathlib.Omega.{arith}
-use Rattle.std.specs.Prelude.{ℤ, pos, negsuc, slice_get, Result, Ok, Err, is_some, option_map}
+use Rattle.std.specs.Prelude.{ℤ, pos, negsuc, slice_get, Result, Ok, Err}
 use Rattle.std.specs.Int.{cast_unsigned, w64}
 use Rattle.std.specs.List.{list_any}
 use Rattle.posix.specs.declared.call.Call.TheVariants.{Fork, Exec}
@@ -13,12 +13,10 @@ use Rattle.posix.specs.declared.process.Action.{Action}
 use Rattle.posix.specs.Processes.{Process, Credentials, Signals, argument}
 use Rattle.posix.specs.States.{State, Program, next_pid}
 use Rattle.posix.specs.Tables.{inserted, bears}
-use Rattle.posix.specs.Alarms.{has_alarms}
 use Rattle.posix.specs.NextPid.{is_free, next_free}
 use Rattle.posix.specs.Outcomes.{Done, Reply, finished, finish_with, refusing, written}
 use Rattle.posix.specs.Births.{child_of, born, fork_as}
-use Rattle.posix.specs.Programs.{cpu_on_exec, executed, exec_as, exec_of, exec}
-use Rattle.posix.specs.Credentials.{may}
+use Rattle.posix.specs.Programs.{executed, exec_as, exec_of, exec}
 use Rattle.posix.specs.Generation.{action}
 use Rattle.posix.specs.SignalCalls.{give_credentials, give_signals, set_credentials, action_in, holding, gives_action, sigaction_with, sigaction_of, sigaction, sigprocmask_with, how_in, sigprocmask, sigpending, is_question, are_flags}
 use Rattle.posix.specs.Handlers.{set_action}
@@ -28,9 +26,6 @@ use Rattle.times.proofs.CallLemmas.{attempted_later, AreLater}
 use Rattle.times.proofs.OutcomeLemmas.{change_later, finish_with_later, refused_later, refusing_later, no_memory_later}
 
 -- ---- process IDs
-
-pub bears_later : (d n : ℕ) (r : Process) → bears n (later d r) ≡ bears n r
-bears_later d n r = refl
 
 borne_later : (d n : ℕ) (rs : List Process) → list_any (bears n) (all_later d rs) ≡ list_any (bears n) rs
 borne_later d n [] = refl
@@ -67,13 +62,7 @@ fork_as_later d granted s me None = refused_later d s me.pid Fork EAGAIN
 fork_as_later d true s me (Some n) = ap (λ (t : State). finish_with t me.pid Fork (pos n)) (born_later d s me n) ∙ finish_with_later d (born s me n) me.pid Fork (pos n)
 fork_as_later d false s me (Some n) = no_memory_later d s me.pid Fork
 
-pub fork_later : (d : ℕ) (granted : Bool) (s : State) (me : Process) → fork_as granted (state_later d s) (later d me) (next_pid (state_later d s)) ≡ attempted_later d (fork_as granted s me (next_pid s))
-fork_later d granted s me = ap (fork_as granted (state_later d s) (later d me)) (next_pid_later d s) ∙ fork_as_later d granted s me (next_pid s)
-
 -- ---- exec
-
-pub cpu_on_exec_later : (d : ℕ) (r : Process) → cpu_on_exec (later d r) ≡ cpu_on_exec r
-cpu_on_exec_later d r = refl
 
 pub executed_later : (d number : ℕ) (program : Program) (r : Process) → executed number program (later d r) ≡ later d (executed number program r)
 unfolding executed
@@ -94,9 +83,6 @@ exec_later d s me = exec_of_later d s me (argument me 1)
 
 -- ---- user and group IDs
 
-pub may_later : (d : ℕ) (r : Process) (sig : Option ℕ) (q : Process) → may (later d r) sig (later d q) ≡ may r sig q
-may_later d r sig q = refl
-
 pub give_credentials_later : (d : ℕ) (c : Credentials) (r : Process) → give_credentials c (later d r) ≡ later d (give_credentials c r)
 unfolding give_credentials
 give_credentials_later d c r = refl
@@ -110,9 +96,6 @@ set_credentials_later d (Err why) = refusing_later d why
 pub give_signals_later : (d : ℕ) (g : Signals) (r : Process) → give_signals g (later d r) ≡ later d (give_signals g r)
 unfolding give_signals
 give_signals_later d g r = refl
-
-pub action_in_later : (d : ℕ) (me : Process) → action_in (later d me) ≡ action_in me
-action_in_later d me = refl
 
 pub holding_later : (d : ℕ) (a : Action) (r : Process) → holding a (later d r) ≡ later d (holding a r)
 unfolding written
@@ -155,15 +138,3 @@ sigprocmask_later d me = sigprocmask_with_later d me (how_in (argument me 1))
 pub sigpending_later : (d : ℕ) (me : Process) → AreLater d (sigpending (later d me)) (sigpending me)
 unfolding sigpending written
 sigpending_later d me = (refl, λ r. refl)
-
--- ---- alarms
-
-pub has_alarms_later : (d : ℕ) (s : State) → has_alarms (state_later d s) ≡ has_alarms s
-has_alarms_later d s = go s.processes where
-  one : (a : Option ℕ) → is_some (option_map (λ due. due + d) a) ≡ is_some a
-  one None = refl
-  one (Some due) = refl
-
-  go : (rs : List Process) → list_any (λ r. is_some r.alarm) (all_later d rs) ≡ list_any (λ r. is_some r.alarm) rs
-  go [] = refl
-  go (r ∷ rs) = grind (arith, one r.alarm, go rs)

@@ -1,16 +1,16 @@
 -- Shows that what holds of every state that the machine reaches doesn't depend on the time.
-use Rattle.std.proofs.Common.{◌≡◌, ℕ, ◌+◌, ◌<◌, Bool, true, false, cond, List, [], ◌∷◌, ◌++◌, Option, Some, None, option_map, refl, sym, ap, ◌∙◌, arith, subst}
+use Rattle.std.proofs.Common.{◌≡◌, ℕ, ◌+◌, ◌<◌, true, List, [], ◌∷◌, Option, Some, None, option_map, refl, sym, ap, ◌∙◌, arith, subst}
 use Rattle.std.specs.List.{AllByRecursion}
 use Rattle.posix.specs.Processes.{Process, is_zombie}
 use Rattle.posix.specs.Tables.{IsRising, lookup}
-use Rattle.posix.specs.States.{State, process}
+use Rattle.posix.specs.States.{State}
 use Rattle.posix.specs.Consoles.{Console}
 use Rattle.posix.specs.Regular.{IsBounded, HasFirst, IsPlaced, IsAhead, AreGrouped, IsRegular}
-use Rattle.posix.specs.Settle.{can_act, is_fresh, wakes, woken, woken_if, IsSettled}
+use Rattle.posix.specs.Settle.{can_act, is_fresh, IsSettled}
 use Rattle.times.specs.Times.{later, all_later, state_later}
 use Rattle.times.proofs.TableLemmas.{lookup_later}
 use Rattle.times.proofs.SignalLemmas.{children_later}
-use Rattle.times.proofs.SettleLemmas.{can_act_later, wakes_later, is_fresh_later}
+use Rattle.times.proofs.SettleLemmas.{can_act_later, is_fresh_later}
 
 -- ---- records
 
@@ -95,14 +95,3 @@ is_settled_later d s h = record {
       h.awake p a.what a.found (sym (can_act_later d s a.what) ∙ ap (can_act (state_later d s)) (sym a.same) ∙ acts);
   fresh = all_fresh_later d s.processes s.consoles h.fresh;
 }
-
-woken_if_later : (d : ℕ) (s : State) (r : Option Process) → woken_if (state_later d s) (option_map (later d) r) ≡ state_later d (woken_if s r)
-woken_if_later d s None = refl
-woken_if_later d s (Some r) = ap (λ (b : Bool). cond b (record (state_later d s) { order = s.order ++ r.pid ∷ [] }) (state_later d s)) (wakes_later d s r) ∙ go (wakes s r) where
-  go : (b : Bool) → cond b (record (state_later d s) { order = s.order ++ r.pid ∷ [] }) (state_later d s) ≡ state_later d (cond b (record s { order = s.order ++ r.pid ∷ [] }) s)
-  go true = refl
-  go false = refl
-
-pub woken_later : (d : ℕ) (s : State) (p : ℕ) → woken (state_later d s) p ≡ state_later d (woken s p)
-unfolding woken
-woken_later d s p = ap (woken_if (state_later d s)) (lookup_later d p s.processes) ∙ woken_if_later d s (process s p)

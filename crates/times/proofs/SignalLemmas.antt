@@ -53,9 +53,6 @@ acted_upon_later : (d : ℕ) (e : Effect) (r : Process) (rs : List Process) → 
 acted_upon_later d effect.Nothing r rs = refl
 acted_upon_later d effect.Continued r rs = ap (told_of_change _ (later d r)) (changed_later d r.pid resumed resumed rs (resumed_later d)) ∙ told_of_change_later d _ r (changed r.pid resumed rs)
 
-effect_later : (d : ℕ) (m : PendingSignal) (r : Process) → effect_of (later d r).pid (later d r).life m (later d r).signals ≡ effect_of r.pid r.life m r.signals
-effect_later d m r = refl
-
 pub generated_for_later : (d : ℕ) (m : PendingSignal) (r : Option Process) (rs : List Process) → generated_for m (option_map (later d) r) (all_later d rs) ≡ all_later d (generated_for m r rs)
 generated_for_later d m None rs = refl
 generated_for_later d m (Some r) rs =

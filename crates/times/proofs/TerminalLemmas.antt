@@ -8,10 +8,10 @@ use Rattle.posix.specs.Choice.{from_kernel}
 use Rattle.posix.specs.Notices.{signalled_all}
 use Rattle.posix.specs.Groups.{is_orphaned}
 use Rattle.posix.specs.GroupCalls.{is_group_of}
-use Rattle.posix.specs.Consoles.{Console, console_of, console_at, with_console, acquired, with_foreground, with_tostop, line_taken, keyed, signal_typed, is_told, disconnected}
+use Rattle.posix.specs.Consoles.{Console, console_at, with_console, acquired, with_foreground, with_tostop, line_taken, keyed, signal_typed, is_told, disconnected}
 use Rattle.posix.specs.Transfers.{span_in, bytes_in}
 use Rattle.posix.specs.Outcomes.{Attempted, Done, Again, finish_with, refused}
-use Rattle.posix.specs.Terminals.{terminal, change_console, is_in_background, blocks_or_ignores, signal_own_group, if_allowed, console_named, may_acquire, setctty_of, setctty_at, setctty, foreground_told, tcgetpgrp_on, tcgetpgrp, put_foreground, tcsetpgrp_on, tcsetpgrp, is_nonzero, settostop_on, settostop, finish_moved, with_bytes, read_from, read_in, read_on, read, waits_in, waits_on, waits_to_read, is_reader, write_in, write_on, write}
+use Rattle.posix.specs.Terminals.{terminal, change_console, is_in_background, blocks_or_ignores, signal_own_group, if_allowed, console_named, may_acquire, setctty_of, setctty_at, setctty, foreground_told, tcgetpgrp_on, tcgetpgrp, put_foreground, tcsetpgrp_on, tcsetpgrp, is_nonzero, settostop_on, settostop, finish_moved, with_bytes, read_from, read_in, read_on, read, write_in, write_on, write}
 use Rattle.posix.specs.Step.{signalled_from, key_on, key, with_leader_told, hangup_on, hangup}
 use Rattle.posix.specs.declared.call.Call.{Call}
 use Rattle.posix.specs.declared.call.Call.TheVariants.{Setctty, Tcgetpgrp, Tcsetpgrp, Settostop, Read, Write}
@@ -68,9 +68,6 @@ unfolding setctty
 setctty_later d s me = setctty_at_later d s me (console_named (argument me 1))
 
 -- ---- tcgetpgrp, tcsetpgrp and settostop
-
-pub terminal_later : (d : ℕ) (s : State) (me : Process) → terminal (state_later d s) (later d me) ≡ terminal s me
-terminal_later d s me = refl
 
 pub tcgetpgrp_on_later : (d : ℕ) (s : State) (me : Process) (c : Option Console) → tcgetpgrp_on (state_later d s) (later d me) c ≡ attempted_later d (tcgetpgrp_on s me c)
 tcgetpgrp_on_later d s me None = refused_later d s me.pid Tcgetpgrp ENOTTY
@@ -171,20 +168,6 @@ read_on_later d s me (Some c) = read_in_later d s me c (span_in (argument me 1) 
 pub read_later : (d : ℕ) (s : State) (me : Process) → read (state_later d s) (later d me) ≡ attempted_later d (read s me)
 unfolding read
 read_later d s me = read_on_later d s me (terminal s me)
-
-pub waits_to_read_later : (d : ℕ) (cs : List Console) (me : Process) → waits_to_read cs (later d me) ≡ waits_to_read cs me
-unfolding waits_to_read
-waits_to_read_later d cs me = go (console_of me.session cs) where
-  within : (c : Console) (span : Result Span Errno) → waits_in (later d me) c span ≡ waits_in me c span
-  within c (Err why) = refl
-  within c (Ok span) = refl
-
-  go : (c : Option Console) → waits_on (later d me) c ≡ waits_on me c
-  go None = refl
-  go (Some c) = within c (span_in (argument me 1) (argument me 2))
-
-pub is_reader_later : (d session : ℕ) (r : Process) → is_reader session (later d r) ≡ is_reader session r
-is_reader_later d session r = refl
 
 pub write_in_later : (d : ℕ) (s : State) (me : Process) (c : Console) (span : Result Span Errno) → write_in (state_later d s) (later d me) c span ≡ attempted_later d (write_in s me c span)
 write_in_later d s me c (Err why) = refused_later d s me.pid Write why

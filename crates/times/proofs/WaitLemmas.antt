@@ -1,78 +1,33 @@
 -- Shows that waits don't depend on the time.
 use Rattle.std.proofs.Common.{◌≡◌, ℕ, Bool, true, false, cond, List, [], ◌∷◌, Option, Some, None, refl, ap, ◌∙◌}
 use native.Mathlib.Omega.{arith}
-use Rattle.std.specs.Prelude.{pos, filter, find, option_map}
+use Rattle.std.specs.Prelude.{pos, find, option_map}
 use Rattle.posix.specs.Calls.{call_of_wait}
 use Rattle.posix.specs.Processes.{Process}
 use Rattle.posix.specs.States.{State, change}
-use Rattle.posix.specs.Tables.{removed, children_in}
+use Rattle.posix.specs.Tables.{removed}
 use Rattle.posix.specs.Outcomes.{Attempted}
-use Rattle.posix.specs.Waits.{report, reports, report_of, report_among, report_found, report_of_meant, is_named, wanted_in, asked_by, news_told, results_of, results_of_nothing, gives_nothing, gives_report, tell_child, wait_with, wait_for, wait_by, has_option, WNOWAIT}
+use Rattle.posix.specs.Waits.{report, reports, report_of, asked_by, news_told, results_of, results_of_nothing, gives_nothing, gives_report, tell_child, wait_with, wait_for, wait_by, has_option, WNOWAIT}
 use Rattle.posix.specs.declared.entry.Entry.{Entry}
 use Rattle.posix.specs.declared.entry.Entry.TheVariants.{Called, Reported, Looked}
 use Rattle.posix.specs.declared.errno.Errno.TheVariants.{EINVAL, ECHILD}
 use Rattle.posix.specs.declared.process.Report.{Report}
 use Rattle.posix.specs.declared.process.Report.TheVariants as found
-use Rattle.posix.specs.declared.target.Target.{Target}
-use Rattle.posix.specs.declared.target.Target.TheVariants as whom
 use Rattle.posix.specs.declared.waits.Asked.{Asked}
 use Rattle.posix.specs.declared.waits.WaitCall.{WaitCall}
 use Rattle.times.specs.Times.{later, all_later, state_later}
 use Rattle.times.proofs.TableLemmas.{removed_later}
-use Rattle.times.proofs.SignalLemmas.{children_later}
 use Rattle.times.proofs.CallLemmas.{attempted_later, report_later}
 use Rattle.times.proofs.OutcomeLemmas.{change_later, finish_done_later, refused_later}
-
-pub report_of_later : (d options : ℕ) (r : Process) → report_of options (later d r) ≡ report_of options r
-unfolding report_of
-report_of_later d options r = refl
-
-pub reports_later : (d options : ℕ) (r : Process) → reports options (later d r) ≡ reports options r
-unfolding report_of
-reports_later d options r = refl
-
-reporting_later : (d options : ℕ) (rs : List Process) → filter (reports options) (all_later d rs) ≡ all_later d (filter (reports options) rs)
-unfolding report_of
-reporting_later d options [] = refl
-reporting_later d options (r ∷ rs) = grind (arith, reporting_later d options rs)
-
-pub wanted_in_later : (d options p : ℕ) (rs : List Process) → wanted_in options p (all_later d rs) ≡ all_later d (wanted_in options p rs)
-unfolding wanted_in
-wanted_in_later d options p rs = ap (filter (reports options)) (children_later d p rs) ∙ reporting_later d options (children_in p rs)
-
-pub is_named_later : (d group : ℕ) (t : Target) (r : Process) → is_named group t (later d r) ≡ is_named group t r
-is_named_later d group (whom.Process p) r = refl
-is_named_later d group whom.OwnGroup r = refl
-is_named_later d group (whom.Group p) r = refl
-is_named_later d group whom.All r = refl
-is_named_later d group whom.Nobody r = refl
-
-pub report_found_later : (d options : ℕ) (r : Option Process) → report_found options (option_map (later d) r) ≡ report_found options r
-report_found_later d options None = refl
-report_found_later d options (Some r) = report_of_later d options r
 
 first_later : (d options : ℕ) (rs : List Process) → find (reports options) (all_later d rs) ≡ option_map (later d) (find (reports options) rs)
 unfolding report_of
 first_later d options [] = refl
 first_later d options (r ∷ rs) = grind (arith, first_later d options rs)
 
-pub report_among_later : (d options : ℕ) (rs : List Process) → report_among options (all_later d rs) ≡ report_among options rs
-report_among_later d options [] = refl
-report_among_later d options (r ∷ rs) = ap (report_found options) (first_later d options (r ∷ rs)) ∙ report_found_later d options (find (reports options) (r ∷ rs))
-
-meant_later : (d : ℕ) (means : Process → Bool) → ((r : Process) → means (later d r) ≡ means r) → (rs : List Process) → filter means (all_later d rs) ≡ all_later d (filter means rs)
-meant_later d means h [] = refl
-meant_later d means h (r ∷ rs) = grind (arith, h r, meant_later d means h rs)
-
-pub report_of_meant_later : (d : ℕ) (means : Process → Bool) (options : ℕ) (rs : List Process) → ((r : Process) → means (later d r) ≡ means r) → report_of_meant means options (all_later d rs) ≡ report_of_meant means options rs
-report_of_meant_later d means options rs h = ap (report_among options) (meant_later d means h rs) ∙ report_among_later d options (filter means rs)
-
 pub news_told_later : (d : ℕ) (r : Process) → news_told (later d r) ≡ later d (news_told r)
 unfolding news_told
 news_told_later d r = refl
-
-pub asked_by_later : (d : ℕ) (call : WaitCall) (me : Process) → asked_by call (later d me) ≡ asked_by call me
-asked_by_later d call me = refl
 
 pub gives_nothing_later : (d : ℕ) (s : State) (p : ℕ) (call : WaitCall) → gives_nothing (state_later d s) p call ≡ attempted_later d (gives_nothing s p call)
 gives_nothing_later d s p call = finish_done_later d s p (results_of_nothing call) (Called p (call_of_wait call) (pos 0) ∷ [])

@@ -72,7 +72,7 @@ fn name_without_beginning(word: &[u8]) -> Option<&'static [u8]> {
         .find_map(|letters| name_behind(letters.as_bytes(), word))
 }
 
-/// Returns the name that an unknown word probably stands for; `None` if no name is close.
+/// Returns the name that an unknown word probably misspells; `None` if no name is close.
 pub fn meant(alloc: Global, word: &[u8]) -> Result<Option<&'static [u8]>, AllocError> {
     if let Some(name) = name_without_beginning(word) {
         return Ok(Some(name));
