@@ -1,3 +1,4 @@
+mod DecimalLemmas
 mod NumberLemmas
 mod LineLemmas
 mod MarkLemmas

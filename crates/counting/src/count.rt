@@ -1,56 +1,68 @@
 //! Natural numbers of any size.
 
-ghost use Rattle.std.specs.Prelude.{◌≡◌, ◌+◌, ◌==◌, IfOk, OnErr, OnOk, slice_index_or};
+ghost use Rattle.std.specs.Prelude.{◌≡◌, ◌+◌, ◌≤◌, ◌==◌, IfOk, OnErr, OnOk, slice_index};
 ghost use Rattle.std.specs.String.{string_bytes};
-ghost use Rattle.counting.specs.Numbers.{AreDigits, in_decimal, number_of};
+ghost use Rattle.counting.specs.Numbers.{AreLimbs, in_decimal, number_of};
 
 use std::alloc::{AllocError, Global};
+use std::fmt::Write;
 use std::marker::Model;
 
-/// A natural number of any size. It is kept in decimal, because it is only added and printed.
+/// Each limb is below this. It is a power of 10, so that a number is printed limb by limb. The sum of two limbs and a
+/// carry fits 64 bits.
+const BASE: u64 = 1_000_000_000_000_000_000;
+
+/// A natural number of any size. Up to 10^18 - 1, it needs no memory.
 #[derive(Drop)]
 pub struct Count {
     alloc: Global,
-    /// The decimal digits, the last one first; none for 0.
-    digits: Vec<u8>,
+    /// The lowest limb: the number modulo 10^18.
+    low: u64,
+    /// The other limbs, the lowest first, without leading zeros.
+    high: Vec<u64>,
 }
 
 impl Model for Count {
-    ghost use Rattle.std.specs.Prelude.{ℕ};
-    ghost use Rattle.counting.specs.Numbers.{AreDigits, number_of};
+    ghost use Rattle.std.specs.Prelude.{ℕ, ◌<◌, ◌∷◌};
+    ghost use Rattle.counting.specs.Numbers.{AreLimbs, base, number_of};
 
     ghost Value = { ℕ };
 
-    ghost view = { λ c. number_of c.digits.items };
+    ghost view = { λ c. number_of (c.low ∷ c.high.items) };
 
-    ghost invariant = { λ c. AreDigits c.digits.items };
+    ghost invariant = { λ c. (c.low < base) × AreLimbs c.high.items };
 }
 
-/// Returns the digit with this place, counted from the last digit; 0 if there is none.
-fn digit_at(digits: &[u8], place: usize) -> u8
-    ensures { result ≡ slice_index_or digits.now place 0 }
+/// Returns the limb with this place, counted from the lowest; 0 if there is none.
+fn limb_at(limbs: &[u64], place: usize) -> u64
+    ensures { result ≡ slice_index limbs.now place }
 {
-    digits.get(place).copied().unwrap_or(0)
+    limbs.get(place).copied().unwrap_or(0)
 }
 
-/// Returns the digits of the sum of two numbers.
-fn sum_of(alloc: Global, digits: &[u8], others: &[u8]) -> Result<Vec<u8>, AllocError>
-    requires digits { AreDigits digits.now }
-    requires others { AreDigits others.now }
-    ensures sum { IfOk result (λ sum. number_of sum.items ≡ number_of digits.now + number_of others.now) }
-    ensures digits { IfOk result (λ sum. AreDigits sum.items) }
+/// Adds a number and a carry. If memory runs out, the limbs stay unchanged.
+#[tactic(auto, using(crate::proofs::NumberLemmas::sum_rules))]
+fn add_limbs(limbs: &mut Vec<u64>, others: &[u64], mut carry: u64) -> Result<(), AllocError>
+    requires limbs { AreLimbs limbs.old.items }
+    requires others { AreLimbs others.now }
+    requires carry { carry ≤ 1 }
+    ensures ok { OnOk result (number_of limbs.new.items ≡ number_of limbs.old.items + number_of others.now + carry) }
+    ensures limbs { AreLimbs limbs.new.items }
+    ensures err { OnErr result (limbs.new.items ≡ limbs.old.items) }
 {
-    let mut sum = Vec::new(alloc);
-    let mut carry = 0;
-    for place in 0..digits.len().max(others.len()) {
-        let digit = digit_at(digits, place) + digit_at(others, place) + carry;
-        sum.push(digit % 10)?;
-        carry = digit / 10;
+    let len = limbs.len().max(others.len());
+    // Room for the last carry, too, so that nothing fails after a write.
+    limbs.reserve(len + 1 - limbs.len())?;
+    limbs.resize(len, 0)?;
+    for place in 0..len {
+        let sum = limbs[place] + limb_at(others, place) + carry;
+        limbs[place] = sum % BASE;
+        carry = sum / BASE;
     }
     if carry > 0 {
-        sum.push(carry)?;
+        limbs.push_reserved(carry);
     }
-    Ok(sum)
+    Ok(())
 }
 
 impl Count {
@@ -60,7 +72,8 @@ impl Count {
     {
         Count {
             alloc,
-            digits: Vec::new(alloc),
+            low: 0,
+            high: Vec::new(alloc),
         }
     }
 
@@ -70,7 +83,8 @@ impl Count {
     {
         Ok(Count {
             alloc,
-            digits: vec![in alloc; 1]?,
+            low: 1,
+            high: Vec::new(alloc),
         })
     }
 
@@ -80,22 +94,25 @@ impl Count {
     {
         Ok(Count {
             alloc: self.alloc,
-            digits: Vec::from_slice(self.alloc, self.digits.as_slice())?,
+            low: self.low,
+            high: Vec::from_slice(self.alloc, self.high.as_slice())?,
         })
     }
 
     /// Returns true if the number is 0.
+    #[tactic(auto, using(crate::proofs::NumberLemmas::is_low))]
     pub fn is_zero(&self) -> bool
         ensures { result ≡ (self.now == 0) }
     {
-        self.digits.is_empty()
+        self.low == 0 && self.high.is_empty()
     }
 
     /// Returns true if the number is 1.
+    #[tactic(auto, using(crate::proofs::NumberLemmas::is_low))]
     pub fn is_one(&self) -> bool
         ensures { result ≡ (self.now == 1) }
     {
-        self.digits.as_slice() == [1].as_slice()
+        self.low == 1 && self.high.is_empty()
     }
 
     /// Adds another number. If memory runs out, the number stays unchanged.
@@ -103,7 +120,11 @@ impl Count {
         ensures ok { OnOk result (self.new ≡ self.old + other.now) }
         ensures err { OnErr result (self.new ≡ self.old) }
     {
-        self.digits = sum_of(self.alloc, self.digits.as_slice(), other.digits.as_slice())?;
+        let sum = self.low + other.low;
+        if sum >= BASE || !other.high.is_empty() {
+            add_limbs(&mut self.high, other.high.as_slice(), sum / BASE)?;
+        }
+        self.low = sum % BASE;
         Ok(())
     }
 
@@ -112,22 +133,23 @@ impl Count {
         ensures ok { OnOk result (self.new ≡ self.old + 1) }
         ensures err { OnErr result (self.new ≡ self.old) }
     {
-        self.digits = sum_of(self.alloc, self.digits.as_slice(), &[1])?;
-        Ok(())
+        self.add(&Count::one(self.alloc)?)
     }
 
     /// Returns the number in decimal.
+    #[tactic(auto, using(crate::proofs::DecimalLemmas::limb_written, crate::proofs::NumberLemmas::part_all))]
     pub fn to_text(&self) -> Result<String, AllocError>
         ensures { IfOk result (λ text. string_bytes text ≡ in_decimal self.now) }
     {
-        let mut text = String::new(self.alloc);
-        if self.digits.is_empty() {
-            text.push('0')?;
-            return Ok(text);
+        let low = self.low;
+        let Some((top, others)) = self.high.as_slice().split_last() else {
+            return format!(in self.alloc; "{low}");
+        };
+        let mut text = format!(in self.alloc; "{top}")?;
+        for limb in others.iter().rev() {
+            write!(text, "{limb:018}")?;
         }
-        for place in (0..self.digits.len()).rev() {
-            text.push(char::from(b'0' + self.digits[place]))?;
-        }
+        write!(text, "{low:018}")?;
         Ok(text)
     }
 }

@@ -17,6 +17,7 @@ ghost use Rattle.proctable.specs.Records.{snapshot_of, own_of};
 ghost use Rattle.pidalloc.specs.Places.{next_behind};
 ghost use Rattle.laws.specs.Agree.{Agree, IsOrderly};
 ghost use Rattle.laws.specs.Lives.{born_by};
+ghost use Rattle.times.specs.Times.{AreMoved};
 
 use crate::step::{burst, is_followed_by_step, next, step_behind};
 use arrayvec::ArrayVec;
@@ -331,15 +332,15 @@ impl<K: ProcessTable> KernelOn<K> {
         self.machine.census()
     }
 
-    /// Returns true only if another kernel of the same world is in the same state, even after another number of events.
-    /// `false` promises nothing. No state changes.
-    pub fn is_same(&mut self, other: &mut KernelOn<K>) -> bool
+    /// Returns true only if the state of one of two kernels of the same world is the state of the other, moved in time.
+    /// The numbers of events may differ. `false` promises nothing. No state changes.
+    pub fn is_moved(&mut self, other: &mut KernelOn<K>) -> bool
         requires world { self.old.state.world ≡ other.old.state.world }
-        ensures same { result ≡ true → self.old.state ≡ other.old.state }
+        ensures moved { result ≡ true → AreMoved self.old.state other.old.state }
         ensures mine { (self.new.state ≡ self.old.state) × (self.new.events ≡ self.old.events) }
         ensures others { (other.new.state ≡ other.old.state) × (other.new.events ≡ other.old.events) }
     {
-        self.machine.is_same(&mut other.machine)
+        self.machine.is_moved(&mut other.machine)
     }
 }
 

@@ -4,7 +4,7 @@
 //! Afterwards the state is regular and settled, with at most one birth more than events, and at most as many ticks as
 //! events (`within_events`). Lines that agree with the state before agree, with its own, with the state after
 //! (`tells`). `steps` applies as many events as `last_given` says. `visits` counts slots, not IDs read in indexes;
-//! steps outside `slots_of_event` have no bound. `is_same` true means equal states.
+//! steps outside `slots_of_event` have no bound. `is_moved` true means that one state is the other, moved in time.
 #![tactic(auto)]
 
 pub mod driver;

@@ -2,11 +2,10 @@
 use Rattle.std.specs.Prelude.{◌≡◌}
 use Rattle.posix.specs.Common.{State}
 
--- everything but the processes, the consoles and the world is the same
+-- everything but the time, the processes, the consoles and the world is the same
 pub record HaveSameCounts (s t : State) : Type 0 where
   pub last_pid : s.last_pid ≡ t.last_pid
   pub births : s.births ≡ t.births
-  pub ticks : s.ticks ≡ t.ticks
   pub order : s.order ≡ t.order
   pub dropped : s.dropped ≡ t.dropped
   pub halted : s.halted ≡ t.halted

@@ -1,15 +1,17 @@
 -- The nodes of a layer: one is replaced by another, is added, or has its reads counted.
-use Rattle.std.proofs.Common.{◌≡◌, ℕ, zero, suc, ◌-◌, ◌<◌, List, [], ◌∷◌, ◌++◌, length, map, Some, refl, ap, ap₂, sym, subst, ◌∙◌, arith, slice_get, slice_set, get_or}
+use Rattle.std.proofs.Common.{◌≡◌, ℕ, zero, suc, ◌+◌, ◌<◌, ◌≤◌, ◌==◌, inl, inr, ◌⊎◌, Bool, true, false, true≢false, cond, List, [], ◌∷◌, ◌++◌, length, map, None, Some, Option, refl, ap, ap₂, sym, subst, ◌∙◌, arith, get_or, slice_get, slice_set}
 use Rattle.std.specs.List.{All}
-use Rattle.std.proofs.lemmas.List.Elements.{All-cons, All-head, All-nil, All-push, All-set, All-tail}
-use Rattle.std.proofs.lemmas.Option.{get_or_from_slice_get, slice_get_within}
-use Rattle.posix.specs.Common.{State, World, boot}
-use Rattle.counting.specs.Tallies.{TallyView, both}
+use Rattle.std.proofs.lemmas.Bool.{eq-eqb, ne_eqb}
+use Rattle.std.proofs.lemmas.List.{map-append}
+use Rattle.std.proofs.lemmas.Option.{get_or_from_slice_get, slice_get-get_or, slice_get_within}
+use Rattle.counting.specs.Tallies.{TallyView, both, no_schedules}
+use Rattle.merging.specs.declared.begun.Begun.{Begun}
 use Rattle.merging.specs.declared.node.Node.{Node}
 use Rattle.merging.specs.declared.search.Search.{Search}
-use Rattle.merging.specs.Merging.{AreAlike, AreSameNodes, IsNode, IsOne, IsSameNode, Outlook, SeenNode, StandsAt, behind, seen, tally_of_node, tally_of_nodes, world_of}
-use Rattle.merging.proofs.TallyLemmas.{and_none, both_regrouped, both_swapped, none_and}
-use Rattle.merging.proofs.WorldLemmas.{course_keeps_world}
+use Rattle.merging.specs.Merging.{AllBegun, AllStand, AreAlike, AreFresh, AreSameNodes, Bound, Forgets, HasSome, IsFresh, IsPoint, IsSameNode, LeadsTo, Outlook, Point, SeenNode, StandsAt, edge_at, most_of, point, seen, slots_tally, tally_of_node, tally_of_nodes, unless_at}
+use Rattle.merging.proofs.IndexLemmas.{last_there, push_cases, put_cases, same_there, still_there}
+use Rattle.merging.proofs.OneLemmas.{all_begun_alike, alike_swapped, slots_alike}
+use Rattle.merging.proofs.TallyLemmas.{and_none, both_regrouped, both_swapped}
 
 -- ---- nodes that are equal except for the count of reads
 
@@ -19,120 +21,294 @@ all_same_put [] i n m e same = refl
 all_same_put (k ∷ ns) zero n m e same = let is : n ≡ k = cc in ap (λ v. v ∷ map seen ns) (same ∙ ap seen is)
 all_same_put (k ∷ ns) (suc i) n m e same = ap (λ vs. seen k ∷ vs) (all_same_put ns i n m e same)
 
-pub put_there : (ns : List Node) (i : ℕ) (m : Node) → i < length ns → slice_get (slice_set ns i m) i ≡ Some m
-put_there [] i m l = absurd (omega arith)
-put_there (k ∷ ns) zero m l = refl
-put_there (k ∷ ns) (suc i) m l = put_there ns i m (omega arith)
-
 -- Two nodes that are one still are.
-pub one_still : (n m k l : Node) → IsSameNode n m → IsSameNode k l → IsOne n k → IsOne m l
-one_still n m k l a b one = subst (λ v. AreAlike v (seen l)) (sym a) (subst (AreAlike (seen n)) (sym b) one)
+pub one_still : (n m k l : Node) → IsSameNode n m → IsSameNode k l → AreAlike (point n) (point k) → AreAlike (point m) (point l)
+one_still n m k l a b one =
+    subst (λ p. AreAlike p (point l)) (sym (ap (λ (v : SeenNode). v.point) a)) (subst (AreAlike (point n)) (sym (ap (λ (v : SeenNode). v.point) b)) one)
 
-pub tally_same : (n m : Node) (go_on : Outlook) (most : ℕ) → IsSameNode n m → tally_of_node go_on most m ≡ tally_of_node go_on most n
-tally_same n m go_on most same = ap (λ (v : SeenNode). behind v.count v.spots (go_on (most - length v.spots) v.left v.state v.marks)) same
+pub tally_same : (n m : Node) (go_on past : Outlook) (most : ℕ) → IsSameNode n m → tally_of_node go_on past most m ≡ tally_of_node go_on past most n
+tally_same n m go_on past most same = ap (λ (v : SeenNode). both (slots_tally go_on most v.point v.begun) (slots_tally past most v.point v.passed)) same
 
-pub tallies_same : (ns ms : List Node) (go_on : Outlook) (most : ℕ) → AreSameNodes ns ms → tally_of_nodes go_on most ms ≡ tally_of_nodes go_on most ns
-tallies_same [] [] go_on most same = refl
-tallies_same [] (m ∷ ms) go_on most same = cc
-tallies_same (n ∷ ns) [] go_on most same = cc
-tallies_same (n ∷ ns) (m ∷ ms) go_on most same =
+pub tallies_same : (ns ms : List Node) (go_on past : Outlook) (most : ℕ) → AreSameNodes ns ms → tally_of_nodes go_on past most ms ≡ tally_of_nodes go_on past most ns
+tallies_same [] [] go_on past most same = refl
+tallies_same [] (m ∷ ms) go_on past most same = cc
+tallies_same (n ∷ ns) [] go_on past most same = cc
+tallies_same (n ∷ ns) (m ∷ ms) go_on past most same =
     let first : IsSameNode n m = cc in
     let rest : AreSameNodes ns ms = cc in
-    ap₂ both (tally_same n m go_on most first) (tallies_same ns ms go_on most rest)
+    ap₂ both (tally_same n m go_on past most first) (tallies_same ns ms go_on past most rest)
 
--- A property of all that is seen of each.
-pub all_still : (P : SeenNode → Type 0) (ns ms : List Node) → AreSameNodes ns ms → All (λ n. P (seen n)) ns → All (λ m. P (seen m)) ms
-all_still P [] [] same all = all
-all_still P [] (m ∷ ms) same all = cc
-all_still P (n ∷ ns) [] same all = All-nil (λ m. P (seen m))
-all_still P (n ∷ ns) (m ∷ ms) same all =
+pub points_same : (ns ms : List Node) → AreSameNodes ns ms → map point ms ≡ map point ns
+points_same [] [] same = refl
+points_same [] (m ∷ ms) same = cc
+points_same (n ∷ ns) [] same = cc
+points_same (n ∷ ns) (m ∷ ms) same =
     let first : IsSameNode n m = cc in
     let rest : AreSameNodes ns ms = cc in
-    All-cons (λ k. P (seen k)) m ms (subst P (sym first) (All-head (λ k. P (seen k)) n ns all)) (all_still P ns ms rest (All-tail (λ k. P (seen k)) n ns all))
+    ap₂ (λ p ps. p ∷ ps) (ap (λ (v : SeenNode). v.point) first) (points_same ns ms rest)
 
--- ---- one more node
+-- Each of them was there before.
+seen_before : (ns ms : List Node) (i : ℕ) (m : Node) → AreSameNodes ns ms → slice_get ms i ≡ Some m → (n : Node) × (slice_get ns i ≡ Some n) × IsSameNode n m
+seen_before [] [] i m same e = cc
+seen_before [] (k ∷ ms) i m same e = cc
+seen_before (n ∷ ns) [] i m same e = cc
+seen_before (n ∷ ns) (k ∷ ms) zero m same e =
+    let is : k ≡ m = cc in
+    let first : IsSameNode n k = cc in
+    (n, refl, subst (λ x. IsSameNode n x) is first)
+seen_before (n ∷ ns) (k ∷ ms) (suc i) m same e = let rest : AreSameNodes ns ms = cc in seen_before ns ms i m rest e
 
--- A node is replaced by another one, with more beginnings.
-pub tallies_put : (ns : List Node) (i : ℕ) (n m : Node) (go_on : Outlook) (most : ℕ) (more : TallyView) → slice_get ns i ≡ Some n
-    → tally_of_node go_on most m ≡ both (tally_of_node go_on most n) more → tally_of_nodes go_on most (slice_set ns i m) ≡ both (tally_of_nodes go_on most ns) more
-tallies_put [] i n m go_on most more e joined = cc
-tallies_put (k ∷ ns) zero n m go_on most more e joined =
+pub stand_same : (s : Search) (place : ℕ) (bounds : ℕ → Bound) (points : List Point) (ns ms : List Node) → AreSameNodes ns ms → AllStand s place bounds points ns → AllStand s place bounds points ms
+stand_same s place bounds points ns ms same all i m e =
+    let was = seen_before ns ms i m same e in
+    subst (StandsAt s place (bounds i) points) (sym was.2) (all i was.0 was.1)
+
+pub fresh_same : (ns ms : List Node) → AreSameNodes ns ms → AreFresh ns → AreFresh ms
+fresh_same ns ms same fresh i m e =
+    let was = seen_before ns ms i m same e in
+    ap (λ (v : SeenNode). v.passed) was.2 ∙ fresh i was.0 was.1
+
+-- ---- one more node, or another node in place of one
+
+-- A node has more schedules.
+pub tallies_put : (ns : List Node) (i : ℕ) (n m : Node) (go_on past : Outlook) (most : ℕ) (more : TallyView) → slice_get ns i ≡ Some n
+    → tally_of_node go_on past most m ≡ both (tally_of_node go_on past most n) more → tally_of_nodes go_on past most (slice_set ns i m) ≡ both (tally_of_nodes go_on past most ns) more
+tallies_put [] i n m go_on past most more e joined = cc
+tallies_put (k ∷ ns) zero n m go_on past most more e joined =
     let is : n ≡ k = cc in
-    let here = tally_of_node go_on most n in
-    let rest = tally_of_nodes go_on most ns in
+    let here = tally_of_node go_on past most n in
+    let rest = tally_of_nodes go_on past most ns in
     ap (λ t. both t rest) joined
     ∙ both_regrouped here more rest
     ∙ ap (both here) (both_swapped more rest)
     ∙ sym (both_regrouped here rest more)
-    ∙ ap (λ (x : Node). both (both (tally_of_node go_on most x) rest) more) is
-tallies_put (k ∷ ns) (suc i) n m go_on most more e joined =
-    ap (both (tally_of_node go_on most k)) (tallies_put ns i n m go_on most more e joined)
-    ∙ sym (both_regrouped (tally_of_node go_on most k) (tally_of_nodes go_on most ns) more)
-
-pub nodes_joined : (go_on : Outlook) (most : ℕ) (ns ms : List Node) → tally_of_nodes go_on most (ns ++ ms) ≡ both (tally_of_nodes go_on most ns) (tally_of_nodes go_on most ms)
-nodes_joined go_on most [] ms = sym (none_and (tally_of_nodes go_on most ms))
-nodes_joined go_on most (n ∷ ns) ms =
-    ap (both (tally_of_node go_on most n)) (nodes_joined go_on most ns ms)
-    ∙ sym (both_regrouped (tally_of_node go_on most n) (tally_of_nodes go_on most ns) (tally_of_nodes go_on most ms))
+    ∙ ap (λ (x : Node). both (both (tally_of_node go_on past most x) rest) more) is
+tallies_put (k ∷ ns) (suc i) n m go_on past most more e joined =
+    ap (both (tally_of_node go_on past most k)) (tallies_put ns i n m go_on past most more e joined)
+    ∙ sym (both_regrouped (tally_of_node go_on past most k) (tally_of_nodes go_on past most ns) more)
 
 -- A node is added after the others.
-pub tallies_more : (ns : List Node) (n : Node) (go_on : Outlook) (most : ℕ) → tally_of_nodes go_on most (ns ++ n ∷ []) ≡ both (tally_of_nodes go_on most ns) (tally_of_node go_on most n)
-tallies_more ns n go_on most = nodes_joined go_on most ns (n ∷ []) ∙ ap (both (tally_of_nodes go_on most ns)) (and_none (tally_of_node go_on most n))
+pub tallies_more : (ns : List Node) (n : Node) (go_on past : Outlook) (most : ℕ) → tally_of_nodes go_on past most (ns ++ n ∷ []) ≡ both (tally_of_nodes go_on past most ns) (tally_of_node go_on past most n)
+tallies_more [] n go_on past most = both_swapped (tally_of_node go_on past most n) no_schedules
+tallies_more (m ∷ ns) n go_on past most =
+    ap (both (tally_of_node go_on past most m)) (tallies_more ns n go_on past most)
+    ∙ sym (both_regrouped (tally_of_node go_on past most m) (tally_of_nodes go_on past most ns) (tally_of_node go_on past most n))
 
--- ---- a node is added to a layer
+-- A node without beginnings has no schedules.
+pub none_of_fresh : (n : Node) (go_on past : Outlook) (most : ℕ) → IsFresh (seen n) → tally_of_node go_on past most n ≡ no_schedules
+none_of_fresh n go_on past most fresh = ap₂ both (ap (slots_tally go_on most (point n)) fresh.begun) (ap (slots_tally past most (point n)) fresh.passed)
 
--- The node that was found and the node that is written to are one node.
-pub found_is : (ns : List Node) (i : ℕ) (n m : Node) → slice_get ns i ≡ Some n → m ≡ get_or ns i m → slice_get ns i ≡ Some m
-found_is ns i n m e is = e ∙ ap (λ (x : Node). Some x) (sym (is ∙ get_or_from_slice_get ns i n m e))
+-- More beginnings of a node can go on.
+pub node_more : (n m : Node) (go_on past : Outlook) (most : ℕ) (more : TallyView) → point m ≡ point n → m.passed ≡ n.passed
+    → slots_tally go_on most (point n) m.begun ≡ both (slots_tally go_on most (point n) n.begun) more → tally_of_node go_on past most m ≡ both (tally_of_node go_on past most n) more
+node_more n m go_on past most more same passed begun =
+    let b = slots_tally go_on most (point n) n.begun in
+    let q = slots_tally past most (point n) n.passed in
+    ap₂ (λ p bs. both (slots_tally go_on most p m.begun) (slots_tally past most p bs)) same passed
+    ∙ ap (λ t. both t q) begun
+    ∙ both_regrouped b more q
+    ∙ ap (both b) (both_swapped more q)
+    ∙ sym (both_regrouped b q more)
 
-pub joined_one : (ns : List Node) (i : ℕ) (n m k : Node) → slice_get ns i ≡ Some n → m ≡ get_or ns i m → IsOne n k → IsOne m k
-joined_one ns i n m k e is one = subst (λ (x : Node). IsOne x k) (sym (is ∙ get_or_from_slice_get ns i n m e)) one
+pub points_put : (ns : List Node) (i : ℕ) (n m : Node) → slice_get ns i ≡ Some n → point m ≡ point n → map point (slice_set ns i m) ≡ map point ns
+points_put [] i n m e same = refl
+points_put (k ∷ ns) zero n m e same = let is : n ≡ k = cc in ap (λ p. p ∷ map point ns) (same ∙ ap point is)
+points_put (k ∷ ns) (suc i) n m e same = ap (λ ps. point k ∷ ps) (points_put ns i n m e same)
 
-pub joined_tallies : (go_on : Outlook) (most : ℕ) (olds ns : List Node) (i : ℕ) (old new here joined : Node) → AreSameNodes olds ns → IsSameNode old new → slice_get ns i ≡ Some here
-    → tally_of_node go_on most joined ≡ both (tally_of_node go_on most here) (tally_of_node go_on most new)
-    → tally_of_nodes go_on most (slice_set ns i joined) ≡ both (tally_of_nodes go_on most olds) (tally_of_node go_on most old)
-joined_tallies go_on most olds ns i old new here joined all same e is =
-    tallies_put ns i here joined go_on most (tally_of_node go_on most new) e is
-    ∙ ap₂ both (tallies_same olds ns go_on most all) (tally_same old new go_on most same)
+pub stand_put : (s : Search) (place : ℕ) (bounds : ℕ → Bound) (points : List Point) (ns : List Node) (i : ℕ) (m : Node) → AllStand s place bounds points ns → StandsAt s place (bounds i) points (seen m)
+    → AllStand s place bounds points (slice_set ns i m)
+stand_put s place bounds points ns i m all is j n e = by (put_cases ns i j m n e)
+  where
+    by : ((j ≡ i) × (m ≡ n)) ⊎ ((j ≡ i → ⊥) × (slice_get ns j ≡ Some n)) → StandsAt s place (bounds j) points (seen n)
+    by (inl (at, it)) = subst (λ k. StandsAt s place (bounds k) points (seen n)) (sym at) (subst (λ (x : Node). StandsAt s place (bounds i) points (seen x)) it is)
+    by (inr (apart, old)) = all j n old
 
-pub joined_nodes : (search : Search) (place least : ℕ) (olds ns : List Node) (i : ℕ) (joined : Node) → AreSameNodes olds ns
-    → IsNode search place least joined → All (IsNode search place least) olds → All (IsNode search place least) (slice_set ns i joined)
-joined_nodes search place least olds ns i joined all is ps =
-    All-set (IsNode search place least) ns i joined is (all_still (StandsAt search place least) olds ns all ps)
+pub fresh_put : (ns : List Node) (i : ℕ) (m : Node) → AreFresh ns → m.passed ≡ [] → AreFresh (slice_set ns i m)
+fresh_put ns i m all is j n e = by (put_cases ns i j m n e)
+  where
+    by : ((j ≡ i) × (m ≡ n)) ⊎ ((j ≡ i → ⊥) × (slice_get ns j ≡ Some n)) → n.passed ≡ []
+    by (inl (at, it)) = ap (λ (x : Node). x.passed) (sym it) ∙ is
+    by (inr (apart, old)) = all j n old
 
--- What is true of all nodes is true of the node at this index.
-pub one_of_these : (search : Search) (place least : ℕ) (olds ns : List Node) (i : ℕ) (here : Node) → AreSameNodes olds ns → slice_get ns i ≡ Some here → All (IsNode search place least) olds → IsNode search place least here
-one_of_these search place least olds ns i here all e ps =
-    subst (IsNode search place least) (get_or_from_slice_get ns i here here e) (all_still (StandsAt search place least) olds ns all ps i here (slice_get_within ns i here e))
+-- ---- more points, and other bounds
 
-pub stands_same : (search : Search) (place least : ℕ) (old new : Node) → IsSameNode old new → IsNode search place least old → IsNode search place least new
-stands_same search place least old new same p = subst (StandsAt search place least) (sym same) p
+pub leads_more : (s : Search) (points more : List Point) (p : Point) (which j : ℕ) → LeadsTo s points p which j → LeadsTo s (points ++ more) p which j
+leads_more s points more p which j to = (to.0, still_there points more j to.0 to.1, to.2)
 
--- It is added after the others.
-pub pushed_tallies : (go_on : Outlook) (most : ℕ) (olds ns xs : List Node) (old new : Node) → AreSameNodes olds ns → IsSameNode old new → xs ≡ ns ++ new ∷ []
-    → tally_of_nodes go_on most xs ≡ both (tally_of_nodes go_on most olds) (tally_of_node go_on most old)
-pushed_tallies go_on most olds ns xs old new all same is =
-    ap (tally_of_nodes go_on most) is
-    ∙ tallies_more ns new go_on most
-    ∙ ap₂ both (tallies_same olds ns go_on most all) (tally_same old new go_on most same)
+pub stands_more : (s : Search) (place : ℕ) (bound : Bound) (points more : List Point) (n : SeenNode) → StandsAt s place bound points n → StandsAt s place bound (points ++ more) n
+stands_more s place bound points more n is = record {
+  point = is.point;
+  events = is.events;
+  begun = is.begun;
+  passed = is.passed;
+  some = is.some;
+  leads = λ which j e. leads_more s points more n.point which j (is.leads which j e);
+}
 
-pub pushed_nodes : (search : Search) (place least : ℕ) (olds ns xs : List Node) (old new : Node) → AreSameNodes olds ns → IsSameNode old new → xs ≡ ns ++ new ∷ []
-    → All (IsNode search place least) olds → IsNode search place least old → All (IsNode search place least) xs
-pushed_nodes search place least olds ns xs old new all same is ps p =
-    let now = all_still (StandsAt search place least) olds ns all ps in
-    subst (All (IsNode search place least)) (sym is) (All-push (IsNode search place least) ns new now (subst (StandsAt search place least) (sym same) p))
+pub stands_weaker : (s : Search) (place : ℕ) (old new : Bound) (points : List Point) (n : SeenNode) → new.fewest ≤ old.fewest → (new.some ≡ true → old.some ≡ true) → StandsAt s place old points n → StandsAt s place new points n
+stands_weaker s place old new points n lower some is = record {
+  point = is.point;
+  events = is.events;
+  begun = λ k b e. let it = is.begun k b e in let had = it.0 in (omega (arith, had, lower), it.1);
+  passed = is.passed;
+  some = λ t. is.some (some t);
+  leads = is.leads;
+}
+
+pub stand_weaker : (s : Search) (place : ℕ) (old new : ℕ → Bound) (points : List Point) (ns : List Node)
+    → ((i : ℕ) → i < length ns → ((new i).fewest ≤ (old i).fewest) × ((new i).some ≡ true → (old i).some ≡ true))
+    → AllStand s place old points ns → AllStand s place new points ns
+stand_weaker s place old new points ns lower all i n e =
+    let l = lower i (within ns i n e) in stands_weaker s place (old i) (new i) points (seen n) l.0 l.1 (all i n e)
+  where
+    within : (ns : List Node) (i : ℕ) (n : Node) → slice_get ns i ≡ Some n → i < length ns
+    within [] i n e = cc
+    within (m ∷ ns) zero n e = omega arith
+    within (m ∷ ns) (suc i) n e = let l = within ns i n e in omega (arith, l)
+
+pub stand_push : (s : Search) (place : ℕ) (bounds : ℕ → Bound) (ns : List Node) (n : Node) → AllStand s place bounds (map point ns) ns → StandsAt s place (bounds (length ns)) (map point (ns ++ n ∷ [])) (seen n)
+    → AllStand s place bounds (map point (ns ++ n ∷ [])) (ns ++ n ∷ [])
+stand_push s place bounds ns n all is i m e = by (push_cases ns i n m e)
+  where
+    by : ((i ≡ length ns) × (n ≡ m)) ⊎ (slice_get ns i ≡ Some m) → StandsAt s place (bounds i) (map point (ns ++ n ∷ [])) (seen m)
+    by (inl (at, it)) = subst (λ k. StandsAt s place (bounds k) (map point (ns ++ n ∷ [])) (seen m)) (sym at) (subst (λ (x : Node). StandsAt s place (bounds (length ns)) (map point (ns ++ n ∷ [])) (seen x)) it is)
+    by (inr old) = subst (λ ps. StandsAt s place (bounds i) ps (seen m)) (sym (map-append point ns (n ∷ []))) (stands_more s place (bounds i) (map point ns) (map point (n ∷ [])) (seen m) (all i m old))
+
+pub fresh_push : (ns : List Node) (n : Node) → AreFresh ns → n.passed ≡ [] → AreFresh (ns ++ n ∷ [])
+fresh_push ns n all is i m e = by (push_cases ns i n m e)
+  where
+    by : ((i ≡ length ns) × (n ≡ m)) ⊎ (slice_get ns i ≡ Some m) → m.passed ≡ []
+    by (inl (at, it)) = ap (λ (x : Node). x.passed) (sym it) ∙ is
+    by (inr old) = all i m old
 
 -- ---- one world
 
-pub node_world : (search : Search) (place least : ℕ) (n : Node) → IsNode search place least n → n.kernel.state.world ≡ world_of search
-node_world search place least n is = ap (λ (s : State). s.world) is.reached ∙ course_keeps_world 1 (boot (world_of search)) n.given
-
-pub all_worlds : (search : Search) (place least : ℕ) (ns : List Node) (m : Node) → All (IsNode search place least) ns → IsNode search place least m → All (λ (n : Node). n.kernel.state.world ≡ m.kernel.state.world) ns
-all_worlds search place least ns m all is = λ k d l. node_world search place least (get_or ns k d) (all k d l) ∙ sym (node_world search place least m is)
+-- A machine of a node is in the world of the search.
+pub all_worlds : (s : Search) (place : ℕ) (bounds : ℕ → Bound) (points : List Point) (ns : List Node) (m : Node) → AllStand s place bounds points ns → IsPoint s place (point m)
+    → All (λ (n : Node). n.kernel.state.world ≡ m.kernel.state.world) ns
+all_worlds s place bounds points ns m all is = λ k d l.
+    let n = get_or ns k d in
+    let at = all k n (slice_get-get_or ns k d l) in
+    at.point.world ∙ sym is.world
 
 -- They still are of one world.
 pub worlds_still : (ns ms : List Node) (n m : Node) → AreSameNodes ns ms → IsSameNode n m → All (λ (k : Node). k.kernel.state.world ≡ n.kernel.state.world) ns
     → All (λ (k : Node). k.kernel.state.world ≡ m.kernel.state.world) ms
-worlds_still ns ms n m all same worlds =
-    subst (λ (w : World). All (λ (k : Node). k.kernel.state.world ≡ w) ms) (sym (ap (λ (v : SeenNode). v.state.world) same))
-    (all_still (λ v. v.state.world ≡ n.kernel.state.world) ns ms all worlds)
+worlds_still ns ms n m all same worlds = λ k d l.
+    let x = get_or ms k d in
+    let was = seen_before ns ms k x all (slice_get-get_or ms k d l) in
+    let within = slice_get_within ns k was.0 was.1 in
+    let there = ap (λ (y : Node). y.kernel.state.world) (sym (get_or_from_slice_get ns k was.0 was.0 was.1)) in
+    ap (λ (v : SeenNode). v.point.state.world) was.2 ∙ there ∙ worlds k was.0 within ∙ sym (ap (λ (v : SeenNode). v.point.state.world) same)
+
+-- ---- a node is found or added
+
+pub unless_lower : (index : ℕ) (bounds : ℕ → Bound) (i : ℕ) → ((unless_at index bounds i).fewest ≤ (bounds i).fewest) × ((unless_at index bounds i).some ≡ true → (bounds i).some ≡ true)
+unless_lower index bounds i = by (i == index)
+  where
+    by : (b : Bool) → ((cond b (record { fewest = (bounds i).fewest; some = false }) (bounds i)).fewest ≤ (bounds i).fewest)
+        × ((cond b (record { fewest = (bounds i).fewest; some = false }) (bounds i)).some ≡ true → (bounds i).some ≡ true)
+    by true = (omega arith, λ t. absurd (true≢false (sym t)))
+    by false = (omega arith, λ t. t)
+
+-- The node with the index has a bound that asks for no beginnings.
+pub unless_there : (index : ℕ) (bounds : ℕ → Bound) → unless_at index bounds index ≡ record { fewest = (bounds index).fewest; some = false }
+unless_there index bounds = ap (λ b. cond b (record { fewest = (bounds index).fewest; some = false }) (bounds index)) (eq-eqb index index refl)
+
+no_edge : (which : ℕ) → edge_at [] which ≡ None
+no_edge zero = refl
+no_edge (suc which) = refl
+
+-- A node without beginnings.
+fresh_stands : (s : Search) (place fewest : ℕ) (points : List Point) (n : SeenNode) → IsFresh n → IsPoint s place n.point → n.events ≤ place + most_of s → StandsAt s place (record { fewest = fewest; some = false }) points n
+fresh_stands s place fewest points n fresh is few = record {
+  point = is;
+  events = few;
+  begun = subst (AllBegun s place fewest n.point) (sym fresh.begun) (λ k b e. cc);
+  passed = subst (AllBegun s place 0 n.point) (sym fresh.passed) (λ k b e. cc);
+  some = λ t. absurd (true≢false (sym t));
+  leads = λ which j e. let none = sym (no_edge which) ∙ ap (λ es. edge_at es which) (sym fresh.edges) ∙ e in cc;
+}
+
+pub found_stand : (s : Search) (place : ℕ) (bounds : ℕ → Bound) (olds ns : List Node) (i : ℕ) → AreSameNodes olds ns → AllStand s place bounds (map point olds) olds → AllStand s place (unless_at i bounds) (map point ns) ns
+found_stand s place bounds olds ns i same all =
+    stand_weaker s place bounds (unless_at i bounds) (map point ns) ns (λ j l. unless_lower i bounds j)
+    (subst (λ ps. AllStand s place bounds ps ns) (sym (points_same olds ns same)) (stand_same s place bounds (map point olds) olds ns same all))
+
+pub pushed_there : (ns xs : List Node) (n : Node) → xs ≡ ns ++ n ∷ [] → slice_get xs (length ns) ≡ Some n
+pushed_there ns xs n is = ap (λ ys. slice_get ys (length ns)) is ∙ last_there ns n
+
+pub pushed_points : (olds ns xs : List Node) (n : Node) → AreSameNodes olds ns → xs ≡ ns ++ n ∷ [] → map point xs ≡ map point olds ++ point n ∷ []
+pushed_points olds ns xs n same is = ap (map point) is ∙ map-append point ns (n ∷ []) ∙ ap (λ ps. ps ++ point n ∷ []) (points_same olds ns same)
+
+pub pushed_stand : (s : Search) (place : ℕ) (bounds : ℕ → Bound) (olds ns xs : List Node) (n : Node) → AreSameNodes olds ns → xs ≡ ns ++ n ∷ [] → IsFresh (seen n) → AllStand s place bounds (map point olds) olds
+    → IsPoint s place (point n) → n.kernel.events ≤ place + most_of s → AllStand s place (unless_at (length ns) bounds) (map point xs) xs
+pushed_stand s place bounds olds ns xs n same is fresh all at few =
+    subst (λ ys. AllStand s place (unless_at (length ns) bounds) (map point ys) ys) (sym is)
+    (stand_push s place (unless_at (length ns) bounds) ns n (found_stand s place bounds olds ns (length ns) same all)
+    (subst (λ b. StandsAt s place b (map point (ns ++ n ∷ [])) (seen n)) (sym (unless_there (length ns) bounds))
+    (fresh_stands s place (bounds (length ns)).fewest (map point (ns ++ n ∷ [])) (seen n) fresh at few)))
+
+pub pushed_tallies : (go_on past : Outlook) (most : ℕ) (olds ns xs : List Node) (n : Node) → AreSameNodes olds ns → xs ≡ ns ++ n ∷ [] → IsFresh (seen n) → tally_of_nodes go_on past most xs ≡ tally_of_nodes go_on past most olds
+pushed_tallies go_on past most olds ns xs n same is fresh =
+    ap (tally_of_nodes go_on past most) is
+    ∙ tallies_more ns n go_on past most
+    ∙ ap₂ both (tallies_same olds ns go_on past most same) (none_of_fresh n go_on past most fresh)
+    ∙ and_none (tally_of_nodes go_on past most olds)
+
+-- ---- a node gets beginnings
+
+-- Another node is put in place of one, with a bound of its own.
+pub stand_put_at : (s : Search) (place : ℕ) (old new : ℕ → Bound) (ns : List Node) (i : ℕ) (n m : Node) → slice_get ns i ≡ Some n → point m ≡ point n → ((j : ℕ) → (j ≡ i → ⊥) → old j ≡ new j)
+    → AllStand s place old (map point ns) ns → StandsAt s place (new i) (map point ns) (seen m) → AllStand s place new (map point (slice_set ns i m)) (slice_set ns i m)
+stand_put_at s place old new ns i n m e same others all there j x at = subst (λ ps. StandsAt s place (new j) ps (seen x)) (sym (points_put ns i n m e same)) (by (put_cases ns i j m x at))
+  where
+    by : ((j ≡ i) × (m ≡ x)) ⊎ ((j ≡ i → ⊥) × (slice_get ns j ≡ Some x)) → StandsAt s place (new j) (map point ns) (seen x)
+    by (inl (here, it)) = subst (λ k. StandsAt s place (new k) (map point ns) (seen x)) (sym here) (subst (λ (y : Node). StandsAt s place (new i) (map point ns) (seen y)) it there)
+    by (inr (apart, was)) = subst (λ b. StandsAt s place b (map point ns) (seen x)) (others j apart) (all j x was)
+
+pub unless_apart : (i : ℕ) (bounds : ℕ → Bound) (j : ℕ) → (j ≡ i → ⊥) → unless_at i bounds j ≡ bounds j
+unless_apart i bounds j apart = ap (λ b. cond b (record { fewest = (bounds j).fewest; some = false }) (bounds j)) (ne_eqb j i apart)
+
+-- Beginnings of a node that can go on, other than before.
+pub with_begun_stands : (s : Search) (place : ℕ) (old new : Bound) (points : List Point) (n m : Node) → point m ≡ point n → m.kernel.events ≡ n.kernel.events → m.passed ≡ n.passed → m.edges.items ≡ n.edges.items
+    → AllBegun s place new.fewest (point n) m.begun → (new.some ≡ true → HasSome m.begun ⊎ HasSome m.passed) → StandsAt s place old points (seen n) → StandsAt s place new points (seen m)
+with_begun_stands s place old new points n m same events passed edges begun has was = record {
+  point = subst (IsPoint s place) (sym same) was.point;
+  events = subst (λ k. k ≤ place + most_of s) (sym events) was.events;
+  begun = subst (λ p. AllBegun s place new.fewest p m.begun) (sym same) begun;
+  passed = subst (λ p. AllBegun s place 0 p m.passed) (sym same) (subst (AllBegun s place 0 (point n)) (sym passed) was.passed);
+  some = has;
+  leads = λ which k led. subst (λ p. LeadsTo s points p which k) (sym same) (was.leads which k (ap (λ es. edge_at es which) (sym edges) ∙ led));
+}
+
+pub fewer_begun : (s : Search) (place fewest fewer : ℕ) (p : Point) (bs : List (Option Begun)) → fewer ≤ fewest → AllBegun s place fewest p bs → AllBegun s place fewer p bs
+fewer_begun s place fewest fewer p bs lower all = λ k b e. let it = all k b e in let had = it.0 in (omega (arith, had, lower), it.1)
+
+-- The node that was read there is alike.
+pub there_alike : (ns : List Node) (i : ℕ) (it m : Node) (p : Point) → slice_get ns i ≡ Some it → slice_get ns i ≡ Some m → AreAlike (point it) p → AreAlike (point m) p
+there_alike ns i it m p e there alike = subst (λ (x : Node). AreAlike (point x) p) (same_there ns i it m e there) alike
+
+pub filled_points : (olds : List Point) (ns : List Node) (i : ℕ) (m new : Node) → slice_get ns i ≡ Some m → point new ≡ point m → (more : List Point) × (map point ns ≡ olds ++ more)
+    → (more : List Point) × (map point (slice_set ns i new) ≡ olds ++ more)
+filled_points olds ns i m new there same grown = (grown.0, points_put ns i m new there same ∙ grown.1)
+
+pub filled_tallies : (go_on past : Outlook) (most : ℕ) (ns : List Node) (i : ℕ) (m new : Node) (p : Point) (bs : List (Option Begun)) (old : TallyView) → Forgets go_on → slice_get ns i ≡ Some m → AreAlike (point m) p
+    → point new ≡ point m → new.passed ≡ m.passed → slots_tally go_on most (point m) new.begun ≡ both (slots_tally go_on most (point m) m.begun) (slots_tally go_on most (point m) bs)
+    → tally_of_nodes go_on past most ns ≡ old → tally_of_nodes go_on past most (slice_set ns i new) ≡ both old (slots_tally go_on most p bs)
+filled_tallies go_on past most ns i m new p bs old forgets there alike same passed more was =
+    tallies_put ns i m new go_on past most (slots_tally go_on most (point m) bs) there (node_more m new go_on past most (slots_tally go_on most (point m) bs) same passed more)
+    ∙ ap₂ both was (slots_alike go_on most (point m) p bs forgets alike)
+
+-- The node with this index was asked for no beginnings, and has some now.
+pub filled_stand : (s : Search) (place fewest : ℕ) (bounds : ℕ → Bound) (ns : List Node) (i : ℕ) (m new : Node) (p : Point) (bs : List (Option Begun)) → slice_get ns i ≡ Some m → AreAlike (point m) p
+    → point new ≡ point m → new.kernel.events ≡ m.kernel.events → new.passed ≡ m.passed → new.edges.items ≡ m.edges.items
+    → (AllBegun s place (bounds i).fewest (point m) m.begun → AllBegun s place (bounds i).fewest (point m) bs → AllBegun s place (bounds i).fewest (point m) new.begun)
+    → HasSome new.begun → (bounds i).fewest ≤ fewest → AllBegun s place fewest p bs
+    → AllStand s place (unless_at i bounds) (map point ns) ns → AllStand s place bounds (map point (slice_set ns i new)) (slice_set ns i new)
+filled_stand s place fewest bounds ns i m new p bs there alike same events passed edges added has lower begun all =
+    let was = all i m there in
+    let had = subst (λ k. AllBegun s place k (point m) m.begun) (ap (λ (b : Bound). b.fewest) (unless_there i bounds)) was.begun in
+    let come = all_begun_alike s place (bounds i).fewest p (point m) bs (alike_swapped (point m) p alike) (fewer_begun s place fewest (bounds i).fewest p bs lower begun) in
+    stand_put_at s place (unless_at i bounds) bounds ns i m new there same (unless_apart i bounds) all
+    (with_begun_stands s place (unless_at i bounds i) (bounds i) (map point ns) m new same events passed edges (added had come) (λ t. inl has) was)

@@ -1,16 +1,13 @@
 -- Why a search stops, and for which schedules.
-use Rattle.std.proofs.Common.{◌≡◌, ◌∙◌, ℕ, ◌+◌, ◌<◌, ◌≤◌, List, ◌++◌, length, refl, ap, sym, subst}
+use Rattle.std.proofs.Common.{◌≡◌, ◌∙◌, ℕ, ◌<◌, ◌≤◌, List, length, refl, ap, sym, subst}
 use Rattle.std.specs.Prelude.{Result, Ok, Err, IfErr, IsErrAnd}
-use Rattle.std.specs.List.{All}
 use Rattle.counting.specs.Tallies.{TallyView, both, no_schedules}
-use Rattle.merging.specs.declared.layer.Layer.{Layer}
 use Rattle.merging.specs.declared.node.Node.{Node}
 use Rattle.merging.specs.declared.search.Search.{Search}
 use Rattle.merging.specs.declared.search.Stop.{Stop}
 use Rattle.merging.specs.declared.search.Stop.TheVariants as stop
-use Rattle.merging.specs.Merging.{IsNode, IsStop, Property, most_of, nodes_in, nodes_tally, outlook_of, tally_of_all}
-use Rattle.merging.proofs.LayerLemmas.{nodes_joined}
-use Rattle.merging.proofs.TallyLemmas.{and_none, both_regrouped, both_swapped}
+use Rattle.merging.specs.Merging.{AreNodes, IsStop, Property, nodes_tally}
+use Rattle.merging.proofs.TallyLemmas.{and_none, both_regrouped}
 
 -- A reason to stop for some schedules is a reason to stop for more.
 pub stop_among : (s : Search) (whole wider rest : Property → TallyView) (why : Stop) → ((has : Property) → wider has ≡ both (whole has) (rest has)) → IsStop s whole why → IsStop s wider why
@@ -45,26 +42,6 @@ stopped_by_memory s whole (Ok a) h = absurd h
 stopped_by_memory s whole (Err why) h = subst (IsStop s whole) (sym h) tt
 
 -- A search stops if too many nodes are before one event.
-pub too_many : (s : Search) (place : ℕ) (whole others : Property → TallyView) (nodes : List Node) → place ≤ s.family.now.upto → s.family.now.states < length nodes → All (IsNode s place 0) nodes
+pub too_many : (s : Search) (place : ℕ) (whole others : Property → TallyView) (nodes : List Node) → place ≤ s.family.now.upto → s.family.now.states < length nodes → AreNodes s place 0 nodes
     → ((has : Property) → whole has ≡ both (nodes_tally has s place nodes) (others has)) → IsStop s whole (stop.States s.family.now.states place)
 too_many s place whole others nodes within more stand is = (refl, within, nodes, record { stand = stand; more = more; some = λ has. (others has, is has) })
-
--- ---- the schedules for which a search stops
-
--- If the first of the old rows was removed, the tally is that of this row and the row in hand, and of all other rows.
-pub of_rows : (has : Property) (s : Search) (place : ℕ) (row above : List Node) (old rows next : List Layer) → nodes_in old ≡ above ++ nodes_in rows
-    → tally_of_all has s place row old next
-    ≡ both (both (nodes_tally has s place above) (nodes_tally has s place row)) (both (nodes_tally has s place (nodes_in rows)) (nodes_tally has s (place + 1) (nodes_in next)))
-of_rows has s place row above old rows next taken =
-    let here = outlook_of has s place in
-    let most = most_of s in
-    let r = nodes_tally has s place row in
-    let a = nodes_tally has s place above in
-    let others = nodes_tally has s place (nodes_in rows) in
-    let behind = nodes_tally has s (place + 1) (nodes_in next) in
-    ap (λ t. both t behind)
-    (nodes_joined here most row (nodes_in old)
-    ∙ ap (both r) (ap (nodes_tally has s place) taken ∙ nodes_joined here most above (nodes_in rows))
-    ∙ sym (both_regrouped r a others)
-    ∙ ap (λ t. both t others) (both_swapped r a))
-    ∙ both_regrouped (both a r) others behind

@@ -1,2 +1,3 @@
 pub mod SpotLists
+pub mod Slots
 pub mod Merging

@@ -1,7 +1,6 @@
 -- Schedules that reach the same state: how many of those that continue from there have a property, and which is the
 -- first.
-use Rattle.std.specs.Prelude.{◌≡◌, ◌⊎◌, ◌<◌, ◌≤◌, ◌-◌, ℕ, zero, suc, ◌+◌, ◌*◌, Bool, true, List, [], ◌∷◌, ◌++◌, length, map, flat_map, drop, nat_lt, remove, slice_index_or, Some, option_map, if◌then◌else◌}
-use Rattle.std.specs.List.{All}
+use Rattle.std.specs.Prelude.{◌≡◌, ◌⊎◌, ◌<◌, ◌≤◌, ◌-◌, ◌==◌, ℕ, zero, suc, ◌+◌, ◌*◌, Bool, true, false, List, [], ◌∷◌, ◌++◌, length, map, drop, nat_lt, remove, slice_get, slice_index_or, Option, Some, None, option_map, if◌then◌else◌}
 use Rattle.posix.specs.declared.event.Event.{Event}
 use Rattle.posix.specs.declared.event.Event.TheVariants.{Tick}
 use Rattle.posix.specs.Common.{numbered, IsRegular, IsSettled, State, World, boot, next}
@@ -13,7 +12,8 @@ use Rattle.counting.specs.Courses.{course_from}
 use Rattle.counting.specs.Endings.{ending_of}
 use Rattle.counting.specs.Tallies.{TallyView, both, no_schedules}
 use Rattle.counting.specs.Texts.{marked, unmarked}
-use Rattle.merging.specs.declared.layer.Layer.{Layer}
+use Rattle.times.specs.Times.{AreMoved}
+use Rattle.merging.specs.declared.begun.Begun.{Begun}
 use Rattle.merging.specs.declared.node.Node.{Node}
 use Rattle.merging.specs.declared.search.Search.{Search}
 use Rattle.merging.specs.declared.search.Stop.{Stop}
@@ -44,9 +44,14 @@ behind count begun t = record { count = count * t.count; first = option_map (λ 
 abbrev pub Outlook : Type 0
 Outlook = ℕ → List ℕ → State → List Bool → TallyView
 
--- The result is the same for all states in which the machine has halted.
-abbrev pub ForgetsHalted : Outlook → Type 0
-ForgetsHalted go_on = (n : ℕ) (left : List ℕ) (s t : State) (marks : List Bool) → s.halted ≡ true → t.halted ≡ true → go_on n left s marks ≡ go_on n left t marks
+-- Two states are one if one is the other moved in time. States in which the machine has halted are one, too, because
+-- nothing more happens in them.
+abbrev pub AreOneState : State → State → Type 0
+AreOneState s t = AreMoved s t ⊎ ((s.halted ≡ true) × (t.halted ≡ true))
+
+-- The result is the same for states that are one.
+abbrev pub Forgets : Outlook → Type 0
+Forgets go_on = (n : ℕ) (left : List ℕ) (s t : State) (marks : List Bool) → AreOneState s t → go_on n left s marks ≡ go_on n left t marks
 
 abbrev pub state_after : Event → State → State
 state_after x s = (next true s x).state
@@ -112,136 +117,213 @@ most_of s = s.family.now.ticks + length (loose_of s)
 abbrev pub outlook_of : Property → Search → ℕ → Outlook
 outlook_of has s place = tally_from has (texts_of s) (loose_of s) (s.family.now.upto - place) place (drop place (list_of s))
 
--- ---- states, and the beginnings of schedules that lead to them
+-- The schedules that continue from before the event with this place, and run this event next.
+abbrev pub after_event : Property → Search → ℕ → Option Event → Outlook
+after_event has s place None n left st marks = no_schedules
+after_event has s place (Some x) n left st marks = outlook_of has s (place + 1) n left (state_after x st) (marks_after (texts_of s) x st marks)
 
--- The tally of the schedules of a node.
-abbrev pub tally_of_node : Outlook → ℕ → Node → TallyView
-tally_of_node go_on most n = behind n.count n.spots (go_on (most - length n.spots) n.left.items n.kernel.state n.marks.items)
+-- The schedules that continue from before the event with this place, and insert nothing more before it.
+abbrev pub past_of : Property → Search → ℕ → Outlook
+past_of has s place = after_event has s place (slice_get (list_of s) place)
+
+-- ---- points, and the beginnings of schedules that lead to them
+
+-- What the schedules that continue from a node depend on: the state, the kinds of the loose events that are left, and
+-- the marks.
+pub record Point : Type 0 where
+  pub state : State
+  pub left : List ℕ
+  pub marks : List Bool
+
+abbrev pub point : Node → Point
+point n = record { state = n.kernel.state; left = n.left.items; marks = n.marks.items }
+
+-- Two points are one state, with the same loose events left and the same marks.
+pub record AreAlike (p q : Point) : Type 0 where
+  pub state : AreOneState p.state q.state
+  pub left : p.left ≡ q.left
+  pub marks : p.marks ≡ q.marks
+
+-- The tally of the schedules that continue these beginnings from a point.
+abbrev pub begun_tally : Outlook → ℕ → Point → Begun → TallyView
+begun_tally go_on most p b = behind b.count b.spots (go_on (most - length b.spots) p.left p.state p.marks)
+
+abbrev pub slot_tally : Outlook → ℕ → Point → Option Begun → TallyView
+slot_tally go_on most p None = no_schedules
+slot_tally go_on most p (Some b) = begun_tally go_on most p b
+
+abbrev pub slots_tally : Outlook → ℕ → Point → List (Option Begun) → TallyView
+slots_tally go_on most p [] = no_schedules
+slots_tally go_on most p (b ∷ bs) = both (slot_tally go_on most p b) (slots_tally go_on most p bs)
+
+-- ---- nodes
+
+-- The tally of the schedules of a node. Its beginnings can go on with insertions. Those that have passed do not.
+abbrev pub tally_of_node : Outlook → Outlook → ℕ → Node → TallyView
+tally_of_node go_on past most n = both (slots_tally go_on most (point n) n.begun) (slots_tally past most (point n) n.passed)
 
 -- The tally of the schedules of all nodes.
-abbrev pub tally_of_nodes : Outlook → ℕ → List Node → TallyView
-tally_of_nodes go_on most [] = no_schedules
-tally_of_nodes go_on most (n ∷ ns) = both (tally_of_node go_on most n) (tally_of_nodes go_on most ns)
-
--- The nodes of all layers.
-abbrev pub nodes_in : List Layer → List Node
-nodes_in rows = flat_map (λ row. row.nodes.items) rows
+abbrev pub tally_of_nodes : Outlook → Outlook → ℕ → List Node → TallyView
+tally_of_nodes go_on past most [] = no_schedules
+tally_of_nodes go_on past most (n ∷ ns) = both (tally_of_node go_on past most n) (tally_of_nodes go_on past most ns)
 
 -- What is seen of a node: everything except the count of reads of its kernel.
 pub record SeenNode : Type 0 where
-  pub state : State
+  pub point : Point
   pub events : ℕ
-  pub count : ℕ  -- how many beginnings of schedules lead to the state
-  pub spots : Spots
-  pub left : List ℕ
-  pub given : List Event
-  pub marks : List Bool
+  pub begun : List (Option Begun)
+  pub passed : List (Option Begun)
+  pub edges : List (Option ℕ)
 
 abbrev pub seen : Node → SeenNode
-seen n = record { state = n.kernel.state; events = n.kernel.events; count = n.count; spots = n.spots; left = n.left.items; given = n.given; marks = n.marks.items }
-
--- A node is before the event with this place: it has run all events before that one, and its insertions, at `fewest`
--- spots or more. These events lead to its state in the world of the search. Its kernel has run no more than these.
--- There is a mark for each text, what is left can still be inserted, and one schedule or more begins with these events.
-pub record StandsAt (s : Search) (place fewest : ℕ) (n : SeenNode) : Type 0 where
-  pub reached : n.state ≡ (course_from 1 (boot (world_of s)) n.given).last
-  pub regular : IsRegular n.state
-  pub settled : IsSettled n.state
-  pub events : n.events ≤ length n.given
-  pub marks : length n.marks ≡ length (texts_of s)
-  pub given : length n.given ≡ place + length n.spots
-  pub least : fewest ≤ length n.spots
-  pub few : length n.spots + length n.left ≤ most_of s
-  pub last : place ≡ s.family.now.upto → n.left ≡ []
-  pub begun : 1 ≤ n.count
-
-abbrev pub IsNode : Search → ℕ → ℕ → Node → Type 0
-IsNode s place least n = StandsAt s place least (seen n)
-
--- Rows of nodes before the event with this place. The nodes of the first row have `least` spots or more, and this bound
--- rises by one from row to row.
-abbrev pub AreRows : Search → ℕ → ℕ → List Layer → Type 0
-AreRows s place least [] = Unit {0}
-AreRows s place least (row ∷ rows) = All (IsNode s place least) row.nodes.items × AreRows s place (least + 1) rows
+seen n = record { point = point n; events = n.kernel.events; begun = n.begun; passed = n.passed; edges = n.edges.items }
 
 -- A node is unchanged, except for the count of reads.
 abbrev pub IsSameNode : Node → Node → Type 0
 IsSameNode old new = seen new ≡ seen old
 
--- Two states are one if they are equal. States in which the machine has halted are one, too, because nothing more
--- happens in them.
-abbrev pub AreOneState : State → State → Type 0
-AreOneState s t = (s ≡ t) ⊎ ((s.halted ≡ true) × (t.halted ≡ true))
-
--- Two nodes are one state, after equally many spots, with the same loose events left and the same marks.
-pub record AreAlike (node other : SeenNode) : Type 0 where
-  pub state : AreOneState node.state other.state
-  pub marks : node.marks ≡ other.marks
-  pub spots : length node.spots ≡ length other.spots
-  pub left : node.left ≡ other.left
-
-abbrev pub IsOne : Node → Node → Type 0
-IsOne node other = AreAlike (seen node) (seen other)
-
 -- These nodes are unchanged, except for the counts of reads.
 abbrev pub AreSameNodes : List Node → List Node → Type 0
 AreSameNodes old new = map seen new ≡ map seen old
 
--- The tally of the schedules of a node before the event with this place.
-abbrev pub node_tally : Property → Search → ℕ → Node → TallyView
-node_tally has s place n = tally_of_node (outlook_of has s place) (most_of s) n
+-- ---- insertions before an event
 
--- The tally of the schedules of nodes before that event.
+-- An insertion is a tick, for 0, or one of the loose events that are left, by its index from 1. Its kind, and the kinds
+-- that are left after it.
+abbrev pub kind_at : ℕ → List ℕ → ℕ
+kind_at zero left = 0
+kind_at (suc i) left = slice_index_or left i 0
+
+abbrev pub left_at : ℕ → List ℕ → List ℕ
+left_at zero left = left
+left_at (suc i) left = remove left i
+
+-- The point after an event, with these loose events left.
+abbrev pub point_after : Search → Event → List ℕ → Point → Point
+point_after s x left p = record { state = state_after x p.state; left = left; marks = marks_after (texts_of s) x p.state p.marks }
+
+-- The point after an insertion.
+abbrev pub point_put : Search → ℕ → Point → Point
+point_put s which p = point_after s (event_of (loose_of s) (kind_at which p.left)) (left_at which p.left) p
+
+-- Where a node leads by an insertion, once that is known: the index of another node.
+abbrev pub edge_at : List (Option ℕ) → ℕ → Option ℕ
+edge_at edges which = slice_index_or edges which None
+
+-- The insertion leads from a point to the point with this index.
+abbrev pub LeadsTo : Search → List Point → Point → ℕ → ℕ → Type 0
+LeadsTo s points p which j = (to : Point) × (slice_get points j ≡ Some to) × AreAlike (point_put s which p) to
+
+-- ---- what is known of a node
+
+-- Beginnings of schedules lead to a point before the event with this place. These events lead to a state that is one
+-- with its state. What is left can still be inserted, and one schedule or more begins so.
+pub record AreBegun (s : Search) (place : ℕ) (p : Point) (b : Begun) : Type 0 where
+  pub reached : AreOneState p.state (course_from 1 (boot (world_of s)) b.given).last
+  pub given : length b.given ≡ place + length b.spots
+  pub few : length b.spots + length p.left ≤ most_of s
+  pub some : 1 ≤ b.count
+
+-- Each of these beginnings leads to the point, and has `fewest` spots or more.
+abbrev pub AllBegun : Search → ℕ → ℕ → Point → List (Option Begun) → Type 0
+AllBegun s place fewest p bs = (k : ℕ) (b : Begun) → slice_get bs k ≡ Some (Some b) → (fewest ≤ length b.spots) × AreBegun s place p b
+
+-- There are beginnings.
+abbrev pub HasSome : List (Option Begun) → Type 0
+HasSome bs = (k : ℕ) × (b : Begun) × (slice_get bs k ≡ Some (Some b))
+
+-- A point before the event with this place: a machine has reached its state in the world of the search. There is a mark
+-- for each text. At the last place where events can be inserted, none is left.
+pub record IsPoint (s : Search) (place : ℕ) (p : Point) : Type 0 where
+  pub world : p.state.world ≡ world_of s
+  pub regular : IsRegular p.state
+  pub settled : IsSettled p.state
+  pub marks : length p.marks ≡ length (texts_of s)
+  pub last : place ≡ s.family.now.upto → p.left ≡ []
+
+-- What is asked of a node: its beginnings that can go on have `fewest` spots or more; and if `some`, it has beginnings.
+pub record Bound : Type 0 where
+  pub fewest : ℕ
+  pub some : Bool
+
+-- The same of all but the node with this index, which need not have beginnings.
+abbrev pub unless_at : ℕ → (ℕ → Bound) → ℕ → Bound
+unless_at index bounds i = if i == index then record { fewest = (bounds i).fewest; some = false } else bounds i
+
+-- A node is before the event with this place. Its kernel has run no more events than a schedule has before that event.
+-- It leads where its edges say, among these points.
+pub record StandsAt (s : Search) (place : ℕ) (bound : Bound) (points : List Point) (n : SeenNode) : Type 0 where
+  pub point : IsPoint s place n.point
+  pub events : n.events ≤ place + most_of s
+  pub begun : AllBegun s place bound.fewest n.point n.begun
+  pub passed : AllBegun s place 0 n.point n.passed
+  pub some : bound.some ≡ true → HasSome n.begun ⊎ HasSome n.passed
+  pub leads : (which j : ℕ) → edge_at n.edges which ≡ Some j → LeadsTo s points n.point which j
+
+-- Each node is before the event with this place, with a bound for each index.
+abbrev pub AllStand : Search → ℕ → (ℕ → Bound) → List Point → List Node → Type 0
+AllStand s place bounds points nodes = (i : ℕ) (n : Node) → slice_get nodes i ≡ Some n → StandsAt s place (bounds i) points (seen n)
+
+-- Each has beginnings, and those that can go on have this many spots or more.
+abbrev pub from_spots : ℕ → ℕ → Bound
+from_spots fewest i = record { fewest = fewest; some = true }
+
+-- Nodes before the event with this place, each with beginnings.
+abbrev pub AreNodes : Search → ℕ → ℕ → List Node → Type 0
+AreNodes s place fewest nodes = AllStand s place (from_spots fewest) (map point nodes) nodes
+
+-- No beginnings of these nodes have passed.
+abbrev pub AreFresh : List Node → Type 0
+AreFresh nodes = (i : ℕ) (n : Node) → slice_get nodes i ≡ Some n → n.passed ≡ []
+
+-- These beginnings lead to the node with this index, whose point this is, and can go on with insertions.
+pub record CanGoOn (s : Search) (place : ℕ) (bounds : ℕ → Bound) (nodes : List Node) (i : ℕ) (p : Point) (b : Begun) : Type 0 where
+  pub at : slice_get (map point nodes) i ≡ Some p
+  pub begun : AreBegun s place p b
+  pub stand : AllStand s place bounds (map point nodes) nodes
+  pub fewest : (j : ℕ) → (bounds j).fewest ≤ length b.spots + 1
+
+-- The node with this index has no beginnings with as many spots left.
+abbrev pub without_spots : ℕ → ℕ → (ℕ → Bound) → ℕ → Bound
+without_spots spots index bounds i = if i == index then record { fewest = spots + 1; some = (bounds i).some } else bounds i
+
+-- A node of which only the point is known.
+pub record IsFresh (n : SeenNode) : Type 0 where
+  pub begun : n.begun ≡ []
+  pub passed : n.passed ≡ []
+  pub edges : n.edges ≡ []
+
+-- ---- tallies before an event
+
+-- The tally of the schedules of nodes before the event with this place.
 abbrev pub nodes_tally : Property → Search → ℕ → List Node → TallyView
-nodes_tally has s place nodes = tally_of_nodes (outlook_of has s place) (most_of s) nodes
+nodes_tally has s place nodes = tally_of_nodes (outlook_of has s place) (past_of has s place) (most_of s) nodes
 
--- The tally of the schedules of rows before that event.
-abbrev pub rows_tally : Property → Search → ℕ → List Layer → TallyView
-rows_tally has s place rows = nodes_tally has s place (nodes_in rows)
+-- The tally of these beginnings at a point before that event, by whether they can go on with insertions.
+abbrev pub goes_on_tally : Property → Search → ℕ → Point → Begun → TallyView
+goes_on_tally has s place p b = begun_tally (outlook_of has s place) (most_of s) p b
 
--- The tally of the schedules of nodes before the event with this place, and of nodes after it.
-abbrev pub tally_around : Property → Search → ℕ → List Node → List Node → TallyView
-tally_around has s place nodes next = both (nodes_tally has s place nodes) (nodes_tally has s (place + 1) next)
+abbrev pub past_tally : Property → Search → ℕ → Point → Begun → TallyView
+past_tally has s place p b = begun_tally (past_of has s place) (most_of s) p b
 
--- With the schedules of one more node before the event.
-abbrev pub tally_with : Property → Search → ℕ → List Node → List Node → Node → TallyView
-tally_with has s place nodes next n = both (tally_around has s place nodes next) (node_tally has s place n)
+-- With an event of this kind inserted before the event with this place, and these other kinds left.
+abbrev pub kind_tally : Property → Search → ℕ → Point → Begun → ℕ → List ℕ → TallyView
+kind_tally has s place p b kind others =
+    let x = event_of (loose_of s) kind in
+    behind b.count (b.spots ++ spot (length (loose_of s)) place kind ∷ [])
+    (outlook_of has s place (most_of s - (length b.spots + 1)) others (state_after x p.state) (marks_after (texts_of s) x p.state p.marks))
 
--- The tally of the schedules of the nodes of a row, of the rows with more spots, and of the rows after the event.
-abbrev pub tally_of_all : Property → Search → ℕ → List Node → List Layer → List Layer → TallyView
-tally_of_all has s place nodes rows next = tally_around has s place (nodes ++ nodes_in rows) (nodes_in next)
+-- With this insertion.
+abbrev pub put_tally : Property → Search → ℕ → Point → Begun → ℕ → TallyView
+put_tally has s place p b which = kind_tally has s place p b (kind_at which p.left) (left_at which p.left)
 
--- The tally of the schedules of a node after it has run this event, and is before the event with this place.
-abbrev pub given_tally : Property → Search → ℕ → Event → Node → TallyView
-given_tally has s place x n =
-    behind n.count n.spots
-    (outlook_of has s place (most_of s - length n.spots) n.left.items (state_after x n.kernel.state) (marks_after (texts_of s) x n.kernel.state n.marks.items))
+-- With a tick, if one more is allowed.
+abbrev pub tick_tally : Property → Search → ℕ → Point → Begun → TallyView
+tick_tally has s place p b = if nat_lt (length b.spots + length p.left) (most_of s) then put_tally has s place p b 0 else no_schedules
 
--- The same after this event was inserted at this spot, with these loose events left.
-abbrev pub put_tally : Property → Search → ℕ → ℕ → Event → List ℕ → Node → TallyView
-put_tally has s place q x left n =
-    behind n.count (n.spots ++ q ∷ [])
-    (outlook_of has s place (most_of s - (length n.spots + 1)) left (state_after x n.kernel.state) (marks_after (texts_of s) x n.kernel.state n.marks.items))
-
--- With a tick inserted before the event with this place, if one more is allowed.
-abbrev pub tick_tally : Property → Search → ℕ → Node → TallyView
-tick_tally has s place n =
-    if nat_lt (length n.spots + length n.left.items) (most_of s)
-    then put_tally has s place (spot (length (loose_of s)) place 0) Tick n.left.items n
-    else no_schedules
-
--- With a loose event of this kind inserted, so that these others are left.
-abbrev pub kind_tally : Property → Search → ℕ → Node → ℕ → List ℕ → TallyView
-kind_tally has s place n kind others =
-    put_tally has s place (spot (length (loose_of s)) place kind) (event_of (loose_of s) kind) others n
-
--- With the remaining loose event of this index inserted.
-abbrev pub with_kind : Property → Search → ℕ → Node → ℕ → TallyView
-with_kind has s place n i = kind_tally has s place n (slice_index_or n.left.items i 0) (remove n.left.items i)
-
--- With each of the remaining loose events inserted.
-abbrev pub loose_tally : Property → Search → ℕ → Node → TallyView
-loose_tally has s place n = over_kinds (kind_tally has s place n) (length n.left.items) n.left.items
+-- With each of the remaining loose events.
+abbrev pub loose_tally : Property → Search → ℕ → Point → Begun → TallyView
+loose_tally has s place p b = over_kinds (kind_tally has s place p b) (length p.left) p.left
 
 -- ---- why a search stops
 
@@ -252,7 +334,7 @@ from_start has s = outlook_of has s 0 (most_of s) (kinds_of (length (loose_of s)
 -- More nodes are before the event with this place than the search may keep. Their schedules are some of these
 -- schedules.
 pub record AreTooMany (s : Search) (place : ℕ) (whole : Property → TallyView) (nodes : List Node) : Type 0 where
-  pub stand : All (IsNode s place 0) nodes
+  pub stand : AreNodes s place 0 nodes
   pub more : s.family.now.states < length nodes
   pub some : (has : Property) → (others : TallyView) × (whole has ≡ both (nodes_tally has s place nodes) others)
 
@@ -268,13 +350,23 @@ IsStopOf s why = IsStop s (λ has. from_start has s) why
 
 -- ---- the book of many schedules
 
--- With the schedules of a node that has these events left, and inserts nothing more.
-abbrev pub counted : List (List ℕ) → List Event → Node → BookView → BookView
-counted texts events n b =
-    let c = course_from 1 n.kernel.state events in
-    with_many_runs (ending_of c.last) (marked texts c.lines n.marks.items) (record { count = n.count; first = Some n.spots }) b
+-- With the schedules of these beginnings, which end in this way, and whose lines have the marked texts.
+abbrev pub with_slot : Ending → List Bool → Option Begun → BookView → BookView
+with_slot ending marks None b = b
+with_slot ending marks (Some begun) b = with_many_runs ending marks (record { count = begun.count; first = Some begun.spots }) b
+
+-- With the schedules of all these beginnings, the last first.
+abbrev pub with_slots : Ending → List Bool → List (Option Begun) → BookView → BookView
+with_slots ending marks [] b = b
+with_slots ending marks (begun ∷ bs) b = with_slot ending marks begun (with_slots ending marks bs b)
+
+-- With these beginnings at a point, from which these events are left, and which insert nothing more.
+abbrev pub counted_slots : List (List ℕ) → List Event → Point → List (Option Begun) → BookView → BookView
+counted_slots texts events p begun b =
+    let c = course_from 1 p.state events in
+    with_slots (ending_of c.last) (marked texts c.lines p.marks) begun b
 
 -- With the schedules of all nodes, the last node first.
 abbrev pub counted_all : List (List ℕ) → List Event → List Node → BookView → BookView
 counted_all texts events [] b = b
-counted_all texts events (n ∷ ns) b = counted texts events n (counted_all texts events ns b)
+counted_all texts events (n ∷ ns) b = counted_slots texts events (point n) n.begun (counted_all texts events ns b)

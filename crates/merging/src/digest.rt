@@ -128,19 +128,19 @@ fn with_kinds(digest: u64, kinds: &[u8]) -> u64 {
     digest
 }
 
-/// Returns a digest of how many spots led to a state, of the loose events that are left, of the marks of texts, and of
-/// the state of a machine.
+/// Returns a digest of the loose events that are left, of the marks of texts, and of the state of a machine, without
+/// its time.
 ///
 /// All states in which the machine has halted count as one, because nothing more happens in them. So no more of such a
 /// state goes into the digest. Changes only the count of reads of the kernel.
-pub fn digest_of(spots: usize, left: &[u8], marks: &[bool], kernel: &mut Kernel) -> u64
+pub fn digest_of(left: &[u8], marks: &[bool], kernel: &mut Kernel) -> u64
     ensures { (kernel.new.state ≡ kernel.old.state) × (kernel.new.events ≡ kernel.old.events) }
 {
-    let digest = with_marks(with_kinds(mixed(1, spots as u64), left), marks);
+    let digest = with_marks(with_kinds(1, left), marks);
     if kernel.is_halted() {
         return digest;
     }
-    let digest = with_turns(mixed(digest, kernel.ticks()), kernel);
+    let digest = with_turns(digest, kernel);
     let digest = with_consoles(digest, kernel);
     with_processes(digest, kernel)
 }

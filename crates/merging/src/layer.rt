@@ -1,11 +1,12 @@
 //! Nodes that are kept together, so that nodes of the same state are joined.
 
-ghost use Rattle.std.specs.Prelude.{◌≡◌, ◌++◌, ℕ, [], ◌∷◌, All, IfOk, IfSome, OnOk, slice_get, Some};
+ghost use Rattle.std.specs.Prelude.{◌≡◌, ◌+◌, ◌≤◌, ◌<◌, ◌^◌, ◌++◌, ℕ, List, [], ◌∷◌, All, IfOk, IfSome, OnOk, length, map, slice_get, Some};
 ghost use Rattle.counting.specs.Tallies.{both};
 ghost use Rattle.merging.specs.declared.node.Node.{Node as NodeValue};
 ghost use Rattle.merging.specs.declared.search.Search.{Search as SearchValue};
-ghost use Rattle.merging.specs.Merging.{AreSameNodes, ForgetsHalted, IsNode, IsOne, IsSameNode, Outlook, tally_of_node, tally_of_nodes};
+ghost use Rattle.merging.specs.Merging.{AllBegun, AllStand, AreAlike, AreFresh, AreSameNodes, Bound, Forgets, HasSome, IsFresh, IsPoint, IsSameNode, Outlook, Point, most_of, point, seen, slots_tally, tally_of_nodes, unless_at};
 
+use crate::begun::Beginnings;
 use crate::digest::digest_of;
 use crate::node::Node;
 use std::alloc::{AllocError, Global};
@@ -16,7 +17,6 @@ fn digest(node: &mut Node) -> u64
     ensures { IsSameNode node.old node.new }
 {
     digest_of(
-        node.spots.len(),
         node.left.as_slice(),
         node.marks.as_slice(),
         &mut node.kernel,
@@ -50,7 +50,7 @@ impl Layer {
     /// Returns the index of the node with this key, if that is one with `node`.
     fn find_at(&mut self, key: u64, node: &mut Node) -> Option<usize>
         requires { All (λ n. n.kernel.state.world ≡ node.old.kernel.state.world) self.old.nodes.items }
-        ensures one { IfSome result (λ i. (n : NodeValue) × (slice_get self.new.nodes.items i ≡ Some n) × IsOne n node.new) }
+        ensures one { IfSome result (λ i. (n : NodeValue) × (slice_get self.new.nodes.items i ≡ Some n) × AreAlike (point n) (point node.new)) }
         ensures nodes { AreSameNodes self.old.nodes.items self.new.nodes.items }
         ensures node { IsSameNode node.old node.new }
     {
@@ -64,7 +64,7 @@ impl Layer {
     /// Returns the index of the node that is one with `node`. If none is found, fails with the key for `node`.
     fn find(&mut self, digest: u64, node: &mut Node) -> Result<usize, u64>
         requires { All (λ n. n.kernel.state.world ≡ node.old.kernel.state.world) self.old.nodes.items }
-        ensures one { IfOk result (λ i. (n : NodeValue) × (slice_get self.new.nodes.items i ≡ Some n) × IsOne n node.new) }
+        ensures one { IfOk result (λ i. (n : NodeValue) × (slice_get self.new.nodes.items i ≡ Some n) × AreAlike (point n) (point node.new)) }
         ensures nodes { AreSameNodes self.old.nodes.items self.new.nodes.items }
         ensures node { IsSameNode node.old node.new }
     {
@@ -81,14 +81,15 @@ impl Layer {
         Err(key)
     }
 
-    /// Adds a node with this key after the others.
-    fn push(&mut self, key: u64, node: Node) -> Result<(), AllocError>
-        ensures { OnOk result (self.new.nodes.items ≡ self.old.nodes.items ++ node ∷ []) }
+    /// Adds a node with this key after the others, and returns its index.
+    fn push(&mut self, key: u64, node: Node) -> Result<usize, AllocError>
+        ensures { IfOk result (λ i. (self.new.nodes.items ≡ self.old.nodes.items ++ node ∷ []) × (i ≡ length self.old.nodes.items)) }
     {
-        match self.numbers.insert(key, self.nodes.len()) {
+        let index = self.nodes.len();
+        match self.numbers.insert(key, index) {
             Ok(_) => {
                 self.nodes.push(node)?;
-                Ok(())
+                Ok(index)
             }
             Err(e) => {
                 drop(node);
@@ -97,17 +98,46 @@ impl Layer {
         }
     }
 
-    /// Adds a node, or joins it to the node that is one with it.
-    pub fn insert(&mut self, node: Node) -> Result<(), AllocError>
-        requires { All (λ n. n.kernel.state.world ≡ node.kernel.state.world) self.old.nodes.items }
-        ensures tally { (go_on : Outlook) (most : ℕ) → ForgetsHalted go_on → OnOk result (tally_of_nodes go_on most self.new.nodes.items ≡ both (tally_of_nodes go_on most self.old.nodes.items) (tally_of_node go_on most node)) }
-        ensures nodes { (search : SearchValue) (place least : ℕ) → All (IsNode search place least) self.old.nodes.items → IsNode search place least node → OnOk result (All (IsNode search place least) self.new.nodes.items) }
+    /// Returns the index of the node that is one with `node`. Adds `node`, which has no beginnings, if none is found.
+    fn locate(&mut self, node: Node) -> Result<usize, AllocError>
+        requires worlds { All (λ n. n.kernel.state.world ≡ node.kernel.state.world) self.old.nodes.items }
+        requires fresh { IsFresh (seen node) }
+        ensures one { IfOk result (λ i. (m : NodeValue) × (slice_get self.new.nodes.items i ≡ Some m) × AreAlike (point m) (point node)) }
+        ensures points { OnOk result ((more : List Point) × (map point self.new.nodes.items ≡ map point self.old.nodes.items ++ more)) }
+        ensures tally { (go_on past : Outlook) (most : ℕ) → OnOk result (tally_of_nodes go_on past most self.new.nodes.items ≡ tally_of_nodes go_on past most self.old.nodes.items) }
+        ensures stand { (s : SearchValue) (place : ℕ) (bounds : ℕ → Bound) → AllStand s place bounds (map point self.old.nodes.items) self.old.nodes.items → IsPoint s place (point node) → node.kernel.events ≤ place + most_of s
+            → IfOk result (λ i. AllStand s place (unless_at i bounds) (map point self.new.nodes.items) self.new.nodes.items) }
+        ensures fresh { AreFresh self.old.nodes.items → OnOk result (AreFresh self.new.nodes.items) }
     {
         let mut node = node;
         let digest = digest(&mut node);
         match self.find(digest, &mut node) {
-            Ok(number) => self.nodes[number].join(node),
-            Err(key) => self.push(key, node),
+            Ok(index) => {
+                drop(node);
+                Ok(index)
+            }
+            Err(key) => {
+                let index = self.push(key, node)?;
+                Ok(index)
+            }
         }
+    }
+
+    /// Adds beginnings to the node that is one with `node`, and returns its index. Adds `node`, which has no
+    /// beginnings, if none is found.
+    pub fn insert(&mut self, node: Node, begun: Beginnings) -> Result<usize, AllocError>
+        requires worlds { All (λ n. n.kernel.state.world ≡ node.kernel.state.world) self.old.nodes.items }
+        requires fresh { IsFresh (seen node) }
+        ensures one { IfOk result (λ i. (m : NodeValue) × (slice_get self.new.nodes.items i ≡ Some m) × AreAlike (point m) (point node)) }
+        ensures points { OnOk result ((more : List Point) × (map point self.new.nodes.items ≡ map point self.old.nodes.items ++ more)) }
+        ensures tally { (go_on past : Outlook) (most : ℕ) → Forgets go_on → OnOk result (tally_of_nodes go_on past most self.new.nodes.items ≡ both (tally_of_nodes go_on past most self.old.nodes.items) (slots_tally go_on most (point node) begun)) }
+        ensures stand { (s : SearchValue) (place fewest : ℕ) (bounds : ℕ → Bound) → AllStand s place bounds (map point self.old.nodes.items) self.old.nodes.items → IsPoint s place (point node) → node.kernel.events ≤ place + most_of s
+            → ((i : ℕ) → (bounds i).fewest ≤ fewest) → AllBegun s place fewest (point node) begun → HasSome begun
+            → OnOk result (AllStand s place bounds (map point self.new.nodes.items) self.new.nodes.items) }
+        ensures fresh { AreFresh self.old.nodes.items → OnOk result (AreFresh self.new.nodes.items) }
+    {
+        let index = self.locate(node)?;
+        self.nodes[index].begun.add_all(begun)?;
+        Ok(index)
     }
 }

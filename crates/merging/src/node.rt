@@ -1,23 +1,22 @@
 //! States, and the beginnings of schedules that lead to them.
 
-ghost use Rattle.std.specs.Prelude.{◌≡◌, ◌+◌, ◌<◌, ◌≤◌, ◌++◌, [], ◌∷◌, ℕ, true, length, map, IfOk, OnOk};
+ghost use Rattle.std.specs.Prelude.{◌≡◌, ◌+◌, ◌<◌, ◌≤◌, ◌^◌, ◌==◌, [], ℕ, Some, cond, length, map, true, IfOk, OnOk};
 ghost use Rattle.posix.specs.Common.{boot, IsRegular, IsSettled};
 ghost use Rattle.text.specs.EventTexts.{most_events};
 ghost use Rattle.schedules.specs.Families.{kinds_of as all_kinds};
 ghost use Rattle.counting.specs.Courses.{course_from};
-ghost use Rattle.counting.specs.Tallies.{both};
 ghost use Rattle.counting.specs.Texts.{unmarked};
-ghost use Rattle.merging.specs.declared.search.Search.{Search as SearchValue};
-ghost use Rattle.merging.specs.Merging.{AreOneState, ForgetsHalted, IsNode, IsOne, IsSameNode, Outlook, marks_after, state_after, tally_of_node, texts_of};
+ghost use Rattle.merging.specs.Merging.{AreAlike, AreOneState, IsFresh, IsSameNode, edge_at, kind_at, left_at, marks_after, point, seen, state_after};
 
-use crate::spot_list::SpotList;
+use crate::begun::{Beginnings, Begun};
+use crate::search::Search;
 use arrayvec::ArrayVec;
-use counting::{Count, Line, events_from, mark, run_all, run_one};
+use counting::{Line, mark, run_all, run_one};
 use kernel::Kernel;
 use posix::Event;
 use schedules::MOST_LOOSE;
 use std::alloc::{AllocError, Global};
-use std::mem::swap;
+use std::mem::replace;
 use text::{EventList, World};
 
 /// The kinds of loose events, from 1.
@@ -28,16 +27,16 @@ pub type Kinds = ArrayVec<u8, MOST_LOOSE>;
 pub struct Node {
     /// The machine, in this state.
     pub kernel: Kernel,
-    /// How many beginnings lead to the state.
-    pub count: Count,
-    /// The spots of the first beginning.
-    pub spots: SpotList,
     /// The kinds of the loose events that the beginnings have not inserted.
     pub left: Kinds,
-    /// The events of the first beginning.
-    pub given: EventList,
     /// For each text, whether a line has it.
     pub marks: Vec<bool>,
+    /// The beginnings that can go on with insertions.
+    pub begun: Beginnings,
+    /// The beginnings that have made all their insertions before the next event.
+    pub passed: Beginnings,
+    /// For each insertion, the index of the node that it leads to, once that is known.
+    pub edges: Vec<Option<usize>>,
 }
 
 /// Returns a kernel after these events, from the start of its world. Fails if memory runs out, also for a call of a
@@ -86,18 +85,15 @@ fn give(
     Ok(())
 }
 
-/// Returns true if two machines were found to be in the same state of a world. States in which the machine has halted
-/// are one, because nothing more happens in them.
-///
-/// The clock is compared, too. After equally many spots and events, the clocks are equal until the machine halts, so
-/// leaving out the clock would merge no more states. A world at rest therefore has a state for each number of ticks.
+/// Returns true if two machines were found to be in the same state of a world, or in states that differ only in time.
+/// States in which the machine has halted are one, because nothing more happens in them.
 fn are_one(kernel: &mut Kernel, other: &mut Kernel) -> bool
     requires world { kernel.old.state.world ≡ other.old.state.world }
     ensures one { result ≡ true → AreOneState kernel.old.state other.old.state }
     ensures same { (kernel.new.state ≡ kernel.old.state) × (kernel.new.events ≡ kernel.old.events) }
     ensures other { (other.new.state ≡ other.old.state) × (other.new.events ≡ other.old.events) }
 {
-    (kernel.is_halted() && other.is_halted()) || kernel.is_same(other)
+    (kernel.is_halted() && other.is_halted()) || kernel.is_moved(other)
 }
 
 /// Returns the kinds of this many loose events.
@@ -112,18 +108,22 @@ fn kinds_of(loose: usize) -> Kinds
     kinds
 }
 
-/// Returns a copy of these kinds.
-fn copied_kinds(kinds: &[u8]) -> Kinds
-    requires { length kinds.now ≤ MOST_LOOSE }
-    ensures { result.items ≡ kinds.now }
+/// Returns the kinds that are left after an insertion: all of them after a tick, which is 0.
+fn kinds_without(kinds: &[u8], which: usize) -> Kinds
+    requires few { length kinds.now ≤ MOST_LOOSE }
+    requires which { which ≤ length kinds.now }
+    ensures { result.items ≡ left_at which kinds.now }
 {
-    let mut copy = Kinds::new();
-    let _ = copy.try_extend_from_slice(kinds);
-    copy
+    let mut left = Kinds::new();
+    let _ = left.try_extend_from_slice(kinds);
+    if which > 0 {
+        let _ = left.remove(which - 1);
+    }
+    left
 }
 
 impl Node {
-    /// Returns the node at the start of a world, with this many loose events to insert.
+    /// Returns the node at the start of a world, with this many loose events to insert. It has no beginnings.
     pub fn first(
         alloc: Global,
         world: &World,
@@ -135,22 +135,70 @@ impl Node {
         ensures regular { IfOk result (λ n. IsRegular n.kernel.state) }
         ensures settled { IfOk result (λ n. IsSettled n.kernel.state) }
         ensures events { IfOk result (λ n. n.kernel.events ≡ 0) }
-        ensures one { IfOk result (λ n. n.count ≡ 1) }
-        ensures spots { IfOk result (λ n. n.spots ≡ []) }
         ensures left { IfOk result (λ n. n.left.items ≡ all_kinds loose) }
-        ensures given { IfOk result (λ n. n.given ≡ []) }
         ensures marks { IfOk result (λ n. n.marks.items ≡ unmarked (map (λ t. t.now) texts.now)) }
+        ensures fresh { IfOk result (λ n. IsFresh (seen n)) }
     {
         let marks = vec![in alloc; false; texts.len()]?;
-        let count = Count::one(alloc)?;
         Ok(Node {
             kernel: Kernel::boot(alloc, world)?,
-            count,
-            spots: SpotList::new(alloc),
             left: kinds_of(loose),
-            given: EventList::new(alloc),
             marks,
+            begun: Beginnings::new(alloc),
+            passed: Beginnings::new(alloc),
+            edges: Vec::new(alloc),
         })
+    }
+
+    /// Returns the kind of an insertion: a tick, for 0, or one of the loose events that are left, by its index from 1.
+    pub fn kind(&self, which: usize) -> u8
+        requires { which ≤ length self.now.left.items }
+        ensures { result ≡ kind_at which self.now.left.items }
+    {
+        if which == 0 {
+            return 0;
+        }
+        self.left[which - 1]
+    }
+
+    /// Returns the node after an insertion, which is this event, without beginnings. Its kernel is booted, and runs the
+    /// events of these beginnings again. Copying a kernel would fill as many tables.
+    pub fn after(
+        &self,
+        begun: &Begun,
+        which: usize,
+        event: Event,
+        search: &Search<'_, '_, '_>,
+        lines: &mut Vec<Line>,
+    ) -> Result<Node, AllocError>
+        requires which { which ≤ length self.now.left.items }
+        requires given { length begun.now.given < most_events }
+        ensures fresh { IfOk result (λ n. IsFresh (seen n)) }
+        ensures events { IfOk result (λ n. n.kernel.events ≤ length begun.now.given + 1) }
+        ensures state { IfOk result (λ n. n.kernel.state ≡ state_after event (course_from 1 (boot search.now.family.now.world.now) begun.now.given).last) }
+        ensures left { IfOk result (λ n. n.left.items ≡ left_at which self.now.left.items) }
+        ensures marks { IfOk result (λ n. n.marks.items ≡ marks_after (map (λ t. t.now) search.now.texts.now) event (course_from 1 (boot search.now.family.now.world.now) begun.now.given).last self.now.marks.items) }
+        ensures regular { IfOk result (λ n. IsRegular n.kernel.state) }
+        ensures settled { IfOk result (λ n. IsSettled n.kernel.state) }
+    {
+        let alloc = search.alloc;
+        let marks = Vec::from_slice(alloc, self.marks.as_slice())?;
+        let kernel = kernel_after(alloc, search.family.world, &begun.given, lines)?;
+        let mut node = Node {
+            kernel,
+            left: kinds_without(self.left.as_slice(), which),
+            marks,
+            begun: Beginnings::new(alloc),
+            passed: Beginnings::new(alloc),
+            edges: Vec::new(alloc),
+        };
+        match node.give(event, search.texts, lines) {
+            Ok(()) => Ok(node),
+            Err(e) => {
+                drop(node);
+                Err(e)
+            }
+        }
     }
 
     /// Runs one more event.
@@ -160,19 +208,16 @@ impl Node {
         texts: &[&str],
         lines: &mut Vec<Line>,
     ) -> Result<(), AllocError>
-        requires few { self.old.kernel.events ≤ length self.old.given }
-        requires given { length self.old.given < most_events }
-        ensures node { (search : SearchValue) (place least : ℕ) → IsNode search place least self.old → texts_of search ≡ map (λ t. t.now) texts.now → (place + 1 ≡ search.family.now.upto → self.old.left.items ≡ [])
-            → OnOk result (IsNode search (place + 1) least self.new) }
+        requires few { self.old.kernel.events < most_events }
         ensures state { OnOk result (self.new.kernel.state ≡ state_after event self.old.kernel.state) }
         ensures regular { OnOk result (IsRegular self.new.kernel.state) }
         ensures settled { OnOk result (IsSettled self.new.kernel.state) }
         ensures events { OnOk result (self.new.kernel.events ≡ self.old.kernel.events + 1) }
         ensures marks { OnOk result (self.new.marks.items ≡ marks_after (map (λ t. t.now) texts.now) event self.old.kernel.state self.old.marks.items) }
-        ensures given { OnOk result (self.new.given ≡ self.old.given ++ event ∷ []) }
-        ensures count { self.new.count ≡ self.old.count }
-        ensures spots { self.new.spots ≡ self.old.spots }
         ensures left { self.new.left ≡ self.old.left }
+        ensures begun { self.new.begun ≡ self.old.begun }
+        ensures passed { self.new.passed ≡ self.old.passed }
+        ensures edges { self.new.edges ≡ self.old.edges }
     {
         give(
             &mut self.kernel,
@@ -180,137 +225,51 @@ impl Node {
             texts,
             self.marks.as_mut_slice(),
             lines,
-        )?;
-        self.given.push(event, 1)?;
-        Ok(())
+        )
     }
 
-    /// Returns a node with the same beginnings, and a kernel of its own.
-    ///
-    /// The kernel is booted and runs the events of the first beginning again. Copying a kernel would fill as many
-    /// tables.
-    fn rerun(&self, alloc: Global, world: &World, lines: &mut Vec<Line>) -> Result<Node, AllocError>
-        requires few { length self.now.given ≤ most_events }
-        requires left { length self.now.left.items ≤ MOST_LOOSE }
-        requires reached { self.now.kernel.state ≡ (course_from 1 (boot world.now) self.now.given).last }
-        ensures state { IfOk result (λ n. n.kernel.state ≡ self.now.kernel.state) }
-        ensures events { IfOk result (λ n. n.kernel.events ≤ length self.now.given) }
-        ensures regular { IfOk result (λ n. IsRegular n.kernel.state) }
-        ensures settled { IfOk result (λ n. IsSettled n.kernel.state) }
-        ensures count { IfOk result (λ n. n.count ≡ self.now.count) }
-        ensures spots { IfOk result (λ n. n.spots ≡ self.now.spots) }
-        ensures left { IfOk result (λ n. n.left.items ≡ self.now.left.items) }
-        ensures given { IfOk result (λ n. n.given ≡ self.now.given) }
-        ensures marks { IfOk result (λ n. n.marks.items ≡ self.now.marks.items) }
+    /// Returns the beginnings that have passed. The node has no beginnings then, and it is not known where it leads.
+    pub fn renew(&mut self, alloc: Global) -> Beginnings
+        ensures begun { result ≡ self.old.passed }
+        ensures point { point self.new ≡ point self.old }
+        ensures events { self.new.kernel.events ≡ self.old.kernel.events }
+        ensures fresh { IsFresh (seen self.new) }
     {
-        let given = events_from(alloc, &self.given, 0)?;
-        let marks = Vec::from_slice(alloc, self.marks.as_slice())?;
-        let count = self.count.try_clone()?;
-        let spots = self.spots.try_clone(alloc)?;
-        Ok(Node {
-            kernel: kernel_after(alloc, world, &self.given, lines)?,
-            count,
-            spots,
-            left: copied_kinds(self.left.as_slice()),
-            given,
-            marks,
-        })
+        self.begun = Beginnings::new(alloc);
+        self.edges = Vec::new(alloc);
+        replace(&mut self.passed, Beginnings::new(alloc))
     }
 
-    /// Runs one more event, which is inserted at this spot.
-    fn put_in(
-        &mut self,
-        spot: u64,
-        event: Event,
-        texts: &[&str],
-        lines: &mut Vec<Line>,
-    ) -> Result<(), AllocError>
-        requires few { self.old.kernel.events ≤ length self.old.given }
-        requires given { length self.old.given < most_events }
-        requires spots { length self.old.spots ≤ length self.old.given }
-        ensures state { OnOk result (self.new.kernel.state ≡ state_after event self.old.kernel.state) }
-        ensures regular { OnOk result (IsRegular self.new.kernel.state) }
-        ensures settled { OnOk result (IsSettled self.new.kernel.state) }
-        ensures events { OnOk result (self.new.kernel.events ≡ self.old.kernel.events + 1) }
-        ensures marks { OnOk result (self.new.marks.items ≡ marks_after (map (λ t. t.now) texts.now) event self.old.kernel.state self.old.marks.items) }
-        ensures given { OnOk result (self.new.given ≡ self.old.given ++ event ∷ []) }
-        ensures count { self.new.count ≡ self.old.count }
-        ensures spots { OnOk result (self.new.spots ≡ self.old.spots ++ spot ∷ []) }
-        ensures left { self.new.left ≡ self.old.left }
-    {
-        self.spots.push(spot)?;
-        self.give(event, texts, lines)
-    }
-
-    /// Returns the node of the beginnings with one more event, which is inserted at this spot.
-    pub fn with(
-        &self,
-        alloc: Global,
-        world: &World,
-        spot: u64,
-        event: Event,
-        texts: &[&str],
-        lines: &mut Vec<Line>,
-    ) -> Result<Node, AllocError>
-        requires few { length self.now.given < most_events }
-        requires spots { length self.now.spots ≤ length self.now.given }
-        requires left { length self.now.left.items ≤ MOST_LOOSE }
-        requires reached { self.now.kernel.state ≡ (course_from 1 (boot world.now) self.now.given).last }
-        ensures state { IfOk result (λ n. n.kernel.state ≡ state_after event self.now.kernel.state) }
-        ensures regular { IfOk result (λ n. IsRegular n.kernel.state) }
-        ensures settled { IfOk result (λ n. IsSettled n.kernel.state) }
-        ensures events { IfOk result (λ n. n.kernel.events ≤ length self.now.given + 1) }
-        ensures marks { IfOk result (λ n. n.marks.items ≡ marks_after (map (λ t. t.now) texts.now) event self.now.kernel.state self.now.marks.items) }
-        ensures given { IfOk result (λ n. n.given ≡ self.now.given ++ event ∷ []) }
-        ensures count { IfOk result (λ n. n.count ≡ self.now.count) }
-        ensures spots { IfOk result (λ n. n.spots ≡ self.now.spots ++ spot ∷ []) }
-        ensures left { IfOk result (λ n. n.left.items ≡ self.now.left.items) }
-    {
-        let mut node = self.rerun(alloc, world, lines)?;
-        match node.put_in(spot, event, texts, lines) {
-            Ok(()) => Ok(node),
-            Err(e) => {
-                drop(node);
-                Err(e)
-            }
-        }
-    }
-
-    /// Returns true if two nodes were found to be one: the same state of a world, after equally many spots, with the
-    /// same loose events left and the same marks.
+    /// Returns true if two nodes were found to be one: the same state of a world, with the same loose events left and
+    /// the same marks.
     pub fn is_one(&mut self, other: &mut Node) -> bool
         requires world { self.old.kernel.state.world ≡ other.old.kernel.state.world }
-        ensures one { result ≡ true → IsOne self.old other.old }
+        ensures one { result ≡ true → AreAlike (point self.old) (point other.old) }
         ensures same { IsSameNode self.old self.new }
         ensures other { IsSameNode other.old other.new }
     {
-        self.spots.len() == other.spots.len()
-            && self.left.as_slice() == other.left.as_slice()
+        self.left.as_slice() == other.left.as_slice()
             && self.marks.as_slice() == other.marks.as_slice()
             && are_one(&mut self.kernel, &mut other.kernel)
     }
 
-    /// Adds the count of another node that is one with this one. The spots and events are those of whichever first
-    /// beginning comes first in the family.
-    fn join_first(&mut self, other: &mut Node) -> Result<(), AllocError>
-        requires { IsOne self.old other.old }
-        ensures tally { (go_on : Outlook) (most : ℕ) → ForgetsHalted go_on → OnOk result (tally_of_node go_on most self.new ≡ both (tally_of_node go_on most self.old) (tally_of_node go_on most other.old)) }
-        ensures node { (search : SearchValue) (place least : ℕ) → IsNode search place least self.old → IsNode search place least other.old → OnOk result (IsNode search place least self.new) }
+    /// Returns the index of the node that an insertion leads to, if that is known.
+    pub fn edge(&self, which: usize) -> Option<usize>
+        ensures { result ≡ edge_at self.now.edges.items which }
     {
-        if other.spots.is_before(&self.spots) {
-            swap(self, other);
-        }
-        self.count.add(&other.count)
+        self.edges.get(which).copied().flatten()
     }
 
-    /// Joins another node that is one with this one, with its beginnings.
-    pub fn join(&mut self, mut other: Node) -> Result<(), AllocError>
-        requires { IsOne self.old other }
-        ensures tally { (go_on : Outlook) (most : ℕ) → ForgetsHalted go_on → OnOk result (tally_of_node go_on most self.new ≡ both (tally_of_node go_on most self.old) (tally_of_node go_on most other)) }
-        ensures node { (search : SearchValue) (place least : ℕ) → IsNode search place least self.old → IsNode search place least other → OnOk result (IsNode search place least self.new) }
+    /// Notes the index of the node that an insertion leads to.
+    pub fn set_edge(&mut self, which: usize, index: usize) -> Result<(), AllocError>
+        requires { which < 2 ^ 40 }
+        ensures edges { (w : ℕ) → OnOk result (edge_at self.new.edges.items w ≡ cond (w == which) (Some index) (edge_at self.old.edges.items w)) }
+        ensures rest { OnOk result (seen self.new ≡ record (seen self.old) { edges = self.new.edges.items }) }
     {
-        let done = self.join_first(&mut other);
-        drop(other);
-        done
+        while self.edges.len() <= which {
+            self.edges.push(None)?;
+        }
+        self.edges[which] = Some(index);
+        Ok(())
     }
 }

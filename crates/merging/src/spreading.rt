@@ -1,9 +1,10 @@
-//! Advances nodes from before an event: a tick or a loose event is inserted, or the event itself runs.
+//! Advances nodes from before an event: ticks and loose events are inserted, and then the event itself runs.
 
-ghost use Rattle.std.specs.Prelude.{◌≡◌, ◌+◌, ◌<◌, ℕ, true, false, [], length, All, IfErr, IfOk, OnOk, Some, slice_get};
+ghost use Rattle.std.specs.Prelude.{◌≡◌, ◌+◌, ◌<◌, ◌≤◌, ℕ, List, ◌∷◌, length, map, true, false, [], IfErr, IfOk, OnOk, Some, slice_get};
 ghost use Rattle.counting.specs.Tallies.{both};
-ghost use Rattle.merging.specs.Merging.{IsNode, IsStop, Property, given_tally, list_of, loose_tally, node_tally, nodes_tally, tally_around, tally_with, tick_tally, with_kind};
+ghost use Rattle.merging.specs.Merging.{AllStand, AreFresh, AreNodes, Bound, CanGoOn, IsStop, Point, Property, StandsAt, from_spots, left_at, list_of, loose_tally, most_of, nodes_tally, point, put_tally, seen, tick_tally, without_spots};
 
+use crate::begun::{Beginnings, Begun};
 use crate::layer::Layer;
 use crate::node::Node;
 use crate::search::{Search, Stop};
@@ -12,81 +13,176 @@ use posix::Event;
 use schedules::{event_of, spot};
 use std::alloc::AllocError;
 
-/// Adds to a layer the beginnings of a node with a tick inserted before the event with this place, if one more tick is
-/// allowed.
-fn put_tick(
-    more: &mut Layer,
-    node: &Node,
+/// Adds what beginnings become by an insertion before the event with this place: to the node that the node with this
+/// index leads to. Runs a machine only if that is not known.
+fn put(
+    here: &mut Layer,
+    index: usize,
+    begun: &Begun,
+    which: usize,
     place: u64,
     search: &Search<'_, '_, '_>,
     lines: &mut Vec<Line>,
 ) -> Result<(), AllocError>
     requires place { place < search.now.family.now.upto }
-    requires node { (least : ℕ) × IsNode search.now place least node.now × All (IsNode search.now place (least + 1)) more.old.nodes.items }
-    ensures nodes { (least : ℕ) → IsNode search.now place least node.now → All (IsNode search.now place (least + 1)) more.old.nodes.items → OnOk result (All (IsNode search.now place (least + 1)) more.new.nodes.items) }
-    ensures tally { (has : Property) → OnOk result (nodes_tally has search.now place more.new.nodes.items ≡ both (nodes_tally has search.now place more.old.nodes.items) (tick_tally has search.now place node.now)) }
+    requires node { (bounds : ℕ → Bound) × (p : Point) × CanGoOn search.now place bounds here.old.nodes.items index p begun.now × (which ≤ length p.left) × (length begun.now.spots + 1 + length (left_at which p.left) ≤ most_of search.now) }
+    ensures stand { (bounds : ℕ → Bound) (p : Point) → CanGoOn search.now place bounds here.old.nodes.items index p begun.now → OnOk result (CanGoOn search.now place bounds here.new.nodes.items index p begun.now) }
+    ensures tally { (has : Property) (bounds : ℕ → Bound) (p : Point) → CanGoOn search.now place bounds here.old.nodes.items index p begun.now
+        → OnOk result (nodes_tally has search.now place here.new.nodes.items ≡ both (nodes_tally has search.now place here.old.nodes.items) (put_tally has search.now place p begun.now which)) }
+    ensures grow { OnOk result (length here.old.nodes.items ≤ length here.new.nodes.items) }
 {
-    let family = search.family;
-    if node.spots.len() + node.left.len() >= family.ticks + family.loose.len() {
+    let loose = search.family.loose;
+    let kind = here.nodes[index].kind(which);
+    let event = event_of(loose, usize::from(kind));
+    let with = begun.with(search.alloc, spot(loose.len(), place, kind), event)?;
+    if let Some(to) = here.nodes[index].edge(which) {
+        here.nodes[to].begun.add(with)?;
         return Ok(());
     }
-    let ticked = node.with(
-        search.alloc,
-        family.world,
-        spot(family.loose.len(), place, 0),
-        Event::Tick,
-        search.texts,
-        lines,
-    )?;
-    more.insert(ticked)
+    let node = here.nodes[index].after(begun, which, event, search, lines)?;
+    let mut all = Beginnings::new(search.alloc);
+    all.add(with)?;
+    let to = here.insert(node, all)?;
+    here.nodes[index].set_edge(which, to)?;
+    Ok(())
 }
 
-/// Returns the beginnings of a node with one of the remaining loose events inserted before the event with this place.
-fn with_loose(
-    node: &Node,
-    place: u64,
-    number: usize,
-    search: &Search<'_, '_, '_>,
-    lines: &mut Vec<Line>,
-) -> Result<Node, AllocError>
-    requires place { place < search.now.family.now.upto }
-    requires number { number < length node.now.left.items }
-    requires node { (least : ℕ) × IsNode search.now place least node.now }
-    ensures node { (least : ℕ) → IsNode search.now place least node.now → IfOk result (IsNode search.now place (least + 1)) }
-    ensures count { IfOk result (λ n. n.count ≡ node.now.count) }
-    ensures tally { (has : Property) → IfOk result (λ n. node_tally has search.now place n ≡ with_kind has search.now place node.now number) }
-{
-    let family = search.family;
-    let kind = node.left[number];
-    let mut with = node.with(
-        search.alloc,
-        family.world,
-        spot(family.loose.len(), place, kind),
-        event_of(family.loose, usize::from(kind)),
-        search.texts,
-        lines,
-    )?;
-    let _ = with.left.remove(number);
-    Ok(with)
-}
-
-/// Adds to a layer the beginnings of a node with each of the remaining loose events inserted before the event with this
-/// place.
-fn put_loose(
-    more: &mut Layer,
-    node: &Node,
+/// Adds what beginnings become by a tick, if one more is allowed.
+fn put_tick(
+    here: &mut Layer,
+    index: usize,
+    begun: &Begun,
     place: u64,
     search: &Search<'_, '_, '_>,
     lines: &mut Vec<Line>,
 ) -> Result<(), AllocError>
     requires place { place < search.now.family.now.upto }
-    requires node { (least : ℕ) × IsNode search.now place least node.now × All (IsNode search.now place (least + 1)) more.old.nodes.items }
-    ensures nodes { (least : ℕ) → IsNode search.now place least node.now → All (IsNode search.now place (least + 1)) more.old.nodes.items → OnOk result (All (IsNode search.now place (least + 1)) more.new.nodes.items) }
-    ensures tally { (has : Property) → OnOk result (nodes_tally has search.now place more.new.nodes.items ≡ both (nodes_tally has search.now place more.old.nodes.items) (loose_tally has search.now place node.now)) }
+    requires node { (bounds : ℕ → Bound) × (p : Point) × CanGoOn search.now place bounds here.old.nodes.items index p begun.now }
+    ensures stand { (bounds : ℕ → Bound) (p : Point) → CanGoOn search.now place bounds here.old.nodes.items index p begun.now → OnOk result (CanGoOn search.now place bounds here.new.nodes.items index p begun.now) }
+    ensures tally { (has : Property) (bounds : ℕ → Bound) (p : Point) → CanGoOn search.now place bounds here.old.nodes.items index p begun.now
+        → OnOk result (nodes_tally has search.now place here.new.nodes.items ≡ both (nodes_tally has search.now place here.old.nodes.items) (tick_tally has search.now place p begun.now)) }
+    ensures grow { OnOk result (length here.old.nodes.items ≤ length here.new.nodes.items) }
 {
-    for number in 0..node.left.len() {
-        let with = with_loose(node, place, number, search, lines)?;
-        more.insert(with)?;
+    let family = search.family;
+    if begun.spots.len() + here.nodes[index].left.len() >= family.ticks + family.loose.len() {
+        return Ok(());
+    }
+    put(here, index, begun, 0, place, search, lines)?;
+    Ok(())
+}
+
+/// Adds what beginnings become by each of the loose events that are left.
+fn put_loose(
+    here: &mut Layer,
+    index: usize,
+    begun: &Begun,
+    place: u64,
+    search: &Search<'_, '_, '_>,
+    lines: &mut Vec<Line>,
+) -> Result<(), AllocError>
+    requires place { place < search.now.family.now.upto }
+    requires node { (bounds : ℕ → Bound) × (p : Point) × CanGoOn search.now place bounds here.old.nodes.items index p begun.now }
+    ensures stand { (bounds : ℕ → Bound) (p : Point) → CanGoOn search.now place bounds here.old.nodes.items index p begun.now → OnOk result (CanGoOn search.now place bounds here.new.nodes.items index p begun.now) }
+    ensures tally { (has : Property) (bounds : ℕ → Bound) (p : Point) → CanGoOn search.now place bounds here.old.nodes.items index p begun.now
+        → OnOk result (nodes_tally has search.now place here.new.nodes.items ≡ both (nodes_tally has search.now place here.old.nodes.items) (loose_tally has search.now place p begun.now)) }
+    ensures grow { OnOk result (length here.old.nodes.items ≤ length here.new.nodes.items) }
+{
+    for number in 0..here.nodes[index].left.len() {
+        put(here, index, begun, number + 1, place, search, lines)?;
+    }
+    Ok(())
+}
+
+/// Adds what beginnings become by a tick, if one more is allowed, and by each of the loose events that are left.
+fn put_all(
+    here: &mut Layer,
+    index: usize,
+    begun: &Begun,
+    place: u64,
+    search: &Search<'_, '_, '_>,
+    lines: &mut Vec<Line>,
+) -> Result<(), AllocError>
+    requires place { place < search.now.family.now.upto }
+    requires node { (bounds : ℕ → Bound) × (p : Point) × CanGoOn search.now place bounds here.old.nodes.items index p begun.now }
+    ensures stand { (bounds : ℕ → Bound) (p : Point) → CanGoOn search.now place bounds here.old.nodes.items index p begun.now → OnOk result (CanGoOn search.now place bounds here.new.nodes.items index p begun.now) }
+    ensures tally { (has : Property) (bounds : ℕ → Bound) (p : Point) → CanGoOn search.now place bounds here.old.nodes.items index p begun.now
+        → OnOk result (nodes_tally has search.now place here.new.nodes.items
+        ≡ both (nodes_tally has search.now place here.old.nodes.items) (both (tick_tally has search.now place p begun.now) (loose_tally has search.now place p begun.now))) }
+    ensures grow { OnOk result (length here.old.nodes.items ≤ length here.new.nodes.items) }
+{
+    put_tick(here, index, begun, place, search, lines)?;
+    put_loose(here, index, begun, place, search, lines)?;
+    Ok(())
+}
+
+/// Takes the beginnings with this many spots from a node, and adds what they become by one more insertion before the
+/// event with this place. The beginnings themselves have passed then.
+fn advance(
+    here: &mut Layer,
+    index: usize,
+    spots: usize,
+    place: u64,
+    search: &Search<'_, '_, '_>,
+    lines: &mut Vec<Line>,
+) -> Result<(), AllocError>
+    requires place { place < search.now.family.now.upto }
+    requires index { index < length here.old.nodes.items }
+    requires nodes { (bounds : ℕ → Bound) × AllStand search.now place bounds (map point here.old.nodes.items) here.old.nodes.items × ((bounds index).fewest ≡ spots) × ((j : ℕ) → (bounds j).fewest ≤ spots + 1) }
+    ensures stand { (bounds : ℕ → Bound) → AllStand search.now place bounds (map point here.old.nodes.items) here.old.nodes.items → (bounds index).fewest ≡ spots → ((j : ℕ) → (bounds j).fewest ≤ spots + 1)
+        → OnOk result (AllStand search.now place (without_spots spots index bounds) (map point here.new.nodes.items) here.new.nodes.items) }
+    ensures tally { (has : Property) → OnOk result (nodes_tally has search.now place here.new.nodes.items ≡ nodes_tally has search.now place here.old.nodes.items) }
+    ensures grow { OnOk result (length here.old.nodes.items ≤ length here.new.nodes.items) }
+{
+    let Some(begun) = here.nodes[index].begun.take(spots) else {
+        return Ok(());
+    };
+    put_all(here, index, &begun, place, search, lines)?;
+    here.nodes[index].passed.add(begun)?;
+    Ok(())
+}
+
+/// Advances all beginnings with this many spots. What they become has one spot more. Fails if there are more nodes than
+/// the search may keep.
+fn advance_all(
+    here: &mut Layer,
+    spots: usize,
+    place: u64,
+    search: &Search<'_, '_, '_>,
+    lines: &mut Vec<Line>,
+) -> Result<(), Stop>
+    requires place { place < search.now.family.now.upto }
+    requires spots { spots ≤ most_of search.now }
+    requires nodes { AreNodes search.now place spots here.old.nodes.items }
+    ensures nodes { OnOk result (AreNodes search.now place (spots + 1) here.new.nodes.items) }
+    ensures tally { (has : Property) → OnOk result (nodes_tally has search.now place here.new.nodes.items ≡ nodes_tally has search.now place here.old.nodes.items) }
+    ensures stop { IfErr result (IsStop search.now (λ has. nodes_tally has search.now place here.old.nodes.items)) }
+{
+    let most = search.family.states;
+    for index in 0..here.nodes.len() {
+        if here.nodes.len() > most {
+            return Err(Stop::States(most, place));
+        }
+        advance(here, index, spots, place, search, lines)?;
+    }
+    Ok(())
+}
+
+/// Makes all insertions before the event with this place: from the beginnings with the fewest spots on, so that all
+/// that lead to one node with equally many spots are there before they advance.
+fn insert_all(
+    here: &mut Layer,
+    place: u64,
+    search: &Search<'_, '_, '_>,
+    lines: &mut Vec<Line>,
+) -> Result<(), Stop>
+    requires place { place < search.now.family.now.upto }
+    requires nodes { AreNodes search.now place 0 here.old.nodes.items }
+    ensures nodes { OnOk result (AreNodes search.now place (most_of search.now + 1) here.new.nodes.items) }
+    ensures tally { (has : Property) → OnOk result (nodes_tally has search.now place here.new.nodes.items ≡ nodes_tally has search.now place here.old.nodes.items) }
+    ensures stop { IfErr result (IsStop search.now (λ has. nodes_tally has search.now place here.old.nodes.items)) }
+{
+    for spots in 0..search.family.ticks + search.family.loose.len() + 1 {
+        advance_all(here, spots, place, search, lines)?;
     }
     Ok(())
 }
@@ -101,8 +197,8 @@ fn is_late(node: &Node, place: u64, search: &Search<'_, '_, '_>) -> bool
     place + 1 == search.family.upto && !node.left.is_empty()
 }
 
-/// Runs the event with this place from a node, and adds the node to a layer. Drops the node instead if it has a loose
-/// event left and this is the last event that can have insertions.
+/// Runs the event with this place from a node, all of whose beginnings have passed, and adds it to a layer. Drops the
+/// node instead if it has a loose event left and this is the last event that can have insertions.
 fn give_to(
     next: &mut Layer,
     node: Node,
@@ -112,18 +208,28 @@ fn give_to(
     lines: &mut Vec<Line>,
 ) -> Result<(), AllocError>
     requires place { place < search.now.family.now.upto }
-    requires node { (least : ℕ) × IsNode search.now place least node × All (IsNode search.now (place + 1) least) next.old.nodes.items }
-    ensures nodes { (least : ℕ) → IsNode search.now place least node → All (IsNode search.now (place + 1) least) next.old.nodes.items → OnOk result (All (IsNode search.now (place + 1) least) next.new.nodes.items) }
-    ensures tally { (has : Property) → OnOk result (nodes_tally has search.now (place + 1) next.new.nodes.items
-        ≡ both (nodes_tally has search.now (place + 1) next.old.nodes.items) (given_tally has search.now (place + 1) event node)) }
+    requires event { slice_get (list_of search.now) place ≡ Some event }
+    requires node { (points : List Point) × StandsAt search.now place (from_spots (most_of search.now + 1) 0) points (seen node) }
+    requires next { AreNodes search.now (place + 1) 0 next.old.nodes.items }
+    ensures fresh { AreFresh next.old.nodes.items → OnOk result (AreFresh next.new.nodes.items) }
+    ensures nodes { OnOk result (AreNodes search.now (place + 1) 0 next.new.nodes.items) }
+    ensures tally { (has : Property) → OnOk result (nodes_tally has search.now (place + 1) next.new.nodes.items ≡ both (nodes_tally has search.now (place + 1) next.old.nodes.items) (nodes_tally has search.now place (node ∷ []))) }
 {
     let mut node = node;
     if is_late(&node, place, search) {
         drop(node);
         return Ok(());
     }
-    match node.give(event, search.texts, lines) {
-        Ok(()) => next.insert(node),
+    if let Err(e) = node.give(event, search.texts, lines) {
+        drop(node);
+        return Err(e);
+    }
+    let mut begun = node.renew(search.alloc);
+    match begun.give(event) {
+        Ok(()) => {
+            next.insert(node, begun)?;
+            Ok(())
+        }
         Err(e) => {
             drop(node);
             Err(e)
@@ -131,56 +237,10 @@ fn give_to(
     }
 }
 
-/// Adds to a layer the beginnings of a node with one more spot before the event with this place.
-fn put_one_more(
-    more: &mut Layer,
-    node: &Node,
-    place: u64,
-    search: &Search<'_, '_, '_>,
-    lines: &mut Vec<Line>,
-) -> Result<(), AllocError>
-    requires place { place < search.now.family.now.upto }
-    requires node { (least : ℕ) × IsNode search.now place least node.now × All (IsNode search.now place (least + 1)) more.old.nodes.items }
-    ensures nodes { (least : ℕ) → IsNode search.now place least node.now → All (IsNode search.now place (least + 1)) more.old.nodes.items → OnOk result (All (IsNode search.now place (least + 1)) more.new.nodes.items) }
-    ensures tally { (has : Property) → OnOk result (nodes_tally has search.now place more.new.nodes.items
-        ≡ both (nodes_tally has search.now place more.old.nodes.items) (both (tick_tally has search.now place node.now) (loose_tally has search.now place node.now))) }
-{
-    put_tick(more, node, place, search, lines)?;
-    put_loose(more, node, place, search, lines)
-}
-
-/// Advances a node from before the event with this place: adds it to `more` with each additional spot, and to `next`
-/// after the event.
-fn spread(
-    more: &mut Layer,
-    next: &mut Layer,
-    node: Node,
-    place: u64,
-    event: Event,
-    search: &Search<'_, '_, '_>,
-    lines: &mut Vec<Line>,
-) -> Result<(), AllocError>
-    requires place { place < search.now.family.now.upto }
-    requires event { slice_get (list_of search.now) place ≡ Some event }
-    requires node { (least : ℕ) × IsNode search.now place least node × All (IsNode search.now place (least + 1)) more.old.nodes.items × All (IsNode search.now (place + 1) least) next.old.nodes.items }
-    ensures more { (least : ℕ) → IsNode search.now place least node → All (IsNode search.now place (least + 1)) more.old.nodes.items → OnOk result (All (IsNode search.now place (least + 1)) more.new.nodes.items) }
-    ensures next { (least : ℕ) → IsNode search.now place least node → All (IsNode search.now (place + 1) least) next.old.nodes.items → OnOk result (All (IsNode search.now (place + 1) least) next.new.nodes.items) }
-    ensures tally { (has : Property) → OnOk result (tally_around has search.now place more.new.nodes.items next.new.nodes.items ≡ tally_with has search.now place more.old.nodes.items next.old.nodes.items node) }
-{
-    match put_one_more(more, &node, place, search, lines) {
-        Ok(()) => give_to(next, node, place, event, search, lines),
-        Err(e) => {
-            drop(node);
-            Err(e)
-        }
-    }
-}
-
-/// Advances all nodes from before the event with this place, and removes them, the last one first. Fails if a layer has
-/// more states than the search may keep.
-fn spread_all(
+/// Runs the event with this place from all nodes, and removes them, the last one first. Fails if the next layer has
+/// more nodes than the search may keep.
+fn give_all(
     nodes: &mut Vec<Node>,
-    more: &mut Layer,
     next: &mut Layer,
     place: u64,
     event: Event,
@@ -189,33 +249,26 @@ fn spread_all(
 ) -> Result<(), Stop>
     requires place { place < search.now.family.now.upto }
     requires event { slice_get (list_of search.now) place ≡ Some event }
-    requires nodes { (least : ℕ) × All (IsNode search.now place least) nodes.old.items × All (IsNode search.now place (least + 1)) more.old.nodes.items × All (IsNode search.now (place + 1) least) next.old.nodes.items }
-    ensures more { (least : ℕ) → All (IsNode search.now place least) nodes.old.items → All (IsNode search.now place (least + 1)) more.old.nodes.items → OnOk result (All (IsNode search.now place (least + 1)) more.new.nodes.items) }
-    ensures next { (least : ℕ) → All (IsNode search.now place least) nodes.old.items → All (IsNode search.now (place + 1) least) next.old.nodes.items → OnOk result (All (IsNode search.now (place + 1) least) next.new.nodes.items) }
-    ensures tally { (has : Property) → OnOk result (tally_around has search.now place more.new.nodes.items next.new.nodes.items
-        ≡ both (tally_around has search.now place more.old.nodes.items next.old.nodes.items) (nodes_tally has search.now place nodes.old.items)) }
-    ensures stop { IfErr result (IsStop search.now (λ has. both (tally_around has search.now place more.old.nodes.items next.old.nodes.items) (nodes_tally has search.now place nodes.old.items))) }
+    requires nodes { (points : List Point) × AllStand search.now place (from_spots (most_of search.now + 1)) points nodes.old.items }
+    requires next { next.old.nodes.items ≡ [] }
+    ensures fresh { OnOk result (AreFresh next.new.nodes.items) }
+    ensures nodes { OnOk result (AreNodes search.now (place + 1) 0 next.new.nodes.items) }
+    ensures tally { (has : Property) → OnOk result (nodes_tally has search.now (place + 1) next.new.nodes.items ≡ nodes_tally has search.now place nodes.old.items) }
+    ensures stop { IfErr result (IsStop search.now (λ has. nodes_tally has search.now place nodes.old.items)) }
 {
     let most = search.family.states;
     while let Some(node) = nodes.pop() {
-        if more.nodes.len() > most {
-            drop(node);
-            return Err(Stop::States(most, place));
-        }
+        give_to(next, node, place, event, search, lines)?;
         if next.nodes.len() > most {
-            drop(node);
             return Err(Stop::States(most, place + 1));
         }
-        spread(more, next, node, place, event, search, lines)?;
     }
     Ok(())
 }
 
-/// Advances all nodes of a row from before the event with this place. Adds them to `more` with each additional spot,
-/// and returns the row after the event.
-pub fn spread_row(
-    row: Layer,
-    more: &mut Layer,
+/// Returns the nodes after the event with this place, from those before it, with all insertions before it.
+pub fn layer_after(
+    layer: Layer,
     place: u64,
     event: Event,
     search: &Search<'_, '_, '_>,
@@ -223,22 +276,15 @@ pub fn spread_row(
 ) -> Result<Layer, Stop>
     requires place { place < search.now.family.now.upto }
     requires event { slice_get (list_of search.now) place ≡ Some event }
-    requires nodes { (least : ℕ) × All (IsNode search.now place least) row.nodes.items × All (IsNode search.now place (least + 1)) more.old.nodes.items }
-    ensures more { (least : ℕ) → All (IsNode search.now place least) row.nodes.items → All (IsNode search.now place (least + 1)) more.old.nodes.items → OnOk result (All (IsNode search.now place (least + 1)) more.new.nodes.items) }
-    ensures next { (least : ℕ) → All (IsNode search.now place least) row.nodes.items → IfOk result (λ next. All (IsNode search.now (place + 1) least) next.nodes.items) }
-    ensures tally { (has : Property) → IfOk result (λ next. tally_around has search.now place more.new.nodes.items next.nodes.items
-        ≡ both (nodes_tally has search.now place more.old.nodes.items) (nodes_tally has search.now place row.nodes.items)) }
-    ensures stop { IfErr result (IsStop search.now (λ has. both (nodes_tally has search.now place more.old.nodes.items) (nodes_tally has search.now place row.nodes.items))) }
+    requires nodes { AreNodes search.now place 0 layer.nodes.items }
+    ensures nodes { IfOk result (λ next. AreNodes search.now (place + 1) 0 next.nodes.items) }
+    ensures fresh { IfOk result (λ next. AreFresh next.nodes.items) }
+    ensures tally { (has : Property) → IfOk result (λ next. nodes_tally has search.now (place + 1) next.nodes.items ≡ nodes_tally has search.now place layer.nodes.items) }
+    ensures stop { IfErr result (IsStop search.now (λ has. nodes_tally has search.now place layer.nodes.items)) }
 {
-    let mut row = row;
+    let mut here = layer;
+    insert_all(&mut here, place, search, lines)?;
     let mut next = Layer::new(search.alloc);
-    let done = spread_all(&mut row.nodes, more, &mut next, place, event, search, lines);
-    drop(row);
-    match done {
-        Ok(()) => Ok(next),
-        Err(e) => {
-            drop(next);
-            Err(e)
-        }
-    }
+    give_all(&mut here.nodes, &mut next, place, event, search, lines)?;
+    Ok(next)
 }

@@ -1,6 +1,6 @@
 //! The record of a process: all that a table keeps of it except its ID and its parent's.
 
-ghost use Rattle.std.specs.Prelude.{◌≡◌, ◌⊎◌, true, false, is_some, IfOk, ℕ};
+ghost use Rattle.std.specs.Prelude.{◌≡◌, ◌⊎◌, ◌+◌, true, false, is_some, IfOk, option_map, ℕ};
 ghost use Rattle.posix.specs.Common.{is_realtime, first_process, child_of, made_zombie, ended, noticed, noticed_of_change, signalled, effect_of, is_queuer, news_told, marked_as, ring_at as ring_at_tick, with_alarm};
 ghost use Rattle.proctable.specs.Records.{process_of, queued, snapshot_of};
 
@@ -69,16 +69,18 @@ impl Record {
         })
     }
 
-    /// Returns true if two processes are the same except for their IDs and their parents'.
-    pub fn is_same(&self, other: &Record) -> bool
-        ensures { result ≡ true → (p q : ℕ) → process_of p q self.now ≡ process_of p q other.now }
+    /// Returns true only if another process is this one, `delay` ticks later: its alarm is due so much later, or
+    /// neither has an alarm. Their IDs and their parents' may differ.
+    #[tactic(auto, unfolding(posix::specs::Alarms::with_alarm))]
+    pub fn is_same_later(&self, other: &Record, delay: u64) -> bool
+        ensures { result ≡ true → (p q : ℕ) → process_of p q other.now ≡ with_alarm (option_map (λ due. due + delay) self.now.alarm) (process_of p q self.now) }
     {
         self.birth == other.birth
             && self.group == other.group
             && self.session == other.session
             && self.life == other.life
             && self.news == other.news
-            && self.alarm == other.alarm
+            && is_due_later(self.alarm, other.alarm, delay)
             && self.is_subreaper == other.is_subreaper
             && self.own.is_same(&other.own)
     }
@@ -221,5 +223,16 @@ impl Record {
         if !self.own.signals.ignores_stops() {
             self.signal(pid, signal);
         }
+    }
+}
+
+/// Returns true only if both alarms are set, the other `delay` ticks later, or neither is.
+fn is_due_later(alarm: Option<u64>, other: Option<u64>, delay: u64) -> bool
+    ensures { result ≡ true → other ≡ option_map (λ due. due + delay) alarm }
+{
+    match (alarm, other) {
+        (Some(due), Some(other_due)) => due.checked_add(delay) == Some(other_due),
+        (None, None) => true,
+        _ => false,
     }
 }

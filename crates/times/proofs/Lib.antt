@@ -15,3 +15,4 @@ pub mod SettleLemmas
 pub mod StepLemmas
 pub mod RunLemmas
 pub mod RegularLemmas
+pub mod MovedLemmas

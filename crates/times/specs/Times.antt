@@ -1,5 +1,5 @@
 -- A process, a state and an outcome at a later time: with d more ticks passed, and each alarm due d ticks later.
-use Rattle.std.specs.Prelude.{ℕ, ◌+◌, List, map, option_map}
+use Rattle.std.specs.Prelude.{◌≡◌, ◌⊎◌, ℕ, ◌+◌, List, map, option_map}
 use Rattle.posix.specs.Processes.{Process}
 use Rattle.posix.specs.States.{State}
 use Rattle.posix.specs.Outcomes.{Outcome}
@@ -15,6 +15,10 @@ all_later d rs = map (later d) rs
 -- Returns the state d ticks later: as many more ticks have passed, and each alarm is due as much later.
 abbrev pub state_later : ℕ → State → State
 state_later d s = record s { ticks = s.ticks + d; processes = all_later d s.processes }
+
+-- One state is the other, moved in time.
+abbrev pub AreMoved : State → State → Type 0
+AreMoved s t = (d : ℕ) × ((t ≡ state_later d s) ⊎ (s ≡ state_later d t))
 
 -- Returns the outcome with its state d ticks later. It shows the same entries.
 abbrev pub outcome_later : ℕ → Outcome → Outcome

@@ -1,5 +1,5 @@
 use Rattle.std.proofs.Common.{◌≡◌}
-use Rattle.merging.specs.Merging.{AreRows, Property, nodes_tally, rows_tally}
+use Rattle.merging.specs.Merging.{AreFresh, AreNodes, Property, nodes_tally}
 use Rattle.merging.proofs.merging.reach.Given as goal
 
 -- The tally of the nodes at this place is that of the first nodes.
@@ -7,6 +7,7 @@ abbrev pub invariant-loop-place : goal.invariant-loop-place
 invariant-loop-place g l =
     let s = l.search in
     record {
-      rows : AreRows s l.place 0 l.rows.items;
-      tally : (has : Property) → rows_tally has s l.place l.rows.items ≡ nodes_tally has s 0 l.fn.first.nodes.items;
+      nodes : AreNodes s l.place 0 l.layer.nodes.items;
+      fresh : AreFresh l.layer.nodes.items;
+      tally : (has : Property) → nodes_tally has s l.place l.layer.nodes.items ≡ nodes_tally has s 0 l.fn.first.nodes.items;
     }

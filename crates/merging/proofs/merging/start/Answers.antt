@@ -1,19 +1,42 @@
-use Rattle.std.proofs.Common.{length}
-use Rattle.merging.specs.Merging.{IsNode, loose_of, most_of, texts_of, world_of}
-use Rattle.merging.proofs.MergedLemmas.{begun, of_none}
-use Rattle.merging.proofs.RowLemmas.{first_node}
+use Rattle.std.proofs.Common.{◌∙◌, Some, ap, ap₂, arith}
+use Rattle.counting.specs.Tallies.{both, no_schedules}
+use Rattle.merging.specs.Merging.{begun_tally, from_spots, most_of, outlook_of, past_of, point, slots_tally, tally_of_nodes}
+use Rattle.merging.proofs.MergedLemmas.{first_begun, first_point, first_tally, none_at}
+use Rattle.merging.proofs.OneLemmas.{outlook_forgets}
+use Rattle.merging.proofs.TallyLemmas.{none_and}
 use Rattle.merging.proofs.merging.start.Goals as goal
 
-pub returns-in-Ok-clause-nodes : goal.returns-in-Ok-clause-nodes
-returns-in-Ok-clause-nodes c =
+pub returns-clause-nodes : goal.returns-clause-nodes
+returns-clause-nodes c =
     let s = c.args.search.now in
     let e = c.in_ok-node.ensures in
-    c.in-Ok.ensures.nodes s 0 0 (of_none (IsNode s 0 0) c.new-layer.result.nodes.items c.new-layer.ensures)
-    (first_node s c.in_ok-node.node e.state e.regular e.settled e.events e.spots e.left e.given e.marks e.one)
+    let p = point c.in_ok-node.node in
+    let b = c.in_ok-first.field-0 in
+    let f = c.in_ok-first.ensures in
+    let a = c.in_ok-add.ensures in
+    c.in_ok-insert.ensures.stand s 0 0 (from_spots 0) (λ i n at. absurd (none_at c.new-layer.result.nodes.items c.new-layer.ensures i n at))
+    (first_point s p e.state e.regular e.settled e.left e.marks)
+    (omega (arith, e.events))
+    (λ i. omega arith)
+    (a.all s 0 0 p (λ k x at. absurd (none_at c.new-begun.result c.new-begun.ensures k (Some x) at)) (omega arith) (first_begun s p b e.state e.left f.count f.spots f.given))
+    a.some
 
-pub returns-in-Ok-clause-tally : goal.returns-in-Ok-clause-tally
-returns-in-Ok-clause-tally c = λ go_on forgets.
+pub returns-clause-fresh : goal.returns-clause-fresh
+returns-clause-fresh c = c.in_ok-insert.ensures.fresh (λ i n at. absurd (none_at c.new-layer.result.nodes.items c.new-layer.ensures i n at))
+
+pub returns-clause-tally : goal.returns-clause-tally
+returns-clause-tally c = λ has.
     let s = c.args.search.now in
     let e = c.in_ok-node.ensures in
-    begun go_on (most_of s) (world_of s) (length (loose_of s)) (texts_of s) c.new-layer.result.nodes.items c.insert.new.self.nodes.items c.in_ok-node.node c.new-layer.ensures e.one e.spots e.left e.state e.marks
-    (c.in-Ok.ensures.tally go_on (most_of s) forgets)
+    let p = point c.in_ok-node.node in
+    let b = c.in_ok-first.field-0 in
+    let f = c.in_ok-first.ensures in
+    let go_on = outlook_of has s 0 in
+    let past = past_of has s 0 in
+    let most = most_of s in
+    let all = begun_tally go_on most p b in
+    c.in_ok-insert.ensures.tally go_on past most (outlook_forgets has s 0)
+    ∙ ap₂ both (ap (tally_of_nodes go_on past most) c.new-layer.ensures) (c.in_ok-add.ensures.tally go_on most p ∙ ap (λ bs. both (slots_tally go_on most p bs) all) c.new-begun.ensures)
+    ∙ none_and (both no_schedules all)
+    ∙ none_and all
+    ∙ first_tally has s p b e.state e.left e.marks f.count f.spots

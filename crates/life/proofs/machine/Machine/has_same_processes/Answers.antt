@@ -1,10 +1,11 @@
-use Rattle.std.proofs.Common.{◌≡◌, ◌<◌, ◌∙◌, ℕ, ap, sym, refl, subst, arith, Option, Some}
+use Rattle.std.proofs.Common.{◌≡◌, ◌<◌, ◌∙◌, ℕ, ap, sym, refl, subst, arith, Option, Some, option_map}
 use Rattle.std.proofs.Math.Nat.{le_trans}
 use Rattle.std.specs.Option.{IfSome}
 use Rattle.posix.specs.Common.{is_living, State, lookup, next_above}
 use Rattle.posix.proofs.WalkLemmas.{least_is_next}
 use Rattle.posix.proofs.PassingLemmas.{left_at_most}
 use Rattle.posix.proofs.ResultLemmas.{is_there}
+use Rattle.times.specs.Times.{later, all_later}
 use Rattle.jobs.proofs.ReadLemmas.{fewer_after}
 use Rattle.jobs.proofs.SnapshotLemmas.{equals}
 use Rattle.life.proofs.ViewLemmas.{same_then}
@@ -28,7 +29,7 @@ loop-next-init g c =
       others_read = omega (arith, left_at_most their_next t.processes, others.looks.visits);
       no_fewer = mine.looks.no_fewer;
       others_no_fewer = others.looks.no_fewer;
-      same = λ e. sym (all_are_left s next mine.looks.regular mine.value) ∙ e ∙ all_are_left t their_next others.looks.regular others.value;
+      same = λ e. sym (all_are_left t their_next others.looks.regular others.value) ∙ e ∙ ap (all_later c.args.delay) (all_are_left s next mine.looks.regular mine.value);
     }
 
 pub has_same_process-requires-clause-here : goal.has_same_process-requires-clause-here
@@ -71,8 +72,8 @@ loop-next-preserved g c =
     let there = at_next p qs their_now c.next_after-their_next.ensures.looks.regular.rising their_is i.others_begin in
     let after : next ≡ next_above p rs = mine.value ∙ ap (λ (s : State). next_above p s.processes) (one.mine.same.state ∙ i.mine.state) in
     let their_after : their_next ≡ next_above p qs = others.value ∙ ap (λ (s : State). next_above p s.processes) (one.others.same.state ∙ i.others.state) in
-    let found : lookup p rs ≡ lookup p qs =
-    sym (ap (λ (s : State). lookup p s.processes) i.mine.state) ∙ c.if-not-has_same_process.ensures.same refl ∙ ap (λ (s : State). lookup p s.processes) i.others.state in
+    let found : lookup p qs ≡ option_map (later c.args.delay) (lookup p rs) =
+    sym (ap (λ (s : State). lookup p s.processes) i.others.state) ∙ c.if-not-has_same_process.ensures.same refl ∙ ap (λ (s : State). option_map (later c.args.delay) (lookup p s.processes)) i.mine.state in
     record {
       mine = same_then i.mine (same_then one.mine.same mine.looks.same);
       others = same_then i.others (same_then one.others.same others.looks.same);
@@ -82,5 +83,5 @@ loop-next-preserved g c =
       others_read = omega (arith, less_behind p qs their_now their_next there their_is their_after, i.others_read, one.others.visits, others.looks.visits);
       no_fewer = le_trans i.no_fewer (le_trans one.mine.no_fewer mine.looks.no_fewer);
       others_no_fewer = le_trans i.others_no_fewer (le_trans one.others.no_fewer others.looks.no_fewer);
-      same = λ e. i.same (same_behind p rs qs now next their_now their_next here there c.in-Some.is their_is after their_after found e);
+      same = λ e. i.same (same_behind c.args.delay p rs qs now next their_now their_next here there c.in-Some.is their_is after their_after found e);
     }

@@ -1,10 +1,11 @@
 use Rattle.std.proofs.Common.{◌≡◌, ◌+◌, ◌*◌, ◌≤◌, length}
 use Rattle.posix.specs.Common.{first_pid, left_of}
 use Rattle.posix.proofs.WalkLemmas.{numbers_left}
+use Rattle.times.specs.Times.{all_later}
 use Rattle.life.specs.Machines.{AreSame}
 use Rattle.life.proofs.machine.Machine.has_same_processes.Given as goal
 
--- the processes are the same if those that are left are
+-- the processes are moved in time if those that are left are
 abbrev pub invariant-loop-next : goal.invariant-loop-next
 invariant-loop-next g l =
     let rs = l.fn.self.state.processes in
@@ -18,7 +19,7 @@ invariant-loop-next g l =
       others_read : l.other.visits + 2 * length (left_of l.their_next qs) ≤ l.fn.other.visits + 1 + 2 * length qs;
       no_fewer : l.fn.self.visits ≤ l.self.visits;
       others_no_fewer : l.fn.other.visits ≤ l.other.visits;
-      same : left_of l.next rs ≡ left_of l.their_next qs → rs ≡ qs;
+      same : left_of l.their_next qs ≡ all_later l.delay (left_of l.next rs) → qs ≡ all_later l.delay rs;
     }
 
 abbrev pub decreases-loop-next : goal.decreases-loop-next

@@ -1,6 +1,7 @@
 use Rattle.std.proofs.Common.{◌<◌, arith, length, refl}
 use Rattle.std.proofs.lemmas.Option.{slice_get_read}
-use Rattle.merging.proofs.LayerLemmas.{all_same_put, one_still, put_there}
+use Rattle.merging.proofs.IndexLemmas.{put_there}
+use Rattle.merging.proofs.LayerLemmas.{all_same_put, one_still}
 use Rattle.merging.proofs.layer.Layer.find_at.Goals.{else-number-len-via-else-number-len, else-number-len-via-then-number-len+else-is_one}
 use Rattle.merging.proofs.layer.Layer.find_at.Goals as goal
 

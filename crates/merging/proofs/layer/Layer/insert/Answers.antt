@@ -1,45 +1,52 @@
-use Rattle.std.proofs.Common.{◌≡◌, ◌++◌, ◌∷◌, ◌∙◌, []}
-use Rattle.std.proofs.lemmas.Result.{on_ok_weaker}
-use Rattle.merging.specs.Merging.{IsNode}
-use Rattle.merging.proofs.LayerLemmas.{found_is, joined_nodes, joined_one, joined_tallies, one_of_these, pushed_nodes, pushed_tallies, stands_same}
+use Rattle.std.proofs.Common.{map, refl}
+use Rattle.std.proofs.lemmas.Option.{slice_get_within}
+use Rattle.merging.specs.Merging.{point}
+use Rattle.merging.proofs.IndexLemmas.{put_there, read_there}
+use Rattle.merging.proofs.LayerLemmas.{filled_points, filled_stand, filled_tallies, fresh_put, there_alike}
 use Rattle.merging.proofs.layer.Layer.insert.Goals as goal
 
-pub join-requires : goal.join-requires
-join-requires c =
-    let it = c.in-Ok.ensures.one in
-    joined_one c.find.new.self.nodes.items c.in-Ok.number it.0 c.index_mut.result.now c.find.new.node it.1 c.index_mut.ensures.value it.2
+pub returns-clause-one : goal.returns-clause-one
+returns-clause-one c =
+    let ns = c.locate.new.self.nodes.items in
+    let i = c.in_ok-index.index in
+    let m = c.index_mut.result.now in
+    let it = c.in_ok-index.ensures.one in
+    let there = read_there ns i it.0 m it.1 c.index_mut.ensures.value in
+    (record m { begun = c.add_all.new.self }, put_there ns i (record m { begun = c.add_all.new.self }) (slice_get_within ns i m there), there_alike ns i it.0 m (point c.args.node) it.1 there it.2)
 
-pub returns-in-Ok-clause-tally : goal.returns-in-Ok-clause-tally
-returns-in-Ok-clause-tally c = λ go_on most forgets.
-    let ns = c.find.new.self.nodes.items in
-    let it = c.in-Ok.ensures.one in
-    let old = c.index_mut.result.now in
-    let node = c.find.new.node in
-    let here = found_is ns c.in-Ok.number it.0 old it.1 c.index_mut.ensures.value in
-    on_ok_weaker c.join.result
-    (joined_tallies go_on most c.args.self.now.nodes.items ns c.in-Ok.number c.args.node node old c.join.new.self c.find.ensures.nodes (c.find.ensures.node ∙ c.digest-digest.ensures) here)
-    (c.join.ensures.tally go_on most forgets)
+pub returns-clause-points : goal.returns-clause-points
+returns-clause-points c =
+    let ns = c.locate.new.self.nodes.items in
+    let i = c.in_ok-index.index in
+    let m = c.index_mut.result.now in
+    let it = c.in_ok-index.ensures.one in
+    filled_points (map point c.args.self.now.nodes.items) ns i m (record m { begun = c.add_all.new.self }) (read_there ns i it.0 m it.1 c.index_mut.ensures.value) refl c.in_ok-index.ensures.points
 
-pub returns-in-Ok-clause-nodes : goal.returns-in-Ok-clause-nodes
-returns-in-Ok-clause-nodes c = λ search place least all is.
-    let ns = c.find.new.self.nodes.items in
-    let it = c.in-Ok.ensures.one in
-    let old = c.index_mut.result.now in
-    let here = found_is ns c.in-Ok.number it.0 old it.1 c.index_mut.ensures.value in
-    on_ok_weaker c.join.result
-    (λ (j : IsNode search place least c.join.new.self). joined_nodes search place least c.args.self.now.nodes.items ns c.in-Ok.number c.join.new.self c.find.ensures.nodes j all)
-    (c.join.ensures.node search place least (one_of_these search place least c.args.self.now.nodes.items ns c.in-Ok.number old c.find.ensures.nodes here all)
-    (stands_same search place least c.args.node c.find.new.node (c.find.ensures.node ∙ c.digest-digest.ensures) is))
+pub returns-clause-tally : goal.returns-clause-tally
+returns-clause-tally c = λ go_on past most forgets.
+    let ns = c.locate.new.self.nodes.items in
+    let i = c.in_ok-index.index in
+    let m = c.index_mut.result.now in
+    let it = c.in_ok-index.ensures.one in
+    let there = read_there ns i it.0 m it.1 c.index_mut.ensures.value in
+    filled_tallies go_on past most ns i m (record m { begun = c.add_all.new.self }) (point c.args.node) c.args.begun _ forgets there (there_alike ns i it.0 m (point c.args.node) it.1 there it.2) refl refl
+    (c.in_ok-add_all.ensures.tally go_on most (point m)) (c.in_ok-index.ensures.tally go_on past most)
 
-pub returns-in-Err-clause-tally : goal.returns-in-Err-clause-tally
-returns-in-Err-clause-tally c = λ go_on most forgets.
-    on_ok_weaker c.push.result
-    (pushed_tallies go_on most c.args.self.now.nodes.items c.find.new.self.nodes.items c.push.new.self.nodes.items c.args.node c.find.new.node c.find.ensures.nodes (c.find.ensures.node ∙ c.digest-digest.ensures))
-    c.push.ensures
+pub returns-clause-stand : goal.returns-clause-stand
+returns-clause-stand c = λ s place fewest bounds all at few lower begun has.
+    let ns = c.locate.new.self.nodes.items in
+    let i = c.in_ok-index.index in
+    let m = c.index_mut.result.now in
+    let it = c.in_ok-index.ensures.one in
+    let there = read_there ns i it.0 m it.1 c.index_mut.ensures.value in
+    filled_stand s place fewest bounds ns i m (record m { begun = c.add_all.new.self }) (point c.args.node) c.args.begun there (there_alike ns i it.0 m (point c.args.node) it.1 there it.2) refl refl refl refl
+    (c.in_ok-add_all.ensures.all s place (bounds i).fewest (point m)) (c.in_ok-add_all.ensures.some has) (lower i) begun (c.in_ok-index.ensures.stand s place bounds all at few)
 
-pub returns-in-Err-clause-nodes : goal.returns-in-Err-clause-nodes
-returns-in-Err-clause-nodes c = λ search place least all is.
-    on_ok_weaker c.push.result
-    (λ (more : c.push.new.self.nodes.items ≡ c.find.new.self.nodes.items ++ c.find.new.node ∷ []).
-    pushed_nodes search place least c.args.self.now.nodes.items c.find.new.self.nodes.items c.push.new.self.nodes.items c.args.node c.find.new.node c.find.ensures.nodes (c.find.ensures.node ∙ c.digest-digest.ensures) more all is)
-    c.push.ensures
+pub returns-clause-fresh : goal.returns-clause-fresh
+returns-clause-fresh c = λ fresh.
+    let ns = c.locate.new.self.nodes.items in
+    let i = c.in_ok-index.index in
+    let m = c.index_mut.result.now in
+    let it = c.in_ok-index.ensures.one in
+    let all = c.in_ok-index.ensures.fresh fresh in
+    fresh_put ns i (record m { begun = c.add_all.new.self }) all (all i m (read_there ns i it.0 m it.1 c.index_mut.ensures.value))
