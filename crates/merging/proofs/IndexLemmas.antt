@@ -1,5 +1,6 @@
 -- Elements of a list by their index, after one is replaced or added.
 use Rattle.std.proofs.Common.{◌≡◌, ℕ, zero, suc, ◌<◌, inl, inr, ◌⊎◌, List, [], ◌∷◌, ◌++◌, length, map, Some, refl, ap, sym, ◌∙◌, arith, get_or, slice_get, slice_set, option_map}
+use Rattle.std.proofs.Math.Seq.{map-set_same}
 use Rattle.std.proofs.lemmas.Option.{get_or_from_slice_get, slice_get-map}
 
 pub put_there : {X : Type 0} (xs : List X) (i : ℕ) (x : X) → i < length xs → slice_get (slice_set xs i x) i ≡ Some x
@@ -38,6 +39,10 @@ pub still_there : {X : Type 0} (xs ys : List X) (i : ℕ) (x : X) → slice_get 
 still_there [] ys i x e = cc
 still_there (y ∷ xs) ys zero x e = e
 still_there (y ∷ xs) ys (suc i) x e = still_there xs ys i x e
+
+-- One is replaced by another of which the function gives the same.
+pub map_put : {A B : Type 0} (f : A → B) (xs : List A) (i : ℕ) (x y : A) → slice_get xs i ≡ Some x → f y ≡ f x → map f (slice_set xs i y) ≡ map f xs
+map_put f xs i x y e same = map-set_same f xs i y x (same ∙ ap f (sym (get_or_from_slice_get xs i x x e)))
 
 pub map_there : {A B : Type 0} (f : A → B) (xs : List A) (i : ℕ) (x : A) → slice_get xs i ≡ Some x → slice_get (map f xs) i ≡ Some (f x)
 map_there f xs i x e = slice_get-map f xs i ∙ ap (option_map f) e

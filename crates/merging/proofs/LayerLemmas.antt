@@ -1,25 +1,18 @@
 -- The nodes of a layer: one is replaced by another, is added, or has its reads counted.
 use Rattle.std.proofs.Common.{◌≡◌, ℕ, zero, suc, ◌+◌, ◌<◌, ◌≤◌, ◌==◌, inl, inr, ◌⊎◌, Bool, true, false, true≢false, cond, List, [], ◌∷◌, ◌++◌, length, map, None, Some, Option, refl, ap, ap₂, sym, subst, ◌∙◌, arith, get_or, slice_get, slice_set}
 use Rattle.std.specs.List.{All}
-use Rattle.std.proofs.lemmas.Bool.{eq-eqb, ne_eqb}
+use Rattle.std.proofs.lemmas.Bool.{eq-eqb, eqb-true, ne_eqb}
 use Rattle.std.proofs.lemmas.List.{map-append}
 use Rattle.std.proofs.lemmas.Option.{get_or_from_slice_get, slice_get-get_or, slice_get_within}
 use Rattle.counting.specs.Tallies.{TallyView, both, no_schedules}
 use Rattle.merging.specs.declared.begun.Begun.{Begun}
 use Rattle.merging.specs.declared.node.Node.{Node}
 use Rattle.merging.specs.declared.search.Search.{Search}
-use Rattle.merging.specs.Merging.{AllBegun, AllStand, AreAlike, AreFresh, AreSameNodes, Bound, Forgets, HasSome, IsFresh, IsPoint, IsSameNode, LeadsTo, Outlook, Point, SeenNode, StandsAt, edge_at, most_of, point, seen, slots_tally, tally_of_node, tally_of_nodes, unless_at}
-use Rattle.merging.proofs.IndexLemmas.{last_there, push_cases, put_cases, same_there, still_there}
-use Rattle.merging.proofs.OneLemmas.{all_begun_alike, alike_swapped, slots_alike}
-use Rattle.merging.proofs.TallyLemmas.{and_none, both_regrouped, both_swapped}
+use Rattle.merging.specs.Merging.{AllBegun, AllStand, AreAlike, AreSameNodes, Bound, HasSome, IsFresh, IsPoint, IsSameNode, LeadsTo, NonePassed, Outlook, Point, SeenNode, StandsAt, bound_at, edge_at, most_of, point, seen, slots_tally, tally_of_node, tally_of_nodes, unless_at}
+use Rattle.merging.proofs.IndexLemmas.{last_there, map_put, push_cases, put_cases, same_there, still_there}
+use Rattle.merging.proofs.TallyLemmas.{and_none, both_regrouped, both_swapped, swapped_last}
 
 -- ---- nodes that are equal except for the count of reads
-
--- One of them has its reads counted.
-pub all_same_put : (ns : List Node) (i : ℕ) (n m : Node) → slice_get ns i ≡ Some n → IsSameNode n m → AreSameNodes ns (slice_set ns i m)
-all_same_put [] i n m e same = refl
-all_same_put (k ∷ ns) zero n m e same = let is : n ≡ k = cc in ap (λ v. v ∷ map seen ns) (same ∙ ap seen is)
-all_same_put (k ∷ ns) (suc i) n m e same = ap (λ vs. seen k ∷ vs) (all_same_put ns i n m e same)
 
 -- Two nodes that are one still are.
 pub one_still : (n m k l : Node) → IsSameNode n m → IsSameNode k l → AreAlike (point n) (point k) → AreAlike (point m) (point l)
@@ -63,29 +56,41 @@ stand_same s place bounds points ns ms same all i m e =
     let was = seen_before ns ms i m same e in
     subst (StandsAt s place (bounds i) points) (sym was.2) (all i was.0 was.1)
 
-pub fresh_same : (ns ms : List Node) → AreSameNodes ns ms → AreFresh ns → AreFresh ms
-fresh_same ns ms same fresh i m e =
+pub passed_same : (ns ms : List Node) → AreSameNodes ns ms → NonePassed ns → NonePassed ms
+passed_same ns ms same none i m e =
     let was = seen_before ns ms i m same e in
-    ap (λ (v : SeenNode). v.passed) was.2 ∙ fresh i was.0 was.1
+    ap (λ (v : SeenNode). v.passed) was.2 ∙ none i was.0 was.1
 
 -- ---- one more node, or another node in place of one
+
+-- A node is replaced, and other schedules make up the difference.
+tallies_set : (ns : List Node) (i : ℕ) (n m : Node) (go_on past : Outlook) (most : ℕ) (x y : TallyView) → slice_get ns i ≡ Some n
+    → both (tally_of_node go_on past most m) x ≡ both (tally_of_node go_on past most n) y → both (tally_of_nodes go_on past most (slice_set ns i m)) x ≡ both (tally_of_nodes go_on past most ns) y
+tallies_set [] i n m go_on past most x y e same = cc
+tallies_set (k ∷ ns) zero n m go_on past most x y e same =
+    let is : n ≡ k = cc in
+    let rest = tally_of_nodes go_on past most ns in
+    swapped_last (tally_of_node go_on past most m) rest x
+    ∙ ap (λ t. both t rest) same
+    ∙ swapped_last (tally_of_node go_on past most n) y rest
+    ∙ ap (λ (z : Node). both (both (tally_of_node go_on past most z) rest) y) is
+tallies_set (k ∷ ns) (suc i) n m go_on past most x y e same =
+    let first = tally_of_node go_on past most k in
+    both_regrouped first (tally_of_nodes go_on past most (slice_set ns i m)) x
+    ∙ ap (both first) (tallies_set ns i n m go_on past most x y e same)
+    ∙ sym (both_regrouped first (tally_of_nodes go_on past most ns) y)
 
 -- A node has more schedules.
 pub tallies_put : (ns : List Node) (i : ℕ) (n m : Node) (go_on past : Outlook) (most : ℕ) (more : TallyView) → slice_get ns i ≡ Some n
     → tally_of_node go_on past most m ≡ both (tally_of_node go_on past most n) more → tally_of_nodes go_on past most (slice_set ns i m) ≡ both (tally_of_nodes go_on past most ns) more
-tallies_put [] i n m go_on past most more e joined = cc
-tallies_put (k ∷ ns) zero n m go_on past most more e joined =
-    let is : n ≡ k = cc in
-    let here = tally_of_node go_on past most n in
-    let rest = tally_of_nodes go_on past most ns in
-    ap (λ t. both t rest) joined
-    ∙ both_regrouped here more rest
-    ∙ ap (both here) (both_swapped more rest)
-    ∙ sym (both_regrouped here rest more)
-    ∙ ap (λ (x : Node). both (both (tally_of_node go_on past most x) rest) more) is
-tallies_put (k ∷ ns) (suc i) n m go_on past most more e joined =
-    ap (both (tally_of_node go_on past most k)) (tallies_put ns i n m go_on past most more e joined)
-    ∙ sym (both_regrouped (tally_of_node go_on past most k) (tally_of_nodes go_on past most ns) more)
+tallies_put ns i n m go_on past most more e joined =
+    sym (and_none (tally_of_nodes go_on past most (slice_set ns i m))) ∙ tallies_set ns i n m go_on past most no_schedules more e (and_none (tally_of_node go_on past most m) ∙ joined)
+
+-- A node has fewer schedules.
+pub tallies_taken : (ns : List Node) (i : ℕ) (n m : Node) (go_on past : Outlook) (most : ℕ) (more : TallyView) → slice_get ns i ≡ Some n
+    → tally_of_node go_on past most n ≡ both (tally_of_node go_on past most m) more → tally_of_nodes go_on past most ns ≡ both (tally_of_nodes go_on past most (slice_set ns i m)) more
+tallies_taken ns i n m go_on past most more e parts =
+    sym (tallies_set ns i n m go_on past most more no_schedules e (sym parts ∙ sym (and_none (tally_of_node go_on past most n))) ∙ and_none (tally_of_nodes go_on past most ns))
 
 -- A node is added after the others.
 pub tallies_more : (ns : List Node) (n : Node) (go_on past : Outlook) (most : ℕ) → tally_of_nodes go_on past most (ns ++ n ∷ []) ≡ both (tally_of_nodes go_on past most ns) (tally_of_node go_on past most n)
@@ -106,34 +111,16 @@ node_more n m go_on past most more same passed begun =
     let q = slots_tally past most (point n) n.passed in
     ap₂ (λ p bs. both (slots_tally go_on most p m.begun) (slots_tally past most p bs)) same passed
     ∙ ap (λ t. both t q) begun
-    ∙ both_regrouped b more q
-    ∙ ap (both b) (both_swapped more q)
-    ∙ sym (both_regrouped b q more)
+    ∙ swapped_last b more q
 
-pub points_put : (ns : List Node) (i : ℕ) (n m : Node) → slice_get ns i ≡ Some n → point m ≡ point n → map point (slice_set ns i m) ≡ map point ns
-points_put [] i n m e same = refl
-points_put (k ∷ ns) zero n m e same = let is : n ≡ k = cc in ap (λ p. p ∷ map point ns) (same ∙ ap point is)
-points_put (k ∷ ns) (suc i) n m e same = ap (λ ps. point k ∷ ps) (points_put ns i n m e same)
-
-pub stand_put : (s : Search) (place : ℕ) (bounds : ℕ → Bound) (points : List Point) (ns : List Node) (i : ℕ) (m : Node) → AllStand s place bounds points ns → StandsAt s place (bounds i) points (seen m)
-    → AllStand s place bounds points (slice_set ns i m)
-stand_put s place bounds points ns i m all is j n e = by (put_cases ns i j m n e)
-  where
-    by : ((j ≡ i) × (m ≡ n)) ⊎ ((j ≡ i → ⊥) × (slice_get ns j ≡ Some n)) → StandsAt s place (bounds j) points (seen n)
-    by (inl (at, it)) = subst (λ k. StandsAt s place (bounds k) points (seen n)) (sym at) (subst (λ (x : Node). StandsAt s place (bounds i) points (seen x)) it is)
-    by (inr (apart, old)) = all j n old
-
-pub fresh_put : (ns : List Node) (i : ℕ) (m : Node) → AreFresh ns → m.passed ≡ [] → AreFresh (slice_set ns i m)
-fresh_put ns i m all is j n e = by (put_cases ns i j m n e)
+pub passed_put : (ns : List Node) (i : ℕ) (m : Node) → NonePassed ns → m.passed ≡ [] → NonePassed (slice_set ns i m)
+passed_put ns i m all is j n e = by (put_cases ns i j m n e)
   where
     by : ((j ≡ i) × (m ≡ n)) ⊎ ((j ≡ i → ⊥) × (slice_get ns j ≡ Some n)) → n.passed ≡ []
     by (inl (at, it)) = ap (λ (x : Node). x.passed) (sym it) ∙ is
     by (inr (apart, old)) = all j n old
 
 -- ---- more points, and other bounds
-
-pub leads_more : (s : Search) (points more : List Point) (p : Point) (which j : ℕ) → LeadsTo s points p which j → LeadsTo s (points ++ more) p which j
-leads_more s points more p which j to = (to.0, still_there points more j to.0 to.1, to.2)
 
 pub stands_more : (s : Search) (place : ℕ) (bound : Bound) (points more : List Point) (n : SeenNode) → StandsAt s place bound points n → StandsAt s place bound (points ++ more) n
 stands_more s place bound points more n is = record {
@@ -142,7 +129,7 @@ stands_more s place bound points more n is = record {
   begun = is.begun;
   passed = is.passed;
   some = is.some;
-  leads = λ which j e. leads_more s points more n.point which j (is.leads which j e);
+  leads = λ which j e. let to = is.leads which j e in (to.0, still_there points more j to.0 to.1, to.2);
 }
 
 pub stands_weaker : (s : Search) (place : ℕ) (old new : Bound) (points : List Point) (n : SeenNode) → new.fewest ≤ old.fewest → (new.some ≡ true → old.some ≡ true) → StandsAt s place old points n → StandsAt s place new points n
@@ -159,12 +146,7 @@ pub stand_weaker : (s : Search) (place : ℕ) (old new : ℕ → Bound) (points 
     → ((i : ℕ) → i < length ns → ((new i).fewest ≤ (old i).fewest) × ((new i).some ≡ true → (old i).some ≡ true))
     → AllStand s place old points ns → AllStand s place new points ns
 stand_weaker s place old new points ns lower all i n e =
-    let l = lower i (within ns i n e) in stands_weaker s place (old i) (new i) points (seen n) l.0 l.1 (all i n e)
-  where
-    within : (ns : List Node) (i : ℕ) (n : Node) → slice_get ns i ≡ Some n → i < length ns
-    within [] i n e = cc
-    within (m ∷ ns) zero n e = omega arith
-    within (m ∷ ns) (suc i) n e = let l = within ns i n e in omega (arith, l)
+    let l = lower i (slice_get_within ns i n e) in stands_weaker s place (old i) (new i) points (seen n) l.0 l.1 (all i n e)
 
 pub stand_push : (s : Search) (place : ℕ) (bounds : ℕ → Bound) (ns : List Node) (n : Node) → AllStand s place bounds (map point ns) ns → StandsAt s place (bounds (length ns)) (map point (ns ++ n ∷ [])) (seen n)
     → AllStand s place bounds (map point (ns ++ n ∷ [])) (ns ++ n ∷ [])
@@ -174,8 +156,8 @@ stand_push s place bounds ns n all is i m e = by (push_cases ns i n m e)
     by (inl (at, it)) = subst (λ k. StandsAt s place (bounds k) (map point (ns ++ n ∷ [])) (seen m)) (sym at) (subst (λ (x : Node). StandsAt s place (bounds (length ns)) (map point (ns ++ n ∷ [])) (seen x)) it is)
     by (inr old) = subst (λ ps. StandsAt s place (bounds i) ps (seen m)) (sym (map-append point ns (n ∷ []))) (stands_more s place (bounds i) (map point ns) (map point (n ∷ [])) (seen m) (all i m old))
 
-pub fresh_push : (ns : List Node) (n : Node) → AreFresh ns → n.passed ≡ [] → AreFresh (ns ++ n ∷ [])
-fresh_push ns n all is i m e = by (push_cases ns i n m e)
+pub passed_push : (ns : List Node) (n : Node) → NonePassed ns → n.passed ≡ [] → NonePassed (ns ++ n ∷ [])
+passed_push ns n all is i m e = by (push_cases ns i n m e)
   where
     by : ((i ≡ length ns) × (n ≡ m)) ⊎ (slice_get ns i ≡ Some m) → m.passed ≡ []
     by (inl (at, it)) = ap (λ (x : Node). x.passed) (sym it) ∙ is
@@ -203,17 +185,28 @@ worlds_still ns ms n m all same worlds = λ k d l.
 
 -- ---- a node is found or added
 
-pub unless_lower : (index : ℕ) (bounds : ℕ → Bound) (i : ℕ) → ((unless_at index bounds i).fewest ≤ (bounds i).fewest) × ((unless_at index bounds i).some ≡ true → (bounds i).some ≡ true)
-unless_lower index bounds i = by (i == index)
-  where
-    by : (b : Bool) → ((cond b (record { fewest = (bounds i).fewest; some = false }) (bounds i)).fewest ≤ (bounds i).fewest)
-        × ((cond b (record { fewest = (bounds i).fewest; some = false }) (bounds i)).some ≡ true → (bounds i).some ≡ true)
-    by true = (omega arith, λ t. absurd (true≢false (sym t)))
-    by false = (omega arith, λ t. t)
+-- The bound of the node with the index, and of another one.
+pub at_index : (i : ℕ) (bound : Bound) (bounds : ℕ → Bound) → bound_at i bound bounds i ≡ bound
+at_index i bound bounds = ap (λ b. cond b bound (bounds i)) (eq-eqb i i refl)
 
--- The node with the index has a bound that asks for no beginnings.
-pub unless_there : (index : ℕ) (bounds : ℕ → Bound) → unless_at index bounds index ≡ record { fewest = (bounds index).fewest; some = false }
-unless_there index bounds = ap (λ b. cond b (record { fewest = (bounds index).fewest; some = false }) (bounds index)) (eq-eqb index index refl)
+pub at_other : (i : ℕ) (bound : Bound) (bounds : ℕ → Bound) (j : ℕ) → (j ≡ i → ⊥) → bound_at i bound bounds j ≡ bounds j
+at_other i bound bounds j apart = ap (λ b. cond b bound (bounds j)) (ne_eqb j i apart)
+
+-- No bound asks for more spots than this.
+pub at_most : (i most : ℕ) (bound : Bound) (bounds : ℕ → Bound) → bound.fewest ≤ most → ((j : ℕ) → (bounds j).fewest ≤ most) → (j : ℕ) → (bound_at i bound bounds j).fewest ≤ most
+at_most i most bound bounds here others j = by (j == i)
+  where
+    by : (b : Bool) → (cond b bound (bounds j)).fewest ≤ most
+    by true = here
+    by false = others j
+
+unless_lower : (i : ℕ) (bounds : ℕ → Bound) (j : ℕ) → ((unless_at i bounds j).fewest ≤ (bounds j).fewest) × ((unless_at i bounds j).some ≡ true → (bounds j).some ≡ true)
+unless_lower i bounds j = by (j == i) refl
+  where
+    by : (b : Bool) → (j == i) ≡ b → ((cond b (record { fewest = (bounds i).fewest; some = false }) (bounds j)).fewest ≤ (bounds j).fewest)
+        × ((cond b (record { fewest = (bounds i).fewest; some = false }) (bounds j)).some ≡ true → (bounds j).some ≡ true)
+    by true same = (omega (arith, ap (λ k. (bounds k).fewest) (eqb-true j i same)), λ t. absurd (true≢false (sym t)))
+    by false other = (omega arith, λ t. t)
 
 no_edge : (which : ℕ) → edge_at [] which ≡ None
 no_edge zero = refl
@@ -246,7 +239,7 @@ pub pushed_stand : (s : Search) (place : ℕ) (bounds : ℕ → Bound) (olds ns 
 pushed_stand s place bounds olds ns xs n same is fresh all at few =
     subst (λ ys. AllStand s place (unless_at (length ns) bounds) (map point ys) ys) (sym is)
     (stand_push s place (unless_at (length ns) bounds) ns n (found_stand s place bounds olds ns (length ns) same all)
-    (subst (λ b. StandsAt s place b (map point (ns ++ n ∷ [])) (seen n)) (sym (unless_there (length ns) bounds))
+    (subst (λ b. StandsAt s place b (map point (ns ++ n ∷ [])) (seen n)) (sym (at_index (length ns) (record { fewest = (bounds (length ns)).fewest; some = false }) bounds))
     (fresh_stands s place (bounds (length ns)).fewest (map point (ns ++ n ∷ [])) (seen n) fresh at few)))
 
 pub pushed_tallies : (go_on past : Outlook) (most : ℕ) (olds ns xs : List Node) (n : Node) → AreSameNodes olds ns → xs ≡ ns ++ n ∷ [] → IsFresh (seen n) → tally_of_nodes go_on past most xs ≡ tally_of_nodes go_on past most olds
@@ -259,16 +252,13 @@ pushed_tallies go_on past most olds ns xs n same is fresh =
 -- ---- a node gets beginnings
 
 -- Another node is put in place of one, with a bound of its own.
-pub stand_put_at : (s : Search) (place : ℕ) (old new : ℕ → Bound) (ns : List Node) (i : ℕ) (n m : Node) → slice_get ns i ≡ Some n → point m ≡ point n → ((j : ℕ) → (j ≡ i → ⊥) → old j ≡ new j)
+pub stand_put : (s : Search) (place : ℕ) (old new : ℕ → Bound) (ns : List Node) (i : ℕ) (n m : Node) → slice_get ns i ≡ Some n → point m ≡ point n → ((j : ℕ) → (j ≡ i → ⊥) → old j ≡ new j)
     → AllStand s place old (map point ns) ns → StandsAt s place (new i) (map point ns) (seen m) → AllStand s place new (map point (slice_set ns i m)) (slice_set ns i m)
-stand_put_at s place old new ns i n m e same others all there j x at = subst (λ ps. StandsAt s place (new j) ps (seen x)) (sym (points_put ns i n m e same)) (by (put_cases ns i j m x at))
+stand_put s place old new ns i n m e same others all there j x at = subst (λ ps. StandsAt s place (new j) ps (seen x)) (sym (map_put point ns i n m e same)) (by (put_cases ns i j m x at))
   where
     by : ((j ≡ i) × (m ≡ x)) ⊎ ((j ≡ i → ⊥) × (slice_get ns j ≡ Some x)) → StandsAt s place (new j) (map point ns) (seen x)
     by (inl (here, it)) = subst (λ k. StandsAt s place (new k) (map point ns) (seen x)) (sym here) (subst (λ (y : Node). StandsAt s place (new i) (map point ns) (seen y)) it there)
     by (inr (apart, was)) = subst (λ b. StandsAt s place b (map point ns) (seen x)) (others j apart) (all j x was)
-
-pub unless_apart : (i : ℕ) (bounds : ℕ → Bound) (j : ℕ) → (j ≡ i → ⊥) → unless_at i bounds j ≡ bounds j
-unless_apart i bounds j apart = ap (λ b. cond b (record { fewest = (bounds j).fewest; some = false }) (bounds j)) (ne_eqb j i apart)
 
 -- Beginnings of a node that can go on, other than before.
 pub with_begun_stands : (s : Search) (place : ℕ) (old new : Bound) (points : List Point) (n m : Node) → point m ≡ point n → m.kernel.events ≡ n.kernel.events → m.passed ≡ n.passed → m.edges.items ≡ n.edges.items
@@ -291,24 +281,20 @@ there_alike ns i it m p e there alike = subst (λ (x : Node). AreAlike (point x)
 
 pub filled_points : (olds : List Point) (ns : List Node) (i : ℕ) (m new : Node) → slice_get ns i ≡ Some m → point new ≡ point m → (more : List Point) × (map point ns ≡ olds ++ more)
     → (more : List Point) × (map point (slice_set ns i new) ≡ olds ++ more)
-filled_points olds ns i m new there same grown = (grown.0, points_put ns i m new there same ∙ grown.1)
+filled_points olds ns i m new there same grown = (grown.0, map_put point ns i m new there same ∙ grown.1)
 
-pub filled_tallies : (go_on past : Outlook) (most : ℕ) (ns : List Node) (i : ℕ) (m new : Node) (p : Point) (bs : List (Option Begun)) (old : TallyView) → Forgets go_on → slice_get ns i ≡ Some m → AreAlike (point m) p
-    → point new ≡ point m → new.passed ≡ m.passed → slots_tally go_on most (point m) new.begun ≡ both (slots_tally go_on most (point m) m.begun) (slots_tally go_on most (point m) bs)
-    → tally_of_nodes go_on past most ns ≡ old → tally_of_nodes go_on past most (slice_set ns i new) ≡ both old (slots_tally go_on most p bs)
-filled_tallies go_on past most ns i m new p bs old forgets there alike same passed more was =
-    tallies_put ns i m new go_on past most (slots_tally go_on most (point m) bs) there (node_more m new go_on past most (slots_tally go_on most (point m) bs) same passed more)
-    ∙ ap₂ both was (slots_alike go_on most (point m) p bs forgets alike)
+pub filled_tallies : (go_on past : Outlook) (most : ℕ) (ns : List Node) (i : ℕ) (m new : Node) (more : TallyView) → slice_get ns i ≡ Some m → point new ≡ point m → new.passed ≡ m.passed
+    → slots_tally go_on most (point m) new.begun ≡ both (slots_tally go_on most (point m) m.begun) more → tally_of_nodes go_on past most (slice_set ns i new) ≡ both (tally_of_nodes go_on past most ns) more
+filled_tallies go_on past most ns i m new more there same passed added = tallies_put ns i m new go_on past most more there (node_more m new go_on past most more same passed added)
 
 -- The node with this index was asked for no beginnings, and has some now.
-pub filled_stand : (s : Search) (place fewest : ℕ) (bounds : ℕ → Bound) (ns : List Node) (i : ℕ) (m new : Node) (p : Point) (bs : List (Option Begun)) → slice_get ns i ≡ Some m → AreAlike (point m) p
+pub filled_stand : (s : Search) (place : ℕ) (bounds : ℕ → Bound) (ns : List Node) (i : ℕ) (m new : Node) → slice_get ns i ≡ Some m
     → point new ≡ point m → new.kernel.events ≡ m.kernel.events → new.passed ≡ m.passed → new.edges.items ≡ m.edges.items
-    → (AllBegun s place (bounds i).fewest (point m) m.begun → AllBegun s place (bounds i).fewest (point m) bs → AllBegun s place (bounds i).fewest (point m) new.begun)
-    → HasSome new.begun → (bounds i).fewest ≤ fewest → AllBegun s place fewest p bs
+    → (AllBegun s place (bounds i).fewest (point m) m.begun → AllBegun s place (bounds i).fewest (point m) new.begun) → HasSome new.begun
     → AllStand s place (unless_at i bounds) (map point ns) ns → AllStand s place bounds (map point (slice_set ns i new)) (slice_set ns i new)
-filled_stand s place fewest bounds ns i m new p bs there alike same events passed edges added has lower begun all =
+filled_stand s place bounds ns i m new there same events passed edges added has all =
+    let none : Bound = record { fewest = (bounds i).fewest; some = false } in
     let was = all i m there in
-    let had = subst (λ k. AllBegun s place k (point m) m.begun) (ap (λ (b : Bound). b.fewest) (unless_there i bounds)) was.begun in
-    let come = all_begun_alike s place (bounds i).fewest p (point m) bs (alike_swapped (point m) p alike) (fewer_begun s place fewest (bounds i).fewest p bs lower begun) in
-    stand_put_at s place (unless_at i bounds) bounds ns i m new there same (unless_apart i bounds) all
-    (with_begun_stands s place (unless_at i bounds i) (bounds i) (map point ns) m new same events passed edges (added had come) (λ t. inl has) was)
+    let had = subst (λ k. AllBegun s place k (point m) m.begun) (ap (λ (b : Bound). b.fewest) (at_index i none bounds)) was.begun in
+    stand_put s place (unless_at i bounds) bounds ns i m new there same (at_other i none bounds) all
+    (with_begun_stands s place (unless_at i bounds i) (bounds i) (map point ns) m new same events passed edges (added had) (λ t. inl has) was)

@@ -1,6 +1,5 @@
 -- From the start of a world to the book of a family.
-use Rattle.std.proofs.Common.{◌≡◌, ℕ, ◌-◌, false, Some, List, [], length, drop, refl, ap, ap₂, sym, subst, ◌∙◌, arith}
-use Rattle.std.specs.Prelude.{slice_get}
+use Rattle.std.proofs.Common.{◌≡◌, ◌-◌, false, List, [], length, drop, refl, ap, ap₂, sym, subst, ◌∙◌, arith}
 use Rattle.std.proofs.lemmas.List.{length-map}
 use Rattle.posix.specs.declared.event.Event.{Event}
 use Rattle.posix.specs.Common.{IsRegular, IsSettled, State, boot}
@@ -13,7 +12,7 @@ use Rattle.counting.specs.Texts.{unmarked}
 use Rattle.merging.specs.declared.begun.Begun.{Begun}
 use Rattle.merging.specs.declared.node.Node.{Node}
 use Rattle.merging.specs.declared.search.Search.{Search}
-use Rattle.merging.specs.Merging.{AreBegun, AreFresh, AreNodes, AreOneState, IsPoint, Outlook, Point, Property, behind, counted_all, from_start, goes_on_tally, list_of, loose_of, most_of, nodes_tally, outlook_of, past_of, tally_from, tally_of_nodes, texts_of, world_of}
+use Rattle.merging.specs.Merging.{AreBegun, AreNodes, AreOneState, IsPoint, NonePassed, Outlook, Point, Property, behind, counted_all, from_start, goes_on_tally, list_of, loose_of, most_of, nodes_tally, outlook_of, past_of, tally_from, tally_of_nodes, texts_of, world_of}
 use Rattle.merging.proofs.NodeBookLemmas.{counted_book}
 use Rattle.merging.proofs.OneLemmas.{one_refl}
 use Rattle.merging.proofs.TallyLemmas.{behind_nothing}
@@ -53,10 +52,6 @@ first_tally has s p b state left marks one spots =
     ∙ ap₂ (λ k kinds. go_on k kinds p.state p.marks) all left
     ∙ ap₂ (go_on most (kinds_of (length (loose_of s)))) state marks
 
--- Nothing is there.
-pub none_at : {X : Type 0} (xs : List X) → xs ≡ [] → (i : ℕ) (x : X) → slice_get xs i ≡ Some x → ⊥
-none_at xs none i x at = let no = sym at ∙ ap (λ ys. slice_get ys i) none in cc
-
 -- ---- before the first event, and after the last one that can have insertions
 
 outlook_first : (has : Property) (s : Search) → outlook_of has s 0 ≡ tally_from has (texts_of s) (loose_of s) s.family.now.upto 0 (list_of s)
@@ -72,14 +67,14 @@ outlook_last has s rest is =
 
 -- ---- the book of the last nodes is that of the family
 
-pub merged_book : (s : Search) (rest : List Event) (nodes : List Node) → rest ≡ drop s.family.now.upto (list_of s) → AreNodes s s.family.now.upto 0 nodes → AreFresh nodes
+pub merged_book : (s : Search) (rest : List Event) (nodes : List Node) → rest ≡ drop s.family.now.upto (list_of s) → AreNodes s s.family.now.upto 0 nodes → NonePassed nodes
     → ((has : Property) → nodes_tally has s s.family.now.upto nodes ≡ from_start has s)
     → counted_all (texts_of s) rest nodes (empty_book (texts_of s))
     ≡ book_over (world_of s) (loose_of s) (list_of s) (texts_of s) (family s.family.now.upto s.family.now.ticks (length (loose_of s)))
-merged_book s rest nodes is stand fresh same =
+merged_book s rest nodes is stand passed same =
     let f = s.family.now in
     counted_book (texts_of s) (world_of s) (loose_of s) (list_of s) rest f.upto f.ticks (λ has. past_of has s f.upto) nodes f.within
-    (λ i n at. record { left = (stand i n at).point.last refl; passed = fresh i n at })
+    (λ i n at. record { left = (stand i n at).point.last refl; passed = passed i n at })
     (λ has. ap (λ (go_on : Outlook). tally_of_nodes go_on (past_of has s f.upto) (most_of s) nodes) (sym (outlook_last has s rest is))
     ∙ same has
     ∙ ap (λ (go_on : Outlook). go_on (most_of s) (kinds_of (length (loose_of s))) (boot (world_of s)) (unmarked (texts_of s))) (outlook_first has s))

@@ -1,6 +1,5 @@
 -- What continues from states that are one is the same: from two that differ only in time, and from two that have halted.
 use Rattle.std.proofs.Common.{◌≡◌, inl, inr, ◌≤◌, ℕ, zero, suc, ◌+◌, ◌-◌, Bool, true, Option, Some, None, List, [], ◌∷◌, ◌++◌, cond, length, drop, remove, slice_index_or, refl, ap, ap₂, sym, subst, ◌∙◌}
-use Rattle.std.specs.Prelude.{slice_get}
 use Rattle.posix.specs.declared.event.Event.{Event}
 use Rattle.posix.specs.declared.event.Event.TheVariants.{Tick}
 use Rattle.posix.specs.declared.entry.Entry.{Entry}
@@ -19,7 +18,7 @@ use Rattle.times.proofs.MovedLemmas.{alarms_kept, moved_refl, moved_swapped, mov
 use Rattle.times.proofs.StepLemmas.{next_later}
 use Rattle.merging.specs.declared.begun.Begun.{Begun}
 use Rattle.merging.specs.declared.search.Search.{Search}
-use Rattle.merging.specs.Merging.{AllBegun, AreAlike, AreBegun, AreOneState, Forgets, Outlook, Point, Property, after_event, behind, begun_tally, from_spot, if_none_left, kind_at, left_at, list_of, loose_of, marks_after, most_of, one_if, outlook_of, past_of, point_put, slots_tally, state_after, tally_at_place, tally_from, tally_of_rest, texts_of, world_of}
+use Rattle.merging.specs.Merging.{AllBegun, AreAlike, AreBegun, AreOneState, Forgets, Outlook, Point, Property, behind, begun_tally, from_spot, if_none_left, list_of, loose_of, marks_after, most_of, one_if, outlook_of, slots_tally, state_after, tally_at_place, tally_from, tally_of_rest, texts_of, world_of}
 use Rattle.merging.proofs.MergeLemmas.{over_kinds_same}
 
 -- ---- states that are one
@@ -127,13 +126,6 @@ from_forgets has texts loose (suc places) p (x ∷ events) n left s t marks one 
 pub outlook_forgets : (has : Property) (s : Search) (place : ℕ) → Forgets (outlook_of has s place)
 outlook_forgets has s place = from_forgets has (texts_of s) (loose_of s) (s.family.now.upto - place) place (drop place (list_of s))
 
-event_forgets : (has : Property) (s : Search) (place : ℕ) (o : Option Event) → Forgets (after_event has s place o)
-event_forgets has s place None n left u v marks one = refl
-event_forgets has s place (Some x) n left u v marks one = event_same (texts_of s) x (outlook_of has s (place + 1) n left) (outlook_forgets has s (place + 1) n left) u v marks one
-
-pub past_forgets : (has : Property) (s : Search) (place : ℕ) → Forgets (past_of has s place)
-past_forgets has s place = event_forgets has s place (slice_get (list_of s) place)
-
 -- ---- points that are alike
 
 pub alike_refl : (p : Point) → AreAlike p p
@@ -144,15 +136,6 @@ alike_swapped p q a = record { state = one_swapped p.state q.state a.state; left
 
 pub alike_then : (p q r : Point) → AreAlike p q → AreAlike q r → AreAlike p r
 alike_then p q r a b = record { state = one_then p.state q.state r.state a.state b.state; left = a.left ∙ b.left; marks = a.marks ∙ b.marks }
-
-pub alike_put : (s : Search) (which : ℕ) (p q : Point) → AreAlike p q → AreAlike (point_put s which p) (point_put s which q)
-alike_put s which p q a =
-    let event = λ (left : List ℕ). event_of (loose_of s) (kind_at which left) in
-    record {
-      state = subst (λ left. AreOneState (state_after (event p.left) p.state) (state_after (event left) q.state)) a.left (one_after (event p.left) p.state q.state a.state);
-      left = ap (left_at which) a.left;
-      marks = marks_same (texts_of s) (event p.left) p.state q.state p.marks a.state ∙ ap₂ (λ left marks. marks_after (texts_of s) (event left) q.state marks) a.left a.marks;
-    }
 
 -- ---- beginnings that lead to points that are alike
 

@@ -1,8 +1,8 @@
 -- Slots of beginnings: one is set, added or removed, and beginnings with equally many spots are joined.
 use Rattle.std.proofs.Common.{◌≡◌, ◌≢◌, ℕ, zero, suc, ◌+◌, ◌-◌, ◌<◌, ◌≤◌, true, false, cond, inl, inr, ◌⊎◌, List, [], ◌∷◌, ◌++◌, length, map, Option, Some, None, refl, ap, ap₂, sym, subst, ◌∙◌, add-one, arith, get_or, slice_get, set}
 use Rattle.std.specs.Prelude.{IfSome, IsNone, IsSome}
-use Rattle.std.proofs.lemmas.List.{get_or-set_same, length-set, set-get_or}
-use Rattle.std.proofs.lemmas.Option.{get_or_from_slice_get, same_Some, slice_get-get_or, slice_get_read, slice_get_within}
+use Rattle.std.proofs.lemmas.List.{set-get_or}
+use Rattle.std.proofs.lemmas.Option.{get_or_from_slice_get, same_Some, slice_get_read, slice_get_within}
 use Rattle.posix.specs.declared.event.Event.{Event}
 use Rattle.schedules.specs.Families.{Spots}
 use Rattle.counting.specs.Tallies.{TallyView, both, is_before, no_schedules}
@@ -10,7 +10,8 @@ use Rattle.merging.specs.declared.begun.Begun.{Begun}
 use Rattle.merging.specs.declared.search.Search.{Search}
 use Rattle.merging.specs.Merging.{AllBegun, AreBegun, HasSome, Outlook, Point, begun_tally, behind, slot_tally, slots_tally}
 use Rattle.merging.specs.Slots.{AreInSlots, given_slot}
-use Rattle.merging.proofs.TallyLemmas.{and_none, behind_meets, both_regrouped, both_swapped}
+use Rattle.merging.proofs.IndexLemmas.{push_cases, put_cases, put_there, still_there}
+use Rattle.merging.proofs.TallyLemmas.{and_none, behind_meets, both_regrouped, both_swapped, swapped_last}
 
 -- ---- beginnings with equally many spots
 
@@ -69,27 +70,22 @@ EachSlot P bs = (k : ℕ) (b : Begun) → slice_get bs k ≡ Some (Some b) → P
 -- One slot is set.
 pub each_set : (P : ℕ → Begun → Type 0) (bs : List (Option Begun)) (i : ℕ) (o : Option Begun) → ((b : Begun) → o ≡ Some b → P i b)
     → ((k : ℕ) (b : Begun) → k ≢ i → slice_get bs k ≡ Some (Some b) → P k b) → EachSlot P (set bs i o)
-each_set P [] i o here others k b e = cc
-each_set P (c ∷ bs) zero o here others zero b e = here b (same_Some o (Some b) e)
-each_set P (c ∷ bs) zero o here others (suc k) b e = others (suc k) b (λ no. cc) e
-each_set P (c ∷ bs) (suc i) o here others zero b e = others zero b (λ no. cc) e
-each_set P (c ∷ bs) (suc i) o here others (suc k) b e = each_set (λ j. P (suc j)) bs i o here (λ j d not. others (suc j) d (λ same. not (omega (arith, same)))) k b e
+each_set P bs i o here others k b e = by (put_cases bs i k o (Some b) e)
+  where
+    by : ((k ≡ i) × (o ≡ Some b)) ⊎ ((k ≡ i → ⊥) × (slice_get bs k ≡ Some (Some b))) → P k b
+    by (inl (at, is)) = subst (λ j. P j b) (sym at) (here b is)
+    by (inr (apart, was)) = others k b apart was
 
 pub each_push : (P : ℕ → Begun → Type 0) (bs : List (Option Begun)) → EachSlot P bs → EachSlot P (bs ++ None ∷ [])
-each_push P [] all zero b e = cc
-each_push P [] all (suc k) b e = cc
-each_push P (c ∷ bs) all zero b e = all zero b e
-each_push P (c ∷ bs) all (suc k) b e = each_push (λ j. P (suc j)) bs (λ j. all (suc j)) k b e
+each_push P bs all k b e = by (push_cases bs k None (Some b) e)
+  where
+    by : ((k ≡ length bs) × (None ≡ Some b)) ⊎ (slice_get bs k ≡ Some (Some b)) → P k b
+    by (inl (at, is)) = cc
+    by (inr was) = all k b was
 
 -- The slots before the last.
 pub each_pop : (P : ℕ → Begun → Type 0) (bs : List (Option Begun)) (o : Option Begun) → EachSlot P (bs ++ o ∷ []) → EachSlot P bs
-each_pop P [] o all k b e = cc
-each_pop P (c ∷ bs) o all zero b e = all zero b e
-each_pop P (c ∷ bs) o all (suc k) b e = each_pop (λ j. P (suc j)) bs o (λ j. all (suc j)) k b e
-
-pub last_slot : (bs : List (Option Begun)) (o : Option Begun) → slice_get (bs ++ o ∷ []) (length bs) ≡ Some o
-last_slot [] o = refl
-last_slot (c ∷ bs) o = last_slot bs o
+each_pop P bs o all k b e = all k b (still_there bs (o ∷ []) k (Some b) e)
 
 pub if_some : {P : Begun → Type 0} (o : Option Begun) → ((b : Begun) → o ≡ Some b → P b) → IfSome o P
 if_some None all = tt
@@ -102,8 +98,7 @@ some_in P o b is e = subst (λ c. IfSome c P) e is
 
 pub some_put : (bs : List (Option Begun)) (i : ℕ) (o : Option Begun) → i < length bs → IsSome o → HasSome (set bs i o)
 some_put bs i None l is = cc
-some_put bs i (Some b) l is =
-    (i, b, slice_get-get_or (set bs i (Some b)) i None (omega (arith, length-set bs i (Some b))) ∙ ap (λ (x : Option Begun). Some x) (get_or-set_same bs i (Some b) None l))
+some_put bs i (Some b) l is = (i, b, put_there bs i (Some b) l)
 
 some_pop : (bs : List (Option Begun)) → HasSome (bs ++ None ∷ []) → HasSome bs
 some_pop [] (zero, b, e) = cc
@@ -125,9 +120,6 @@ none_there bs i None at none = same_set bs i None at
 none_there bs i (Some b) at none = cc
 
 -- ---- the tally of all slots
-
-swapped_last : (a b c : TallyView) → both (both a b) c ≡ both (both a c) b
-swapped_last a b c = both_regrouped a b c ∙ ap (both a) (both_swapped b c) ∙ sym (both_regrouped a c b)
 
 -- One slot is set, and other schedules make up the difference.
 slots_set : (go_on : Outlook) (most : ℕ) (p : Point) (bs : List (Option Begun)) (i : ℕ) (old new : Option Begun) (x y : TallyView) → slice_get bs i ≡ Some old

@@ -1,5 +1,5 @@
 -- Beginnings that advance from before an event: with one more spot, and to after the event.
-use Rattle.std.proofs.Common.{◌≡◌, ℕ, zero, suc, ◌+◌, ◌-◌, ◌<◌, ◌≤◌, inl, inr, ◌⊎◌, cond, Option, None, Some, List, [], ◌∷◌, ◌++◌, length, length-append, remove, slice_index_or, refl, ap, ap₂, sym, ◌∙◌, arith}
+use Rattle.std.proofs.Common.{◌≡◌, ℕ, zero, suc, ◌+◌, ◌-◌, ◌<◌, ◌≤◌, inl, inr, ◌⊎◌, cond, Option, None, Some, List, [], ◌∷◌, ◌++◌, length, length-append, remove, slice_index_or, refl, ap, ap₂, subst, sym, ◌∙◌, arith}
 use Rattle.std.specs.Prelude.{slice_get}
 use Rattle.std.proofs.lemmas.Bool.{cases_lt, le-ltb, lt-ltb}
 use Rattle.posix.specs.declared.event.Event.{Event}
@@ -25,10 +25,11 @@ each_behind c q f g same (suc i) left =
 
 -- One more of them is inserted.
 pub kind_put : (has : Property) (s : Search) (place i : ℕ) (p : Point) (b : Begun)
-    → over_kinds (kind_tally has s place p b) (suc i) p.left ≡ both (over_kinds (kind_tally has s place p b) i p.left) (put_tally has s place p b (i + 1))
+    → both (over_kinds (kind_tally has s place p b) i p.left) (put_tally has s place p b (i + 1)) ≡ over_kinds (kind_tally has s place p b) (i + 1) p.left
 kind_put has s place i p b =
+    let kinds = λ (k : ℕ). over_kinds (kind_tally has s place p b) k p.left in
     let next : suc i ≡ i + 1 = omega arith in
-    ap (λ which. both (over_kinds (kind_tally has s place p b) i p.left) (put_tally has s place p b which)) next
+    subst (λ k. both (kinds i) (put_tally has s place p b k) ≡ kinds k) next refl
 
 -- ---- a tick, if one more is allowed
 

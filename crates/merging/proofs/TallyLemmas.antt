@@ -169,6 +169,9 @@ and_none a = both_swapped a no_schedules ∙ none_and a
 pub exchanged : (a b c : TallyView) → both a (both b c) ≡ both b (both a c)
 exchanged a b c = sym (both_regrouped a b c) ∙ ap (λ t. both t c) (both_swapped a b) ∙ both_regrouped b a c
 
+pub swapped_last : (a b c : TallyView) → both (both a b) c ≡ both (both a c) b
+swapped_last a b c = both_regrouped a b c ∙ ap (both a) (both_swapped b c) ∙ sym (both_regrouped a c b)
+
 pub two_by_two : (a b c d : TallyView) → both (both a b) (both c d) ≡ both (both a c) (both b d)
 two_by_two a b c d = both_regrouped a b (both c d) ∙ ap (both a) (exchanged b c d) ∙ sym (both_regrouped a c (both b d))
 

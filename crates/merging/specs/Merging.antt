@@ -202,9 +202,12 @@ left_at (suc i) left = remove left i
 abbrev pub point_after : Search → Event → List ℕ → Point → Point
 point_after s x left p = record { state = state_after x p.state; left = left; marks = marks_after (texts_of s) x p.state p.marks }
 
--- The point after an insertion.
+-- The event of an insertion, and the point after it.
+abbrev pub event_put : Search → ℕ → Point → Event
+event_put s which p = event_of (loose_of s) (kind_at which p.left)
+
 abbrev pub point_put : Search → ℕ → Point → Point
-point_put s which p = point_after s (event_of (loose_of s) (kind_at which p.left)) (left_at which p.left) p
+point_put s which p = point_after s (event_put s which p) (left_at which p.left) p
 
 -- Where a node leads by an insertion, once that is known: the index of another node.
 abbrev pub edge_at : List (Option ℕ) → ℕ → Option ℕ
@@ -246,9 +249,17 @@ pub record Bound : Type 0 where
   pub fewest : ℕ
   pub some : Bool
 
--- The same of all but the node with this index, which need not have beginnings.
+-- The same of all but the node with this index, of which this is asked.
+abbrev pub bound_at : ℕ → Bound → (ℕ → Bound) → ℕ → Bound
+bound_at index bound bounds i = if i == index then bound else bounds i
+
+-- The node with this index need not have beginnings.
 abbrev pub unless_at : ℕ → (ℕ → Bound) → ℕ → Bound
-unless_at index bounds i = if i == index then record { fewest = (bounds i).fewest; some = false } else bounds i
+unless_at index bounds = bound_at index (record { fewest = (bounds index).fewest; some = false }) bounds
+
+-- The node with this index has no beginnings with this many spots or fewer that can go on.
+abbrev pub without_spots : ℕ → ℕ → (ℕ → Bound) → ℕ → Bound
+without_spots spots index bounds = bound_at index (record { fewest = spots + 1; some = (bounds index).some }) bounds
 
 -- A node is before the event with this place. Its kernel has run no more events than a schedule has before that event.
 -- It leads where its edges say, among these points.
@@ -273,19 +284,25 @@ abbrev pub AreNodes : Search → ℕ → ℕ → List Node → Type 0
 AreNodes s place fewest nodes = AllStand s place (from_spots fewest) (map point nodes) nodes
 
 -- No beginnings of these nodes have passed.
-abbrev pub AreFresh : List Node → Type 0
-AreFresh nodes = (i : ℕ) (n : Node) → slice_get nodes i ≡ Some n → n.passed ≡ []
+abbrev pub NonePassed : List Node → Type 0
+NonePassed nodes = (i : ℕ) (n : Node) → slice_get nodes i ≡ Some n → n.passed ≡ []
 
 -- These beginnings lead to the node with this index, whose point this is, and can go on with insertions.
 pub record CanGoOn (s : Search) (place : ℕ) (bounds : ℕ → Bound) (nodes : List Node) (i : ℕ) (p : Point) (b : Begun) : Type 0 where
+  pub before : place < s.family.now.upto
   pub at : slice_get (map point nodes) i ≡ Some p
   pub begun : AreBegun s place p b
   pub stand : AllStand s place bounds (map point nodes) nodes
   pub fewest : (j : ℕ) → (bounds j).fewest ≤ length b.spots + 1
 
--- The node with this index has no beginnings with as many spots left.
-abbrev pub without_spots : ℕ → ℕ → (ℕ → Bound) → ℕ → Bound
-without_spots spots index bounds i = if i == index then record { fewest = spots + 1; some = (bounds i).some } else bounds i
+-- The same, with some bounds and the point of the node.
+abbrev pub AreReady : Search → ℕ → List Node → ℕ → Begun → Type 0
+AreReady s place nodes i b = (bounds : ℕ → Bound) × (p : Point) × CanGoOn s place bounds nodes i p b
+
+-- They can also go on with this insertion, after which all loose events that are left can be inserted.
+abbrev pub CanPut : Search → ℕ → List Node → ℕ → Begun → ℕ → Type 0
+CanPut s place nodes i b which =
+    (bounds : ℕ → Bound) × (p : Point) × CanGoOn s place bounds nodes i p b × (which ≤ length p.left) × (length b.spots + 1 + length (left_at which p.left) ≤ most_of s)
 
 -- A node of which only the point is known.
 pub record IsFresh (n : SeenNode) : Type 0 where
@@ -324,6 +341,22 @@ tick_tally has s place p b = if nat_lt (length b.spots + length p.left) (most_of
 -- With each of the remaining loose events.
 abbrev pub loose_tally : Property → Search → ℕ → Point → Begun → TallyView
 loose_tally has s place p b = over_kinds (kind_tally has s place p b) (length p.left) p.left
+
+-- ---- nodes before and after insertions
+
+-- An insertion leads from the node with index `i` to the one with index `to`. That need not have beginnings: what these
+-- beginnings become is not added yet.
+pub record HasLed (s : Search) (i : ℕ) (b : Begun) (which to : ℕ) (olds news : List Node) : Type 0 where
+  pub stand : (place : ℕ) (bounds : ℕ → Bound) (p : Point) → CanGoOn s place bounds olds i p b → CanGoOn s place (unless_at to bounds) news i p b × LeadsTo s (map point news) p which to
+  pub tally : (has : Property) (place : ℕ) → nodes_tally has s place news ≡ nodes_tally has s place olds
+  pub grow : length olds ≤ length news
+
+-- What these beginnings of the node with this index become by insertions was added. `more` has the schedules of that, by
+-- their property and the point of the node.
+pub record HasPut (s : Search) (place i : ℕ) (b : Begun) (more : Property → Point → TallyView) (olds news : List Node) : Type 0 where
+  pub stand : (bounds : ℕ → Bound) (p : Point) → CanGoOn s place bounds olds i p b → CanGoOn s place bounds news i p b
+  pub tally : (has : Property) (bounds : ℕ → Bound) (p : Point) → CanGoOn s place bounds olds i p b → nodes_tally has s place news ≡ both (nodes_tally has s place olds) (more has p)
+  pub grow : length olds ≤ length news
 
 -- ---- why a search stops
 

@@ -104,7 +104,7 @@ fn add_to(slot: &mut Option<Begun>, begun: Begun) -> Result<(), AllocError>
 }
 
 /// Runs one more event after the beginnings in these slots.
-fn give_all(slots: &mut Vec<Option<Begun>>, event: Event) -> Result<(), AllocError>
+fn give_slots(slots: &mut Vec<Option<Begun>>, event: Event) -> Result<(), AllocError>
     requires { AreShort slots.old.items }
     ensures given { OnOk result (slots.new.items ≡ map (given_slot event) slots.old.items) }
     ensures slots { AreInSlots slots.old.items → AreInSlots slots.new.items }
@@ -212,6 +212,6 @@ impl Beginnings {
         requires { AreShort self.old }
         ensures { OnOk result (self.new ≡ map (given_slot event) self.old) }
     {
-        give_all(&mut self.slots, event)
+        give_slots(&mut self.slots, event)
     }
 }

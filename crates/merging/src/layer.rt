@@ -4,7 +4,7 @@ ghost use Rattle.std.specs.Prelude.{◌≡◌, ◌+◌, ◌≤◌, ◌<◌, ◌^
 ghost use Rattle.counting.specs.Tallies.{both};
 ghost use Rattle.merging.specs.declared.node.Node.{Node as NodeValue};
 ghost use Rattle.merging.specs.declared.search.Search.{Search as SearchValue};
-ghost use Rattle.merging.specs.Merging.{AllBegun, AllStand, AreAlike, AreFresh, AreSameNodes, Bound, Forgets, HasSome, IsFresh, IsPoint, IsSameNode, Outlook, Point, most_of, point, seen, slots_tally, tally_of_nodes, unless_at};
+ghost use Rattle.merging.specs.Merging.{AllBegun, AllStand, AreAlike, AreSameNodes, Bound, Forgets, HasSome, IsFresh, IsPoint, IsSameNode, NonePassed, Outlook, Point, most_of, point, seen, slots_tally, tally_of_nodes, unless_at};
 
 use crate::begun::Beginnings;
 use crate::digest::digest_of;
@@ -99,7 +99,7 @@ impl Layer {
     }
 
     /// Returns the index of the node that is one with `node`. Adds `node`, which has no beginnings, if none is found.
-    fn locate(&mut self, node: Node) -> Result<usize, AllocError>
+    pub fn locate(&mut self, node: Node) -> Result<usize, AllocError>
         requires worlds { All (λ n. n.kernel.state.world ≡ node.kernel.state.world) self.old.nodes.items }
         requires fresh { IsFresh (seen node) }
         ensures one { IfOk result (λ i. (m : NodeValue) × (slice_get self.new.nodes.items i ≡ Some m) × AreAlike (point m) (point node)) }
@@ -107,7 +107,7 @@ impl Layer {
         ensures tally { (go_on past : Outlook) (most : ℕ) → OnOk result (tally_of_nodes go_on past most self.new.nodes.items ≡ tally_of_nodes go_on past most self.old.nodes.items) }
         ensures stand { (s : SearchValue) (place : ℕ) (bounds : ℕ → Bound) → AllStand s place bounds (map point self.old.nodes.items) self.old.nodes.items → IsPoint s place (point node) → node.kernel.events ≤ place + most_of s
             → IfOk result (λ i. AllStand s place (unless_at i bounds) (map point self.new.nodes.items) self.new.nodes.items) }
-        ensures fresh { AreFresh self.old.nodes.items → OnOk result (AreFresh self.new.nodes.items) }
+        ensures passed { NonePassed self.old.nodes.items → OnOk result (NonePassed self.new.nodes.items) }
     {
         let mut node = node;
         let digest = digest(&mut node);
@@ -134,7 +134,7 @@ impl Layer {
         ensures stand { (s : SearchValue) (place fewest : ℕ) (bounds : ℕ → Bound) → AllStand s place bounds (map point self.old.nodes.items) self.old.nodes.items → IsPoint s place (point node) → node.kernel.events ≤ place + most_of s
             → ((i : ℕ) → (bounds i).fewest ≤ fewest) → AllBegun s place fewest (point node) begun → HasSome begun
             → OnOk result (AllStand s place bounds (map point self.new.nodes.items) self.new.nodes.items) }
-        ensures fresh { AreFresh self.old.nodes.items → OnOk result (AreFresh self.new.nodes.items) }
+        ensures passed { NonePassed self.old.nodes.items → OnOk result (NonePassed self.new.nodes.items) }
     {
         let index = self.locate(node)?;
         self.nodes[index].begun.add_all(begun)?;

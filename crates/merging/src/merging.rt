@@ -5,7 +5,7 @@ ghost use Rattle.schedules.specs.Families.{family as family_of};
 ghost use Rattle.text.specs.EventTexts.{most_events};
 ghost use Rattle.counting.specs.Books.{with_many_runs};
 ghost use Rattle.counting.specs.Counts.{book_over};
-ghost use Rattle.merging.specs.Merging.{AreFresh, AreNodes, IsStop, IsStopOf, Property, counted_all, counted_slots, from_start, list_of, nodes_tally, point, texts_of, with_slots};
+ghost use Rattle.merging.specs.Merging.{AreNodes, IsStop, IsStopOf, NonePassed, Property, counted_all, counted_slots, from_start, list_of, nodes_tally, point, texts_of, with_slots};
 
 use crate::begun::{Beginnings, Begun};
 use crate::layer::Layer;
@@ -86,7 +86,6 @@ fn count_all(
     lines: &mut Vec<Line>,
 ) -> Result<(), AllocError>
     requires nodes { AreNodes search.now search.now.family.now.upto 0 nodes.old.items }
-    requires fresh { AreFresh nodes.old.items }
     requires few { search.now.family.now.upto + length events.now ≤ length (list_of search.now) }
     ensures { OnOk result (book.new ≡ counted_all (texts_of search.now) events.now nodes.old.items book.old) }
 {
@@ -104,9 +103,9 @@ fn reach<P: Progress>(
     progress: &mut P,
 ) -> Result<Layer, Stop>
     requires nodes { AreNodes search.now 0 0 first.nodes.items }
-    requires fresh { AreFresh first.nodes.items }
+    requires passed { NonePassed first.nodes.items }
     ensures nodes { IfOk result (λ last. AreNodes search.now search.now.family.now.upto 0 last.nodes.items) }
-    ensures fresh { IfOk result (λ last. AreFresh last.nodes.items) }
+    ensures passed { IfOk result (λ last. NonePassed last.nodes.items) }
     ensures tally { (has : Property) → IfOk result (λ last. nodes_tally has search.now search.now.family.now.upto last.nodes.items ≡ nodes_tally has search.now 0 first.nodes.items) }
     ensures stop { IfErr result (IsStop search.now (λ has. nodes_tally has search.now 0 first.nodes.items)) }
 {
@@ -125,7 +124,7 @@ fn reach<P: Progress>(
 /// Returns the node at the start of a world, from which all schedules continue.
 fn start(search: &Search<'_, '_, '_>) -> Result<Layer, AllocError>
     ensures nodes { IfOk result (λ layer. AreNodes search.now 0 0 layer.nodes.items) }
-    ensures fresh { IfOk result (λ layer. AreFresh layer.nodes.items) }
+    ensures passed { IfOk result (λ layer. NonePassed layer.nodes.items) }
     ensures tally { (has : Property) → IfOk result (λ layer. nodes_tally has search.now 0 layer.nodes.items ≡ from_start has search.now) }
 {
     let alloc = search.alloc;

@@ -228,8 +228,9 @@ impl Node {
         )
     }
 
-    /// Returns the beginnings that have passed. The node has no beginnings then, and it is not known where it leads.
-    pub fn renew(&mut self, alloc: Global) -> Beginnings
+    /// Removes and returns the beginnings that have passed. The node has no beginnings then, and it is not known where it
+    /// leads.
+    pub fn take_passed(&mut self, alloc: Global) -> Beginnings
         ensures begun { result ≡ self.old.passed }
         ensures point { point self.new ≡ point self.old }
         ensures events { self.new.kernel.events ≡ self.old.kernel.events }
@@ -262,7 +263,6 @@ impl Node {
 
     /// Notes the index of the node that an insertion leads to.
     pub fn set_edge(&mut self, which: usize, index: usize) -> Result<(), AllocError>
-        requires { which < 2 ^ 40 }
         ensures edges { (w : ℕ) → OnOk result (edge_at self.new.edges.items w ≡ cond (w == which) (Some index) (edge_at self.old.edges.items w)) }
         ensures rest { OnOk result (seen self.new ≡ record (seen self.old) { edges = self.new.edges.items }) }
     {

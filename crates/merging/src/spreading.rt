@@ -2,9 +2,9 @@
 
 ghost use Rattle.std.specs.Prelude.{◌≡◌, ◌+◌, ◌<◌, ◌≤◌, ℕ, List, ◌∷◌, length, map, true, false, [], IfErr, IfOk, OnOk, Some, slice_get};
 ghost use Rattle.counting.specs.Tallies.{both};
-ghost use Rattle.merging.specs.Merging.{AllStand, AreFresh, AreNodes, Bound, CanGoOn, IsStop, Point, Property, StandsAt, from_spots, left_at, list_of, loose_tally, most_of, nodes_tally, point, put_tally, seen, tick_tally, without_spots};
+ghost use Rattle.merging.specs.Merging.{AllStand, AreNodes, AreReady, Bound, CanPut, HasLed, HasPut, IsStop, NonePassed, Point, Property, StandsAt, event_put, from_spots, list_of, loose_tally, most_of, nodes_tally, point, put_tally, seen, tick_tally, without_spots};
 
-use crate::begun::{Beginnings, Begun};
+use crate::begun::Begun;
 use crate::layer::Layer;
 use crate::node::Node;
 use crate::search::{Search, Stop};
@@ -13,8 +13,32 @@ use posix::Event;
 use schedules::{event_of, spot};
 use std::alloc::AllocError;
 
+/// Returns the index of the node that an insertion leads to from the node with this index. Adds that node if it is not
+/// found. Runs a machine only if it is not known where the insertion leads.
+fn lead(
+    here: &mut Layer,
+    index: usize,
+    begun: &Begun,
+    which: usize,
+    event: Event,
+    search: &Search<'_, '_, '_>,
+    lines: &mut Vec<Line>,
+) -> Result<usize, AllocError>
+    requires node { (place : ℕ) × CanPut search.now place here.old.nodes.items index begun.now which }
+    requires event { (p : Point) → slice_get (map point here.old.nodes.items) index ≡ Some p → event ≡ event_put search.now which p }
+    ensures { IfOk result (λ to. HasLed search.now index begun.now which to here.old.nodes.items here.new.nodes.items) }
+{
+    if let Some(to) = here.nodes[index].edge(which) {
+        return Ok(to);
+    }
+    let node = here.nodes[index].after(begun, which, event, search, lines)?;
+    let to = here.locate(node)?;
+    here.nodes[index].set_edge(which, to)?;
+    Ok(to)
+}
+
 /// Adds what beginnings become by an insertion before the event with this place: to the node that the node with this
-/// index leads to. Runs a machine only if that is not known.
+/// index leads to.
 fn put(
     here: &mut Layer,
     index: usize,
@@ -24,26 +48,15 @@ fn put(
     search: &Search<'_, '_, '_>,
     lines: &mut Vec<Line>,
 ) -> Result<(), AllocError>
-    requires place { place < search.now.family.now.upto }
-    requires node { (bounds : ℕ → Bound) × (p : Point) × CanGoOn search.now place bounds here.old.nodes.items index p begun.now × (which ≤ length p.left) × (length begun.now.spots + 1 + length (left_at which p.left) ≤ most_of search.now) }
-    ensures stand { (bounds : ℕ → Bound) (p : Point) → CanGoOn search.now place bounds here.old.nodes.items index p begun.now → OnOk result (CanGoOn search.now place bounds here.new.nodes.items index p begun.now) }
-    ensures tally { (has : Property) (bounds : ℕ → Bound) (p : Point) → CanGoOn search.now place bounds here.old.nodes.items index p begun.now
-        → OnOk result (nodes_tally has search.now place here.new.nodes.items ≡ both (nodes_tally has search.now place here.old.nodes.items) (put_tally has search.now place p begun.now which)) }
-    ensures grow { OnOk result (length here.old.nodes.items ≤ length here.new.nodes.items) }
+    requires { CanPut search.now place here.old.nodes.items index begun.now which }
+    ensures { OnOk result (HasPut search.now place index begun.now (λ has p. put_tally has search.now place p begun.now which) here.old.nodes.items here.new.nodes.items) }
 {
     let loose = search.family.loose;
     let kind = here.nodes[index].kind(which);
     let event = event_of(loose, usize::from(kind));
     let with = begun.with(search.alloc, spot(loose.len(), place, kind), event)?;
-    if let Some(to) = here.nodes[index].edge(which) {
-        here.nodes[to].begun.add(with)?;
-        return Ok(());
-    }
-    let node = here.nodes[index].after(begun, which, event, search, lines)?;
-    let mut all = Beginnings::new(search.alloc);
-    all.add(with)?;
-    let to = here.insert(node, all)?;
-    here.nodes[index].set_edge(which, to)?;
+    let to = lead(here, index, begun, which, event, search, lines)?;
+    here.nodes[to].begun.add(with)?;
     Ok(())
 }
 
@@ -56,12 +69,8 @@ fn put_tick(
     search: &Search<'_, '_, '_>,
     lines: &mut Vec<Line>,
 ) -> Result<(), AllocError>
-    requires place { place < search.now.family.now.upto }
-    requires node { (bounds : ℕ → Bound) × (p : Point) × CanGoOn search.now place bounds here.old.nodes.items index p begun.now }
-    ensures stand { (bounds : ℕ → Bound) (p : Point) → CanGoOn search.now place bounds here.old.nodes.items index p begun.now → OnOk result (CanGoOn search.now place bounds here.new.nodes.items index p begun.now) }
-    ensures tally { (has : Property) (bounds : ℕ → Bound) (p : Point) → CanGoOn search.now place bounds here.old.nodes.items index p begun.now
-        → OnOk result (nodes_tally has search.now place here.new.nodes.items ≡ both (nodes_tally has search.now place here.old.nodes.items) (tick_tally has search.now place p begun.now)) }
-    ensures grow { OnOk result (length here.old.nodes.items ≤ length here.new.nodes.items) }
+    requires { AreReady search.now place here.old.nodes.items index begun.now }
+    ensures { OnOk result (HasPut search.now place index begun.now (λ has p. tick_tally has search.now place p begun.now) here.old.nodes.items here.new.nodes.items) }
 {
     let family = search.family;
     if begun.spots.len() + here.nodes[index].left.len() >= family.ticks + family.loose.len() {
@@ -80,12 +89,8 @@ fn put_loose(
     search: &Search<'_, '_, '_>,
     lines: &mut Vec<Line>,
 ) -> Result<(), AllocError>
-    requires place { place < search.now.family.now.upto }
-    requires node { (bounds : ℕ → Bound) × (p : Point) × CanGoOn search.now place bounds here.old.nodes.items index p begun.now }
-    ensures stand { (bounds : ℕ → Bound) (p : Point) → CanGoOn search.now place bounds here.old.nodes.items index p begun.now → OnOk result (CanGoOn search.now place bounds here.new.nodes.items index p begun.now) }
-    ensures tally { (has : Property) (bounds : ℕ → Bound) (p : Point) → CanGoOn search.now place bounds here.old.nodes.items index p begun.now
-        → OnOk result (nodes_tally has search.now place here.new.nodes.items ≡ both (nodes_tally has search.now place here.old.nodes.items) (loose_tally has search.now place p begun.now)) }
-    ensures grow { OnOk result (length here.old.nodes.items ≤ length here.new.nodes.items) }
+    requires { AreReady search.now place here.old.nodes.items index begun.now }
+    ensures { OnOk result (HasPut search.now place index begun.now (λ has p. loose_tally has search.now place p begun.now) here.old.nodes.items here.new.nodes.items) }
 {
     for number in 0..here.nodes[index].left.len() {
         put(here, index, begun, number + 1, place, search, lines)?;
@@ -102,13 +107,8 @@ fn put_all(
     search: &Search<'_, '_, '_>,
     lines: &mut Vec<Line>,
 ) -> Result<(), AllocError>
-    requires place { place < search.now.family.now.upto }
-    requires node { (bounds : ℕ → Bound) × (p : Point) × CanGoOn search.now place bounds here.old.nodes.items index p begun.now }
-    ensures stand { (bounds : ℕ → Bound) (p : Point) → CanGoOn search.now place bounds here.old.nodes.items index p begun.now → OnOk result (CanGoOn search.now place bounds here.new.nodes.items index p begun.now) }
-    ensures tally { (has : Property) (bounds : ℕ → Bound) (p : Point) → CanGoOn search.now place bounds here.old.nodes.items index p begun.now
-        → OnOk result (nodes_tally has search.now place here.new.nodes.items
-        ≡ both (nodes_tally has search.now place here.old.nodes.items) (both (tick_tally has search.now place p begun.now) (loose_tally has search.now place p begun.now))) }
-    ensures grow { OnOk result (length here.old.nodes.items ≤ length here.new.nodes.items) }
+    requires { AreReady search.now place here.old.nodes.items index begun.now }
+    ensures { OnOk result (HasPut search.now place index begun.now (λ has p. both (tick_tally has search.now place p begun.now) (loose_tally has search.now place p begun.now)) here.old.nodes.items here.new.nodes.items) }
 {
     put_tick(here, index, begun, place, search, lines)?;
     put_loose(here, index, begun, place, search, lines)?;
@@ -211,7 +211,7 @@ fn give_to(
     requires event { slice_get (list_of search.now) place ≡ Some event }
     requires node { (points : List Point) × StandsAt search.now place (from_spots (most_of search.now + 1) 0) points (seen node) }
     requires next { AreNodes search.now (place + 1) 0 next.old.nodes.items }
-    ensures fresh { AreFresh next.old.nodes.items → OnOk result (AreFresh next.new.nodes.items) }
+    ensures passed { NonePassed next.old.nodes.items → OnOk result (NonePassed next.new.nodes.items) }
     ensures nodes { OnOk result (AreNodes search.now (place + 1) 0 next.new.nodes.items) }
     ensures tally { (has : Property) → OnOk result (nodes_tally has search.now (place + 1) next.new.nodes.items ≡ both (nodes_tally has search.now (place + 1) next.old.nodes.items) (nodes_tally has search.now place (node ∷ []))) }
 {
@@ -224,7 +224,7 @@ fn give_to(
         drop(node);
         return Err(e);
     }
-    let mut begun = node.renew(search.alloc);
+    let mut begun = node.take_passed(search.alloc);
     match begun.give(event) {
         Ok(()) => {
             next.insert(node, begun)?;
@@ -251,7 +251,7 @@ fn give_all(
     requires event { slice_get (list_of search.now) place ≡ Some event }
     requires nodes { (points : List Point) × AllStand search.now place (from_spots (most_of search.now + 1)) points nodes.old.items }
     requires next { next.old.nodes.items ≡ [] }
-    ensures fresh { OnOk result (AreFresh next.new.nodes.items) }
+    ensures passed { OnOk result (NonePassed next.new.nodes.items) }
     ensures nodes { OnOk result (AreNodes search.now (place + 1) 0 next.new.nodes.items) }
     ensures tally { (has : Property) → OnOk result (nodes_tally has search.now (place + 1) next.new.nodes.items ≡ nodes_tally has search.now place nodes.old.items) }
     ensures stop { IfErr result (IsStop search.now (λ has. nodes_tally has search.now place nodes.old.items)) }
@@ -278,7 +278,7 @@ pub fn layer_after(
     requires event { slice_get (list_of search.now) place ≡ Some event }
     requires nodes { AreNodes search.now place 0 layer.nodes.items }
     ensures nodes { IfOk result (λ next. AreNodes search.now (place + 1) 0 next.nodes.items) }
-    ensures fresh { IfOk result (λ next. AreFresh next.nodes.items) }
+    ensures passed { IfOk result (λ next. NonePassed next.nodes.items) }
     ensures tally { (has : Property) → IfOk result (λ next. nodes_tally has search.now (place + 1) next.nodes.items ≡ nodes_tally has search.now place layer.nodes.items) }
     ensures stop { IfErr result (IsStop search.now (λ has. nodes_tally has search.now place layer.nodes.items)) }
 {

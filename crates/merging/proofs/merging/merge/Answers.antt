@@ -13,7 +13,7 @@ returns-clause-book g c =
     let empty : c.tell_states.new.self ≡ empty_book (texts_of s) = c.tell_states.ensures ∙ c.in_ok-book.ensures in
     c.in_ok-count_all.ensures
     ∙ ap (counted_all (texts_of s) c.in_ok-rest.rest c.in_ok-last.last.nodes.items) empty
-    ∙ merged_book s c.in_ok-rest.rest c.in_ok-last.last.nodes.items c.in_ok-rest.ensures last.nodes last.fresh (λ has. last.tally has ∙ c.in_ok-first.ensures.tally has)
+    ∙ merged_book s c.in_ok-rest.rest c.in_ok-last.last.nodes.items c.in_ok-rest.ensures last.nodes last.passed (λ has. last.tally has ∙ c.in_ok-first.ensures.tally has)
 
 pub returns-in_err-last-clause-stop : goal.returns-in_err-last-clause-stop
 returns-in_err-last-clause-stop g c =

@@ -6,7 +6,7 @@ use Rattle.merging.proofs.merging.reach.Goals as goal
 pub loop-place-preserved : goal.loop-place-preserved
 loop-place-preserved g c = record {
   nodes = c.in_ok-layer.ensures.nodes;
-  fresh = c.in_ok-layer.ensures.fresh;
+  passed = c.in_ok-layer.ensures.passed;
   tally = λ has. c.in_ok-layer.ensures.tally has ∙ c.loop-place.invariant.tally has;
 }
 

@@ -1,7 +1,7 @@
-use Rattle.std.proofs.Common.{◌∙◌, Some, ap, ap₂, arith}
+use Rattle.std.proofs.Common.{◌∙◌, ap, ap₂, arith}
 use Rattle.counting.specs.Tallies.{both, no_schedules}
 use Rattle.merging.specs.Merging.{begun_tally, from_spots, most_of, outlook_of, past_of, point, slots_tally, tally_of_nodes}
-use Rattle.merging.proofs.MergedLemmas.{first_begun, first_point, first_tally, none_at}
+use Rattle.merging.proofs.MergedLemmas.{first_begun, first_point, first_tally}
 use Rattle.merging.proofs.OneLemmas.{outlook_forgets}
 use Rattle.merging.proofs.TallyLemmas.{none_and}
 use Rattle.merging.proofs.merging.start.Goals as goal
@@ -14,15 +14,15 @@ returns-clause-nodes c =
     let b = c.in_ok-first.field-0 in
     let f = c.in_ok-first.ensures in
     let a = c.in_ok-add.ensures in
-    c.in_ok-insert.ensures.stand s 0 0 (from_spots 0) (λ i n at. absurd (none_at c.new-layer.result.nodes.items c.new-layer.ensures i n at))
+    c.in_ok-insert.ensures.stand s 0 0 (from_spots 0) (rw c.new-layer.ensures (λ i n at. cc))
     (first_point s p e.state e.regular e.settled e.left e.marks)
     (omega (arith, e.events))
     (λ i. omega arith)
-    (a.all s 0 0 p (λ k x at. absurd (none_at c.new-begun.result c.new-begun.ensures k (Some x) at)) (omega arith) (first_begun s p b e.state e.left f.count f.spots f.given))
+    (a.all s 0 0 p (rw c.new-begun.ensures (λ k x at. cc)) (omega arith) (first_begun s p b e.state e.left f.count f.spots f.given))
     a.some
 
-pub returns-clause-fresh : goal.returns-clause-fresh
-returns-clause-fresh c = c.in_ok-insert.ensures.fresh (λ i n at. absurd (none_at c.new-layer.result.nodes.items c.new-layer.ensures i n at))
+pub returns-clause-passed : goal.returns-clause-passed
+returns-clause-passed c = c.in_ok-insert.ensures.passed (rw c.new-layer.ensures (λ i n at. cc))
 
 pub returns-clause-tally : goal.returns-clause-tally
 returns-clause-tally c = λ has.

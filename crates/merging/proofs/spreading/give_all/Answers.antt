@@ -42,7 +42,7 @@ loop-node-preserved c =
     record {
       nodes = (nodes.0, (popped_stand c.args.search.now c.args.place nodes.0 l.nodes.items c.pop.new.self.items c.in-Some.node c.in-Some.ensures.items nodes.1).0);
       next = new.nodes;
-      fresh = new.fresh l.invariant.fresh;
+      passed = new.passed l.invariant.passed;
       tally = still_all (goal.at.loop-node-preserved c).In_ok-give_to;
     }
 

@@ -16,22 +16,22 @@ returns-then-is_late-clause-tally c = λ has.
 
 pub give-requires-2 : goal.give-requires-2
 give-requires-2 c =
-    subst AreShort (sym (c.renew-begun.ensures.begun ∙ c.in_default.ensures.passed)) (passed_short c.args.search.now c.args.place c.requires.node.0 c.args.node c.requires.place c.requires.node.1)
+    subst AreShort (sym (c.take_passed-begun.ensures.begun ∙ c.in_default.ensures.passed)) (passed_short c.args.search.now c.args.place c.requires.node.0 c.args.node c.requires.place c.requires.node.1)
 
 -- The node after the event.
-given : (c : In-Ok) → HasGiven c.args.search.now c.args.place c.args.node c.renew-begun.new.self c.give-2.new.self
+given : (c : In-Ok) → HasGiven c.args.search.now c.args.place c.args.node c.take_passed-begun.new.self c.give-2.new.self
 given c =
     let s = c.args.search.now in
     let x = c.args.event in
     let e = c.in_default.ensures in
-    let r = c.renew-begun.ensures in
-    has_given s c.args.place x c.requires.node.0 c.args.node c.give.new.self c.renew-begun.new.self c.give-2.new.self c.requires.event c.requires.node.1 (c.is_late.ensures.in_time c.if-is_late.false) e.state
+    let r = c.take_passed-begun.ensures in
+    has_given s c.args.place x c.requires.node.0 c.args.node c.give.new.self c.take_passed-begun.new.self c.give-2.new.self c.requires.event c.requires.node.1 (c.is_late.ensures.in_time c.if-is_late.false) e.state
     (ap (λ k. k.items) e.left) e.marks e.regular e.settled e.events r.point r.events (c.in-Ok.ensures ∙ ap (map (given_slot x)) (r.begun ∙ e.passed))
 
 pub insert-requires-clause-worlds : goal.insert-requires-clause-worlds
 insert-requires-clause-worlds c =
     let next = c.args.next.now.nodes.items in
-    all_worlds c.args.search.now (c.args.place + 1) (from_spots 0) (map point next) next c.renew-begun.new.self c.requires.next (given (goal.at.insert-requires-clause-worlds c).In-Ok).at
+    all_worlds c.args.search.now (c.args.place + 1) (from_spots 0) (map point next) next c.take_passed-begun.new.self c.requires.next (given (goal.at.insert-requires-clause-worlds c).In-Ok).at
 
 pub returns-in_ok-insert-in-Ok-clause-nodes : goal.returns-in_ok-insert-in-Ok-clause-nodes
 returns-in_ok-insert-in-Ok-clause-nodes c =

@@ -1,6 +1,7 @@
 use Rattle.std.proofs.Common.{◌≡◌, ◌≤◌, ◌++◌, ◌∷◌, ◌∙◌, [], None, Some, ap, inl, length, subst, sym}
 use Rattle.merging.specs.Merging.{AllBegun, AreBegun, slots_tally}
-use Rattle.merging.proofs.SlotLemmas.{each_pop, last_slot, popped_tally, some_left}
+use Rattle.merging.proofs.IndexLemmas.{last_there}
+use Rattle.merging.proofs.SlotLemmas.{each_pop, popped_tally, some_left}
 use Rattle.merging.proofs.TallyLemmas.{and_none}
 use Rattle.merging.proofs.begun.Beginnings.add_all.Goals as goal
 
@@ -18,7 +19,7 @@ loop-slot-preserved-in-Continue-1 c =
       all = λ s place fewest p all too.
           let now = was.all s place fewest p all too in
           let others = subst (AllBegun s place fewest p) is now.1 in
-          let last = others (length rest) begun (last_slot rest (Some begun)) in
+          let last = others (length rest) begun (last_there rest (Some begun)) in
           (added.all s place fewest p now.0 last.0 last.1, each_pop (λ k b. (fewest ≤ length b.spots) × AreBegun s place p b) rest (Some begun) others);
       some = λ _. inl added.some;
     }

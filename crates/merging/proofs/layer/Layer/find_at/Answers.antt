@@ -1,7 +1,8 @@
 use Rattle.std.proofs.Common.{◌<◌, arith, length, refl}
 use Rattle.std.proofs.lemmas.Option.{slice_get_read}
-use Rattle.merging.proofs.IndexLemmas.{put_there}
-use Rattle.merging.proofs.LayerLemmas.{all_same_put, one_still}
+use Rattle.merging.specs.Merging.{seen}
+use Rattle.merging.proofs.IndexLemmas.{map_put, put_there}
+use Rattle.merging.proofs.LayerLemmas.{one_still}
 use Rattle.merging.proofs.layer.Layer.find_at.Goals.{else-number-len-via-else-number-len, else-number-len-via-then-number-len+else-is_one}
 use Rattle.merging.proofs.layer.Layer.find_at.Goals as goal
 
@@ -18,7 +19,7 @@ pub returns-then-is_one-clause-nodes : goal.returns-then-is_one-clause-nodes
 returns-then-is_one-clause-nodes c =
     let xs = c.args.self.now.nodes.items in
     let within : c.in_ok-number.field-0.now < length xs = omega (arith, c.if-number-len.true, c.len.ensures) in
-    all_same_put xs c.in_ok-number.field-0.now c.index_mut.result.now c.is_one.new.self
+    map_put seen xs c.in_ok-number.field-0.now c.index_mut.result.now c.is_one.new.self
     (slice_get_read xs (length xs) c.in_ok-number.field-0.now c.index_mut.result.now refl within c.index_mut.ensures.value) c.is_one.ensures.same
 
 pub returns-clause-nodes : goal.returns-clause-nodes
@@ -27,7 +28,7 @@ returns-clause-nodes c = elim c.else-number-len.branch [
       let xs = c.args.self.now.nodes.items in
       let within : c.in_ok-number.field-0.now < length xs = omega (arith, w.if-number-len.true, c.len.ensures) in
       rw w.self-is
-      (all_same_put xs c.in_ok-number.field-0.now w.index_mut.result.now w.is_one.new.self
+      (map_put seen xs c.in_ok-number.field-0.now w.index_mut.result.now w.is_one.new.self
       (slice_get_read xs (length xs) c.in_ok-number.field-0.now w.index_mut.result.now refl within w.index_mut.ensures.value) w.is_one.ensures.same)
   | else-number-len-via-else-number-len w ↦ rw w.self-is refl
 ]

@@ -1,58 +1,42 @@
 use Rattle.std.proofs.Common.{◌+◌, ◌≤◌, ◌∙◌, [], ◌∷◌, append-nil, map, slice_get, sym, ap, subst}
-use Rattle.merging.specs.Merging.{AllStand, AreAlike, AreFresh, IsFresh, IsPoint, SeenNode, most_of, point, unless_at}
-use Rattle.merging.proofs.LayerLemmas.{found_stand, fresh_push, fresh_same, points_same, pushed_points, pushed_stand, pushed_tallies, pushed_there, tallies_same}
+use Rattle.merging.specs.Merging.{AllStand, AreAlike, IsFresh, IsPoint, NonePassed, SeenNode, most_of, point, unless_at}
+use Rattle.merging.proofs.LayerLemmas.{found_stand, passed_push, passed_same, points_same, pushed_points, pushed_stand, pushed_tallies, pushed_there, tallies_same}
 use Rattle.merging.proofs.OneLemmas.{alike_refl}
 use Rattle.merging.proofs.layer.Layer.locate.Goals as goal
 
-pub returns-in-Ok-clause-one : goal.returns-in-Ok-clause-one
-returns-in-Ok-clause-one c =
+pub returns-in-Ok : goal.returns-in-Ok
+returns-in-Ok c =
+    let olds = c.args.self.now.nodes.items in
+    let ns = c.find.new.self.nodes.items in
     let it = c.in-Ok.ensures.one in
     let same = c.find.ensures.node ∙ c.digest-digest.ensures in
-    (it.0, it.1, subst (AreAlike (point it.0)) (ap (λ (v : SeenNode). v.point) same) it.2)
+    let all = c.find.ensures.nodes in
+    record {
+      one = (it.0, it.1, subst (AreAlike (point it.0)) (ap (λ (v : SeenNode). v.point) same) it.2);
+      points = ([], points_same olds ns all ∙ sym (append-nil (map point olds)));
+      tally = λ go_on past most. tallies_same olds ns go_on past most all;
+      stand = λ s place bounds stand at few. found_stand s place bounds olds ns c.in-Ok.index all stand;
+      passed = passed_same olds ns all;
+    }
 
-pub returns-in-Ok-clause-points : goal.returns-in-Ok-clause-points
-returns-in-Ok-clause-points c = ([], points_same c.args.self.now.nodes.items c.find.new.self.nodes.items c.find.ensures.nodes ∙ sym (append-nil (map point c.args.self.now.nodes.items)))
-
-pub returns-in-Ok-clause-tally : goal.returns-in-Ok-clause-tally
-returns-in-Ok-clause-tally c = λ go_on past most. tallies_same c.args.self.now.nodes.items c.find.new.self.nodes.items go_on past most c.find.ensures.nodes
-
-pub returns-in-Ok-clause-stand : goal.returns-in-Ok-clause-stand
-returns-in-Ok-clause-stand c = λ s place bounds all at few. found_stand s place bounds c.args.self.now.nodes.items c.find.new.self.nodes.items c.in-Ok.index c.find.ensures.nodes all
-
-pub returns-in-Ok-clause-fresh : goal.returns-in-Ok-clause-fresh
-returns-in-Ok-clause-fresh c = λ fresh. fresh_same c.args.self.now.nodes.items c.find.new.self.nodes.items c.find.ensures.nodes fresh
-
-pub returns-in_ok-index-in-Err-clause-one : goal.returns-in_ok-index-in-Err-clause-one
-returns-in_ok-index-in-Err-clause-one c =
+pub returns-in_ok-index-in-Err : goal.returns-in_ok-index-in-Err
+returns-in_ok-index-in-Err c =
+    let olds = c.args.self.now.nodes.items in
     let ns = c.find.new.self.nodes.items in
-    let n = c.find.new.node in
-    let same = c.find.ensures.node ∙ c.digest-digest.ensures in (
-      n,
-      ap (slice_get c.push.new.self.nodes.items) c.in_ok-index-in-Err.ensures.1 ∙ pushed_there ns c.push.new.self.nodes.items n c.in_ok-index-in-Err.ensures.0,
-      subst (AreAlike (point n)) (ap (λ (v : SeenNode). v.point) same) (alike_refl (point n)),
-    )
-
-pub returns-in_ok-index-in-Err-clause-points : goal.returns-in_ok-index-in-Err-clause-points
-returns-in_ok-index-in-Err-clause-points c =
-    (point c.find.new.node ∷ [], pushed_points c.args.self.now.nodes.items c.find.new.self.nodes.items c.push.new.self.nodes.items c.find.new.node c.find.ensures.nodes c.in_ok-index-in-Err.ensures.0)
-
-pub returns-in_ok-index-in-Err-clause-tally : goal.returns-in_ok-index-in-Err-clause-tally
-returns-in_ok-index-in-Err-clause-tally c = λ go_on past most.
-    let same = c.find.ensures.node ∙ c.digest-digest.ensures in
-    pushed_tallies go_on past most c.args.self.now.nodes.items c.find.new.self.nodes.items c.push.new.self.nodes.items c.find.new.node c.find.ensures.nodes c.in_ok-index-in-Err.ensures.0
-    (subst IsFresh (sym same) c.requires.fresh)
-
-pub returns-in_ok-index-in-Err-clause-stand : goal.returns-in_ok-index-in-Err-clause-stand
-returns-in_ok-index-in-Err-clause-stand c = λ s place bounds all at few.
     let xs = c.push.new.self.nodes.items in
+    let n = c.find.new.node in
+    let is = c.in_ok-index-in-Err.ensures.0 in
+    let at_end = c.in_ok-index-in-Err.ensures.1 in
+    let all = c.find.ensures.nodes in
     let same = c.find.ensures.node ∙ c.digest-digest.ensures in
-    subst (λ i. AllStand s place (unless_at i bounds) (map point xs) xs) (sym c.in_ok-index-in-Err.ensures.1)
-    (pushed_stand s place bounds c.args.self.now.nodes.items c.find.new.self.nodes.items xs c.find.new.node c.find.ensures.nodes c.in_ok-index-in-Err.ensures.0
-    (subst IsFresh (sym same) c.requires.fresh) all (subst (λ (v : SeenNode). IsPoint s place v.point) (sym same) at) (subst (λ (v : SeenNode). v.events ≤ place + most_of s) (sym same) few))
-
-pub returns-in_ok-index-in-Err-clause-fresh : goal.returns-in_ok-index-in-Err-clause-fresh
-returns-in_ok-index-in-Err-clause-fresh c = λ fresh.
-    let ns = c.find.new.self.nodes.items in
-    let same = c.find.ensures.node ∙ c.digest-digest.ensures in
-    subst AreFresh (sym c.in_ok-index-in-Err.ensures.0)
-    (fresh_push ns c.find.new.node (fresh_same c.args.self.now.nodes.items ns c.find.ensures.nodes fresh) (ap (λ (v : SeenNode). v.passed) same ∙ c.requires.fresh.passed))
+    let fresh = subst IsFresh (sym same) c.requires.fresh in
+    record {
+      one = (n, ap (slice_get xs) at_end ∙ pushed_there ns xs n is, subst (AreAlike (point n)) (ap (λ (v : SeenNode). v.point) same) (alike_refl (point n)));
+      points = (point n ∷ [], pushed_points olds ns xs n all is);
+      tally = λ go_on past most. pushed_tallies go_on past most olds ns xs n all is fresh;
+      stand = λ s place bounds stand at few.
+          subst (λ i. AllStand s place (unless_at i bounds) (map point xs) xs) (sym at_end)
+          (pushed_stand s place bounds olds ns xs n all is fresh stand (subst (λ (v : SeenNode). IsPoint s place v.point) (sym same) at)
+          (subst (λ (v : SeenNode). v.events ≤ place + most_of s) (sym same) few));
+      passed = λ none. subst NonePassed (sym is) (passed_push ns n (passed_same olds ns all none) (ap (λ (v : SeenNode). v.passed) same ∙ c.requires.fresh.passed));
+    }

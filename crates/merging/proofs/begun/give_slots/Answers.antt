@@ -1,8 +1,8 @@
 use Rattle.std.proofs.Common.{◌<◌, ◌∙◌, Some, ap, arith, length, subst, sym}
 use Rattle.merging.specs.Slots.{AreInSlots}
 use Rattle.merging.proofs.SlotLemmas.{given_all, given_more, given_next, given_none, same_set, still_in_slots}
-use Rattle.merging.proofs.begun.give_all.Goals.{in-Some+in_ok-give, in_default}
-use Rattle.merging.proofs.begun.give_all.Goals as goal
+use Rattle.merging.proofs.begun.give_slots.Goals.{in-Some+in_ok-give, in_default}
+use Rattle.merging.proofs.begun.give_slots.Goals as goal
 
 pub give-requires : goal.give-requires
 give-requires c =

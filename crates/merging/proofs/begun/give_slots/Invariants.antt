@@ -1,7 +1,7 @@
 use Rattle.std.proofs.Common.{◌≡◌}
 use Rattle.merging.specs.Slots.{AreInSlots}
 use Rattle.merging.proofs.SlotLemmas.{given_to}
-use Rattle.merging.proofs.begun.give_all.Given as goal
+use Rattle.merging.proofs.begun.give_slots.Given as goal
 
 -- The event has run after the beginnings so far.
 abbrev pub invariant-loop-index : goal.invariant-loop-index
